@@ -1,0 +1,10 @@
+-- The bytes that follow an `add`.
+use Rattle.std.specs.Prelude.{◌≡◌, ℕ, ◌<◌, Bool, IsTrue, List, length}
+use Rattle.dmypy.specs.declared.input.Body.{Body}
+use Rattle.dmypy.specs.declared.input.Body.TheVariants.{Whole, NotKept, Truncated}
+
+-- What was told of the bytes that were used, of which `size` were announced.
+abbrev pub CameAs : Body → List ℕ → ℕ → Bool → Bool → Type 0
+CameAs (Whole kept) bytes size wanted ended = (kept.items ≡ bytes) × (length bytes ≡ size) × IsTrue wanted
+CameAs NotKept bytes size wanted ended = length bytes ≡ size
+CameAs Truncated bytes size wanted ended = (length bytes < size) × IsTrue ended

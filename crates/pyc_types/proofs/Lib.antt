@@ -1,0 +1,2 @@
+pub mod ClassLists
+pub mod Rules
