@@ -1,3 +1,11 @@
+pub mod ErrorLemmas
+pub mod FoundLemmas
+pub mod Going
 pub mod Moving
+pub mod Refusals
+pub mod RepeatLemmas
+pub mod SortLemmas
+pub mod TextLemmas
 pub mod Texts
+pub mod Turns
 pub mod Words

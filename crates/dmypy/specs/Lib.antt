@@ -1,7 +1,17 @@
 pub mod Body
 pub mod Command
 pub mod Counted
+pub mod Daemon
+pub mod Fresh
 pub mod Input
+pub mod Message
 pub mod Path
 pub mod Reading
+pub mod Refusal
+pub mod Replies
+pub mod Report
+pub mod Runs
+pub mod Session
+pub mod Sort
 pub mod Window
+pub mod Workspace

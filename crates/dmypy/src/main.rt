@@ -3,9 +3,17 @@
 
 pub mod command;
 pub mod counted;
+pub mod daemon;
 pub mod ending;
+pub mod file;
+mod fresh;
 mod input;
+pub mod message;
+pub mod options;
 mod path;
+pub mod refusal;
+pub mod reply;
+pub mod report;
 pub mod window;
 
 fn main() {}

@@ -1,0 +1,1 @@
+-- A run of a session, command by command.

@@ -1,0 +1,129 @@
+-- Commands at the front of an input, and the sessions that follow them.
+use Rattle.std.proofs.Common.{◌≡◌, ℕ, zero, suc, ◌+◌, ◌-◌, ◌<◌, ◌≤◌, Bool, true, false, if◌then◌else◌, ◌==◌, ◌&&◌, nat_lt, List, [], ◌∷◌, ◌++◌, length, take, drop, Option, None, Some, refl, sym, ap, subst, ◌∙◌, arith, append_assoc, length-append}
+use Rattle.std.proofs.lemmas.List.{length-take, length-drop}
+use Rattle.std.proofs.lemmas.Bool.Decides.{nat_tests}
+use Rattle.dmypy.specs.Command.{Spelled, add, endless, check, stop, unknown, spelled}
+use Rattle.dmypy.specs.Input.{has_line_feed, first_line, after_line, command_line}
+use Rattle.dmypy.specs.Refusal.{refusal_text, add_refusal, or_memory}
+use Rattle.dmypy.specs.Session.{Turn, Session, turn, act, add_turn, add_answer, check_turn, last_turn, goes_on, ends, onto, session_within, session_from, first_mark}
+use Rattle.dmypy.specs.Workspace.{File, State}
+use Rattle.dmypy.specs.declared.refusal.Refusal.{Refusal}
+use Rattle.dmypy.specs.declared.refusal.Refusal.TheVariants as refusal
+use Rattle.dmypy.specs.declared.ending.End.TheVariants.{EndOfInput, Broken}
+use Rattle.dmypy.proofs.Moving.{take_whole}
+
+-- a line that a line feed ends
+pub first_line-fed : (raw rest : List ℕ) → has_line_feed raw ≡ false → first_line (raw ++ 10 ∷ rest) ≡ raw
+first_line-fed [] rest none = refl
+first_line-fed (b ∷ bs) rest none =
+    elim (b == 10) as (λ t. (if t then true else has_line_feed bs) ≡ false → (if t then [] else b ∷ first_line (bs ++ 10 ∷ rest)) ≡ b ∷ bs) [
+      | true ↦ λ e. cc
+      | false ↦ λ e. ap (λ zs. b ∷ zs) (first_line-fed bs rest e)
+    ] none
+
+pub after_line-fed : (raw rest : List ℕ) → has_line_feed raw ≡ false → after_line (raw ++ 10 ∷ rest) ≡ rest
+after_line-fed [] rest none = refl
+after_line-fed (b ∷ bs) rest none =
+    elim (b == 10) as (λ t. (if t then true else has_line_feed bs) ≡ false → (if t then bs ++ 10 ∷ rest else after_line (bs ++ 10 ∷ rest)) ≡ rest) [
+      | true ↦ λ e. cc
+      | false ↦ λ e. after_line-fed bs rest e
+    ] none
+
+pub has_line_feed-fed : (raw rest : List ℕ) → has_line_feed (raw ++ 10 ∷ rest) ≡ true
+has_line_feed-fed [] rest = refl
+has_line_feed-fed (b ∷ bs) rest =
+    elim (b == 10) as (λ t. (if t then true else has_line_feed (bs ++ 10 ∷ rest)) ≡ true) [ true ↦ refl | false ↦ has_line_feed-fed bs rest ]
+
+-- a line that the end of the input ends
+pub first_line-last : (raw : List ℕ) → has_line_feed raw ≡ false → first_line raw ≡ raw
+first_line-last [] none = refl
+first_line-last (b ∷ bs) none =
+    elim (b == 10) as (λ t. (if t then true else has_line_feed bs) ≡ false → (if t then [] else b ∷ first_line bs) ≡ b ∷ bs) [
+      | true ↦ λ e. cc
+      | false ↦ λ e. ap (λ zs. b ∷ zs) (first_line-last bs e)
+    ] none
+
+pub after_line-last : (raw : List ℕ) → has_line_feed raw ≡ false → after_line raw ≡ []
+after_line-last [] none = refl
+after_line-last (b ∷ bs) none =
+    elim (b == 10) as (λ t. (if t then true else has_line_feed bs) ≡ false → (if t then bs else after_line bs) ≡ []) [
+      | true ↦ λ e. cc
+      | false ↦ λ e. after_line-last bs e
+    ] none
+
+-- what stands after a line is shorter
+pub after_line-at_most : (bs : List ℕ) → length (after_line bs) ≤ length bs
+after_line-at_most [] = omega arith
+after_line-at_most (b ∷ bs) =
+    elim (b == 10) as (λ t. length (if t then bs else after_line bs) ≤ suc (length bs)) [ true ↦ omega arith | false ↦ let h = after_line-at_most bs in omega (arith, h) ]
+
+pub after_line-shorter : (b : ℕ) (bs : List ℕ) → length (after_line (b ∷ bs)) ≤ length bs
+after_line-shorter b bs = elim (b == 10) as (λ t. length (if t then bs else after_line bs) ≤ length bs) [ true ↦ omega arith | false ↦ after_line-at_most bs ]
+
+-- a command leaves no more than stood after its line
+add_answer-rest : (o : Option Refusal) (s : State) (file : File) (rest : List ℕ) → (add_answer o s file rest).rest ≡ rest
+add_answer-rest None s file rest = refl
+add_answer-rest (Some why) s file rest = refl
+
+add_turn-rest : (s : State) (path : List ℕ) (size : ℕ) (wanting : Bool) (rest : List ℕ) → length (add_turn s path size wanting rest).rest ≤ length rest
+unfolding add_turn
+add_turn-rest s path size wanting rest =
+    let file : File = record { path = path; bytes = take size rest } in
+    elim (nat_lt (length rest) size) as (λ t. length (if t then last_turn (refusal_text refusal.Truncated) s Broken
+        else add_answer (or_memory (add_refusal s.present path size) wanting) s (record { path = path; bytes = take size rest }) (drop size rest)).rest ≤ length rest) [
+      | true ↦ omega arith
+      | false ↦ rw (add_answer-rest (or_memory (add_refusal s.present path size) wanting) s file (drop size rest)) (omega (arith, length-drop size rest))
+    ]
+
+check_turn-rest : (s : State) (wanting : Bool) (rest : List ℕ) → length (check_turn s wanting rest).rest ≤ length rest
+unfolding check_turn
+check_turn-rest s true rest = omega arith
+check_turn-rest s false rest = omega arith
+
+act-rest : (s : State) (said : Spelled) (wanting : Bool) (rest : List ℕ) → length (act s said wanting rest).rest ≤ length rest
+act-rest s (add path size) wanting rest = add_turn-rest s path size wanting rest
+act-rest s endless wanting rest = omega arith
+act-rest s check wanting rest = check_turn-rest s wanting rest
+act-rest s stop wanting rest = omega arith
+act-rest s unknown wanting rest = omega arith
+
+turn-shorter : (s : State) (b : ℕ) (bs : List ℕ) (wanting : Bool) → length (turn s (b ∷ bs) wanting).rest ≤ length bs
+unfolding turn
+turn-shorter s b bs wanting =
+    let h = act-rest s (spelled (command_line (first_line (b ∷ bs)) (has_line_feed (b ∷ bs)))) wanting (after_line (b ∷ bs)) in
+    let k = after_line-shorter b bs in
+    omega (arith, h, k)
+
+-- as many commands as bytes are enough
+pub enough : (n m : ℕ) (s : State) (input : List ℕ) (marks : List Bool) → length input ≤ n → length input ≤ m
+    → session_within n s input marks ≡ session_within m s input marks
+enough zero zero s input marks p q = refl
+enough zero (suc m) s [] marks p q = refl
+enough zero (suc m) s (b ∷ bs) marks p q = absurd (omega arith)
+enough (suc n) zero s [] marks p q = refl
+enough (suc n) zero s (b ∷ bs) marks p q = absurd (omega arith)
+enough (suc n) (suc m) s [] marks p q = refl
+enough (suc n) (suc m) s (b ∷ bs) marks p q =
+    let t = turn s (b ∷ bs) (first_mark marks) in
+    let h = turn-shorter s b bs (first_mark marks) in
+    ap (onto t.reply t.onward) (enough n m t.state t.rest (drop 1 marks) (omega (arith, h)) (omega (arith, h)))
+
+session_from-cons : (s : State) (b : ℕ) (bs : List ℕ) (mark : Bool) (marks : List Bool) → session_from s (b ∷ bs) (mark ∷ marks)
+    ≡ onto (turn s (b ∷ bs) mark).reply (turn s (b ∷ bs) mark).onward (session_from (turn s (b ∷ bs) mark).state (turn s (b ∷ bs) mark).rest marks)
+unfolding session_from
+session_from-cons s b bs mark marks =
+    let t = turn s (b ∷ bs) mark in
+    let h = turn-shorter s b bs mark in
+    ap (onto t.reply t.onward) (enough (length bs) (length t.rest) t.state t.rest marks (omega (arith, h)) (omega arith))
+
+-- a session whose first command is known
+pub session_from-turn : (s : State) (input : List ℕ) (mark : Bool) (marks : List Bool) (t : Turn) → 0 < length input → turn s input mark ≡ t
+    → session_from s input (mark ∷ marks) ≡ onto t.reply t.onward (session_from t.state t.rest marks)
+session_from-turn s [] mark marks t some e = absurd (omega arith)
+session_from-turn s (b ∷ bs) mark marks t some e =
+    session_from-cons s b bs mark marks ∙ ap (λ (u : Turn). onto u.reply u.onward (session_from u.state u.rest marks)) e
+
+-- a session with no command
+pub session_from-empty : (s : State) (marks : List Bool) → session_from s [] marks ≡ record { text = []; ending = EndOfInput }
+unfolding session_from
+session_from-empty s marks = refl

@@ -1,0 +1,36 @@
+use crate::ending::End;
+use crate::report::Report;
+
+/// What is written for one command.
+#[derive(Drop)]
+pub enum Reply {
+    /// A line that is known beforehand, with its line end.
+    Line(&'static str),
+    /// The report of a check, which its status follows.
+    Checked(Report),
+}
+
+/// The answer to one command: its reply, and how the session ends if it does.
+#[derive(Drop)]
+pub struct Answer {
+    pub reply: Reply,
+    pub end: Option<End>,
+}
+
+impl Answer {
+    /// A line, after which the session goes on.
+    pub fn line(text: &'static str) -> Self {
+        Answer {
+            reply: Reply::Line(text),
+            end: None,
+        }
+    }
+
+    /// A line, after which the session ends.
+    pub fn last(text: &'static str, end: End) -> Self {
+        Answer {
+            reply: Reply::Line(text),
+            end: Some(end),
+        }
+    }
+}
