@@ -4,6 +4,7 @@ pub mod Going
 pub mod Moving
 pub mod Refusals
 pub mod RepeatLemmas
+pub mod Served
 pub mod SortLemmas
 pub mod TextLemmas
 pub mod Texts

@@ -8,7 +8,7 @@ use Rattle.std.specs.Io.KnownBytes.{Consumes}
 use Rattle.dmypy.specs.Reading.{Advances, work_left}
 use Rattle.dmypy.specs.Input.{has_line_feed}
 
-append_nil : (xs : List ℕ) → xs ++ [] ≡ xs
+pub append_nil : (xs : List ℕ) → xs ++ [] ≡ xs
 append_nil [] = refl
 append_nil (x ∷ xs) = ap (λ ys. x ∷ ys) (append_nil xs)
 
@@ -129,11 +129,12 @@ pub work_read : (ended : Bool) (held : List ℕ) (calls turns now : ℕ) → end
 work_read ended held calls turns now e h less = rw (e, h) (omega arith)
 
 -- What was read of the bytes that an `add` announces: `rest` are still to come.
-pub record BodySoFar (left : Option (List ℕ)) (held : List ℕ) (left' : Option (List ℕ)) (held' items : List ℕ) (kept wanted : Bool) (size rest : ℕ) : Type 0 where
+pub record BodySoFar (left : Option (List ℕ)) (held : List ℕ) (left' : Option (List ℕ)) (held' items : List ℕ) (kept wanted over over' : Bool) (size rest : ℕ) : Type 0 where
   pub used : List ℕ
   pub moved : Advances left held left' held' used
   pub counted : length used + rest ≡ size
   pub kept_is : kept ≡ true → (items ≡ used) × (wanted ≡ true)
+  pub idle : over ≡ true → (used ≡ []) × (over' ≡ true)
 
 part_of_some : (most n m : ℕ) → 0 < most → n ≡ 0 → n ≡ min most (m + 1) → ⊥
 part_of_some most n m some none e = omega arith
@@ -143,24 +144,28 @@ pub part_of_none : (most : ℕ) (part held : List ℕ) → 0 < most → length p
 part_of_none most part [] some none e = refl
 part_of_none most part (x ∷ xs) some none e = absurd (part_of_some most (length part) (length xs) some none (e ∙ simp unary_clauses))
 
+still_open : {P : Type 0} (over : Bool) → over ≡ false → over ≡ true → P
+still_open over e f = cc
+
 -- the bytes are read on when none is held
-pub body_refilled : (left left' left'' : Option (List ℕ)) (held held' held'' items : List ℕ) (kept wanted : Bool) (size rest : ℕ)
-    → BodySoFar left held left' held' items kept wanted size rest → held' ≡ [] → Advances left' [] left'' held'' []
-    → BodySoFar left held left'' held'' items kept wanted size rest
-body_refilled left left' left'' held held' held'' items kept wanted size rest s e a = record {
+pub body_refilled : (left left' left'' : Option (List ℕ)) (held held' held'' items : List ℕ) (kept wanted over over' over'' : Bool) (size rest : ℕ)
+    → BodySoFar left held left' held' items kept wanted over over' size rest → over' ≡ false → held' ≡ [] → Advances left' [] left'' held'' []
+    → BodySoFar left held left'' held'' items kept wanted over over'' size rest
+body_refilled left left' left'' held held' held'' items kept wanted over over' over'' size rest s o e a = record {
   used = s.used;
   moved = advances_read left left' left'' held held' held'' s.used s.moved e a;
   counted = s.counted;
   kept_is = s.kept_is;
+  idle = λ ended. still_open over' o (s.idle ended).1;
 }
 
 -- a part of what is held is used; where it is kept it follows what is kept
-pub body_on : (left left' : Option (List ℕ)) (held held' held'' items items' part : List ℕ) (kept kept' wanted : Bool) (size rest count : ℕ)
-    → BodySoFar left held left' held' items kept wanted size rest → part ≡ take (length part) held' → length part ≡ min rest (length held')
+pub body_on : (left left' : Option (List ℕ)) (held held' held'' items items' part : List ℕ) (kept kept' wanted over over' over'' : Bool) (size rest count : ℕ)
+    → BodySoFar left held left' held' items kept wanted over over' size rest → over' ≡ false → part ≡ take (length part) held' → length part ≡ min rest (length held')
     → length part ≡ count → held'' ≡ drop count held'
     → (kept' ≡ true → (kept ≡ true) × (items' ≡ items ++ part))
-    → BodySoFar left held left' held'' items' kept' wanted size (rest - count)
-body_on left left' held held' held'' items items' part kept kept' wanted size rest count s e m n h k =
+    → BodySoFar left held left' held'' items' kept' wanted over over'' size (rest - count)
+body_on left left' held held' held'' items items' part kept kept' wanted over over' over'' size rest count s o e m n h k =
     let front : part ≡ take count held' = subst (λ k. part ≡ take k held') n e in
     let whole : part ++ held'' ≡ held' = rw (front, h) (take-append-drop count held') in
     record {
@@ -168,6 +173,7 @@ body_on left left' held held' held'' items items' part kept kept' wanted size re
       moved = advances_on left left' held held' held'' s.used part s.moved (sym whole);
       counted = omega (arith, length-append s.used part, s.counted);
       kept_is = λ yes. let p = k yes in let q = s.kept_is p.0 in (p.1 ∙ ap (λ zs. zs ++ part) q.0, q.1);
+      idle = λ ended. still_open over' o (s.idle ended).1;
     }
 
 -- a window whose start moves up

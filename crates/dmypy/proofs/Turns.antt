@@ -1,16 +1,20 @@
 -- Commands at the front of an input, and the sessions that follow them.
-use Rattle.std.proofs.Common.{◌≡◌, ℕ, zero, suc, ◌+◌, ◌-◌, ◌<◌, ◌≤◌, Bool, true, false, if◌then◌else◌, ◌==◌, ◌&&◌, nat_lt, List, [], ◌∷◌, ◌++◌, length, take, drop, Option, None, Some, refl, sym, ap, subst, ◌∙◌, arith, append_assoc, length-append}
+use Rattle.std.proofs.Common.{◌≡◌, ℕ, zero, suc, ◌+◌, ◌-◌, ◌<◌, ◌≤◌, Bool, true, false, if◌then◌else◌, ◌==◌, ◌&&◌, nat_lt, List, [], ◌∷◌, ◌++◌, length, take, drop, Option, None, Some, IsTrue, unwrap_or, refl, sym, ap, subst, ◌∙◌, arith, append_assoc, length-append}
 use Rattle.std.proofs.lemmas.List.{length-take, length-drop}
+use Rattle.std.proofs.Math.Seq.{take-append_seam, drop-append_seam}
 use Rattle.std.proofs.lemmas.Bool.Decides.{nat_tests}
 use Rattle.dmypy.specs.Command.{Spelled, add, endless, check, stop, unknown, spelled}
 use Rattle.dmypy.specs.Input.{has_line_feed, first_line, after_line, command_line}
 use Rattle.dmypy.specs.Refusal.{refusal_text, add_refusal, or_memory}
-use Rattle.dmypy.specs.Session.{Turn, Session, turn, act, add_turn, add_answer, check_turn, last_turn, goes_on, ends, onto, session_within, session_from, first_mark}
+use Rattle.dmypy.specs.Session.{Turn, Session, turn, act, add_turn, add_answer, check_turn, check_reply, after_check, with_file, ok, refused, last_turn, goes_on, ends, onto, session_within, session_from, first_mark}
+use Rattle.dmypy.specs.Runs.{IsLast}
 use Rattle.dmypy.specs.Workspace.{File, State}
+use Rattle.dmypy.specs.Fresh.{fresh}
+use Rattle.dmypy.specs.Report.{Report}
 use Rattle.dmypy.specs.declared.refusal.Refusal.{Refusal}
 use Rattle.dmypy.specs.declared.refusal.Refusal.TheVariants as refusal
 use Rattle.dmypy.specs.declared.ending.End.TheVariants.{EndOfInput, Broken}
-use Rattle.dmypy.proofs.Moving.{take_whole}
+use Rattle.dmypy.proofs.Moving.{take_whole, append_nil}
 
 -- a line that a line feed ends
 pub first_line-fed : (raw rest : List ℕ) → has_line_feed raw ≡ false → first_line (raw ++ 10 ∷ rest) ≡ raw
@@ -127,3 +131,66 @@ session_from-turn s (b ∷ bs) mark marks t some e =
 pub session_from-empty : (s : State) (marks : List Bool) → session_from s [] marks ≡ record { text = []; ending = EndOfInput }
 unfolding session_from
 session_from-empty s marks = refl
+
+-- a check that is done
+pub check_done : (s s' : State) (report : Report) (rest : List ℕ) → report ≡ fresh s.present → s' ≡ after_check s
+    → check_turn s false rest ≡ record { reply = check_reply report; state = s'; onward = goes_on; rest = rest }
+unfolding check_turn
+check_done s s' report rest e f = rw (e, f) refl
+
+-- and one that is refused memory
+pub check_refused : (s s' : State) (rest : List ℕ) → s' ≡ s → check_turn s true rest ≡ refused refusal.Memory s' rest
+unfolding check_turn
+check_refused s s' rest e = rw e refl
+
+enough_bytes : (bytes rest : List ℕ) (size : ℕ) → length bytes ≡ size → nat_lt (length (bytes ++ rest)) size ≡ false
+enough_bytes bytes rest size e = let long : size ≤ length (bytes ++ rest) = omega (arith, length-append bytes rest) in grind (arith, nat_tests)
+
+too_few_bytes : (rest : List ℕ) (size : ℕ) → length rest < size → nat_lt (length rest) size ≡ true
+too_few_bytes rest size e = grind (arith, nat_tests)
+
+-- an `add` whose bytes came
+pub add_whole : (s : State) (path : List ℕ) (size : ℕ) (wanting : Bool) (bytes rest : List ℕ) → length bytes ≡ size
+    → add_turn s path size wanting (bytes ++ rest)
+        ≡ add_answer (or_memory (add_refusal s.present path size) wanting) s (record { path = path; bytes = bytes }) rest
+unfolding add_turn
+add_whole s path size wanting bytes rest e =
+    let front : take size (bytes ++ rest) ≡ bytes = subst (λ n. take n (bytes ++ rest) ≡ bytes) e (take-append_seam bytes rest) in
+    let back : drop size (bytes ++ rest) ≡ rest = subst (λ n. drop n (bytes ++ rest) ≡ rest) e (drop-append_seam bytes rest) in
+    rw (enough_bytes bytes rest size e, front, back) refl
+
+-- and one whose bytes did not all come
+pub add_short : (s : State) (path : List ℕ) (size : ℕ) (wanting : Bool) (rest : List ℕ) → length rest < size
+    → add_turn s path size wanting rest ≡ last_turn (refusal_text refusal.Truncated) s Broken
+unfolding add_turn
+add_short s path size wanting rest few = rw (too_few_bytes rest size few) refl
+
+-- the file is added
+pub add_done : (s s' : State) (path : List ℕ) (size : ℕ) (bytes rest : List ℕ) → length bytes ≡ size → add_refusal s.present path size ≡ None
+    → s' ≡ with_file s (record { path = path; bytes = bytes })
+    → add_turn s path size false (bytes ++ rest) ≡ record { reply = ok; state = s'; onward = goes_on; rest = rest }
+add_done s s' path size bytes rest e none after =
+    add_whole s path size false bytes rest e ∙ rw (none, after) refl
+
+-- memory is wanting
+pub add_wanting : (s s' : State) (path : List ℕ) (size : ℕ) (bytes rest : List ℕ) → length bytes ≡ size → add_refusal s.present path size ≡ None
+    → s' ≡ s → add_turn s path size true (bytes ++ rest) ≡ refused refusal.Memory s' rest
+add_wanting s s' path size bytes rest e none same = add_whole s path size true bytes rest e ∙ rw (none, same) refl
+
+-- the file is refused
+pub add_refused : (s s' : State) (path : List ℕ) (size : ℕ) (wanting : Bool) (why : Refusal) (bytes rest : List ℕ) → length bytes ≡ size
+    → add_refusal s.present path size ≡ Some why → s' ≡ s → add_turn s path size wanting (bytes ++ rest) ≡ refused why s' rest
+add_refused s s' path size wanting why bytes rest e some same = add_whole s path size wanting bytes rest e ∙ rw (some, same) refl
+
+-- the file is refused, for the reason that is told first or for want of memory
+pub add_not_kept : (s : State) (path : List ℕ) (size : ℕ) (told : Option Refusal) (bytes rest : List ℕ) → length bytes ≡ size
+    → told ≡ add_refusal s.present path size → add_turn s path size true (bytes ++ rest) ≡ refused (unwrap_or told refusal.Memory) s rest
+add_not_kept s path size None bytes rest e is = add_wanting s s path size bytes rest e (sym is) refl
+add_not_kept s path size (Some why) bytes rest e is = add_refused s s path size true why bytes rest e (sym is) refl
+
+-- the bytes that came are not all, and nothing comes after them
+pub add_broken : (s : State) (path : List ℕ) (size : ℕ) (wanting ended : Bool) (bytes rest : List ℕ) → length bytes < size → IsTrue ended → IsLast ended rest
+    → add_turn s path size wanting (bytes ++ rest) ≡ last_turn (refusal_text refusal.Truncated) s Broken
+add_broken s path size wanting ended bytes rest few told last =
+    let none : rest ≡ [] = last told in
+    add_short s path size wanting (bytes ++ rest) (rw (none, append_nil bytes) few)

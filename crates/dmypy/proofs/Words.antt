@@ -33,7 +33,7 @@ split_at_some p n i (x ∷ xs) e =
           (omega (arith, h.0), rw (more, next, h.1) refl)
     ] e
 
-take_rest : (k : ℕ) (xs : List ℕ) → take (length xs - k) (drop k xs) ≡ drop k xs
+pub take_rest : (k : ℕ) (xs : List ℕ) → take (length xs - k) (drop k xs) ≡ drop k xs
 take_rest k xs = take_whole (length xs - k) (drop k xs) (omega (arith, length-drop k xs))
 
 -- a word that a space ends, and what stands after it

@@ -2,7 +2,7 @@ ghost use Rattle.std.specs.Prelude.{◌≡◌, ◌+◌, ◌-◌, ◌*◌, ◌<�
 ghost use Rattle.dmypy.specs.Counted.{inner_of, calls_of, faults_of};
 ghost use Rattle.dmypy.specs.Reading.{Advances, IsReading, ComesOfReading, work_left};
 ghost use Rattle.dmypy.specs.Window.{held_of, ended_of};
-ghost use Rattle.dmypy.specs.Input.{has_line_feed};
+ghost use Rattle.dmypy.specs.Input.{has_line_feed, command_line};
 ghost use Rattle.dmypy.specs.Body.{CameAs};
 
 use crate::counted::Counted;
@@ -53,6 +53,18 @@ pub fn read_line<R: Read>(
     Ok(false)
 }
 
+/// The command on a line: the line without the carriage return before its line feed. At the end of the input a carriage
+/// return stays.
+pub fn command_line(line: &[u8], fed: bool) -> &[u8]
+    ensures { result.now ≡ command_line line.now fed }
+{
+    if fed && line.last() == Some(&b'\r') {
+        &line[..line.len() - 1]
+    } else {
+        line
+    }
+}
+
 /// What came of the bytes that an `add` announces.
 #[derive(Drop)]
 pub enum Body {
@@ -77,7 +89,8 @@ pub fn read_body<R: Read>(
     ensures reading { IsReading (R.remaining (inner_of reader.new)) (ended_of window.new) (calls_of reader.new) turns }
     ensures body { IfOk result (λ body. (bytes : List ℕ)
         × Advances (R.remaining (inner_of reader.old)) (held_of window.old) (R.remaining (inner_of reader.new)) (held_of window.new) bytes
-        × CameAs body bytes size wanted (ended_of window.new)) }
+        × CameAs body bytes size wanted (ended_of window.new)
+        × (ended_of window.old ≡ true → (bytes ≡ []) × (ended_of window.new ≡ true))) }
     ensures err { OnErr result ((bytes : List ℕ)
         × Advances (R.remaining (inner_of reader.old)) (held_of window.old) (R.remaining (inner_of reader.new)) (held_of window.new) bytes) }
     ensures open { OnErr result (ended_of window.new ≡ false) }

@@ -14,6 +14,8 @@ mod path;
 pub mod refusal;
 pub mod reply;
 pub mod report;
+mod serving;
 pub mod window;
+mod writing;
 
 fn main() {}

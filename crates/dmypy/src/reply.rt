@@ -1,3 +1,5 @@
+ghost use Rattle.std.specs.Prelude.{◌≡◌, None, Some};
+
 use crate::ending::End;
 use crate::report::Report;
 
@@ -18,8 +20,13 @@ pub struct Answer {
 }
 
 impl Answer {
+    ghost use Rattle.dmypy.specs.Replies.{reply_bytes};
+
     /// A line, after which the session goes on.
-    pub fn line(text: &'static str) -> Self {
+    pub fn line(text: &'static str) -> Self
+        ensures reply { reply_bytes result.reply ≡ text.now }
+        ensures end { result.end ≡ None }
+    {
         Answer {
             reply: Reply::Line(text),
             end: None,
@@ -27,7 +34,10 @@ impl Answer {
     }
 
     /// A line, after which the session ends.
-    pub fn last(text: &'static str, end: End) -> Self {
+    pub fn last(text: &'static str, end: End) -> Self
+        ensures reply { reply_bytes result.reply ≡ text.now }
+        ensures end { result.end ≡ Some end }
+    {
         Answer {
             reply: Reply::Line(text),
             end: Some(end),

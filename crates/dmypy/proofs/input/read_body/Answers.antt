@@ -17,7 +17,7 @@ loop-left-preserved-then-count-eq0 g c =
     let none : held_of c.loop-left.window ≡ [] = part_of_none _ _ _ (search rules) (search rules) c.first-part.ensures.most in
     record {
       reading = search rules;
-      body = body_refilled _ _ _ _ _ _ _ _ _ _ _ c.loop-left.invariant.body none (search rules);
+      body = body_refilled _ _ _ _ _ _ _ _ _ _ (ended_of c.loop-left.window) _ _ _ c.loop-left.invariant.body (search rules) none (search rules);
       work = omega (arith, work_read (ended_of c.loop-left.window) (held_of c.loop-left.window) (calls_of c.loop-left.reader) c.args.turns _ (search rules) none c.in_ok-refill.ensures.work);
     }
 
@@ -30,6 +30,6 @@ loop-left-preserved g c =
     let less = work_skip _ _ _ _ _ (calls_of c.loop-left.reader) c.args.turns (search rules) c.skip.ensures.ended c.skip.ensures.held c.if-count-eq0.false (omega arith) in
     record {
       reading = search rules;
-      body = body_on _ _ _ _ _ _ _ _ _ _ _ _ _ _ c.loop-left.invariant.body c.first-part.ensures.front c.first-part.ensures.most refl c.skip.ensures.held c.keep_part-kept.ensures;
+      body = body_on _ _ _ _ _ _ _ _ _ _ _ _ (ended_of c.loop-left.window) _ _ _ _ c.loop-left.invariant.body (search rules) c.first-part.ensures.front c.first-part.ensures.most refl c.skip.ensures.held c.keep_part-kept.ensures;
       work = omega (arith, less);
     }

@@ -1,0 +1,4 @@
+pub mod KeywordLemmas
+pub mod ReadLemmas
+pub mod ScanLemmas
+pub mod TextLemmas

@@ -1,0 +1,6 @@
+pub mod Cuts
+pub mod Fault
+pub mod Keywords
+pub mod Lines
+pub mod Texts
+pub mod View

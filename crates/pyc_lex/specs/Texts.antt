@@ -1,0 +1,35 @@
+-- The text of each token as a slice of the source.
+use Rattle.std.specs.Prelude.{ℕ, ◌<◌, ◌≤◌, List, [], ◌∷◌, ◌++◌, length, slice_range}
+use Rattle.pyc_lex.specs.declared.tokens.Token.{Token}
+use Rattle.pyc_lex.specs.declared.cut.Piece.{Piece}
+use Rattle.pyc_lex.specs.declared.cut.Piece.TheVariants as piece
+use Rattle.pyc_lex.specs.Cuts.{Cut, found, bad}
+use Rattle.pyc_lex.specs.Lines.{pieces_of}
+
+-- the tokens of some lines, in order
+abbrev pub tokens_in : List (List Token) → List Token
+tokens_in [] = []
+tokens_in (line ∷ lines) = line ++ tokens_in lines
+
+-- the bytes of a source at a token
+abbrev pub slice_at : List ℕ → Token → List ℕ
+slice_at source token = slice_range source token.span.start token.span.end
+
+-- a token's bytes lie within the source, and there is one at least
+abbrev pub IsWithin : List ℕ → Token → Type 0
+IsWithin source token = (token.span.start < token.span.end) × (token.span.end ≤ length source)
+
+-- a token's text before other texts; what is no token adds none
+abbrev pub with_token_text : Piece → List ℕ → List (List ℕ) → List (List ℕ)
+with_token_text (piece.Token kind) text texts = text ∷ texts
+with_token_text _ text texts = texts
+
+-- the texts of the tokens among some pieces, as they were cut
+unfoldable pub texts_among : List Cut → List (List ℕ)
+texts_among [] = []
+texts_among (bad fault ∷ later) = texts_among later
+texts_among (found p text ∷ later) = with_token_text p text (texts_among later)
+
+-- the texts of a source's tokens, as they were cut
+unfoldable pub token_texts : List ℕ → List (List ℕ)
+token_texts source = texts_among (pieces_of source)
