@@ -1,9 +1,21 @@
 -- A run of a session, command by command.
-use Rattle.std.proofs.Common.{◌≡◌, ℕ, Bool, true, false, List, [], ◌∷◌, ◌++◌, length, take, drop, Option, None, Some, refl, sym, ap, subst, ◌∙◌, arith, append_assoc}
-use Rattle.std.specs.Prelude.{OnErr, Result, Ok, Err}
+use Rattle.std.proofs.Common.{◌≡◌, ℕ, Bool, true, false, List, [], ◌∷◌, ◌++◌, length, take, drop, ◌-◌, Option, None, Some, IsTrue, ◌<◌, refl, sym, ap, subst, ◌∙◌, arith, append_assoc, length-append}
+use Rattle.std.specs.Prelude.{OnErr, IfOk, IfSome, Result, Ok, Err}
 use Rattle.std.specs.Io.KnownBytes.{Appends}
-use Rattle.dmypy.specs.Replies.{WritesPart}
-use Rattle.dmypy.proofs.Moving.{append_nil}
+use Rattle.std.specs.Io.KnownBytes.{IsAtEnd}
+use Rattle.dmypy.specs.Reading.{Advances}
+use Rattle.dmypy.specs.Replies.{WritesPart, Serves, turn_of, turn_after, reply_bytes}
+use Rattle.dmypy.specs.Runs.{Runs, Tells, IsLast}
+use Rattle.dmypy.specs.Session.{Session, Turn, Onward, goes_on, ends, onto, turn, session_from, session_text, session_end}
+use Rattle.dmypy.specs.Window.{held_of, ended_of}
+use Rattle.dmypy.specs.Workspace.{State, start}
+use Rattle.dmypy.specs.declared.ending.End.{End}
+use Rattle.dmypy.specs.declared.ending.End.TheVariants.{EndOfInput}
+use Rattle.dmypy.specs.declared.ending.RunFault.{RunFault}
+use Rattle.dmypy.specs.declared.reply.Answer.{Answer}
+use Rattle.dmypy.specs.declared.window.Window.{Window}
+use Rattle.dmypy.proofs.Turns.{session_from-turn, session_from-empty}
+use Rattle.dmypy.proofs.Moving.{append_nil, consumes_none, advances_none, advances_trans}
 
 pub appends_none : (told : Option (List ℕ)) → Appends told told []
 appends_none None = tt
@@ -67,3 +79,210 @@ part_before told told' xs ys p = record {
 pub at_fault : {T E : Type 0} (r : Result T E) (P Q : Type 0) → (P → Q) → OnErr r P → OnErr r Q
 at_fault (Ok x) P Q f p = tt
 at_fault (Err e) P Q f p = f p
+
+-- A session that is going on: what was taken, marked and written so far comes before what the rest of the input brings.
+pub record Going (left left' : Option (List ℕ)) (held' : List ℕ) (told told' : Option (List ℕ)) (s : State) (ended : Bool) : Type 0 where
+  pub taken : List ℕ
+  pub marks : List Bool
+  pub written : List ℕ
+  pub moved : Advances left [] left' held' taken
+  pub appends : Appends told told' written
+  pub onward : (rest : List ℕ) (more : List Bool) → IsLast ended rest
+    → session_from start (taken ++ rest) (marks ++ more) ≡ onto written goes_on (session_from s rest more)
+
+pub going_none : (left told : Option (List ℕ)) (held : List ℕ) (s : State) (ended : Bool) → held ≡ [] → s ≡ start → Going left left held told told s ended
+going_none left told held s ended e f = record {
+  taken = [];
+  marks = [];
+  written = [];
+  moved = subst (λ zs. Advances left [] left zs []) (sym e) (advances_none left []);
+  appends = appends_none told;
+  onward = λ rest more last. rw f refl;
+}
+
+-- what a served command adds to a session that is going on
+step_on : (left left' told told' : Option (List ℕ)) (held' : List ℕ) (s s' : State) (ended' : Bool)
+    (g : Going left left' held' told told' s false) (bytes : List ℕ) (mark : Bool) (answer : Answer)
+    → Serves s s' bytes mark ended' (Some answer)
+    → (rest : List ℕ) (more : List Bool) → IsLast ended' rest
+    → session_from start ((g.taken ++ bytes) ++ rest) ((g.marks ++ mark ∷ []) ++ more)
+      ≡ onto g.written goes_on (onto (turn_of answer s' rest).reply (turn_of answer s' rest).onward (session_from (turn_of answer s' rest).state (turn_of answer s' rest).rest more))
+step_on left left' told told' held' s s' ended' g bytes mark answer serves rest more last =
+    let some : 0 < length (bytes ++ rest) = omega (arith, length-append bytes rest, serves.0) in
+    ap (λ zs. session_from start zs ((g.marks ++ mark ∷ []) ++ more)) (append_assoc g.taken bytes rest)
+    ∙ ap (λ ms. session_from start (g.taken ++ (bytes ++ rest)) ms) (append_assoc g.marks (mark ∷ []) more)
+    ∙ g.onward (bytes ++ rest) (mark ∷ more) (λ never. cc)
+    ∙ ap (onto g.written goes_on) (session_from-turn s (bytes ++ rest) mark more (turn_of answer s' rest) some (serves.1 rest last))
+
+-- a reply is written, and the session goes on
+pub going_on : (left left' left'' told told' told'' : Option (List ℕ)) (held' held'' : List ℕ) (s s' : State) (ended ended' : Bool) (bytes : List ℕ) (mark : Bool) (answer : Answer)
+    → Going left left' held' told told' s ended → ended ≡ false → Advances left' held' left'' held'' bytes
+    → Serves s s' bytes mark ended' (Some answer) → answer.end ≡ None → Appends told' told'' (reply_bytes answer.reply)
+    → Going left left'' held'' told told'' s' ended'
+going_on left left' left'' told told' told'' held' held'' s s' ended ended' bytes mark answer g0 unended moved serves end appends =
+    let g : Going left left' held' told told' s false = subst (λ t. Going left left' held' told told' s t) unended g0 in
+    record {
+      taken = g.taken ++ bytes;
+      marks = g.marks ++ mark ∷ [];
+      written = g.written ++ reply_bytes answer.reply;
+      moved = advances_trans left left' left'' [] held' held'' g.taken bytes g.moved moved;
+      appends = appends_trans told told' told'' g.written (reply_bytes answer.reply) g.appends appends;
+      onward = λ rest more last. step_on left left' told told' held' s s' ended' g bytes mark answer serves rest more last
+        ∙ rw (end, append_assoc) refl;
+    }
+
+-- a window whose reader told its end holds nothing
+pub held_none : (w : Window) → ended_of w ≡ true → held_of w ≡ []
+held_none w e = let same : w.end - w.start ≡ 0 = omega (arith, w.at_end e) in rw same refl
+
+-- where nothing comes after, nothing comes after what is held
+last_held : (ended : Bool) (held rest : List ℕ) → (IsTrue ended → held ≡ []) → IsLast ended rest → IsLast ended (held ++ rest)
+last_held ended held rest none last = λ told. rw (none told, last told) refl
+
+-- what is written after what was written
+text_onto : (written reply : List ℕ) (onward : Onward) (later : Session) → (tail : List ℕ) × ((onto written goes_on (onto reply onward later)).text ≡ (written ++ reply) ++ tail)
+text_onto written reply goes_on later = (later.text, sym (append_assoc written reply later.text))
+text_onto written reply (ends end) later = ([], sym (append_nil (written ++ reply)))
+
+written_ends : (written : List ℕ) → onto written goes_on (record { text = []; ending = EndOfInput }) ≡ record { text = written; ending = EndOfInput }
+written_ends written = ap (λ zs. record { text = zs; ending = EndOfInput }) (append_nil written)
+
+still_going : {ended : Bool} {P : Type 0} → ended ≡ false → IsTrue ended → P
+still_going {ended} e t = cc
+
+reply_part : (end : Option End) (s : State) (rest written reply part later tail : List ℕ) → reply ≡ part ++ later
+    → (written ++ (turn_after reply end s rest).reply) ++ tail ≡ (written ++ part) ++ (later ++ tail)
+reply_part None s rest written reply part later tail e = rw e (simp append_assoc)
+reply_part (Some end) s rest written reply part later tail e = rw e (simp append_assoc)
+
+-- the session ends after a reply
+pub runs_last : (left left' left'' told told' told'' : Option (List ℕ)) (held' held'' : List ℕ) (s s' : State) (ended ended' : Bool) (bytes : List ℕ) (mark : Bool) (answer : Answer) (end : End)
+    → Going left left' held' told told' s ended → ended ≡ false → Advances left' held' left'' held'' bytes
+    → Serves s s' bytes mark ended' (Some answer) → answer.end ≡ Some end → Appends told' told'' (reply_bytes answer.reply)
+    → (IsTrue ended' → IsAtEnd left'') → (IsTrue ended' → held'' ≡ [])
+    → Runs left left'' told told'' (Ok end)
+runs_last left left' left'' told told' told'' held' held'' s s' ended ended' bytes mark answer end g0 unended moved serves is_last appends at_end none =
+    let g : Going left left' held' told told' s false = subst (λ t. Going left left' held' told told' s t) unended g0 in
+    let all = advances_trans left left' left'' [] held' held'' g.taken bytes g.moved moved in
+    record {
+      taken = all.got;
+      ended = ended';
+      marks = g.marks ++ mark ∷ [];
+      written = g.written ++ reply_bytes answer.reply;
+      consumes = all.consumes;
+      at_end = at_end;
+      appends = appends_trans told told' told'' g.written (reply_bytes answer.reply) g.appends appends;
+      tells = λ rest more last.
+        ap (λ zs. session_from start zs ((g.marks ++ mark ∷ []) ++ more)) (ap (λ zs. zs ++ rest) all.seam ∙ append_assoc (g.taken ++ bytes) held'' rest)
+        ∙ step_on left left' told told' held' s s' ended' g bytes mark answer serves (held'' ++ rest) more (last_held ended' held'' rest none last)
+        ∙ rw is_last refl;
+    }
+
+-- the input ends before another command
+pub runs_ended : (left left' told told' : Option (List ℕ)) (held' : List ℕ) (s : State) (ended : Bool)
+    → Going left left' held' told told' s ended → ended ≡ true → (IsTrue ended → IsAtEnd left') → held' ≡ []
+    → Runs left left' told told' (Ok EndOfInput)
+runs_ended left left' told told' held' s ended g over at_end none = record {
+  taken = g.moved.got;
+  ended = ended;
+  marks = g.marks;
+  written = g.written;
+  consumes = g.moved.consumes;
+  at_end = at_end;
+  appends = g.appends;
+  tells = λ rest more last.
+    let nothing : rest ≡ [] = last over in
+    ap (λ zs. session_from start zs (g.marks ++ more)) (ap (λ zs. zs ++ rest) g.moved.seam ∙ append_assoc g.taken held' rest)
+    ∙ g.onward (held' ++ rest) more (last_held ended held' rest (λ _. none) last)
+    ∙ rw (none, nothing) (ap (onto g.written goes_on) (session_from-empty s more) ∙ written_ends g.written);
+}
+
+-- the input ends where no command begins
+pub going_last : (left left' left'' told told' : Option (List ℕ)) (held' held'' : List ℕ) (s s' : State) (ended ended' : Bool) (bytes : List ℕ)
+    → Going left left' held' told told' s ended → ended ≡ false → Advances left' held' left'' held'' bytes → bytes ≡ [] → s' ≡ s
+    → Going left left'' held'' told told' s' ended'
+going_last left left' left'' told told' held' held'' s s' ended ended' bytes g unended moved none same = record {
+  taken = g.taken ++ bytes;
+  marks = g.marks;
+  written = g.written;
+  moved = advances_trans left left' left'' [] held' held'' g.taken bytes g.moved moved;
+  appends = g.appends;
+  onward = λ rest more last. rw (none, append_nil g.taken, same) (g.onward rest more (still_going unended));
+}
+
+-- the reader fails
+pub runs_unread : (left left' left'' told told' : Option (List ℕ)) (held' held'' : List ℕ) (s : State) (ended ended' : Bool) (bytes : List ℕ) (why : RunFault)
+    → Going left left' held' told told' s ended → ended ≡ false → Advances left' held' left'' held'' bytes → ended' ≡ false
+    → Runs left left'' told told' (Err why)
+runs_unread left left' left'' told told' held' held'' s ended ended' bytes why g unended moved open_end =
+    let all = advances_trans left left' left'' [] held' held'' g.taken bytes g.moved moved in
+    record {
+      taken = all.got;
+      ended = ended';
+      marks = g.marks;
+      written = g.written;
+      consumes = all.consumes;
+      at_end = λ told. still_going open_end told;
+      appends = g.appends;
+      tells = λ rest more last.
+        ((session_from s (bytes ++ (held'' ++ rest)) more).text,
+          ap (λ (o : Session). o.text)
+          (ap (λ zs. session_from start zs (g.marks ++ more))
+            (ap (λ zs. zs ++ rest) all.seam ∙ append_assoc (g.taken ++ bytes) held'' rest ∙ append_assoc g.taken bytes (held'' ++ rest))
+          ∙ g.onward (bytes ++ (held'' ++ rest)) more (still_going unended)));
+    }
+
+-- the writer fails
+pub runs_unwritten : (left left' left'' told told' told'' : Option (List ℕ)) (held' held'' : List ℕ) (s s' : State) (ended ended' : Bool) (bytes : List ℕ) (mark : Bool) (answer : Answer) (why : RunFault)
+    → Going left left' held' told told' s ended → ended ≡ false → Advances left' held' left'' held'' bytes
+    → Serves s s' bytes mark ended' (Some answer) → WritesPart told' told'' (reply_bytes answer.reply)
+    → (IsTrue ended' → IsAtEnd left'') → (IsTrue ended' → held'' ≡ [])
+    → Runs left left'' told told'' (Err why)
+runs_unwritten left left' left'' told told' told'' held' held'' s s' ended ended' bytes mark answer why g0 unended moved serves part at_end none =
+    let g : Going left left' held' told told' s false = subst (λ t. Going left left' held' told told' s t) unended g0 in
+    let all = advances_trans left left' left'' [] held' held'' g.taken bytes g.moved moved in
+    record {
+      taken = all.got;
+      ended = ended';
+      marks = g.marks ++ mark ∷ [];
+      written = g.written ++ part.written;
+      consumes = all.consumes;
+      at_end = at_end;
+      appends = appends_trans told told' told'' g.written part.written g.appends part.appends;
+      tells = λ rest more last.
+        let t = turn_of answer s' (held'' ++ rest) in
+        let later = session_from t.state t.rest more in
+        let tail = text_onto g.written t.reply t.onward later in
+        let whole = step_on left left' told told' held' s s' ended' g bytes mark answer serves (held'' ++ rest) more (last_held ended' held'' rest none last) in
+        (part.later ++ tail.0,
+          ap (λ zs. (session_from start zs ((g.marks ++ mark ∷ []) ++ more)).text) (ap (λ zs. zs ++ rest) all.seam ∙ append_assoc (g.taken ++ bytes) held'' rest)
+          ∙ ap (λ (o : Session). o.text) whole ∙ tail.1
+          ∙ reply_part answer.end s' (held'' ++ rest) g.written (reply_bytes answer.reply) part.written part.later tail.0 part.seam);
+    }
+
+-- nothing was done
+pub runs_none : (left told : Option (List ℕ)) (why : RunFault) → Runs left left told told (Err why)
+runs_none left told why = record {
+  taken = [];
+  ended = false;
+  marks = [];
+  written = [];
+  consumes = consumes_none left;
+  at_end = λ never. cc;
+  appends = appends_none told;
+  tells = λ rest more last. ((session_from start rest more).text, refl);
+}
+
+-- what a run that ended wrote is the session of the whole input
+pub replies : (left left' told told' : Option (List ℕ)) (end : End) → Runs left left' told told' (Ok end)
+    → IfSome left (λ input. (marks : List Bool) × Appends told told' (session_text input marks) × (session_end input marks ≡ end))
+replies None left' told told' end r = tt
+replies (Some input) None told told' end r = absurd r.consumes
+replies (Some input) (Some ys) told told' end r =
+    let whole = ap (λ zs. session_from start zs (r.marks ++ [])) r.consumes ∙ r.tells ys [] r.at_end in
+    (r.marks ++ [], subst (λ zs. Appends told told' zs) (sym (ap (λ (o : Session). o.text) whole)) r.appends, ap (λ (o : Session). o.ending) whole)
+
+pub replies_ok : (left left' told told' : Option (List ℕ)) (result : Result End RunFault) → Runs left left' told told' result
+    → IfOk result (λ end. IfSome left (λ input. (marks : List Bool) × Appends told told' (session_text input marks) × (session_end input marks ≡ end)))
+replies_ok left left' told told' (Ok end) r = replies left left' told told' end r
+replies_ok left left' told told' (Err why) r = tt

@@ -1,8 +1,9 @@
 -- What a run of a session did: the bytes that it took and wrote, for every input that goes on from those bytes.
-use Rattle.std.specs.Prelude.{◌≡◌, ℕ, Bool, IsTrue, List, [], ◌++◌, length, Option, Result, Ok, Err}
+use Rattle.std.specs.Prelude.{◌≡◌, ℕ, ◌<◌, Bool, IsTrue, List, [], ◌++◌, length, Option, Result, Ok, Err}
 use Rattle.std.specs.Io.KnownBytes.{Consumes, IsAtEnd, Appends}
 use Rattle.dmypy.specs.declared.ending.End.{End}
 use Rattle.dmypy.specs.declared.ending.RunFault.{RunFault}
+use Rattle.dmypy.specs.declared.ending.RunFault.TheVariants as fault
 use Rattle.dmypy.specs.Session.{Session, session_from}
 use Rattle.dmypy.specs.Workspace.{start}
 
@@ -13,7 +14,7 @@ IsLast ended rest = IsTrue ended → rest ≡ []
 -- a run that ended wrote the whole session; one that stopped in the middle wrote what the session's text begins with
 abbrev pub Tells : Result End RunFault → List ℕ → Session → Type 0
 Tells (Ok end) written session = session ≡ record { text = written; ending = end }
-Tells (Err fault) written session = (later : List ℕ) × (session.text ≡ written ++ later)
+Tells (Err why) written session = (later : List ℕ) × (session.text ≡ written ++ later)
 
 -- A run from known bytes that were left to known bytes that are left, and from known bytes that were written to known
 -- bytes that are written: `taken` were read, `ended` tells whether the reader told its end, `marks` are the commands that
@@ -27,3 +28,10 @@ pub record Runs (left left' told told' : Option (List ℕ)) (result : Result End
   pub at_end : IsTrue ended → IsAtEnd left'
   pub appends : Appends told told' written
   pub tells : (rest : List ℕ) (more : List Bool) → IsLast ended rest → Tells result written (session_from start (taken ++ rest) (marks ++ more))
+
+-- what a fault of a run comes of, from the reader's faults and calls and the writer's faults and writes of no byte
+abbrev pub ComesOfRun : RunFault → ℕ → ℕ → ℕ → ℕ → Type 0
+ComesOfRun fault.Read faults calls unwritten turns = 0 < faults
+ComesOfRun fault.Write faults calls unwritten turns = 0 < unwritten
+ComesOfRun fault.TooManyTurns faults calls unwritten turns = calls ≡ turns
+ComesOfRun fault.Memory faults calls unwritten turns = ⊥

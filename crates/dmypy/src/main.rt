@@ -6,6 +6,7 @@ pub mod counted;
 pub mod daemon;
 pub mod ending;
 pub mod file;
+pub mod engine;
 mod fresh;
 mod input;
 pub mod message;
