@@ -2,7 +2,7 @@
 use Rattle.std.proofs.Common.{◌≡◌, ℕ, ◌+◌, ◌<◌, true, false, List, [], ◌∷◌, ◌++◌, map, filter, take, Bool, ◌==◌, IsTrue, ◌↔◌, eqb-true, length, get_or, refl, sym, ◌∙◌, ap, append-nil}
 use Rattle.std.proofs.lemmas.List.{map-append}
 use Rattle.std.proofs.lemmas.List.Elements.{filter-append}
-use Rattle.dmypy.specs.declared.report.Found.{Found as DeclaredFound}
+use Rattle.dmypy.specs.declared.checked.Found.{Found as DeclaredFound}
 use Rattle.std.specs.List.{concat}
 use Rattle.dmypy.specs.Report.{Found, found_in, has_error, report_of, printed_lines, paths_with_error, summary}
 use Rattle.dmypy.proofs.RepeatLemmas.{map-take_more}

@@ -1,7 +1,9 @@
 pub mod ErrorLemmas
 pub mod FoundLemmas
 pub mod Going
+pub mod MessageLemmas
 pub mod Moving
+pub mod OutcomeLemmas
 pub mod Refusals
 pub mod RepeatLemmas
 pub mod Served

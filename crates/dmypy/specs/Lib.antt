@@ -2,9 +2,11 @@ pub mod Body
 pub mod Command
 pub mod Counted
 pub mod Daemon
+pub mod FoundMessages
 pub mod Fresh
 pub mod Input
 pub mod Message
+pub mod Outcome
 pub mod Path
 pub mod Reading
 pub mod Refusal

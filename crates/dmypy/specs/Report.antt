@@ -4,9 +4,9 @@ use Rattle.std.specs.List.{concat}
 use Rattle.std.specs.declared.cmp.Ordering.{Ordering}
 use Rattle.std.specs.Ordering.{nat_cmp, ordering_then}
 use Rattle.std.specs.Cmp.Lexicographic.{slice_cmp}
-use Rattle.dmypy.specs.declared.report.Found.{Found as DeclaredFound}
+use Rattle.dmypy.specs.declared.checked.Found.{Found as DeclaredFound}
 use Rattle.dmypy.specs.declared.report.Located.{Located as DeclaredLocated}
-use Rattle.dmypy.specs.declared.report.Report.{Report as DeclaredReport}
+use Rattle.dmypy.specs.declared.checked.Report.{Report as DeclaredReport}
 use Rattle.dmypy.specs.Message.{Message, code_name, message_in}
 use Rattle.dmypy.specs.Sort.{sorted}
 

@@ -6,12 +6,12 @@ ghost use Rattle.dmypy.specs.Report.{report_in};
 ghost use Rattle.dmypy.specs.Session.{after_check, with_file};
 ghost use Rattle.dmypy.specs.Workspace.{State, start};
 
-use crate::file::{File, make_file};
-use crate::fresh::report_on;
+use crate::checked::Report;
+use crate::file::File;
+use crate::fresh::fresh_report;
 use crate::options::Options;
 use crate::path::is_file_path;
 use crate::refusal::Refusal;
-use crate::report::Report;
 use std::alloc::{AllocError, Global};
 use std::marker::Model;
 use std::rc::Rc;
@@ -78,7 +78,7 @@ impl Daemon {
         ensures after { OnOk result (self.new ≡ with_file self.old (record { path = path.now; bytes = bytes.items })) }
         ensures same { OnErr result (self.new ≡ self.old) }
     {
-        let file = Rc::new(self.alloc, make_file(self.alloc, path, bytes)?)?;
+        let file = Rc::new(self.alloc, File::new(self.alloc, path, bytes)?)?;
         self.present.push(file)?;
         Ok(())
     }
@@ -89,7 +89,7 @@ impl Daemon {
         ensures after { OnOk result (self.new ≡ after_check self.old) }
         ensures same { OnErr result (self.new ≡ self.old) }
     {
-        let report = report_on(self.alloc, self.present.as_slice())?;
+        let report = fresh_report(self.alloc, self.present.as_slice())?;
         self.last = share(self.alloc, self.present.as_slice())?;
         Ok(report)
     }

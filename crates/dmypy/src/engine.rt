@@ -19,6 +19,11 @@ use crate::writing::write_reply;
 use std::alloc::Global;
 use std::io::{Read, Write};
 
+#[cfg(test)]
+mod fakes;
+#[cfg(test)]
+mod tests;
+
 /// Runs a session: reads commands and writes their replies, each before the next read waits. The buffers are made
 /// before the first read. It ends at `stop`, at the end of the input, or where the input cannot be read on.
 pub fn run<R: Read, W: Write>(

@@ -1,7 +1,7 @@
 ghost use Rattle.std.specs.Prelude.{◌≡◌, None, Some};
 
 use crate::ending::End;
-use crate::report::Report;
+use crate::checked::Report;
 
 /// What is written for one command.
 #[derive(Drop)]

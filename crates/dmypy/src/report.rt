@@ -3,29 +3,13 @@
 ghost use Rattle.std.specs.Prelude.{◌≡◌, ◌++◌, map, length, IfOk, OnOk, string_bytes};
 ghost use Rattle.dmypy.specs.Report.{found_in, report_in, report_of, located_in, located_messages, errors_in_order, printed_line, without_repeats, paths_with_error, counted, summary};
 
-use crate::message::Message;
+use crate::checked::{Found, Report};
 use indexmap::IndexSet;
 use itoa::Buffer;
 use std::alloc::{AllocError, Global};
 
 #[cfg(test)]
 mod tests;
-
-/// What was found in one file: its path as it is printed, and its errors in any order.
-#[derive(Debug, Drop)]
-pub struct Found<'a> {
-    pub path: &'a str,
-    pub messages: Vec<Message>,
-}
-
-/// What is printed for the files that were checked.
-#[derive(Debug, Drop)]
-pub struct Report {
-    /// The errors and the summary, each line with its line end.
-    pub text: String,
-    /// Whether there is no error.
-    pub clean: bool,
-}
 
 /// An error with the path of its file. The order of these is the order in which they are printed.
 #[derive(Clone, Copy, PartialEq, Eq, PartialOrd, Ord)]
@@ -40,7 +24,7 @@ struct Located<'a> {
 /// The report on the files that were checked, one `Found` each. Its text has a line for each error, in the order of path, line,
 /// column, code and text, where of equal lines the first alone is printed, and then a summary. The only error is that memory runs
 /// out.
-pub fn make_report(alloc: Global, found: &[Found<'_>]) -> Result<Report, AllocError>
+pub fn report(alloc: Global, found: &[Found<'_>]) -> Result<Report, AllocError>
     ensures fresh { IfOk result (λ report. report_in report ≡ report_of (map found_in found.now)) }
 {
     let errors = errors_in_order(alloc, found)?;

@@ -8,7 +8,7 @@ ghost use Rattle.dmypy.specs.Session.{check_reply};
 use crate::counted::Counted;
 use crate::ending::RunFault;
 use crate::reply::Reply;
-use crate::report::Report;
+use crate::checked::Report;
 use std::io::Write;
 
 /// Writes a reply whole.

@@ -1,5 +1,5 @@
 use super::*;
-use crate::message::Code;
+use crate::message::{Code, Message};
 use std::test::Fail;
 
 const INCOMPATIBLE: &str =
@@ -27,7 +27,7 @@ fn one_error_in_one_file(rt: HostRuntime) -> Result<(), Fail> {
         path: "a.py",
         messages: vec![in rt.alloc(); error]?,
     };
-    let report = make_report(rt.alloc(), &[found])?;
+    let report = report(rt.alloc(), &[found])?;
     assert_eq!(rt;
         report.text.as_str(),
         "a.py:1: error: Incompatible types in assignment (expression has type \"str\", variable has type \"int\")  [assignment]\nFound 1 error in 1 file (checked 1 source file)\n"
@@ -38,7 +38,7 @@ fn one_error_in_one_file(rt: HostRuntime) -> Result<(), Fail> {
 
 #[test]
 fn no_file(rt: HostRuntime) -> Result<(), Fail> {
-    let report = make_report(rt.alloc(), &[])?;
+    let report = report(rt.alloc(), &[])?;
     assert_eq!(rt;
         report.text.as_str(),
         "Success: no issues found in 0 source files\n"
@@ -53,7 +53,7 @@ fn one_clean_file(rt: HostRuntime) -> Result<(), Fail> {
         path: "a.py",
         messages: Vec::new(rt.alloc()),
     };
-    let report = make_report(rt.alloc(), &[found])?;
+    let report = report(rt.alloc(), &[found])?;
     assert_eq!(rt;
         report.text.as_str(),
         "Success: no issues found in 1 source file\n"
@@ -81,7 +81,7 @@ fn files_and_errors_out_of_order(rt: HostRuntime) -> Result<(), Fail> {
             message(alloc, 3, 1, Code::Assignment, INCOMPATIBLE)?,
         ]?,
     };
-    let report = make_report(alloc, &[last, first])?;
+    let report = report(alloc, &[last, first])?;
     assert_eq!(rt;
         report.text.as_str(),
         "a.py:2: error: Incompatible types in assignment (expression has type \"str\", variable has type \"int\")  [assignment]\na.py:3: error: Incompatible types in assignment (expression has type \"str\", variable has type \"int\")  [assignment]\na.py:3: error: another text  [assignment]\na.py:10: error: invalid syntax  [syntax]\npkg/b.py:2: error: invalid syntax  [syntax]\nFound 5 errors in 2 files (checked 2 source files)\n"

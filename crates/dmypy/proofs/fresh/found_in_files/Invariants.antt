@@ -5,4 +5,4 @@ use Rattle.dmypy.specs.Report.{found_in}
 use Rattle.dmypy.proofs.fresh.found_in_files.Given as goal
 
 abbrev pub invariant-loop-file : goal.invariant-loop-file
-invariant-loop-file l = map found_in l.found.items ≡ map checked (files_in (take l.file-index l.files))
+invariant-loop-file l = map found_in l.all.items ≡ map checked (files_in (take l.file-index l.files))

@@ -6,7 +6,7 @@ use Rattle.std.proofs.lemmas.List.Folds.{flat_map-map}
 use Rattle.std.proofs.lemmas.List.Concat.{concat_is}
 use Rattle.dmypy.specs.Report.{Found, errors_in_order, printed_lines, printed_line, summary, found_in, located_in, without_repeats}
 use Rattle.dmypy.proofs.FoundLemmas.{report_from_parts, empty_tells}
-use Rattle.dmypy.proofs.report.make_report.Goals as goal
+use Rattle.dmypy.proofs.report.report.Goals as goal
 
 pub returns : goal.returns
 unfolding printed_lines

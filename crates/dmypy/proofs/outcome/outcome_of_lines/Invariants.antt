@@ -1,0 +1,12 @@
+use Rattle.std.proofs.Common.{◌≡◌, [], map, drop}
+use Rattle.dmypy.specs.Outcome.{outcome_after, name_in}
+use Rattle.dmypy.proofs.outcome.outcome_of_lines.Given as goal
+
+-- what the lines that are left give after the statements so far is what all lines give, and the names are those of the statements
+abbrev pub invariant-loop-line : goal.invariant-loop-line
+invariant-loop-line l = record {
+  settled :
+      outcome_after l.bytes l.statements.items (map (λ line. line.tokens.items) (drop l.line-index l.lines))
+      ≡ outcome_after l.bytes [] (map (λ line. line.tokens.items) l.lines);
+  named : map (λ name. name.now) l.names.keys ≡ map (name_in l.bytes) l.statements.items;
+}
