@@ -1,3 +1,5 @@
+pub mod CommandLine
+pub mod CommandWords
 pub mod ErrorLemmas
 pub mod FoundLemmas
 pub mod Going
@@ -11,4 +13,3 @@ pub mod SortLemmas
 pub mod TextLemmas
 pub mod Texts
 pub mod Turns
-pub mod Words

@@ -15,5 +15,7 @@ pub mod Report
 pub mod Runs
 pub mod Session
 pub mod Sort
+pub mod Status
 pub mod Window
+pub mod Words
 pub mod Workspace

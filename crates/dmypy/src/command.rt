@@ -73,7 +73,7 @@ fn single_command(word: &[u8]) -> Command<'_>
 }
 
 // A command of two words or more.
-#[tactic(auto, using(crate::proofs::Words::many_words))]
+#[tactic(auto, using(crate::proofs::CommandWords::many_words))]
 fn longer_command<'a>(word: &[u8], rest: &'a [u8]) -> Command<'a>
     ensures { said result ≡ command_of (word.now ∷ words_of rest.now) }
 {

@@ -1,3 +1,6 @@
+/// How often the program may read its input in one session.
+pub const TURNS: u64 = 1_000_000_000;
+
 /// What a session is run with.
 #[derive(Clone, Copy, Debug, PartialEq, Eq)]
 pub struct Options {

@@ -1,5 +1,5 @@
 use Rattle.std.proofs.Common.{sym, ◌∙◌}
-use Rattle.dmypy.proofs.Words.{word_cut, split_at_none}
+use Rattle.dmypy.proofs.CommandWords.{word_cut, split_at_none}
 use Rattle.dmypy.proofs.command.cut_word.Goals as goal
 
 pub returns-in-Some : goal.returns-in-Some

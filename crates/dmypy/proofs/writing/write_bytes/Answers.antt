@@ -1,7 +1,7 @@
 use Rattle.std.proofs.Common.{◌≡◌, ◌∙◌, ◌++◌, ap, sym, take, drop}
 use Rattle.std.proofs.lemmas.List.{take-append-drop}
 use Rattle.dmypy.proofs.Going.{written_on}
-use Rattle.dmypy.proofs.Words.{take_rest}
+use Rattle.dmypy.proofs.CommandWords.{take_rest}
 use Rattle.dmypy.proofs.writing.write_bytes.Goals as goal
 
 pub loop-rest-preserved : goal.loop-rest-preserved

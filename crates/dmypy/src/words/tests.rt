@@ -1,0 +1,74 @@
+use super::*;
+use std::test::Fail;
+
+// What the words of a line, separated by spaces, ask for.
+fn read_line(alloc: Global, line: &str) -> Result<Result<Job, Usage>, AllocError> {
+    let mut words = Vec::new(alloc);
+    for word in line.split_ascii_whitespace() {
+        words.push(String::from_str(alloc, word)?)?;
+    }
+    Ok(read_words(alloc, words.as_slice()))
+}
+
+// Whether the words are refused with a text that has this part.
+fn is_refused(alloc: Global, line: &str, part: &str) -> Result<bool, AllocError> {
+    Ok(match read_line(alloc, line)? {
+        Ok(_) => false,
+        Err(usage) => usage.to_string(alloc)?.as_str().contains(part),
+    })
+}
+
+#[test]
+fn sessions_with_their_options(rt: HostRuntime) -> Result<(), Fail> {
+    for (line, ignore_missing, check_untyped) in [
+        ("dmypy session", false, false),
+        ("dmypy session --ignore-missing-imports", true, false),
+        ("dmypy session --check-untyped-defs", false, true),
+        (
+            "dmypy session --check-untyped-defs --ignore-missing-imports",
+            true,
+            true,
+        ),
+    ] {
+        let options = Options {
+            ignore_missing,
+            check_untyped,
+            turns: 1_000_000_000,
+        };
+        let job = read_line(rt.alloc(), line)?.expect(&rt, line);
+        assert_eq!(rt; job, Job::Session(options), "at {line}");
+    }
+    Ok(())
+}
+
+#[test]
+fn words_that_are_no_job(rt: HostRuntime) -> Result<(), Fail> {
+    for (line, part) in [
+        ("", "Usage: dmypy <COMMAND>"),
+        ("dmypy", "Usage: dmypy <COMMAND>"),
+        ("dmypy watch", "unrecognized subcommand 'watch'"),
+        ("dmypy session --strict", "unexpected argument '--strict'"),
+        ("dmypy session a.py", "unexpected argument 'a.py'"),
+        ("dmypy --help", "Usage: dmypy <COMMAND>"),
+        ("dmypy session --help", "--ignore-missing-imports"),
+        ("dmypy session --help", "--check-untyped-defs"),
+    ] {
+        assert!(rt; is_refused(rt.alloc(), line, part)?, "at {line}");
+    }
+    Ok(())
+}
+
+#[test]
+fn statuses(rt: HostRuntime) {
+    for (answer, status) in [
+        (Ok(End::Stopped), 0),
+        (Ok(End::EndOfInput), 0),
+        (Ok(End::Broken), 2),
+        (Err(RunFault::Read), 2),
+        (Err(RunFault::Write), 2),
+        (Err(RunFault::TooManyTurns), 2),
+        (Err(RunFault::Memory), 2),
+    ] {
+        assert_eq!(rt; session_status(&answer), status);
+    }
+}
