@@ -1,12 +1,12 @@
 -- A run of a session, command by command.
-use Rattle.std.proofs.Common.{◌≡◌, ℕ, Bool, true, false, List, [], ◌∷◌, ◌++◌, length, take, drop, ◌-◌, Option, None, Some, IsTrue, ◌<◌, refl, sym, ap, subst, ◌∙◌, arith, append_assoc, length-append}
+use Rattle.std.proofs.Common.{◌≡◌, ℕ, Bool, true, false, List, [], ◌∷◌, ◌++◌, length, ◌-◌, Option, None, Some, IsTrue, ◌<◌, refl, sym, ap, subst, ◌∙◌, arith, append_assoc, length-append}
 use Rattle.std.specs.Prelude.{OnErr, IfOk, IfSome, Result, Ok, Err}
 use Rattle.std.specs.Io.KnownBytes.{Appends}
 use Rattle.std.specs.Io.KnownBytes.{IsAtEnd}
 use Rattle.dmypy.specs.Reading.{Advances}
 use Rattle.dmypy.specs.Replies.{WritesPart, Serves, turn_of, turn_after, reply_bytes}
-use Rattle.dmypy.specs.Runs.{Runs, Tells, IsLast}
-use Rattle.dmypy.specs.Session.{Session, Turn, Onward, goes_on, ends, onto, turn, session_from, session_text, session_end}
+use Rattle.dmypy.specs.Runs.{Runs, IsLast}
+use Rattle.dmypy.specs.Session.{Session, Onward, goes_on, ends, onto, session_from, session_text, session_end}
 use Rattle.dmypy.specs.Window.{held_of, ended_of}
 use Rattle.dmypy.specs.Workspace.{State, start}
 use Rattle.dmypy.specs.declared.ending.End.{End}
@@ -88,7 +88,7 @@ pub record Going (left left' : Option (List ℕ)) (held' : List ℕ) (told told'
   pub moved : Advances left [] left' held' taken
   pub appends : Appends told told' written
   pub onward : (rest : List ℕ) (more : List Bool) → IsLast ended rest
-    → session_from start (taken ++ rest) (marks ++ more) ≡ onto written goes_on (session_from s rest more)
+      → session_from start (taken ++ rest) (marks ++ more) ≡ onto written goes_on (session_from s rest more)
 
 pub going_none : (left told : Option (List ℕ)) (held : List ℕ) (s : State) (ended : Bool) → held ≡ [] → s ≡ start → Going left left held told told s ended
 going_none left told held s ended e f = record {
@@ -106,7 +106,7 @@ step_on : (left left' told told' : Option (List ℕ)) (held' : List ℕ) (s s' :
     → Serves s s' bytes mark ended' (Some answer)
     → (rest : List ℕ) (more : List Bool) → IsLast ended' rest
     → session_from start ((g.taken ++ bytes) ++ rest) ((g.marks ++ mark ∷ []) ++ more)
-      ≡ onto g.written goes_on (onto (turn_of answer s' rest).reply (turn_of answer s' rest).onward (session_from (turn_of answer s' rest).state (turn_of answer s' rest).rest more))
+    ≡ onto g.written goes_on (onto (turn_of answer s' rest).reply (turn_of answer s' rest).onward (session_from (turn_of answer s' rest).state (turn_of answer s' rest).rest more))
 step_on left left' told told' held' s s' ended' g bytes mark answer serves rest more last =
     let some : 0 < length (bytes ++ rest) = omega (arith, length-append bytes rest, serves.0) in
     ap (λ zs. session_from start zs ((g.marks ++ mark ∷ []) ++ more)) (append_assoc g.taken bytes rest)
@@ -128,7 +128,7 @@ going_on left left' left'' told told' told'' held' held'' s s' ended ended' byte
       moved = advances_trans left left' left'' [] held' held'' g.taken bytes g.moved moved;
       appends = appends_trans told told' told'' g.written (reply_bytes answer.reply) g.appends appends;
       onward = λ rest more last. step_on left left' told told' held' s s' ended' g bytes mark answer serves rest more last
-        ∙ rw (end, append_assoc) refl;
+          ∙ rw (end, append_assoc) refl;
     }
 
 -- a window whose reader told its end holds nothing
@@ -173,9 +173,9 @@ runs_last left left' left'' told told' told'' held' held'' s s' ended ended' byt
       at_end = at_end;
       appends = appends_trans told told' told'' g.written (reply_bytes answer.reply) g.appends appends;
       tells = λ rest more last.
-        ap (λ zs. session_from start zs ((g.marks ++ mark ∷ []) ++ more)) (ap (λ zs. zs ++ rest) all.seam ∙ append_assoc (g.taken ++ bytes) held'' rest)
-        ∙ step_on left left' told told' held' s s' ended' g bytes mark answer serves (held'' ++ rest) more (last_held ended' held'' rest none last)
-        ∙ rw is_last refl;
+          ap (λ zs. session_from start zs ((g.marks ++ mark ∷ []) ++ more)) (ap (λ zs. zs ++ rest) all.seam ∙ append_assoc (g.taken ++ bytes) held'' rest)
+          ∙ step_on left left' told told' held' s s' ended' g bytes mark answer serves (held'' ++ rest) more (last_held ended' held'' rest none last)
+          ∙ rw is_last refl;
     }
 
 -- the input ends before another command
@@ -191,10 +191,10 @@ runs_ended left left' told told' held' s ended g over at_end none = record {
   at_end = at_end;
   appends = g.appends;
   tells = λ rest more last.
-    let nothing : rest ≡ [] = last over in
-    ap (λ zs. session_from start zs (g.marks ++ more)) (ap (λ zs. zs ++ rest) g.moved.seam ∙ append_assoc g.taken held' rest)
-    ∙ g.onward (held' ++ rest) more (last_held ended held' rest (λ _. none) last)
-    ∙ rw (none, nothing) (ap (onto g.written goes_on) (session_from-empty s more) ∙ written_ends g.written);
+      let nothing : rest ≡ [] = last over in
+      ap (λ zs. session_from start zs (g.marks ++ more)) (ap (λ zs. zs ++ rest) g.moved.seam ∙ append_assoc g.taken held' rest)
+      ∙ g.onward (held' ++ rest) more (last_held ended held' rest (λ _. none) last)
+      ∙ rw (none, nothing) (ap (onto g.written goes_on) (session_from-empty s more) ∙ written_ends g.written);
 }
 
 -- the input ends where no command begins
@@ -224,12 +224,13 @@ runs_unread left left' left'' told told' held' held'' s ended ended' bytes why g
       consumes = all.consumes;
       at_end = λ told. still_going open_end told;
       appends = g.appends;
-      tells = λ rest more last.
-        ((session_from s (bytes ++ (held'' ++ rest)) more).text,
-          ap (λ (o : Session). o.text)
-          (ap (λ zs. session_from start zs (g.marks ++ more))
+      tells = λ rest more last. (
+        (session_from s (bytes ++ (held'' ++ rest)) more).text,
+        ap (λ (o : Session). o.text)
+            (ap (λ zs. session_from start zs (g.marks ++ more))
             (ap (λ zs. zs ++ rest) all.seam ∙ append_assoc (g.taken ++ bytes) held'' rest ∙ append_assoc g.taken bytes (held'' ++ rest))
-          ∙ g.onward (bytes ++ (held'' ++ rest)) more (still_going unended)));
+            ∙ g.onward (bytes ++ (held'' ++ rest)) more (still_going unended)),
+      );
     }
 
 -- the writer fails
@@ -250,14 +251,15 @@ runs_unwritten left left' left'' told told' told'' held' held'' s s' ended ended
       at_end = at_end;
       appends = appends_trans told told' told'' g.written part.written g.appends part.appends;
       tells = λ rest more last.
-        let t = turn_of answer s' (held'' ++ rest) in
-        let later = session_from t.state t.rest more in
-        let tail = text_onto g.written t.reply t.onward later in
-        let whole = step_on left left' told told' held' s s' ended' g bytes mark answer serves (held'' ++ rest) more (last_held ended' held'' rest none last) in
-        (part.later ++ tail.0,
-          ap (λ zs. (session_from start zs ((g.marks ++ mark ∷ []) ++ more)).text) (ap (λ zs. zs ++ rest) all.seam ∙ append_assoc (g.taken ++ bytes) held'' rest)
-          ∙ ap (λ (o : Session). o.text) whole ∙ tail.1
-          ∙ reply_part answer.end s' (held'' ++ rest) g.written (reply_bytes answer.reply) part.written part.later tail.0 part.seam);
+          let t = turn_of answer s' (held'' ++ rest) in
+          let later = session_from t.state t.rest more in
+          let tail = text_onto g.written t.reply t.onward later in
+          let whole = step_on left left' told told' held' s s' ended' g bytes mark answer serves (held'' ++ rest) more (last_held ended' held'' rest none last) in (
+            part.later ++ tail.0,
+            ap (λ zs. (session_from start zs ((g.marks ++ mark ∷ []) ++ more)).text) (ap (λ zs. zs ++ rest) all.seam ∙ append_assoc (g.taken ++ bytes) held'' rest)
+                ∙ ap (λ (o : Session). o.text) whole ∙ tail.1
+                ∙ reply_part answer.end s' (held'' ++ rest) g.written (reply_bytes answer.reply) part.written part.later tail.0 part.seam,
+          );
     }
 
 -- nothing was done

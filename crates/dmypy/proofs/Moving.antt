@@ -1,5 +1,5 @@
 -- How readings of an input follow one another.
-use Rattle.std.proofs.Common.{◌≡◌, ℕ, ◌+◌, ◌-◌, ◌*◌, ◌<◌, ◌≤◌, List, [], ◌∷◌, ◌++◌, length, take, drop, min, Option, None, Some, true, false, Bool, refl, sym, ap, if◌then◌else◌, subst, ◌==◌, ◌∙◌, append_assoc, arith, length-append}
+use Rattle.std.proofs.Common.{◌≡◌, ℕ, ◌+◌, ◌-◌, ◌<◌, ◌≤◌, List, [], ◌∷◌, ◌++◌, length, take, drop, min, Option, None, Some, true, false, Bool, refl, sym, ap, if◌then◌else◌, subst, ◌==◌, ◌∙◌, append_assoc, arith, length-append}
 use Rattle.std.proofs.lemmas.Bool.Decides.{nat_tests}
 use Rattle.std.proofs.lemmas.List.{take-append-le, take-append-drop, length-take, length-drop, drop-take, drop-drop}
 use Rattle.std.proofs.Math.ListN.{drop_of_length-le}

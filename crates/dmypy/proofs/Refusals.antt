@@ -1,10 +1,9 @@
 -- What it says of a file that it is not refused.
-use Rattle.std.proofs.Common.{◌≡◌, ℕ, Bool, true, false, not, ◌&&◌, nat_lt, if◌then◌else◌, List, length, Option, None, Some, refl}
+use Rattle.std.proofs.Common.{◌≡◌, ℕ, Bool, true, false, not, ◌&&◌, nat_lt, if◌then◌else◌, List, length, None, Some, refl}
 use Rattle.std.specs.Str.{is_utf8}
 use Rattle.dmypy.specs.Path.{is_file_path}
 use Rattle.dmypy.specs.Refusal.{add_refusal}
 use Rattle.dmypy.specs.Workspace.{File}
-use Rattle.dmypy.specs.declared.refusal.Refusal.{Refusal}
 use Rattle.dmypy.specs.declared.refusal.Refusal.TheVariants as refusal
 
 and_right : (a b : Bool) → (a && b) ≡ true → b ≡ true
@@ -20,6 +19,6 @@ pub added_path_is_text : (files : List File) (path : List ℕ) (size : ℕ) → 
 unfolding add_refusal
 added_path_is_text files path size e =
     path_is_text path (elim (is_file_path path) as (λ t. (if not t then Some refusal.Path
-        else if nat_lt 1048576 size then Some refusal.Large
-        else if not (nat_lt (length files) 1) then Some refusal.Many
-        else None) ≡ None → t ≡ true) [ true ↦ λ _. refl | false ↦ λ no. cc ] e)
+    else if nat_lt 1048576 size then Some refusal.Large
+    else if not (nat_lt (length files) 1) then Some refusal.Many
+    else None) ≡ None → t ≡ true) [ true ↦ λ _. refl | false ↦ λ no. cc ] e)

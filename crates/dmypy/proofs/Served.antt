@@ -1,9 +1,9 @@
 -- One command at the front of an input, served.
-use Rattle.std.proofs.Common.{◌≡◌, ℕ, ◌+◌, ◌-◌, ◌<◌, ◌≤◌, Bool, true, false, if◌then◌else◌, ◌==◌, ◌&&◌, not, nat_lt, nat_le, List, [], ◌∷◌, ◌++◌, length, take, Option, Some, IsTrue, slice_index, refl, sym, ap, subst, ◌∙◌, arith, append_assoc, length-append}
+use Rattle.std.proofs.Common.{◌≡◌, ℕ, ◌+◌, ◌-◌, ◌<◌, ◌≤◌, Bool, true, false, if◌then◌else◌, ◌==◌, ◌&&◌, not, nat_lt, nat_le, List, [], ◌∷◌, ◌++◌, length, take, Some, slice_index, refl, sym, ap, subst, ◌∙◌, arith, append_assoc, length-append}
 use Rattle.std.proofs.lemmas.List.{length-take}
 use Rattle.std.proofs.lemmas.Bool.Decides.{nat_tests}
 use Rattle.dmypy.specs.Command.{unknown, spelled}
-use Rattle.dmypy.specs.Input.{has_line_feed, first_line, after_line, command_line}
+use Rattle.dmypy.specs.Input.{has_line_feed, command_line}
 use Rattle.dmypy.specs.Replies.{Serves, turn_of}
 use Rattle.dmypy.specs.Runs.{IsLast}
 use Rattle.dmypy.specs.Session.{turn, act}
@@ -56,13 +56,15 @@ turn-last s raw mark none = rw (first_line-last raw none, none, after_line-last 
 -- a command whose line a line feed ended
 served_fed : (s s' : State) (answer : Answer) (raw bytes line : List ℕ) (mark ended : Bool) → has_line_feed raw ≡ false → line ≡ take 514 raw
     → Obeys s s' line true bytes mark ended answer → Serves s s' ((raw ++ 10 ∷ []) ++ bytes) mark ended (Some answer)
-served_fed s s' answer raw bytes line mark ended none kept obeys =
-    (omega (arith, length-append (raw ++ 10 ∷ []) bytes, length-append raw (10 ∷ [])), λ rest last.
+served_fed s s' answer raw bytes line mark ended none kept obeys = (
+  omega (arith, length-append (raw ++ 10 ∷ []) bytes, length-append raw (10 ∷ [])),
+  λ rest last.
       let joined : ((raw ++ 10 ∷ []) ++ bytes) ++ rest ≡ raw ++ 10 ∷ (bytes ++ rest) =
-        append_assoc (raw ++ 10 ∷ []) bytes rest ∙ append_assoc raw (10 ∷ []) (bytes ++ rest) in
+      append_assoc (raw ++ 10 ∷ []) bytes rest ∙ append_assoc raw (10 ∷ []) (bytes ++ rest) in
       ap (λ input. turn s input mark) joined ∙ turn-fed s raw (bytes ++ rest) mark none
       ∙ ap (λ said. act s said mark (bytes ++ rest)) (sym (ap (λ l. spelled (command_line l true)) kept ∙ spelled_cut raw true))
-      ∙ obeys rest last)
+      ∙ obeys rest last,
+)
 
 -- a command whose line the end of the input ended
 served_last : (s s' : State) (answer : Answer) (raw bytes line : List ℕ) (mark ended : Bool) → has_line_feed raw ≡ false → line ≡ take 514 raw
@@ -70,15 +72,17 @@ served_last : (s s' : State) (answer : Answer) (raw bytes line : List ℕ) (mark
     → Obeys s s' line false bytes mark ended answer → Serves s s' ((raw ++ []) ++ bytes) mark ended (Some answer)
 served_last s s' answer raw bytes line mark ended none kept some over obeys =
     let filled : (length (take 514 raw) ≡ 0 → ⊥) = subst (λ l. length l ≡ 0 → ⊥) kept some in
-    let long : (length raw ≡ 0 → ⊥) = λ e. filled (omega (arith, length-take 514 raw)) in
-    (omega (arith, length-append (raw ++ []) bytes, length-append raw [], long), λ rest last.
-      let nothing : rest ≡ [] = last over.1 in
-      let joined : ((raw ++ []) ++ bytes) ++ rest ≡ raw = rw (nothing, over.0) (append_nil ((raw ++ []) ++ []) ∙ append_nil (raw ++ []) ∙ append_nil raw) in
-      let left : bytes ++ rest ≡ [] = rw (over.0, nothing) refl in
-      ap (λ input. turn s input mark) joined ∙ turn-last s raw mark none
-      ∙ ap (λ said. act s said mark []) (sym (ap (λ l. spelled (command_line l false)) kept ∙ spelled_cut raw false))
-      ∙ ap (λ tail. act s (spelled (command_line line false)) mark tail) (sym left)
-      ∙ obeys rest last)
+    let long : (length raw ≡ 0 → ⊥) = λ e. filled (omega (arith, length-take 514 raw)) in (
+      omega (arith, length-append (raw ++ []) bytes, length-append raw [], long),
+      λ rest last.
+          let nothing : rest ≡ [] = last over.1 in
+          let joined : ((raw ++ []) ++ bytes) ++ rest ≡ raw = rw (nothing, over.0) (append_nil ((raw ++ []) ++ []) ∙ append_nil (raw ++ []) ∙ append_nil raw) in
+          let left : bytes ++ rest ≡ [] = rw (over.0, nothing) refl in
+          ap (λ input. turn s input mark) joined ∙ turn-last s raw mark none
+          ∙ ap (λ said. act s said mark []) (sym (ap (λ l. spelled (command_line l false)) kept ∙ spelled_cut raw false))
+          ∙ ap (λ tail. act s (spelled (command_line line false)) mark tail) (sym left)
+          ∙ obeys rest last,
+    )
 
 -- either
 pub served : (s s' : State) (answer : Answer) (raw bytes line : List ℕ) (fed mark ended : Bool) → has_line_feed raw ≡ false → line ≡ take 514 raw

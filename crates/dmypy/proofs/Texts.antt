@@ -1,5 +1,5 @@
 -- What the test for UTF-8 answers.
-use Rattle.std.proofs.Common.{◌≡◌, ℕ, Bool, true, false, List, Result, Ok, Err, refl, sym, rules}
+use Rattle.std.proofs.Common.{◌≡◌, ℕ, true, false, List, Result, Ok, Err, refl, sym, rules}
 use Rattle.std.proofs.lemmas.Str.{is_utf8-from_IsUtf8, IsUtf8-from_is_utf8}
 use Rattle.std.specs.Prelude.{MatchResult, IsOk, is_ok}
 use Rattle.std.specs.Str.{is_utf8, IsUtf8}

@@ -1,12 +1,12 @@
 -- Commands at the front of an input, and the sessions that follow them.
-use Rattle.std.proofs.Common.{◌≡◌, ℕ, zero, suc, ◌+◌, ◌-◌, ◌<◌, ◌≤◌, Bool, true, false, if◌then◌else◌, ◌==◌, ◌&&◌, nat_lt, List, [], ◌∷◌, ◌++◌, length, take, drop, Option, None, Some, IsTrue, unwrap_or, refl, sym, ap, subst, ◌∙◌, arith, append_assoc, length-append}
-use Rattle.std.proofs.lemmas.List.{length-take, length-drop}
+use Rattle.std.proofs.Common.{◌≡◌, ℕ, zero, suc, ◌<◌, ◌≤◌, Bool, true, false, if◌then◌else◌, ◌==◌, nat_lt, List, [], ◌∷◌, ◌++◌, length, take, drop, Option, None, Some, IsTrue, unwrap_or, refl, sym, ap, subst, ◌∙◌, arith, length-append}
+use Rattle.std.proofs.lemmas.List.{length-drop}
 use Rattle.std.proofs.Math.Seq.{take-append_seam, drop-append_seam}
 use Rattle.std.proofs.lemmas.Bool.Decides.{nat_tests}
 use Rattle.dmypy.specs.Command.{Spelled, add, endless, check, stop, unknown, spelled}
 use Rattle.dmypy.specs.Input.{has_line_feed, first_line, after_line, command_line}
 use Rattle.dmypy.specs.Refusal.{refusal_text, add_refusal, or_memory}
-use Rattle.dmypy.specs.Session.{Turn, Session, turn, act, add_turn, add_answer, check_turn, check_reply, after_check, with_file, ok, refused, last_turn, goes_on, ends, onto, session_within, session_from, first_mark}
+use Rattle.dmypy.specs.Session.{Turn, turn, act, add_turn, add_answer, check_turn, check_reply, after_check, with_file, ok, refused, last_turn, goes_on, onto, session_within, session_from, first_mark}
 use Rattle.dmypy.specs.Runs.{IsLast}
 use Rattle.dmypy.specs.Workspace.{File, State}
 use Rattle.dmypy.specs.Fresh.{fresh}
@@ -14,7 +14,7 @@ use Rattle.dmypy.specs.Report.{Report}
 use Rattle.dmypy.specs.declared.refusal.Refusal.{Refusal}
 use Rattle.dmypy.specs.declared.refusal.Refusal.TheVariants as refusal
 use Rattle.dmypy.specs.declared.ending.End.TheVariants.{EndOfInput, Broken}
-use Rattle.dmypy.proofs.Moving.{take_whole, append_nil}
+use Rattle.dmypy.proofs.Moving.{append_nil}
 
 -- a line that a line feed ends
 pub first_line-fed : (raw rest : List ℕ) → has_line_feed raw ≡ false → first_line (raw ++ 10 ∷ rest) ≡ raw
@@ -74,7 +74,7 @@ unfolding add_turn
 add_turn-rest s path size wanting rest =
     let file : File = record { path = path; bytes = take size rest } in
     elim (nat_lt (length rest) size) as (λ t. length (if t then last_turn (refusal_text refusal.Truncated) s Broken
-        else add_answer (or_memory (add_refusal s.present path size) wanting) s (record { path = path; bytes = take size rest }) (drop size rest)).rest ≤ length rest) [
+    else add_answer (or_memory (add_refusal s.present path size) wanting) s (record { path = path; bytes = take size rest }) (drop size rest)).rest ≤ length rest) [
       | true ↦ omega arith
       | false ↦ rw (add_answer-rest (or_memory (add_refusal s.present path size) wanting) s file (drop size rest)) (omega (arith, length-drop size rest))
     ]
@@ -152,7 +152,7 @@ too_few_bytes rest size e = grind (arith, nat_tests)
 -- an `add` whose bytes came
 pub add_whole : (s : State) (path : List ℕ) (size : ℕ) (wanting : Bool) (bytes rest : List ℕ) → length bytes ≡ size
     → add_turn s path size wanting (bytes ++ rest)
-        ≡ add_answer (or_memory (add_refusal s.present path size) wanting) s (record { path = path; bytes = bytes }) rest
+    ≡ add_answer (or_memory (add_refusal s.present path size) wanting) s (record { path = path; bytes = bytes }) rest
 unfolding add_turn
 add_whole s path size wanting bytes rest e =
     let front : take size (bytes ++ rest) ≡ bytes = subst (λ n. take n (bytes ++ rest) ≡ bytes) e (take-append_seam bytes rest) in

@@ -6,8 +6,8 @@ use Rattle.dmypy.specs.declared.command.Command.{Command}
 use Rattle.dmypy.specs.declared.command.Command.TheVariants as command
 
 pub data Spelled : Type 0 where
-  add : List ℕ → ℕ → Spelled       -- the path of a file, and how many bytes follow
-  endless : Spelled                -- an `add` whose number has more than 10 digits
+  add : List ℕ → ℕ → Spelled  -- the path of a file, and how many bytes follow
+  endless : Spelled  -- an `add` whose number has more than 10 digits
   check : Spelled
   stop : Spelled
   unknown : Spelled

@@ -6,7 +6,7 @@ use Rattle.dmypy.specs.declared.reply.Reply.{Reply}
 use Rattle.dmypy.specs.declared.reply.Reply.TheVariants.{Line, Checked}
 use Rattle.dmypy.specs.declared.reply.Answer.{Answer}
 use Rattle.dmypy.specs.Report.{report_in}
-use Rattle.dmypy.specs.Session.{Turn, Onward, goes_on, ends, turn, check_reply}
+use Rattle.dmypy.specs.Session.{Turn, goes_on, ends, turn, check_reply}
 use Rattle.dmypy.specs.Workspace.{State}
 use Rattle.dmypy.specs.Runs.{IsLast}
 

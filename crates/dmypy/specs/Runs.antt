@@ -1,5 +1,5 @@
 -- What a run of a session did: the bytes that it took and wrote, for every input that goes on from those bytes.
-use Rattle.std.specs.Prelude.{◌≡◌, ℕ, ◌<◌, Bool, IsTrue, List, [], ◌++◌, length, Option, Result, Ok, Err}
+use Rattle.std.specs.Prelude.{◌≡◌, ℕ, ◌<◌, Bool, IsTrue, List, [], ◌++◌, Option, Result, Ok, Err}
 use Rattle.std.specs.Io.KnownBytes.{Consumes, IsAtEnd, Appends}
 use Rattle.dmypy.specs.declared.ending.End.{End}
 use Rattle.dmypy.specs.declared.ending.RunFault.{RunFault}

@@ -54,7 +54,15 @@ pub fn run<R: Read, W: Write>(
         return Err(RunFault::Memory);
     };
     let mut daemon = Daemon::new(alloc, *options);
-    serve_all(alloc, reader, writer, &mut window, &mut line, &mut daemon, options.turns)
+    serve_all(
+        alloc,
+        reader,
+        writer,
+        &mut window,
+        &mut line,
+        &mut daemon,
+        options.turns,
+    )
 }
 
 // Serves commands until the session ends.

@@ -115,7 +115,11 @@ pub fn read_body<R: Read>(
     if left > 0 {
         return Ok(Body::Truncated);
     }
-    Ok(if kept { Body::Whole(bytes) } else { Body::NotKept })
+    Ok(if kept {
+        Body::Whole(bytes)
+    } else {
+        Body::NotKept
+    })
 }
 
 // Adds a part to what is kept, and tells whether all is kept still.

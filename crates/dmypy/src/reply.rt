@@ -1,7 +1,7 @@
 ghost use Rattle.std.specs.Prelude.{◌≡◌, None, Some};
 
-use crate::ending::End;
 use crate::checked::Report;
+use crate::ending::End;
 
 /// What is written for one command.
 #[derive(Drop)]

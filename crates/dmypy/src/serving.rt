@@ -48,7 +48,14 @@ pub fn serve<R: Read>(
     if is_end(line, fed) {
         return Ok(None);
     }
-    let answer = obey(alloc, reader, window, daemon, parse(command_line(line, fed)), turns)?;
+    let answer = obey(
+        alloc,
+        reader,
+        window,
+        daemon,
+        parse(command_line(line, fed)),
+        turns,
+    )?;
     Ok(Some(answer))
 }
 

@@ -5,10 +5,10 @@ ghost use Rattle.dmypy.specs.Replies.{reply_bytes, WritesPart};
 ghost use Rattle.dmypy.specs.Report.{report_in};
 ghost use Rattle.dmypy.specs.Session.{check_reply};
 
+use crate::checked::Report;
 use crate::counted::Counted;
 use crate::ending::RunFault;
 use crate::reply::Reply;
-use crate::checked::Report;
 use std::io::Write;
 
 /// Writes a reply whole.

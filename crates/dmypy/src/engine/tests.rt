@@ -6,7 +6,8 @@ use std::test::Fail;
 
 const ROW: &[u8] = b"add a.py 13\nx: int = \"a\"\ncheck\nstop\n";
 
-const ROW_REPLIES: &[u8] = b"ok\na.py:1: error: Incompatible types in assignment (expression has type \"str\", variable has type \"int\")  [assignment]\nFound 1 error in 1 file (checked 1 source file)\nstatus 1\nok\n";
+const ROW_REPLIES: &[u8] =
+    b"ok\na.py:1: error: Incompatible types in assignment (expression has type \"str\", variable has type \"int\")  [assignment]\nFound 1 error in 1 file (checked 1 source file)\nstatus 1\nok\n";
 
 const OPTIONS: Options = Options {
     ignore_missing: false,
@@ -51,25 +52,65 @@ fn sink(kept: &mut Vec<u8>) -> Sink<'_> {
 fn sessions_that_end(rt: HostRuntime) -> Result<(), Fail> {
     let rows: [(&[u8], &[u8], End); 20] = [
         (ROW, ROW_REPLIES, End::Stopped),
-        (b"check\n", b"Success: no issues found in 0 source files\nstatus 0\n", End::EndOfInput),
+        (
+            b"check\n",
+            b"Success: no issues found in 0 source files\nstatus 0\n",
+            End::EndOfInput,
+        ),
         (b"", b"", End::EndOfInput),
         (b"\n", b"refused 1 command\n", End::EndOfInput),
         (b"stop", b"ok\n", End::Stopped),
         (b"stop\ncheck\n", b"ok\n", End::Stopped),
         (b"stop\r\n", b"ok\n", End::Stopped),
         (b"stop\r", b"refused 1 command\n", End::EndOfInput),
-        (b"check now\nstatus\nupdate a.py\n", b"refused 1 command\nrefused 1 command\nrefused 1 command\n", End::EndOfInput),
-        (b"add  a.py 0\nadd a.py x\nadd a.py 0 x\n", b"refused 1 command\nrefused 1 command\nrefused 1 command\n", End::EndOfInput),
-        (b"add ../a.py 3\nx=1check\n", b"refused 2 path\nSuccess: no issues found in 0 source files\nstatus 0\n", End::EndOfInput),
-        (b"add __init__.py 0\nadd .py 0\nadd a/./b.py 0\nadd a//b.py 0\nadd a/.py 0\n", b"refused 2 path\nrefused 2 path\nrefused 2 path\nrefused 2 path\nrefused 2 path\n", End::EndOfInput),
-        (b"add p/__init__.py 0\ncheck\n", b"ok\nSuccess: no issues found in 1 source file\nstatus 0\n", End::EndOfInput),
-        (b"add a.py 0\nadd b.py 6\ncheck\nstop\n", b"ok\nrefused 6 many\nok\n", End::Stopped),
+        (
+            b"check now\nstatus\nupdate a.py\n",
+            b"refused 1 command\nrefused 1 command\nrefused 1 command\n",
+            End::EndOfInput,
+        ),
+        (
+            b"add  a.py 0\nadd a.py x\nadd a.py 0 x\n",
+            b"refused 1 command\nrefused 1 command\nrefused 1 command\n",
+            End::EndOfInput,
+        ),
+        (
+            b"add ../a.py 3\nx=1check\n",
+            b"refused 2 path\nSuccess: no issues found in 0 source files\nstatus 0\n",
+            End::EndOfInput,
+        ),
+        (
+            b"add __init__.py 0\nadd .py 0\nadd a/./b.py 0\nadd a//b.py 0\nadd a/.py 0\n",
+            b"refused 2 path\nrefused 2 path\nrefused 2 path\nrefused 2 path\nrefused 2 path\n",
+            End::EndOfInput,
+        ),
+        (
+            b"add p/__init__.py 0\ncheck\n",
+            b"ok\nSuccess: no issues found in 1 source file\nstatus 0\n",
+            End::EndOfInput,
+        ),
+        (
+            b"add a.py 0\nadd b.py 6\ncheck\nstop\n",
+            b"ok\nrefused 6 many\nok\n",
+            End::Stopped,
+        ),
         (b"add a.py 10\nx=1\n", b"refused 8 truncated\n", End::Broken),
-        (b"add ../a.py 10\nx=1\n", b"refused 8 truncated\n", End::Broken),
+        (
+            b"add ../a.py 10\nx=1\n",
+            b"refused 8 truncated\n",
+            End::Broken,
+        ),
         (b"add a.py 0", b"ok\n", End::EndOfInput),
         (b"add a.py 0000000000\nstop\n", b"ok\nok\n", End::Stopped),
-        (b"add a.py 00000000000\nstop\n", b"refused 1 command\n", End::Broken),
-        (b"add a.py 00000000000 x\nstop\n", b"refused 1 command\nok\n", End::Stopped),
+        (
+            b"add a.py 00000000000\nstop\n",
+            b"refused 1 command\n",
+            End::Broken,
+        ),
+        (
+            b"add a.py 00000000000 x\nstop\n",
+            b"refused 1 command\nok\n",
+            End::Stopped,
+        ),
     ];
     for (input, replies, end) in rows {
         for most in [NEVER, 1, 2, 3] {
@@ -84,6 +125,7 @@ fn sessions_that_end(rt: HostRuntime) -> Result<(), Fail> {
 
 // The first commands of the row end at these bytes.
 const ADD_END: usize = 25;
+
 const CHECK_END: usize = 31;
 
 #[test]
@@ -130,10 +172,16 @@ fn a_writer_that_stops_at_each_byte(rt: HostRuntime) -> Result<(), Fail> {
 
 #[test]
 fn as_many_reads_as_there_may_be(rt: HostRuntime) -> Result<(), Fail> {
-    let replies = b"Success: no issues found in 0 source files\nstatus 0\nSuccess: no issues found in 0 source files\nstatus 0\n";
+    let replies =
+        b"Success: no issues found in 0 source files\nstatus 0\nSuccess: no issues found in 0 source files\nstatus 0\n";
     for (turns, end) in [(4, Err(RunFault::TooManyTurns)), (5, Ok(End::EndOfInput))] {
         let mut kept = Vec::new(rt.alloc());
-        let answer = session(rt.alloc(), pieces(b"check\ncheck\n", 3), sink(&mut kept), turns);
+        let answer = session(
+            rt.alloc(),
+            pieces(b"check\ncheck\n", 3),
+            sink(&mut kept),
+            turns,
+        );
         assert!(rt; answer == end, "{turns} reads");
         assert_eq!(rt; kept.as_slice(), replies.as_slice(), "{turns} reads");
     }
@@ -177,16 +225,31 @@ fn files_at_their_limit(rt: HostRuntime) -> Result<(), Fail> {
     for (size, reply) in [(1_048_576, "ok\n"), (1_048_577, "refused 5 large\n")] {
         let mut input = Vec::new(rt.alloc());
         input.extend_from_slice(b"add a.py ")?;
-        input.extend_from_slice(if size == 1_048_576 { b"1048576\n" } else { b"1048577\n" })?;
+        input.extend_from_slice(if size == 1_048_576 {
+            b"1048576\n"
+        } else {
+            b"1048577\n"
+        })?;
         for _ in 0..size {
             input.push(b'\n')?;
         }
         input.extend_from_slice(b"check\n")?;
         let mut kept = Vec::new(rt.alloc());
-        let answer = session(rt.alloc(), pieces(&input, NEVER), sink(&mut kept), 1_000_000);
+        let answer = session(
+            rt.alloc(),
+            pieces(&input, NEVER),
+            sink(&mut kept),
+            1_000_000,
+        );
         assert!(rt; answer == Ok(End::EndOfInput), "{size} bytes");
-        let files = if size == 1_048_576 { "1 source file" } else { "0 source files" };
-        let replies = format!(in rt.alloc(); "{reply}Success: no issues found in {files}\nstatus 0\n")?;
+        let files = if size == 1_048_576 {
+            "1 source file"
+        } else {
+            "0 source files"
+        };
+        let replies = format!(in rt.alloc();
+            "{reply}Success: no issues found in {files}\nstatus 0\n"
+        )?;
         assert_eq!(rt; kept.as_slice(), replies.as_bytes(), "{size} bytes");
     }
     Ok(())
@@ -201,6 +264,9 @@ fn calls_on_a_daemon(rt: HostRuntime) -> Result<(), Fail> {
     assert!(rt; daemon.add(b"b", Vec::new(rt.alloc())) == Err(Refusal::Path));
     let report = daemon.check()?;
     assert!(rt; !report.clean);
-    assert_eq!(rt; report.text.as_bytes(), &ROW_REPLIES[3..ROW_REPLIES.len() - 12]);
+    assert_eq!(rt;
+        report.text.as_bytes(),
+        &ROW_REPLIES[3..ROW_REPLIES.len() - 12]
+    );
     Ok(())
 }

@@ -24,7 +24,7 @@ returns-in_err-write_reply-clause-runs g c =
     let served = rw c.in-Some.is at c.in_ok-answer.ensures.served in
     let p = err_from_is_err_and c.from_residual-in_err-write_reply.result c.from_residual-in_err-write_reply.ensures.1 in
     rw p.1 (runs_unwritten _ _ _ _ _ _ _ _ _ _ _ _ served.0 served.1 c.in-Some.answer _ c.commands.invariant.going unended served.2 served.3
-      c.in_err-write_reply.ensures.part c.serve.ensures.reading.at_end (held_none c.serve.new.window))
+    c.in_err-write_reply.ensures.part c.serve.ensures.reading.at_end (held_none c.serve.new.window))
 
 pub returns-in-Some-end-clause-runs : goal.returns-in-Some-end-clause-runs
 returns-in-Some-end-clause-runs g c =
@@ -41,7 +41,7 @@ commands-preserved g c =
       room = c.serve.ensures.room;
       reading = c.serve.ensures.reading;
       going = going_on _ _ _ _ _ _ _ _ _ _ _ _ served.0 served.1 c.in-Some.answer c.commands.invariant.going unended served.2 served.3
-        c.in_default-end.is c.in_ok-write_reply.ensures.ok;
+          c.in_default-end.is c.in_ok-write_reply.ensures.ok;
     }
 
 pub returns-after-commands-clause-runs : goal.returns-after-commands-clause-runs

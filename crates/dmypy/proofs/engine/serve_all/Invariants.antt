@@ -1,4 +1,4 @@
-use Rattle.std.proofs.Common.{ℕ, ◌≤◌, length, vec_capacity}
+use Rattle.std.proofs.Common.{◌≤◌, length, vec_capacity}
 use Rattle.dmypy.specs.Counted.{inner_of, calls_of}
 use Rattle.dmypy.specs.Reading.{IsReading, work_left}
 use Rattle.dmypy.specs.Window.{held_of, ended_of}
@@ -10,7 +10,7 @@ invariant-commands g l = record {
   room : 514 ≤ vec_capacity l.line;
   reading : IsReading (g.R.Read.remaining (inner_of l.reader)) (ended_of l.window) (calls_of l.reader) l.turns;
   going : Going (g.R.Read.remaining (inner_of l.fn.reader)) (g.R.Read.remaining (inner_of l.reader)) (held_of l.window)
-    (g.W.Write.contents (inner_of l.fn.writer)) (g.W.Write.contents (inner_of l.writer)) l.daemon (ended_of l.window);
+      (g.W.Write.contents (inner_of l.fn.writer)) (g.W.Write.contents (inner_of l.writer)) l.daemon (ended_of l.window);
 }
 
 abbrev pub decreases-commands : goal.decreases-commands

@@ -1,4 +1,4 @@
-use Rattle.std.proofs.Common.{◌≡◌, [], refl, arith, rules, length}
+use Rattle.std.proofs.Common.{◌≡◌, [], refl, arith, rules}
 use Rattle.std.proofs.lemmas.Result.{err_from_is_err_and}
 use Rattle.dmypy.specs.Counted.{calls_of}
 use Rattle.dmypy.specs.Window.{held_of, ended_of}

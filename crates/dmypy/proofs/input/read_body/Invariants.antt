@@ -1,4 +1,4 @@
-use Rattle.std.proofs.Common.{ℕ, ◌≤◌, length}
+use Rattle.std.proofs.Common.{◌≤◌, length}
 use Rattle.dmypy.specs.Counted.{inner_of, calls_of}
 use Rattle.dmypy.specs.Reading.{IsReading, work_left}
 use Rattle.dmypy.specs.Window.{held_of, ended_of}
@@ -10,7 +10,7 @@ invariant-loop-left g l = record {
   reading : IsReading (g.R.Read.remaining (inner_of l.reader)) (ended_of l.window) (calls_of l.reader) l.turns;
   body : BodySoFar (g.R.Read.remaining (inner_of l.fn.reader)) (held_of l.fn.window) (g.R.Read.remaining (inner_of l.reader)) (held_of l.window) l.bytes.items l.kept l.wanted (ended_of l.fn.window) (ended_of l.window) l.size l.left;
   work : work_left (ended_of l.window) (length (held_of l.window)) (calls_of l.reader) l.turns
-    ≤ work_left (ended_of l.fn.window) (length (held_of l.fn.window)) (calls_of l.fn.reader) l.turns;
+      ≤ work_left (ended_of l.fn.window) (length (held_of l.fn.window)) (calls_of l.fn.reader) l.turns;
 }
 
 abbrev pub decreases-loop-left : goal.decreases-loop-left

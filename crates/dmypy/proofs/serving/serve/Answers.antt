@@ -1,4 +1,4 @@
-use Rattle.std.proofs.Common.{◌≡◌, ◌++◌, ◌∷◌, [], if◌then◌else◌, false, sym, ◌∙◌}
+use Rattle.std.proofs.Common.{◌++◌, ◌∷◌, [], if◌then◌else◌, sym, ◌∙◌}
 use Rattle.std.proofs.lemmas.Result.{err_from_is_err_and}
 use Rattle.dmypy.proofs.Moving.{advances_trans}
 use Rattle.dmypy.proofs.Served.{served, some_line}
@@ -14,8 +14,11 @@ returns-in_err-answer-clause-err g c =
 pub returns-clause-served : goal.returns-clause-served
 returns-clause-served g c =
     let line = c.in_ok-fed.ensures.line in
-    let done = c.in_ok-answer.ensures.obeyed in
-    ((line.0 ++ (if c.in_ok-fed.fed then 10 ∷ [] else [])) ++ done.0, done.1, advances_trans _ _ _ _ _ _ _ _ line.1 done.2,
+    let done = c.in_ok-answer.ensures.obeyed in (
+      (line.0 ++ (if c.in_ok-fed.fed then 10 ∷ [] else [])) ++ done.0,
+      done.1,
+      advances_trans _ _ _ _ _ _ _ _ line.1 done.2,
       served _ _ c.in_ok-answer.answer line.0 done.0 _ c.in_ok-fed.fed done.1 _ line.2 line.3
-      (λ unfed. (some_line _ c.in_ok-fed.fed (rw c.deref.ensures.value at (sym c.is_end.ensures ∙ c.if-is_end.false)) unfed, done.4 (c.in_ok-fed.ensures.last unfed)))
-      (λ rest last. rw (c.parse.ensures, c.command_line.ensures, c.deref-2.ensures.value) at (done.3 rest last)))
+          (λ unfed. (some_line _ c.in_ok-fed.fed (rw c.deref.ensures.value at (sym c.is_end.ensures ∙ c.if-is_end.false)) unfed, done.4 (c.in_ok-fed.ensures.last unfed)))
+          (λ rest last. rw (c.parse.ensures, c.command_line.ensures, c.deref-2.ensures.value) at (done.3 rest last)),
+    )

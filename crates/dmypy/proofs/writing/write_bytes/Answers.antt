@@ -1,4 +1,4 @@
-use Rattle.std.proofs.Common.{◌≡◌, ◌∙◌, ◌++◌, ap, sym, take, drop}
+use Rattle.std.proofs.Common.{◌∙◌, ◌++◌, ap, sym, take}
 use Rattle.std.proofs.lemmas.List.{take-append-drop}
 use Rattle.dmypy.proofs.Going.{written_on}
 use Rattle.dmypy.proofs.CommandWords.{take_rest}

@@ -1,4 +1,4 @@
-use Rattle.std.proofs.Common.{◌≡◌, ℕ, List, ◌++◌, length}
+use Rattle.std.proofs.Common.{length}
 use Rattle.dmypy.specs.Counted.{inner_of}
 use Rattle.dmypy.proofs.Going.{WrittenSoFar}
 use Rattle.dmypy.proofs.writing.write_bytes.Given as goal

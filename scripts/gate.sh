@@ -1,0 +1,37 @@
+#!/usr/bin/env bash
+# The gate: proves, builds and tests every crate by `rt ci`, then runs the built program by the other scripts.
+# Its last line is `gate: N passed, M failed`, the sum of all, and its status is 1 if anything failed.
+set -u
+cd "$(dirname "${BASH_SOURCE[0]}")/.." || exit 1
+
+log=$(mktemp) || exit 1
+trap 'rm -f "$log"' EXIT
+passed=0
+failed=0
+
+# Runs a command and adds up the numbers of its last line, which has the form `N passed, M failed`, with or without a
+# name before it. A command that ends with another status than 0, or without that line, has failed at least once.
+run() {
+    "$@" | tee "$log"
+    local status=${PIPESTATUS[0]} pattern='(^|: )([0-9]+) passed, ([0-9]+) failed$' last good=0 bad=0
+    last=$(grep -v '^[[:space:]]*$' "$log" | tail -n 1)
+    if [[ $last =~ $pattern ]]; then
+        good=${BASH_REMATCH[2]}
+        bad=${BASH_REMATCH[3]}
+    else
+        echo "gate: failed: no closing line: $*"
+        bad=1
+    fi
+    if [[ $status -ne 0 && $bad -eq 0 ]]; then
+        echo "gate: failed: status $status: $*"
+        bad=1
+    fi
+    passed=$((passed + good))
+    failed=$((failed + bad))
+}
+
+run rt ci
+run python3 scripts/refused_growths.py
+
+echo "gate: $passed passed, $failed failed"
+[[ $failed -eq 0 ]]
