@@ -1,7 +1,8 @@
 -- What a parse by the program's command line gives.
-use Rattle.std.proofs.Common.{◌≡◌, ◌∙◌, ◌∷◌, [], All, Bool, true, false, List, Option, Some, None, ap, codes, drop, is_some, option_and_then, option_map, refl, rules, sym}
+use Rattle.std.proofs.Common.{bytes_eq, ◌&&◌, not, ◌≡◌, ◌∙◌, ◌∷◌, [], All, Bool, true, false, List, Option, Some, None, ap, codes, drop, is_some, option_and_then, option_map, refl, rules, sym}
 use Rattle.std.proofs.lemmas.List.Elements.{All-from_recursion}
-use Rattle.clap.specs.Words.{Row, Shape, Text, built, fault_of, is_simple, is_simple_and_free, one_of, subcommand_of}
+use Rattle.clap.specs.Words.{all_of, Row, Shape, Text, built, fault_of, is_simple, is_simple_and_free, one_of, subcommand_name_of, subcommand_of, subcommand_rows_of}
+use Rattle.clap.specs.declared.parser.matches.ArgMatches.{ArgMatches}
 use Rattle.clap.specs.Kinds.{Kinds, or_else}
 use Rattle.clap.specs.Faults.{built_fault, check_fault, defaults_fault, entered_fault, level_fault, settle_fault, walk_fault}
 use Rattle.clap.specs.Walk.{Held, Names, finished, nothing_held, settled, stop_after, walk, walk_from}
@@ -10,8 +11,8 @@ use Rattle.clap.proofs.OnLiterals.{clap_on_literals}
 use Rattle.dmypy.specs.declared.options.Options.{Options}
 use Rattle.dmypy.specs.declared.options.TheConstants.{TURNS}
 use Rattle.dmypy.specs.declared.words.Job.{Job}
-use Rattle.dmypy.specs.declared.words.Job.TheVariants.{Session}
-use Rattle.dmypy.specs.Words.{IsFlag, check_untyped_id, command_line, found_text, ignore_missing_id, options_of, session_rows, option_text}
+use Rattle.dmypy.specs.declared.words.Job.TheVariants.{Session, Check}
+use Rattle.dmypy.specs.Words.{IsFlag, check_untyped_id, command_line, found_text, is_check, names_check, files_id, found_files, files_id, found_files, ignore_missing_id, options_of, session_rows, option_text}
 
 pub command_line_is_simple : is_simple command_line ≡ true
 unfolding command_line clap_on_literals
@@ -83,18 +84,19 @@ pub record Says (row : List Text × Options) : Type 0 where
   pub ignore_missing : found_text ignore_missing_id (found_after row.0) ≡ Some (flag_word row.1.ignore_missing)
   pub check_untyped : found_text check_untyped_id (found_after row.0) ≡ Some (flag_word row.1.check_untyped)
   pub turns : row.1.turns ≡ TURNS
+  pub no_check : names_check (found_after row.0) ≡ false
 
 pub rows_say : All Says session_rows
 unfolding command_line clap_on_literals
 rows_say = All-from_recursion Says session_rows (
-  record { none_fails = refl; ignore_missing = refl; check_untyped = refl; turns = refl },
+  record { none_fails = refl; ignore_missing = refl; check_untyped = refl; turns = refl; no_check = refl },
   (
-    record { none_fails = refl; ignore_missing = refl; check_untyped = refl; turns = refl },
+    record { none_fails = refl; ignore_missing = refl; check_untyped = refl; turns = refl; no_check = refl },
     (
-      record { none_fails = refl; ignore_missing = refl; check_untyped = refl; turns = refl },
+      record { none_fails = refl; ignore_missing = refl; check_untyped = refl; turns = refl; no_check = refl },
       (
-        record { none_fails = refl; ignore_missing = refl; check_untyped = refl; turns = refl },
-        (record { none_fails = refl; ignore_missing = refl; check_untyped = refl; turns = refl }, tt),
+        record { none_fails = refl; ignore_missing = refl; check_untyped = refl; turns = refl; no_check = refl },
+        (record { none_fails = refl; ignore_missing = refl; check_untyped = refl; turns = refl; no_check = refl }, tt),
       ),
     ),
   ),
@@ -117,9 +119,36 @@ row_fault texts row says e = ap (built_fault (built command_line) nothing_held) 
 
 pub row_job : (texts : List Text) (row : List Text × Options) (job : Job) → Says row → drop 1 texts ≡ row.0 → (options_of job).turns ≡ TURNS
     → IsFlag (option_text ignore_missing_id texts) (options_of job).ignore_missing → IsFlag (option_text check_untyped_id texts) (options_of job).check_untyped
-    → job ≡ Session row.1
+    → is_check job ≡ names_check (subcommand_of command_line texts) → job ≡ Session row.1
 unfolding command_line
-row_job texts row (Session options) says e turns ignore_missing check_untyped =
+row_job texts row (Session options) says e turns ignore_missing check_untyped kind =
     let first = flag_is _ _ _ ignore_missing (ap (λ words. found_text ignore_missing_id (found_after words)) e ∙ says.ignore_missing) in
     let second = flag_is _ _ _ check_untyped (ap (λ words. found_text check_untyped_id (found_after words)) e ∙ says.check_untyped) in
     ap Session (same_options options row.1 first second (turns ∙ sym says.turns))
+row_job texts row (Check options files) says e turns ignore_missing check_untyped kind =
+    let wrong : true ≡ false = kind ∙ ap (λ words. names_check (found_after words)) e ∙ says.no_check in
+    cc
+
+-- what was found for the files, where these rows were found for the subcommand
+pub found_files-rows : (found : Option (Text × List Row)) (rows : List Row) → Some rows ≡ option_map (λ p. p.1) found → all_of files_id rows ≡ found_files found
+found_files-rows found rows e = ap (option_and_then (all_of files_id)) e ∙ second_alone (all_of files_id) found
+
+-- whether the subcommand is `check`, where it has this name
+pub names_check-name : (found : Option (Text × List Row)) (name : Text) → Some name ≡ option_map (λ p. p.0) found → bytes_eq name (codes "check") ≡ names_check found
+names_check-name None name e = search rules
+names_check-name (Some found) name e = let same : name ≡ found.0 = cc in rw same refl
+
+-- a plain command has no global argument
+pub third_passes : (a b c rest : Bool) → (a && (not b && (not c && rest))) ≡ true → c ≡ false
+third_passes true false false rest e = refl
+third_passes true false true rest e = let wrong : false ≡ true = e in cc
+third_passes true true c rest e = let wrong : false ≡ true = e in cc
+third_passes false b c rest e = let wrong : false ≡ true = e in cc
+
+map_twice : {X Y Z : Type 0} (f : Y → Z) (g : X → Y) (o : Option X) → option_map (λ x. f (g x)) o ≡ option_map f (option_map g o)
+map_twice f g None = refl
+map_twice f g (Some x) = refl
+
+-- the name of the subcommand that a parse entered
+pub name_of_rows : (m : ArgMatches) → subcommand_name_of m ≡ option_map (λ p. p.0) (subcommand_rows_of m)
+name_of_rows m = map_twice (λ p. p.0) _ _

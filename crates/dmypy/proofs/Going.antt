@@ -1,10 +1,15 @@
 -- A run of a session, command by command.
-use Rattle.std.proofs.Common.{◌≡◌, ℕ, Bool, true, false, List, [], ◌∷◌, ◌++◌, length, ◌-◌, Option, None, Some, IsTrue, ◌<◌, refl, sym, ap, subst, ◌∙◌, arith, append_assoc, length-append}
+use Rattle.std.proofs.Common.{◌≡◌, ℕ, Bool, true, false, List, [], ◌∷◌, ◌++◌, length, drop, get_or, ◌+◌, ◌≤◌, ◌-◌, Option, None, Some, IsTrue, ◌<◌, refl, sym, ap, add-one, subst, ◌∙◌, arith, append_assoc, length-append}
 use Rattle.std.specs.Prelude.{OnErr, IfOk, IfSome, Result, Ok, Err}
 use Rattle.std.specs.Io.KnownBytes.{Appends}
 use Rattle.std.specs.Io.KnownBytes.{IsAtEnd}
+use Rattle.dmypy.specs.Entry.{Entry}
+use Rattle.dmypy.specs.Event.{Event, FetchStep, Links}
 use Rattle.dmypy.specs.Reading.{Advances}
-use Rattle.dmypy.specs.Replies.{WritesPart, Serves, turn_of, turn_after, reply_bytes}
+use Rattle.std.proofs.Math.Seq.{drop-cons}
+use Rattle.std.proofs.Math.ListN.{drop_of_length-le}
+use denote.Ref.{Bor}
+use Rattle.dmypy.specs.Replies.{joined, WritesPart, Serves, turn_of, turn_after, reply_bytes}
 use Rattle.dmypy.specs.Runs.{Runs, IsLast}
 use Rattle.dmypy.specs.Session.{Session, Onward, goes_on, ends, onto, session_from, session_text, session_end}
 use Rattle.dmypy.specs.Window.{held_of, ended_of}
@@ -75,59 +80,110 @@ part_before told told' xs ys p = record {
   seam = ap (λ zs. zs ++ ys) p.seam ∙ append_assoc p.written p.later ys;
 }
 
+-- the first of some texts are written
+pub record JoinedSoFar (told told' : Option (List ℕ)) (texts : List (Bor (List ℕ))) (count : ℕ) : Type 0 where
+  pub written : List ℕ
+  pub appends : Appends told told' written
+  pub seam : joined texts ≡ written ++ joined (drop count texts)
+
+pub joined_none : (told : Option (List ℕ)) (texts : List (Bor (List ℕ))) → JoinedSoFar told told texts 0
+joined_none told texts = record { written = []; appends = appends_none told; seam = refl }
+
+joined_at : (texts : List (Bor (List ℕ))) (count : ℕ) (d : Bor (List ℕ)) → count < length texts
+    → joined (drop count texts) ≡ (get_or texts count d).now ++ joined (drop (count + 1) texts)
+joined_at texts count d within = rw (add-one, drop-cons texts count d within) refl
+
+pub joined_on : (told told' told'' : Option (List ℕ)) (texts : List (Bor (List ℕ))) (count : ℕ) (d : Bor (List ℕ)) (part : List ℕ)
+    → JoinedSoFar told told' texts count → count < length texts → part ≡ (get_or texts count d).now → Appends told' told'' part
+    → JoinedSoFar told told'' texts (count + 1)
+joined_on told told' told'' texts count d part w within e a = record {
+  written = w.written ++ part;
+  appends = appends_trans told told' told'' w.written part w.appends a;
+  seam = w.seam ∙ ap (λ zs. w.written ++ zs) (joined_at texts count d within) ∙ rw e (sym (append_assoc w.written (get_or texts count d).now (joined (drop (count + 1) texts))));
+}
+
+pub joined_part : (told told' told'' : Option (List ℕ)) (texts : List (Bor (List ℕ))) (count : ℕ) (d : Bor (List ℕ)) (part : List ℕ)
+    → JoinedSoFar told told' texts count → count < length texts → part ≡ (get_or texts count d).now → WritesPart told' told'' part
+    → WritesPart told told'' (joined texts)
+joined_part told told' told'' texts count d part w within e p = record {
+  written = w.written ++ p.written;
+  later = p.later ++ joined (drop (count + 1) texts);
+  appends = appends_trans told told' told'' w.written p.written w.appends p.appends;
+  seam = w.seam ∙ ap (λ zs. w.written ++ zs) (joined_at texts count d within ∙ ap (λ zs. zs ++ joined (drop (count + 1) texts)) (sym e ∙ p.seam)) ∙ simp append_assoc;
+}
+
+pub joined_all : (told told' : Option (List ℕ)) (texts : List (Bor (List ℕ))) (count : ℕ) → JoinedSoFar told told' texts count → length texts ≤ count
+    → Appends told told' (joined texts)
+joined_all told told' texts count w over =
+    subst (λ zs. Appends told told' zs) (sym (w.seam ∙ ap (λ ts. w.written ++ joined ts) (drop_of_length-le texts over) ∙ append_nil w.written)) w.appends
+
 -- what holds at a fault
 pub at_fault : {T E : Type 0} (r : Result T E) (P Q : Type 0) → (P → Q) → OnErr r P → OnErr r Q
 at_fault (Ok x) P Q f p = tt
 at_fault (Err e) P Q f p = f p
 
+pub events_nil : (events : List Event) → events ++ [] ≡ events
+events_nil [] = refl
+events_nil (event ∷ events) = ap (λ es. event ∷ es) (events_nil events)
+
+-- one more fetch
+pub links_push : {S : Type 0} (step : S → List ℕ → Entry → S → Type 0) (before between after : S) (events : List Event) → Links step before events between
+    → (event : Event) → FetchStep step between event.fetched after → Links step before (events ++ event ∷ []) after
+links_push step before between after [] same event fetched = (after, subst (λ x. FetchStep step x event.fetched after) same fetched, refl)
+links_push step before between after (first ∷ events) links event fetched =
+    (links.0, links.1, links_push step links.0 between after events links.2 event fetched)
+
 -- A session that is going on: what was taken, marked and written so far comes before what the rest of the input brings.
-pub record Going (left left' : Option (List ℕ)) (held' : List ℕ) (told told' : Option (List ℕ)) (s : State) (ended : Bool) : Type 0 where
+pub record Going {S : Type 0} (step : S → List ℕ → Entry → S → Type 0) (source source' : S) (left left' : Option (List ℕ)) (held' : List ℕ) (told told' : Option (List ℕ)) (s : State) (ended : Bool) : Type 0 where
   pub taken : List ℕ
-  pub marks : List Bool
+  pub events : List Event
   pub written : List ℕ
   pub moved : Advances left [] left' held' taken
   pub appends : Appends told told' written
-  pub onward : (rest : List ℕ) (more : List Bool) → IsLast ended rest
-      → session_from start (taken ++ rest) (marks ++ more) ≡ onto written goes_on (session_from s rest more)
+  pub links : Links step source events source'
+  pub onward : (rest : List ℕ) (more : List Event) → IsLast ended rest
+      → session_from start (taken ++ rest) (events ++ more) ≡ onto written goes_on (session_from s rest more)
 
-pub going_none : (left told : Option (List ℕ)) (held : List ℕ) (s : State) (ended : Bool) → held ≡ [] → s ≡ start → Going left left held told told s ended
-going_none left told held s ended e f = record {
+pub going_none : {S : Type 0} (step : S → List ℕ → Entry → S → Type 0) (source : S) (left told : Option (List ℕ)) (held : List ℕ) (s : State) (ended : Bool) → held ≡ [] → s ≡ start → Going step source source left left held told told s ended
+going_none step source left told held s ended e f = record {
   taken = [];
-  marks = [];
+  events = [];
   written = [];
   moved = subst (λ zs. Advances left [] left zs []) (sym e) (advances_none left []);
   appends = appends_none told;
+  links = refl;
   onward = λ rest more last. rw f refl;
 }
 
 -- what a served command adds to a session that is going on
-step_on : (left left' told told' : Option (List ℕ)) (held' : List ℕ) (s s' : State) (ended' : Bool)
-    (g : Going left left' held' told told' s false) (bytes : List ℕ) (mark : Bool) (answer : Answer)
-    → Serves s s' bytes mark ended' (Some answer)
-    → (rest : List ℕ) (more : List Bool) → IsLast ended' rest
-    → session_from start ((g.taken ++ bytes) ++ rest) ((g.marks ++ mark ∷ []) ++ more)
+step_on : {S : Type 0} (step : S → List ℕ → Entry → S → Type 0) (source source' : S) (left left' told told' : Option (List ℕ)) (held' : List ℕ) (s s' : State) (ended' : Bool)
+    (g : Going step source source' left left' held' told told' s false) (bytes : List ℕ) (event : Event) (answer : Answer)
+    → Serves s s' bytes event ended' (Some answer)
+    → (rest : List ℕ) (more : List Event) → IsLast ended' rest
+    → session_from start ((g.taken ++ bytes) ++ rest) ((g.events ++ event ∷ []) ++ more)
     ≡ onto g.written goes_on (onto (turn_of answer s' rest).reply (turn_of answer s' rest).onward (session_from (turn_of answer s' rest).state (turn_of answer s' rest).rest more))
-step_on left left' told told' held' s s' ended' g bytes mark answer serves rest more last =
+step_on step source source' left left' told told' held' s s' ended' g bytes event answer serves rest more last =
     let some : 0 < length (bytes ++ rest) = omega (arith, length-append bytes rest, serves.0) in
-    ap (λ zs. session_from start zs ((g.marks ++ mark ∷ []) ++ more)) (append_assoc g.taken bytes rest)
-    ∙ ap (λ ms. session_from start (g.taken ++ (bytes ++ rest)) ms) (append_assoc g.marks (mark ∷ []) more)
-    ∙ g.onward (bytes ++ rest) (mark ∷ more) (λ never. cc)
-    ∙ ap (onto g.written goes_on) (session_from-turn s (bytes ++ rest) mark more (turn_of answer s' rest) some (serves.1 rest last))
+    ap (λ zs. session_from start zs ((g.events ++ event ∷ []) ++ more)) (append_assoc g.taken bytes rest)
+    ∙ ap (λ ms. session_from start (g.taken ++ (bytes ++ rest)) ms) (append_assoc g.events (event ∷ []) more)
+    ∙ g.onward (bytes ++ rest) (event ∷ more) (λ never. cc)
+    ∙ ap (onto g.written goes_on) (session_from-turn s (bytes ++ rest) event more (turn_of answer s' rest) some (serves.1 rest last))
 
 -- a reply is written, and the session goes on
-pub going_on : (left left' left'' told told' told'' : Option (List ℕ)) (held' held'' : List ℕ) (s s' : State) (ended ended' : Bool) (bytes : List ℕ) (mark : Bool) (answer : Answer)
-    → Going left left' held' told told' s ended → ended ≡ false → Advances left' held' left'' held'' bytes
-    → Serves s s' bytes mark ended' (Some answer) → answer.end ≡ None → Appends told' told'' (reply_bytes answer.reply)
-    → Going left left'' held'' told told'' s' ended'
-going_on left left' left'' told told' told'' held' held'' s s' ended ended' bytes mark answer g0 unended moved serves end appends =
-    let g : Going left left' held' told told' s false = subst (λ t. Going left left' held' told told' s t) unended g0 in
+pub going_on : {S : Type 0} (step : S → List ℕ → Entry → S → Type 0) (source source' source'' : S) (left left' left'' told told' told'' : Option (List ℕ)) (held' held'' : List ℕ) (s s' : State) (ended ended' : Bool) (bytes : List ℕ) (event : Event) (answer : Answer)
+    → Going step source source' left left' held' told told' s ended → ended ≡ false → Advances left' held' left'' held'' bytes
+    → Serves s s' bytes event ended' (Some answer) → FetchStep step source' event.fetched source'' → answer.end ≡ None → Appends told' told'' (reply_bytes answer.reply)
+    → Going step source source'' left left'' held'' told told'' s' ended'
+going_on step source source' source'' left left' left'' told told' told'' held' held'' s s' ended ended' bytes event answer g0 unended moved serves fetched end appends =
+    let g : Going step source source' left left' held' told told' s false = subst (λ t. Going step source source' left left' held' told told' s t) unended g0 in
     record {
       taken = g.taken ++ bytes;
-      marks = g.marks ++ mark ∷ [];
+      events = g.events ++ event ∷ [];
       written = g.written ++ reply_bytes answer.reply;
       moved = advances_trans left left' left'' [] held' held'' g.taken bytes g.moved moved;
       appends = appends_trans told told' told'' g.written (reply_bytes answer.reply) g.appends appends;
-      onward = λ rest more last. step_on left left' told told' held' s s' ended' g bytes mark answer serves rest more last
+      links = links_push step source source' source'' g.events g.links event fetched;
+      onward = λ rest more last. step_on step source source' left left' told told' held' s s' ended' g bytes event answer serves rest more last
           ∙ rw (end, append_assoc) refl;
     }
 
@@ -156,135 +212,141 @@ reply_part None s rest written reply part later tail e = rw e (simp append_assoc
 reply_part (Some end) s rest written reply part later tail e = rw e (simp append_assoc)
 
 -- the session ends after a reply
-pub runs_last : (left left' left'' told told' told'' : Option (List ℕ)) (held' held'' : List ℕ) (s s' : State) (ended ended' : Bool) (bytes : List ℕ) (mark : Bool) (answer : Answer) (end : End)
-    → Going left left' held' told told' s ended → ended ≡ false → Advances left' held' left'' held'' bytes
-    → Serves s s' bytes mark ended' (Some answer) → answer.end ≡ Some end → Appends told' told'' (reply_bytes answer.reply)
+pub runs_last : {S : Type 0} (step : S → List ℕ → Entry → S → Type 0) (source source' source'' : S) (left left' left'' told told' told'' : Option (List ℕ)) (held' held'' : List ℕ) (s s' : State) (ended ended' : Bool) (bytes : List ℕ) (event : Event) (answer : Answer) (end : End)
+    → Going step source source' left left' held' told told' s ended → ended ≡ false → Advances left' held' left'' held'' bytes
+    → Serves s s' bytes event ended' (Some answer) → FetchStep step source' event.fetched source'' → answer.end ≡ Some end → Appends told' told'' (reply_bytes answer.reply)
     → (IsTrue ended' → IsAtEnd left'') → (IsTrue ended' → held'' ≡ [])
-    → Runs left left'' told told'' (Ok end)
-runs_last left left' left'' told told' told'' held' held'' s s' ended ended' bytes mark answer end g0 unended moved serves is_last appends at_end none =
-    let g : Going left left' held' told told' s false = subst (λ t. Going left left' held' told told' s t) unended g0 in
+    → Runs step source source'' left left'' told told'' (Ok end)
+runs_last step source source' source'' left left' left'' told told' told'' held' held'' s s' ended ended' bytes event answer end g0 unended moved serves fetched is_last appends at_end none =
+    let g : Going step source source' left left' held' told told' s false = subst (λ t. Going step source source' left left' held' told told' s t) unended g0 in
     let all = advances_trans left left' left'' [] held' held'' g.taken bytes g.moved moved in
     record {
       taken = all.got;
       ended = ended';
-      marks = g.marks ++ mark ∷ [];
+      events = g.events ++ event ∷ [];
       written = g.written ++ reply_bytes answer.reply;
       consumes = all.consumes;
       at_end = at_end;
       appends = appends_trans told told' told'' g.written (reply_bytes answer.reply) g.appends appends;
+      links = links_push step source source' source'' g.events g.links event fetched;
       tells = λ rest more last.
-          ap (λ zs. session_from start zs ((g.marks ++ mark ∷ []) ++ more)) (ap (λ zs. zs ++ rest) all.seam ∙ append_assoc (g.taken ++ bytes) held'' rest)
-          ∙ step_on left left' told told' held' s s' ended' g bytes mark answer serves (held'' ++ rest) more (last_held ended' held'' rest none last)
+          ap (λ zs. session_from start zs ((g.events ++ event ∷ []) ++ more)) (ap (λ zs. zs ++ rest) all.seam ∙ append_assoc (g.taken ++ bytes) held'' rest)
+          ∙ step_on step source source' left left' told told' held' s s' ended' g bytes event answer serves (held'' ++ rest) more (last_held ended' held'' rest none last)
           ∙ rw is_last refl;
     }
 
 -- the input ends before another command
-pub runs_ended : (left left' told told' : Option (List ℕ)) (held' : List ℕ) (s : State) (ended : Bool)
-    → Going left left' held' told told' s ended → ended ≡ true → (IsTrue ended → IsAtEnd left') → held' ≡ []
-    → Runs left left' told told' (Ok EndOfInput)
-runs_ended left left' told told' held' s ended g over at_end none = record {
+pub runs_ended : {S : Type 0} (step : S → List ℕ → Entry → S → Type 0) (source source' : S) (left left' told told' : Option (List ℕ)) (held' : List ℕ) (s : State) (ended : Bool)
+    → Going step source source' left left' held' told told' s ended → ended ≡ true → (IsTrue ended → IsAtEnd left') → held' ≡ []
+    → Runs step source source' left left' told told' (Ok EndOfInput)
+runs_ended step source source' left left' told told' held' s ended g over at_end none = record {
   taken = g.moved.got;
   ended = ended;
-  marks = g.marks;
+  events = g.events;
   written = g.written;
   consumes = g.moved.consumes;
   at_end = at_end;
   appends = g.appends;
+  links = g.links;
   tells = λ rest more last.
       let nothing : rest ≡ [] = last over in
-      ap (λ zs. session_from start zs (g.marks ++ more)) (ap (λ zs. zs ++ rest) g.moved.seam ∙ append_assoc g.taken held' rest)
+      ap (λ zs. session_from start zs (g.events ++ more)) (ap (λ zs. zs ++ rest) g.moved.seam ∙ append_assoc g.taken held' rest)
       ∙ g.onward (held' ++ rest) more (last_held ended held' rest (λ _. none) last)
       ∙ rw (none, nothing) (ap (onto g.written goes_on) (session_from-empty s more) ∙ written_ends g.written);
 }
 
 -- the input ends where no command begins
-pub going_last : (left left' left'' told told' : Option (List ℕ)) (held' held'' : List ℕ) (s s' : State) (ended ended' : Bool) (bytes : List ℕ)
-    → Going left left' held' told told' s ended → ended ≡ false → Advances left' held' left'' held'' bytes → bytes ≡ [] → s' ≡ s
-    → Going left left'' held'' told told' s' ended'
-going_last left left' left'' told told' held' held'' s s' ended ended' bytes g unended moved none same = record {
+pub going_last : {S : Type 0} (step : S → List ℕ → Entry → S → Type 0) (source source' source'' : S) (left left' left'' told told' : Option (List ℕ)) (held' held'' : List ℕ) (s s' : State) (ended ended' : Bool) (bytes : List ℕ)
+    → Going step source source' left left' held' told told' s ended → ended ≡ false → Advances left' held' left'' held'' bytes → bytes ≡ [] → s' ≡ s → source'' ≡ source'
+    → Going step source source'' left left'' held'' told told' s' ended'
+going_last step source source' source'' left left' left'' told told' held' held'' s s' ended ended' bytes g unended moved none same kept = record {
   taken = g.taken ++ bytes;
-  marks = g.marks;
+  events = g.events;
   written = g.written;
   moved = advances_trans left left' left'' [] held' held'' g.taken bytes g.moved moved;
   appends = g.appends;
+  links = subst (λ x. Links step source g.events x) (sym kept) g.links;
   onward = λ rest more last. rw (none, append_nil g.taken, same) (g.onward rest more (still_going unended));
 }
 
 -- the reader fails
-pub runs_unread : (left left' left'' told told' : Option (List ℕ)) (held' held'' : List ℕ) (s : State) (ended ended' : Bool) (bytes : List ℕ) (why : RunFault)
-    → Going left left' held' told told' s ended → ended ≡ false → Advances left' held' left'' held'' bytes → ended' ≡ false
-    → Runs left left'' told told' (Err why)
-runs_unread left left' left'' told told' held' held'' s ended ended' bytes why g unended moved open_end =
+pub runs_unread : {S : Type 0} (step : S → List ℕ → Entry → S → Type 0) (source source' source'' : S) (left left' left'' told told' : Option (List ℕ)) (held' held'' : List ℕ) (s : State) (ended ended' : Bool) (bytes : List ℕ) (why : RunFault)
+    → Going step source source' left left' held' told told' s ended → ended ≡ false → Advances left' held' left'' held'' bytes → ended' ≡ false → source'' ≡ source'
+    → Runs step source source'' left left'' told told' (Err why)
+runs_unread step source source' source'' left left' left'' told told' held' held'' s ended ended' bytes why g unended moved open_end kept =
     let all = advances_trans left left' left'' [] held' held'' g.taken bytes g.moved moved in
     record {
       taken = all.got;
       ended = ended';
-      marks = g.marks;
+      events = g.events;
       written = g.written;
       consumes = all.consumes;
       at_end = λ told. still_going open_end told;
       appends = g.appends;
+      links = subst (λ x. Links step source g.events x) (sym kept) g.links;
       tells = λ rest more last. (
         (session_from s (bytes ++ (held'' ++ rest)) more).text,
         ap (λ (o : Session). o.text)
-            (ap (λ zs. session_from start zs (g.marks ++ more))
+            (ap (λ zs. session_from start zs (g.events ++ more))
             (ap (λ zs. zs ++ rest) all.seam ∙ append_assoc (g.taken ++ bytes) held'' rest ∙ append_assoc g.taken bytes (held'' ++ rest))
             ∙ g.onward (bytes ++ (held'' ++ rest)) more (still_going unended)),
       );
     }
 
 -- the writer fails
-pub runs_unwritten : (left left' left'' told told' told'' : Option (List ℕ)) (held' held'' : List ℕ) (s s' : State) (ended ended' : Bool) (bytes : List ℕ) (mark : Bool) (answer : Answer) (why : RunFault)
-    → Going left left' held' told told' s ended → ended ≡ false → Advances left' held' left'' held'' bytes
-    → Serves s s' bytes mark ended' (Some answer) → WritesPart told' told'' (reply_bytes answer.reply)
+pub runs_unwritten : {S : Type 0} (step : S → List ℕ → Entry → S → Type 0) (source source' source'' : S) (left left' left'' told told' told'' : Option (List ℕ)) (held' held'' : List ℕ) (s s' : State) (ended ended' : Bool) (bytes : List ℕ) (event : Event) (answer : Answer) (why : RunFault)
+    → Going step source source' left left' held' told told' s ended → ended ≡ false → Advances left' held' left'' held'' bytes
+    → Serves s s' bytes event ended' (Some answer) → FetchStep step source' event.fetched source'' → WritesPart told' told'' (reply_bytes answer.reply)
     → (IsTrue ended' → IsAtEnd left'') → (IsTrue ended' → held'' ≡ [])
-    → Runs left left'' told told'' (Err why)
-runs_unwritten left left' left'' told told' told'' held' held'' s s' ended ended' bytes mark answer why g0 unended moved serves part at_end none =
-    let g : Going left left' held' told told' s false = subst (λ t. Going left left' held' told told' s t) unended g0 in
+    → Runs step source source'' left left'' told told'' (Err why)
+runs_unwritten step source source' source'' left left' left'' told told' told'' held' held'' s s' ended ended' bytes event answer why g0 unended moved serves fetched part at_end none =
+    let g : Going step source source' left left' held' told told' s false = subst (λ t. Going step source source' left left' held' told told' s t) unended g0 in
     let all = advances_trans left left' left'' [] held' held'' g.taken bytes g.moved moved in
     record {
       taken = all.got;
       ended = ended';
-      marks = g.marks ++ mark ∷ [];
+      events = g.events ++ event ∷ [];
       written = g.written ++ part.written;
       consumes = all.consumes;
       at_end = at_end;
       appends = appends_trans told told' told'' g.written part.written g.appends part.appends;
+      links = links_push step source source' source'' g.events g.links event fetched;
       tells = λ rest more last.
           let t = turn_of answer s' (held'' ++ rest) in
           let later = session_from t.state t.rest more in
           let tail = text_onto g.written t.reply t.onward later in
-          let whole = step_on left left' told told' held' s s' ended' g bytes mark answer serves (held'' ++ rest) more (last_held ended' held'' rest none last) in (
+          let whole = step_on step source source' left left' told told' held' s s' ended' g bytes event answer serves (held'' ++ rest) more (last_held ended' held'' rest none last) in (
             part.later ++ tail.0,
-            ap (λ zs. (session_from start zs ((g.marks ++ mark ∷ []) ++ more)).text) (ap (λ zs. zs ++ rest) all.seam ∙ append_assoc (g.taken ++ bytes) held'' rest)
+            ap (λ zs. (session_from start zs ((g.events ++ event ∷ []) ++ more)).text) (ap (λ zs. zs ++ rest) all.seam ∙ append_assoc (g.taken ++ bytes) held'' rest)
                 ∙ ap (λ (o : Session). o.text) whole ∙ tail.1
                 ∙ reply_part answer.end s' (held'' ++ rest) g.written (reply_bytes answer.reply) part.written part.later tail.0 part.seam,
           );
     }
 
 -- nothing was done
-pub runs_none : (left told : Option (List ℕ)) (why : RunFault) → Runs left left told told (Err why)
-runs_none left told why = record {
+pub runs_none : {S : Type 0} (step : S → List ℕ → Entry → S → Type 0) (source : S) (left told : Option (List ℕ)) (why : RunFault) → Runs step source source left left told told (Err why)
+runs_none step source left told why = record {
   taken = [];
   ended = false;
-  marks = [];
+  events = [];
   written = [];
   consumes = consumes_none left;
   at_end = λ never. cc;
   appends = appends_none told;
+  links = refl;
   tells = λ rest more last. ((session_from start rest more).text, refl);
 }
 
 -- what a run that ended wrote is the session of the whole input
-pub replies : (left left' told told' : Option (List ℕ)) (end : End) → Runs left left' told told' (Ok end)
-    → IfSome left (λ input. (marks : List Bool) × Appends told told' (session_text input marks) × (session_end input marks ≡ end))
-replies None left' told told' end r = tt
-replies (Some input) None told told' end r = absurd r.consumes
-replies (Some input) (Some ys) told told' end r =
-    let whole = ap (λ zs. session_from start zs (r.marks ++ [])) r.consumes ∙ r.tells ys [] r.at_end in
-    (r.marks ++ [], subst (λ zs. Appends told told' zs) (sym (ap (λ (o : Session). o.text) whole)) r.appends, ap (λ (o : Session). o.ending) whole)
+pub replies : {S : Type 0} (step : S → List ℕ → Entry → S → Type 0) (source source' : S) (left left' told told' : Option (List ℕ)) (end : End) → Runs step source source' left left' told told' (Ok end)
+    → IfSome left (λ input. (events : List Event) × Links step source events source' × Appends told told' (session_text input events) × (session_end input events ≡ end))
+replies step source source' None left' told told' end r = tt
+replies step source source' (Some input) None told told' end r = absurd r.consumes
+replies step source source' (Some input) (Some ys) told told' end r =
+    let whole = ap (λ es. session_from start input es) (sym (events_nil r.events)) ∙ ap (λ zs. session_from start zs (r.events ++ [])) r.consumes ∙ r.tells ys [] r.at_end in
+    (r.events, r.links, subst (λ zs. Appends told told' zs) (sym (ap (λ (o : Session). o.text) whole)) r.appends, ap (λ (o : Session). o.ending) whole)
 
-pub replies_ok : (left left' told told' : Option (List ℕ)) (result : Result End RunFault) → Runs left left' told told' result
-    → IfOk result (λ end. IfSome left (λ input. (marks : List Bool) × Appends told told' (session_text input marks) × (session_end input marks ≡ end)))
-replies_ok left left' told told' (Ok end) r = replies left left' told told' end r
-replies_ok left left' told told' (Err why) r = tt
+pub replies_ok : {S : Type 0} (step : S → List ℕ → Entry → S → Type 0) (source source' : S) (left left' told told' : Option (List ℕ)) (result : Result End RunFault) → Runs step source source' left left' told told' result
+    → IfOk result (λ end. IfSome left (λ input. (events : List Event) × Links step source events source' × Appends told told' (session_text input events) × (session_end input events ≡ end)))
+replies_ok step source source' left left' told told' (Ok end) r = replies step source source' left left' told told' end r
+replies_ok step source source' left left' told told' (Err why) r = tt

@@ -1,9 +1,12 @@
+pub mod CheckFilesLemmas
 pub mod CommandLine
 pub mod CommandWords
 pub mod ErrorLemmas
+pub mod FirstBytes
 pub mod FoundLemmas
 pub mod Going
 pub mod MessageLemmas
+pub mod ModuleLemmas
 pub mod Moving
 pub mod OutcomeLemmas
 pub mod Refusals
@@ -13,3 +16,4 @@ pub mod SortLemmas
 pub mod TextLemmas
 pub mod Texts
 pub mod Turns
+pub mod WorkspaceLemmas

@@ -1,12 +1,14 @@
 -- One command at the front of an input, served.
-use Rattle.std.proofs.Common.{◌≡◌, ℕ, ◌+◌, ◌-◌, ◌<◌, ◌≤◌, Bool, true, false, if◌then◌else◌, ◌==◌, ◌&&◌, not, nat_lt, nat_le, List, [], ◌∷◌, ◌++◌, length, take, Some, slice_index, refl, sym, ap, subst, ◌∙◌, arith, append_assoc, length-append}
+use Rattle.std.proofs.Common.{◌≡◌, ℕ, ◌+◌, ◌-◌, ◌<◌, ◌≤◌, Bool, true, false, if◌then◌else◌, ◌==◌, ◌&&◌, min, not, nat_lt, nat_le, List, [], ◌∷◌, ◌++◌, length, take, Some, slice_index, refl, sym, ap, subst, ◌∙◌, arith, append_assoc, length-append}
 use Rattle.std.proofs.lemmas.List.{length-take}
 use Rattle.std.proofs.lemmas.Bool.Decides.{nat_tests}
+use native.Mathlib.Numerals.{unary_clauses}
 use Rattle.dmypy.specs.Command.{unknown, spelled}
 use Rattle.dmypy.specs.Input.{has_line_feed, command_line}
 use Rattle.dmypy.specs.Replies.{Serves, turn_of}
 use Rattle.dmypy.specs.Runs.{IsLast}
-use Rattle.dmypy.specs.Session.{turn, act}
+use Rattle.dmypy.specs.Event.{Event}
+use Rattle.dmypy.specs.Session.{turn, act_with}
 use Rattle.dmypy.specs.Workspace.{State}
 use Rattle.dmypy.specs.declared.reply.Answer.{Answer}
 use Rattle.dmypy.proofs.Moving.{append_nil, take_whole}
@@ -39,38 +41,38 @@ spelled_cut raw fed =
     ] refl
 
 -- what a line and what it asks for are used for
-abbrev pub Obeys : State → State → List ℕ → Bool → List ℕ → Bool → Bool → Answer → Type 0
-Obeys s s' line fed bytes mark ended answer =
-    (rest : List ℕ) → IsLast ended rest → act s (spelled (command_line line fed)) mark (bytes ++ rest) ≡ turn_of answer s' rest
+abbrev pub Obeys : State → State → List ℕ → Bool → List ℕ → Event → Bool → Answer → Type 0
+Obeys s s' line fed bytes event ended answer =
+    (rest : List ℕ) → IsLast ended rest → act_with s (spelled (command_line line fed)) event.wants_memory event.fetched (bytes ++ rest) ≡ turn_of answer s' rest
 
-turn-fed : (s : State) (raw tail : List ℕ) (mark : Bool) → has_line_feed raw ≡ false
-    → turn s (raw ++ 10 ∷ tail) mark ≡ act s (spelled (command_line raw true)) mark tail
+turn-fed : (s : State) (raw tail : List ℕ) (event : Event) → has_line_feed raw ≡ false
+    → turn s (raw ++ 10 ∷ tail) event ≡ act_with s (spelled (command_line raw true)) event.wants_memory event.fetched tail
 unfolding turn
-turn-fed s raw tail mark none = rw (first_line-fed raw tail none, has_line_feed-fed raw tail, after_line-fed raw tail none) refl
+turn-fed s raw tail event none = rw (first_line-fed raw tail none, has_line_feed-fed raw tail, after_line-fed raw tail none) refl
 
-turn-last : (s : State) (raw : List ℕ) (mark : Bool) → has_line_feed raw ≡ false
-    → turn s raw mark ≡ act s (spelled (command_line raw false)) mark []
+turn-last : (s : State) (raw : List ℕ) (event : Event) → has_line_feed raw ≡ false
+    → turn s raw event ≡ act_with s (spelled (command_line raw false)) event.wants_memory event.fetched []
 unfolding turn
-turn-last s raw mark none = rw (first_line-last raw none, none, after_line-last raw none) refl
+turn-last s raw event none = rw (first_line-last raw none, none, after_line-last raw none) refl
 
 -- a command whose line a line feed ended
-served_fed : (s s' : State) (answer : Answer) (raw bytes line : List ℕ) (mark ended : Bool) → has_line_feed raw ≡ false → line ≡ take 514 raw
-    → Obeys s s' line true bytes mark ended answer → Serves s s' ((raw ++ 10 ∷ []) ++ bytes) mark ended (Some answer)
-served_fed s s' answer raw bytes line mark ended none kept obeys = (
+served_fed : (s s' : State) (answer : Answer) (raw bytes line : List ℕ) (event : Event) (ended : Bool) → has_line_feed raw ≡ false → line ≡ take 514 raw
+    → Obeys s s' line true bytes event ended answer → Serves s s' ((raw ++ 10 ∷ []) ++ bytes) event ended (Some answer)
+served_fed s s' answer raw bytes line event ended none kept obeys = (
   omega (arith, length-append (raw ++ 10 ∷ []) bytes, length-append raw (10 ∷ [])),
   λ rest last.
       let joined : ((raw ++ 10 ∷ []) ++ bytes) ++ rest ≡ raw ++ 10 ∷ (bytes ++ rest) =
       append_assoc (raw ++ 10 ∷ []) bytes rest ∙ append_assoc raw (10 ∷ []) (bytes ++ rest) in
-      ap (λ input. turn s input mark) joined ∙ turn-fed s raw (bytes ++ rest) mark none
-      ∙ ap (λ said. act s said mark (bytes ++ rest)) (sym (ap (λ l. spelled (command_line l true)) kept ∙ spelled_cut raw true))
+      ap (λ input. turn s input event) joined ∙ turn-fed s raw (bytes ++ rest) event none
+      ∙ ap (λ said. act_with s said event.wants_memory event.fetched (bytes ++ rest)) (sym (ap (λ l. spelled (command_line l true)) kept ∙ spelled_cut raw true))
       ∙ obeys rest last,
 )
 
 -- a command whose line the end of the input ended
-served_last : (s s' : State) (answer : Answer) (raw bytes line : List ℕ) (mark ended : Bool) → has_line_feed raw ≡ false → line ≡ take 514 raw
+served_last : (s s' : State) (answer : Answer) (raw bytes line : List ℕ) (event : Event) (ended : Bool) → has_line_feed raw ≡ false → line ≡ take 514 raw
     → (length line ≡ 0 → ⊥) → (bytes ≡ []) × (ended ≡ true)
-    → Obeys s s' line false bytes mark ended answer → Serves s s' ((raw ++ []) ++ bytes) mark ended (Some answer)
-served_last s s' answer raw bytes line mark ended none kept some over obeys =
+    → Obeys s s' line false bytes event ended answer → Serves s s' ((raw ++ []) ++ bytes) event ended (Some answer)
+served_last s s' answer raw bytes line event ended none kept some over obeys =
     let filled : (length (take 514 raw) ≡ 0 → ⊥) = subst (λ l. length l ≡ 0 → ⊥) kept some in
     let long : (length raw ≡ 0 → ⊥) = λ e. filled (omega (arith, length-take 514 raw)) in (
       omega (arith, length-append (raw ++ []) bytes, length-append raw [], long),
@@ -78,21 +80,34 @@ served_last s s' answer raw bytes line mark ended none kept some over obeys =
           let nothing : rest ≡ [] = last over.1 in
           let joined : ((raw ++ []) ++ bytes) ++ rest ≡ raw = rw (nothing, over.0) (append_nil ((raw ++ []) ++ []) ∙ append_nil (raw ++ []) ∙ append_nil raw) in
           let left : bytes ++ rest ≡ [] = rw (over.0, nothing) refl in
-          ap (λ input. turn s input mark) joined ∙ turn-last s raw mark none
-          ∙ ap (λ said. act s said mark []) (sym (ap (λ l. spelled (command_line l false)) kept ∙ spelled_cut raw false))
-          ∙ ap (λ tail. act s (spelled (command_line line false)) mark tail) (sym left)
+          ap (λ input. turn s input event) joined ∙ turn-last s raw event none
+          ∙ ap (λ said. act_with s said event.wants_memory event.fetched []) (sym (ap (λ l. spelled (command_line l false)) kept ∙ spelled_cut raw false))
+          ∙ ap (λ tail. act_with s (spelled (command_line line false)) event.wants_memory event.fetched tail) (sym left)
           ∙ obeys rest last,
     )
 
 -- either
-pub served : (s s' : State) (answer : Answer) (raw bytes line : List ℕ) (fed mark ended : Bool) → has_line_feed raw ≡ false → line ≡ take 514 raw
+pub served : (s s' : State) (answer : Answer) (raw bytes line : List ℕ) (fed : Bool) (event : Event) (ended : Bool) → has_line_feed raw ≡ false → line ≡ take 514 raw
     → (fed ≡ false → (length line ≡ 0 → ⊥) × ((bytes ≡ []) × (ended ≡ true)))
-    → Obeys s s' line fed bytes mark ended answer → Serves s s' ((raw ++ (if fed then 10 ∷ [] else [])) ++ bytes) mark ended (Some answer)
-served s s' answer raw bytes line true mark ended none kept over obeys = served_fed s s' answer raw bytes line mark ended none kept obeys
-served s s' answer raw bytes line false mark ended none kept over obeys =
-    let h = over refl in served_last s s' answer raw bytes line mark ended none kept h.0 h.1 obeys
+    → Obeys s s' line fed bytes event ended answer → Serves s s' ((raw ++ (if fed then 10 ∷ [] else [])) ++ bytes) event ended (Some answer)
+served s s' answer raw bytes line true event ended none kept over obeys = served_fed s s' answer raw bytes line event ended none kept obeys
+served s s' answer raw bytes line false event ended none kept over obeys =
+    let h = over refl in served_last s s' answer raw bytes line event ended none kept h.0 h.1 obeys
+
+some_kept : (n m : ℕ) → m ≡ 0 → m ≡ min 514 (n + 1) → ⊥
+some_kept n m none e = omega arith
 
 -- a line that is no end
 pub some_line : (line : List ℕ) (fed : Bool) → (not fed && (length line == 0)) ≡ false → fed ≡ false → length line ≡ 0 → ⊥
 some_line line true e f z = cc
 some_line line false e f z = let h : (length line == 0) ≡ true = grind (arith, nat_tests) in cc
+
+-- a line that is one
+pub end_line : (raw line : List ℕ) (fed : Bool) → line ≡ take 514 raw → (not fed && (length line == 0)) ≡ true
+    → (raw ++ (if fed then 10 ∷ [] else []) ≡ []) × (fed ≡ false)
+end_line raw line true kept e = cc
+end_line [] line false kept e = (refl, refl)
+end_line (b ∷ raw) line false kept e =
+    let none : length line ≡ 0 = grind (arith, nat_tests) in
+    let same : length line ≡ length (take 514 (b ∷ raw)) = ap length kept in
+    absurd (some_kept (length raw) (length line) none (same ∙ length-take 514 (b ∷ raw) ∙ simp unary_clauses))

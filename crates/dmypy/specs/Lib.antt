@@ -1,11 +1,16 @@
 pub mod Body
+pub mod CheckFiles
 pub mod Command
 pub mod Counted
 pub mod Daemon
+pub mod Entry
+pub mod Event
 pub mod FoundMessages
 pub mod Fresh
 pub mod Input
+pub mod MemorySource
 pub mod Message
+pub mod ModuleName
 pub mod Outcome
 pub mod Path
 pub mod Reading
@@ -16,6 +21,7 @@ pub mod Runs
 pub mod Session
 pub mod Sort
 pub mod Status
+pub mod Updates
 pub mod Window
 pub mod Words
 pub mod Workspace

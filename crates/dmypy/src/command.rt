@@ -1,7 +1,7 @@
 ghost use Rattle.std.specs.Prelude.{◌≡◌, ◌+◌, ◌≤◌, ◌<◌, ◌^◌, ◌∷◌, [], true, length, MatchOption, IfSome};
 ghost use Rattle.std.specs.List.{slice_split, position_from, list_all};
 ghost use Rattle.std.specs.Char.{is_ascii_digit};
-ghost use Rattle.dmypy.specs.Command.{is_space, is_number, number_of, add_of, single_of, file_command_of, words_of, command_of, said, spelled};
+ghost use Rattle.dmypy.specs.Command.{is_space, is_number, number_of, single_of, path_command_of, file_command_of, words_of, command_of, said, spelled};
 
 /// The most bytes that a command line may have, without its end.
 pub const LONGEST_LINE: usize = 512;
@@ -14,10 +14,18 @@ pub const MOST_DIGITS: usize = 10;
 pub enum Command<'a> {
     /// `add PATH N`: the next N bytes are a file.
     Add { path: &'a [u8], size: usize },
-    /// `add PATH N` with more digits than any file needs.
+    /// `change PATH N`: the same, for a file that is present.
+    Change { path: &'a [u8], size: usize },
+    /// `add PATH N` or `change PATH N` with more digits than any file needs.
     Endless,
+    /// `update PATH`: the source hands over the bytes of the file.
+    Update { path: &'a [u8] },
+    /// `remove PATH`
+    Remove { path: &'a [u8] },
     /// `check`
     Check,
+    /// `status`
+    Status,
     /// `stop`
     Stop,
     /// Anything else.
@@ -65,6 +73,8 @@ fn single_command(word: &[u8]) -> Command<'_>
 {
     if word == b"check".as_slice() {
         Command::Check
+    } else if word == b"status".as_slice() {
+        Command::Status
     } else if word == b"stop".as_slice() {
         Command::Stop
     } else {
@@ -79,7 +89,7 @@ fn longer_command<'a>(word: &[u8], rest: &'a [u8]) -> Command<'a>
 {
     let (path, rest) = cut_word(rest);
     let Some(rest) = rest else {
-        return Command::Unknown;
+        return path_command(word, path);
     };
     let (count, rest) = cut_word(rest);
     match rest {
@@ -88,32 +98,42 @@ fn longer_command<'a>(word: &[u8], rest: &'a [u8]) -> Command<'a>
     }
 }
 
-// A command of three words.
-#[tactic(auto, unfolding(crate::specs::Command::file_command_of))]
-fn file_command<'a>(word: &[u8], path: &'a [u8], count: &[u8]) -> Command<'a>
-    ensures { said result ≡ file_command_of word.now path.now count.now }
+// A command with a path.
+#[tactic(auto, unfolding(crate::specs::Command::path_command_of))]
+fn path_command<'a>(word: &[u8], path: &'a [u8]) -> Command<'a>
+    ensures { said result ≡ path_command_of word.now path.now }
 {
-    if word == b"add".as_slice() {
-        add_command(path, count)
+    if path.is_empty() {
+        Command::Unknown
+    } else if word == b"update".as_slice() {
+        Command::Update { path }
+    } else if word == b"remove".as_slice() {
+        Command::Remove { path }
     } else {
         Command::Unknown
     }
 }
 
-// `add` with a path and a number.
-#[tactic(auto, unfolding(crate::specs::Command::add_of))]
-fn add_command<'a>(path: &'a [u8], count: &[u8]) -> Command<'a>
-    ensures { said result ≡ add_of path.now count.now }
+// A command with a path and a number.
+#[tactic(auto, unfolding(crate::specs::Command::file_command_of, crate::specs::Command::counted_command_of))]
+fn file_command<'a>(word: &[u8], path: &'a [u8], count: &[u8]) -> Command<'a>
+    ensures { said result ≡ file_command_of word.now path.now count.now }
 {
+    let is_add = word == b"add".as_slice();
+    if !is_add && word != b"change".as_slice() {
+        return Command::Unknown;
+    }
     if path.is_empty() || !is_number(count) {
         return Command::Unknown;
     }
     if count.len() > MOST_DIGITS {
         return Command::Endless;
     }
-    Command::Add {
-        path,
-        size: number(count),
+    let size = number(count);
+    if is_add {
+        Command::Add { path, size }
+    } else {
+        Command::Change { path, size }
     }
 }
 

@@ -1,6 +1,7 @@
-ghost use Rattle.std.specs.Prelude.{◌≡◌, ◌+◌, ◌<◌, ◌≤◌, [], false, Bool, List, vec_capacity, IfOk, IfErr, IfSome, IsErrOf};
+ghost use Rattle.std.specs.Prelude.{◌≡◌, ◌+◌, ◌<◌, ◌≤◌, [], false, List, vec_capacity, IfOk, IfErr, IfSome, IsErrOf};
 ghost use Rattle.std.specs.Io.KnownBytes.{Appends};
 ghost use Rattle.dmypy.specs.Counted.{inner_of, calls_of, faults_of, zeros_of};
+ghost use Rattle.dmypy.specs.Event.{Event, Links};
 ghost use Rattle.dmypy.specs.Reading.{IsReading};
 ghost use Rattle.dmypy.specs.Runs.{Runs, ComesOfRun};
 ghost use Rattle.dmypy.specs.Session.{session_text, session_end};
@@ -14,6 +15,7 @@ use crate::input::KEPT;
 use crate::options::Options;
 use crate::reply::Answer;
 use crate::serving::serve;
+use crate::sources::Sources;
 use crate::window::Window;
 use crate::writing::write_reply;
 use std::alloc::Global;
@@ -26,26 +28,28 @@ mod tests;
 
 /// Runs a session: reads commands and writes their replies, each before the next read waits. The buffers are made
 /// before the first read. It ends at `stop`, at the end of the input, or where the input cannot be read on.
-pub fn run<R: Read, W: Write>(
+pub fn run<R: Read, W: Write, S: Sources>(
     alloc: Global,
     reader: &mut Counted<R>,
     writer: &mut Counted<W>,
+    sources: &mut S,
     options: &Options,
 ) -> Result<End, RunFault>
     requires unread { (calls_of reader.old ≡ 0) × (faults_of reader.old ≡ 0) × (zeros_of reader.old ≡ 0) }
     requires unwritten { (calls_of writer.old ≡ 0) × (faults_of writer.old ≡ 0) × (zeros_of writer.old ≡ 0) }
     // A run that ends has written what a session writes for the input, and ends as that does.
-    ensures replies { IfOk result (λ end. IfSome (R.remaining (inner_of reader.old)) (λ input. (marks : List Bool)
-        × Appends (W.contents (inner_of writer.old)) (W.contents (inner_of writer.new)) (session_text input marks)
-        × (session_end input marks ≡ end))) }
+    ensures replies { IfOk result (λ end. IfSome (R.remaining (inner_of reader.old)) (λ input. (events : List Event)
+        × Links S.step sources.old events sources.new
+        × Appends (W.contents (inner_of writer.old)) (W.contents (inner_of writer.new)) (session_text input events)
+        × (session_end input events ≡ end))) }
     // In any case what is written begins what a session writes for each input that begins with what was read.
-    ensures runs { Runs (R.remaining (inner_of reader.old)) (R.remaining (inner_of reader.new))
+    ensures runs { Runs S.step sources.old sources.new (R.remaining (inner_of reader.old)) (R.remaining (inner_of reader.new))
         (W.contents (inner_of writer.old)) (W.contents (inner_of writer.new)) result }
     // What each fault comes of.
     ensures read { IsErrOf result RunFault.Read → 0 < faults_of reader.new }
     ensures write { IsErrOf result RunFault.Write → 0 < faults_of writer.new + zeros_of writer.new }
     ensures turns { IsErrOf result RunFault.TooManyTurns → calls_of reader.new ≡ options.now.turns }
-    ensures memory { IsErrOf result RunFault.Memory → (reader.new ≡ reader.old) × (writer.new ≡ writer.old) }
+    ensures memory { IsErrOf result RunFault.Memory → (reader.new ≡ reader.old) × (writer.new ≡ writer.old) × (sources.new ≡ sources.old) }
 {
     let Ok(mut window) = Window::new(alloc) else {
         return Err(RunFault::Memory);
@@ -60,18 +64,20 @@ pub fn run<R: Read, W: Write>(
         writer,
         &mut window,
         &mut line,
+        sources,
         &mut daemon,
         options.turns,
     )
 }
 
 // Serves commands until the session ends.
-fn serve_all<R: Read, W: Write>(
+fn serve_all<R: Read, W: Write, S: Sources>(
     alloc: Global,
     reader: &mut Counted<R>,
     writer: &mut Counted<W>,
     window: &mut Window,
     line: &mut Vec<u8>,
+    sources: &mut S,
     daemon: &mut Daemon,
     turns: u64,
 ) -> Result<End, RunFault>
@@ -80,12 +86,12 @@ fn serve_all<R: Read, W: Write>(
     requires open { ended_of window.old ≡ false }
     requires begun { daemon.old ≡ start }
     requires reading { IsReading (R.remaining (inner_of reader.old)) (ended_of window.old) (calls_of reader.old) turns }
-    ensures runs { Runs (R.remaining (inner_of reader.old)) (R.remaining (inner_of reader.new))
+    ensures runs { Runs S.step sources.old sources.new (R.remaining (inner_of reader.old)) (R.remaining (inner_of reader.new))
         (W.contents (inner_of writer.old)) (W.contents (inner_of writer.new)) result }
     ensures fault { IfErr result (λ e. ComesOfRun e (faults_of reader.new) (calls_of reader.new) (faults_of writer.new + zeros_of writer.new) turns) }
 {
     'commands: while !window.is_ended() {
-        let Some(answer) = serve(alloc, reader, window, line, daemon, turns)? else {
+        let Some(answer) = serve(alloc, reader, window, line, sources, daemon, turns)? else {
             break 'commands;
         };
         let Answer { reply, end } = answer;

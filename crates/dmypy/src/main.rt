@@ -1,18 +1,23 @@
 //! `dmypy`: a daemon that checks annotated Python files and answers commands on standard input.
 #![tactic(auto)]
 
+pub mod check_files;
 pub mod checked;
 mod command;
 pub mod counted;
 pub mod daemon;
+pub mod disk;
 pub mod ending;
 pub mod engine;
 pub mod file;
 pub mod found;
 mod fresh;
 mod input;
+pub mod keep;
 pub mod laws;
+pub mod memory_source;
 pub mod message;
+pub mod module_name;
 pub mod options;
 pub mod outcome;
 mod path;
@@ -20,12 +25,17 @@ pub mod refusal;
 mod reply;
 pub mod report;
 mod serving;
+pub mod sources;
+pub mod status;
 pub mod tree;
 mod window;
 pub mod words;
+pub mod workspace;
 mod writing;
 
+use check_files::check_files;
 use counted::Counted;
+use disk::Disk;
 use engine::run;
 use options::Options;
 use std::process::ExitCode;
@@ -41,6 +51,7 @@ fn main(rt: HostRuntime) -> ExitCode {
     };
     match read_words(rt.alloc(), words.as_slice()) {
         Ok(Job::Session(options)) => ExitCode::from(session(&rt, &options)),
+        Ok(Job::Check(options, files)) => ExitCode::from(check(&rt, &options, files.as_slice())),
         Err(usage) => {
             let _ = eprint!(rt; "{usage}");
             ExitCode::from(2)
@@ -61,5 +72,14 @@ fn program_words(rt: &HostRuntime) -> io::Result<Vec<String>> {
 fn session(rt: &HostRuntime, options: &Options) -> u8 {
     let mut reader = Counted::new(rt.stdin());
     let mut writer = Counted::new(rt.stdout());
-    session_status(&run(rt.alloc(), &mut reader, &mut writer, options))
+    let mut sources = Disk::new(rt);
+    session_status(&run(rt.alloc(), &mut reader, &mut writer, &mut sources, options))
+}
+
+// Checks files of the disk, with standard output and standard error, and gives the status.
+fn check(rt: &HostRuntime, options: &Options, files: &[String]) -> u8 {
+    let mut out = Counted::new(rt.stdout());
+    let mut err = Counted::new(rt.stderr());
+    let mut sources = Disk::new(rt);
+    check_files(rt.alloc(), &mut sources, &mut out, &mut err, options, files)
 }

@@ -2,6 +2,7 @@ ghost use Rattle.std.specs.Prelude.{◌≡◌, None, Some};
 
 use crate::checked::Report;
 use crate::ending::End;
+use crate::status::Status;
 
 /// What is written for one command.
 #[derive(Drop)]
@@ -10,6 +11,8 @@ pub enum Reply {
     Line(&'static str),
     /// The report of a check, which its status follows.
     Checked(Report),
+    /// The counts of the last check.
+    Counts(Status),
 }
 
 /// The answer to one command: its reply, and how the session ends if it does.
@@ -20,7 +23,7 @@ pub struct Answer {
 }
 
 impl Answer {
-    ghost use Rattle.dmypy.specs.Replies.{reply_bytes};
+    ghost use Rattle.dmypy.specs.Replies.{reply_bytes, status_text};
 
     /// A line, after which the session goes on.
     pub fn line(text: &'static str) -> Self
@@ -41,6 +44,17 @@ impl Answer {
         Answer {
             reply: Reply::Line(text),
             end: Some(end),
+        }
+    }
+
+    /// The counts of the last check, after which the session goes on.
+    pub fn counts(status: Status) -> Self
+        ensures reply { reply_bytes result.reply ≡ status_text status }
+        ensures end { result.end ≡ None }
+    {
+        Answer {
+            reply: Reply::Counts(status),
+            end: None,
         }
     }
 }

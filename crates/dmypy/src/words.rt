@@ -1,8 +1,8 @@
 //! The words of the command line, and the status with which the program ends.
 
-ghost use Rattle.std.specs.Prelude.{◌≡◌, [], false, IfOk, IfErr, All, drop, map, string_bytes};
-ghost use Rattle.clap.specs.Words.{app_of, fault_of, rule_of, found_of, one_of, rows_of, FailsBy};
-ghost use Rattle.dmypy.specs.Words.{GivesSession, HasUsage, IsFlag, session_rows, command_line, flag_rule, option_text, ignore_missing_id, check_untyped_id, options_of};
+ghost use Rattle.std.specs.Prelude.{◌≡◌, [], false, IfOk, IfErr, All, bytes_eq, codes, drop, map, string_bytes, unwrap_or};
+ghost use Rattle.clap.specs.Words.{all_of, app_of, fault_of, rule_of, found_of, one_of, rows_of, subcommand_of, FailsBy};
+ghost use Rattle.dmypy.specs.Words.{GivesSession, HasFiles, HasUsage, IsFlag, file_texts, files_id, files_rule, is_check, names_check, optioned_app, session_rows, command_line, flag_rule, option_text, ignore_missing_id, check_untyped_id, options_of};
 ghost use Rattle.dmypy.specs.Status.{status_of};
 
 use crate::ending::{End, RunFault};
@@ -18,11 +18,15 @@ const IGNORE_MISSING: &str = "ignore-missing-imports";
 
 const CHECK_UNTYPED: &str = "check-untyped-defs";
 
+const FILES: &str = "FILE";
+
 /// What the program is to do.
-#[derive(Clone, Copy, Debug, PartialEq, Eq)]
+#[derive(Debug, PartialEq, Eq, Drop)]
 pub enum Job {
     /// `session`: answer the commands on standard input.
     Session(Options),
+    /// `check`: check the files of these paths, in this order.
+    Check(Options, Vec<String>),
 }
 
 /// Why the words are no job: a mistake in them, a request for help, or want of memory. Its `Display` is the text for the
@@ -42,6 +46,9 @@ pub fn read_words(alloc: Global, words: &[String]) -> Result<Job, Usage>
         IsFlag (option_text ignore_missing_id (map string_bytes words.now)) (options_of job).ignore_missing) }
     ensures check_untyped { IfOk result (λ job.
         IsFlag (option_text check_untyped_id (map string_bytes words.now)) (options_of job).check_untyped) }
+    // The job is a check where the subcommand is `check`, of the files that are among the words.
+    ensures check { IfOk result (λ job. is_check job ≡ names_check (subcommand_of command_line (map string_bytes words.now))) }
+    ensures files { IfOk result (HasFiles (file_texts (map string_bytes words.now))) }
     // What goes wrong is what the command line finds wrong with the words, or want of memory.
     ensures usage { IfErr result (HasUsage (fault_of command_line (map string_bytes words.now))) }
 {
@@ -58,19 +65,71 @@ fn parse_words(alloc: Global, words: &[String]) -> Result<Job, clap::Error>
         IsFlag (option_text ignore_missing_id (map string_bytes words.now)) (options_of job).ignore_missing) }
     ensures check_untyped { IfOk result (λ job.
         IsFlag (option_text check_untyped_id (map string_bytes words.now)) (options_of job).check_untyped) }
+    ensures check { IfOk result (λ job. is_check job ≡ names_check (subcommand_of command_line (map string_bytes words.now))) }
+    ensures files { IfOk result (HasFiles (file_texts (map string_bytes words.now))) }
     ensures fault { FailsBy (fault_of command_line (map string_bytes words.now)) result }
 {
     let matches = command_line(alloc)?.try_get_matches_from(words)?;
-    let (_, session) = matches.subcommand().unwrap();
-    Ok(Job::Session(session_options(session)))
+    let (name, found) = matches.subcommand().unwrap();
+    Ok(job_of(alloc, name, found)?)
 }
 
-// The command line: `session` with its options.
+// The job of a subcommand, from its name and its matches.
+fn job_of(alloc: Global, name: &str, found: &ArgMatches<'_>) -> Result<Job, AllocError>
+    ensures turns { IfOk result (λ job. (options_of job).turns ≡ TURNS) }
+    ensures ignore_missing { IfOk result (λ job. IsFlag (one_of ignore_missing_id (rows_of (found_of found.now))) (options_of job).ignore_missing) }
+    ensures check_untyped { IfOk result (λ job. IsFlag (one_of check_untyped_id (rows_of (found_of found.now))) (options_of job).check_untyped) }
+    ensures check { IfOk result (λ job. is_check job ≡ bytes_eq name.now (codes "check")) }
+    ensures files { IfOk result (HasFiles (all_of files_id (rows_of (found_of found.now)))) }
+{
+    let options = found_options(found);
+    if name == "check" {
+        Ok(Job::Check(options, found_files(alloc, found)?))
+    } else {
+        Ok(Job::Session(options))
+    }
+}
+
+// The files among the matches of `check`.
+fn found_files(alloc: Global, found: &ArgMatches<'_>) -> Result<Vec<String>, AllocError>
+    ensures { IfOk result (λ files. map string_bytes files.items ≡ unwrap_or (all_of files_id (rows_of (found_of found.now))) []) }
+{
+    match found.get_strs(FILES) {
+        Some(words) => owned(alloc, words),
+        None => Ok(Vec::new(alloc)),
+    }
+}
+
+// Copies of texts.
+fn owned(alloc: Global, texts: &[&str]) -> Result<Vec<String>, AllocError>
+    ensures { IfOk result (λ copies. map string_bytes copies.items ≡ map (λ text. text.now) texts.now) }
+{
+    let mut copies = Vec::new(alloc);
+    for text in texts {
+        copies.push(String::from_str(alloc, text)?)?;
+    }
+    Ok(copies)
+}
+
+// The command line: `session` with its options, and `check` with the same options and its files.
 fn command_line<'a>(alloc: Global) -> Result<Command<'a>, AllocError>
     ensures { IfOk result (λ command. app_of command ≡ command_line) }
 {
-    let session = Command::new(alloc, "session")
-        .about("Answers the commands on standard input")
+    let session = subcommand(alloc, "session", "Answers the commands on standard input")?;
+    let check = subcommand(alloc, "check", "Checks files once")?.arg(files(alloc))?;
+    Command::new(alloc, "dmypy")
+        .about("Checks annotated Python files")
+        .subcommand_required(true)
+        .subcommand(session)?
+        .subcommand(check)
+}
+
+// A subcommand with the two options.
+fn subcommand<'a>(alloc: Global, name: &'a str, about: &'a str) -> Result<Command<'a>, AllocError>
+    ensures { IfOk result (λ command. app_of command ≡ optioned_app name.entry.now) }
+{
+    Command::new(alloc, name)
+        .about(about)
         .arg(flag(
             alloc,
             IGNORE_MISSING,
@@ -80,11 +139,7 @@ fn command_line<'a>(alloc: Global) -> Result<Command<'a>, AllocError>
             alloc,
             CHECK_UNTYPED,
             "Checks the bodies of functions without annotations",
-        ))?;
-    Command::new(alloc, "dmypy")
-        .about("Checks annotated Python files")
-        .subcommand_required(true)
-        .subcommand(session)
+        ))
 }
 
 // An option that is given or not.
@@ -98,15 +153,26 @@ fn flag<'a>(alloc: Global, name: &'a str, help: &'a str) -> Arg<'a>
         .action(ArgAction::SetTrue)
 }
 
-// The options of a session, from the matches of the subcommand.
-fn session_options(session: &ArgMatches<'_>) -> Options
+// One or more files.
+fn files<'a>(alloc: Global) -> Arg<'a>
+    ensures rule { rule_of result ≡ files_rule }
+    ensures local { result.global ≡ false }
+{
+    Arg::new(alloc, FILES)
+        .help("The paths of the files")
+        .action(ArgAction::Append)
+        .required(true)
+}
+
+// The options, from the matches of the subcommand.
+fn found_options(found: &ArgMatches<'_>) -> Options
     ensures turns { result.turns ≡ TURNS }
-    ensures ignore_missing { IsFlag (one_of ignore_missing_id (rows_of (found_of session.now))) result.ignore_missing }
-    ensures check_untyped { IsFlag (one_of check_untyped_id (rows_of (found_of session.now))) result.check_untyped }
+    ensures ignore_missing { IsFlag (one_of ignore_missing_id (rows_of (found_of found.now))) result.ignore_missing }
+    ensures check_untyped { IsFlag (one_of check_untyped_id (rows_of (found_of found.now))) result.check_untyped }
 {
     Options {
-        ignore_missing: session.get_flag(IGNORE_MISSING),
-        check_untyped: session.get_flag(CHECK_UNTYPED),
+        ignore_missing: found.get_flag(IGNORE_MISSING),
+        check_untyped: found.get_flag(CHECK_UNTYPED),
         turns: TURNS,
     }
 }

@@ -1,7 +1,7 @@
 ghost use Rattle.std.specs.Prelude.{◌≡◌, ◌+◌, ◌<◌, ◌≤◌, [], length, take, codes, if◌then◌else◌, IfOk, IfErr, OnErr, OnOk};
 ghost use Rattle.std.specs.Io.KnownBytes.{Appends};
 ghost use Rattle.dmypy.specs.Counted.{inner_of, faults_of, zeros_of};
-ghost use Rattle.dmypy.specs.Replies.{reply_bytes, WritesPart};
+ghost use Rattle.dmypy.specs.Replies.{reply_bytes, status_text, joined, WritesPart};
 ghost use Rattle.dmypy.specs.Report.{report_in};
 ghost use Rattle.dmypy.specs.Session.{check_reply};
 
@@ -9,6 +9,8 @@ use crate::checked::Report;
 use crate::counted::Counted;
 use crate::ending::RunFault;
 use crate::reply::Reply;
+use crate::status::Status;
+use itoa::Buffer;
 use std::io::Write;
 
 /// Writes a reply whole.
@@ -21,6 +23,7 @@ pub fn write_reply<W: Write>(writer: &mut Counted<W>, reply: Reply) -> Result<()
     match reply {
         Reply::Line(text) => write_bytes(writer, text.as_bytes()),
         Reply::Checked(report) => write_report(writer, &report),
+        Reply::Counts(counts) => write_counts(writer, counts),
     }
 }
 
@@ -42,8 +45,45 @@ fn status_line(clean: bool) -> &'static str
     if clean { "status 0\n" } else { "status 1\n" }
 }
 
+// Writes the counts of the last check.
+fn write_counts<W: Write>(writer: &mut Counted<W>, counts: Status) -> Result<(), RunFault>
+    ensures ok { OnOk result (Appends (W.contents (inner_of writer.old)) (W.contents (inner_of writer.new)) (status_text counts)) }
+    ensures part { OnErr result (WritesPart (W.contents (inner_of writer.old)) (W.contents (inner_of writer.new)) (status_text counts)) }
+    ensures fault { IfErr result (λ e. e ≡ RunFault.Write) }
+    ensures cause { OnErr result (0 < faults_of writer.new + zeros_of writer.new) }
+{
+    let mut files = Buffer::new();
+    let mut bodies = Buffer::new();
+    let mut rechecked = Buffer::new();
+    write_parts(
+        writer,
+        &[
+            "files ",
+            files.format(counts.files),
+            " bodies ",
+            bodies.format(counts.bodies),
+            " rechecked ",
+            rechecked.format(counts.rechecked),
+            "\n",
+        ],
+    )
+}
+
+// Writes texts, one after another.
+pub(crate) fn write_parts<W: Write>(writer: &mut Counted<W>, parts: &[&str]) -> Result<(), RunFault>
+    ensures ok { OnOk result (Appends (W.contents (inner_of writer.old)) (W.contents (inner_of writer.new)) (joined parts.now)) }
+    ensures part { OnErr result (WritesPart (W.contents (inner_of writer.old)) (W.contents (inner_of writer.new)) (joined parts.now)) }
+    ensures fault { IfErr result (λ e. e ≡ RunFault.Write) }
+    ensures cause { OnErr result (0 < faults_of writer.new + zeros_of writer.new) }
+{
+    for part in parts {
+        write_bytes(writer, part.as_bytes())?;
+    }
+    Ok(())
+}
+
 // Writes all bytes.
-fn write_bytes<W: Write>(writer: &mut Counted<W>, bytes: &[u8]) -> Result<(), RunFault>
+pub(crate) fn write_bytes<W: Write>(writer: &mut Counted<W>, bytes: &[u8]) -> Result<(), RunFault>
     ensures ok { OnOk result (Appends (W.contents (inner_of writer.old)) (W.contents (inner_of writer.new)) bytes.now) }
     ensures part { OnErr result (WritesPart (W.contents (inner_of writer.old)) (W.contents (inner_of writer.new)) bytes.now) }
     ensures fault { IfErr result (λ e. e ≡ RunFault.Write) }

@@ -1,6 +1,8 @@
 use super::fakes::{NEVER, Pieces, Sink, Stop};
 use super::*;
+use crate::memory_source::MemorySource;
 use crate::refusal::Refusal;
+use crate::status::Status;
 use std::alloc::AllocError;
 use std::test::Fail;
 
@@ -15,17 +17,18 @@ const OPTIONS: Options = Options {
     turns: 1_000_000,
 };
 
-// What a session over these streams writes into `kept`, and its answer.
+// What a session over these streams, without a source of files, writes into `kept`, and its answer.
 fn session(
     alloc: Global,
     reader: Pieces<'_>,
     writer: Sink<'_>,
     turns: u64,
 ) -> Result<End, RunFault> {
+    let mut sources = MemorySource::new(Vec::new(alloc));
     let mut reader = Counted::new(reader);
     let mut writer = Counted::new(writer);
     let options = Options { turns, ..OPTIONS };
-    run(alloc, &mut reader, &mut writer, &options)
+    run(alloc, &mut reader, &mut writer, &mut sources, &options)
 }
 
 // All bytes in pieces of at most `most`, without a fault.
@@ -50,7 +53,7 @@ fn sink(kept: &mut Vec<u8>) -> Sink<'_> {
 
 #[test]
 fn sessions_that_end(rt: HostRuntime) -> Result<(), Fail> {
-    let rows: [(&[u8], &[u8], End); 20] = [
+    let rows: [(&[u8], &[u8], End); 23] = [
         (ROW, ROW_REPLIES, End::Stopped),
         (
             b"check\n",
@@ -64,8 +67,8 @@ fn sessions_that_end(rt: HostRuntime) -> Result<(), Fail> {
         (b"stop\r\n", b"ok\n", End::Stopped),
         (b"stop\r", b"refused 1 command\n", End::EndOfInput),
         (
-            b"check now\nstatus\nupdate a.py\n",
-            b"refused 1 command\nrefused 1 command\nrefused 1 command\n",
+            b"check now\nstatus \nupdate\nremove a.py x\n",
+            b"refused 1 command\nrefused 1 command\nrefused 1 command\nrefused 1 command\n",
             End::EndOfInput,
         ),
         (
@@ -89,9 +92,24 @@ fn sessions_that_end(rt: HostRuntime) -> Result<(), Fail> {
             End::EndOfInput,
         ),
         (
-            b"add a.py 0\nadd b.py 6\ncheck\nstop\n",
-            b"ok\nrefused 6 many\nok\n",
-            End::Stopped,
+            b"add a.py 0\nadd b.py 3\n# xcheck\nstatus\n",
+            b"ok\nok\nSuccess: no issues found in 2 source files\nstatus 0\nfiles 2 bodies 4 rechecked 4\n",
+            End::EndOfInput,
+        ),
+        (
+            b"add a.py 0\nstatus\ncheck\nstatus\nremove a.py\nstatus\ncheck\nstatus\n",
+            b"ok\nfiles 0 bodies 0 rechecked 0\nSuccess: no issues found in 1 source file\nstatus 0\nfiles 1 bodies 2 rechecked 2\nok\nfiles 1 bodies 2 rechecked 2\nSuccess: no issues found in 0 source files\nstatus 0\nfiles 0 bodies 0 rechecked 0\n",
+            End::EndOfInput,
+        ),
+        (
+            b"add a.py 0\nadd a.py 0\nadd a/__init__.py 0\nremove b.py\n\n",
+            b"ok\nrefused 3 present\nrefused 7 module\nrefused 4 absent\nrefused 1 command\n",
+            End::EndOfInput,
+        ),
+        (
+            b"change a.py 3\nx=1add a.py 0\nchange a.py 13\nx: int = \"a\"\nchange a.py 0\ncheck\n",
+            b"refused 4 absent\nok\nok\nok\nSuccess: no issues found in 1 source file\nstatus 0\n",
+            End::EndOfInput,
         ),
         (b"add a.py 10\nx=1\n", b"refused 8 truncated\n", End::Broken),
         (
@@ -260,13 +278,62 @@ fn calls_on_a_daemon(rt: HostRuntime) -> Result<(), Fail> {
     let mut daemon = Daemon::new(rt.alloc(), OPTIONS);
     let bytes = Vec::from_slice(rt.alloc(), b"x: int = \"a\"\n")?;
     assert!(rt; daemon.add(b"a.py", bytes).is_ok());
-    assert!(rt; daemon.add(b"b.py", Vec::new(rt.alloc())) == Err(Refusal::Many));
+    assert!(rt; daemon.add(b"a.py", Vec::new(rt.alloc())) == Err(Refusal::Present));
     assert!(rt; daemon.add(b"b", Vec::new(rt.alloc())) == Err(Refusal::Path));
     let report = daemon.check()?;
     assert!(rt; !report.clean);
     assert_eq!(rt;
         report.text.as_bytes(),
         &ROW_REPLIES[3..ROW_REPLIES.len() - 12]
+    );
+    assert!(rt; daemon.change(b"b.py", Vec::new(rt.alloc())) == Err(Refusal::Absent));
+    assert!(rt; daemon.change(b"a.py", Vec::new(rt.alloc())).is_ok());
+    assert!(rt; daemon.check()?.clean);
+    assert!(rt; daemon.remove(b"a.py").is_ok());
+    assert!(rt; daemon.remove(b"a.py") == Err(Refusal::Absent));
+    let seen = Status {
+        files: 1,
+        bodies: 2,
+        rechecked: 2,
+    };
+    assert!(rt; daemon.status() == seen);
+    Ok(())
+}
+
+#[test]
+fn files_of_a_source(rt: HostRuntime) -> Result<(), Fail> {
+    let bytes = Vec::from_slice(rt.alloc(), b"x: int = \"a\"\n")?;
+    let files = vec![in rt.alloc(); (String::from_str(rt.alloc(), "a.py")?, bytes)]?;
+    let mut sources = MemorySource::new(files);
+    let mut kept = Vec::new(rt.alloc());
+    let mut reader = Counted::new(pieces(
+        b"update a.py\nupdate b.py\nupdate ../a.py\nupdate a.py\ncheck\nstop\n",
+        NEVER,
+    ));
+    let mut writer = Counted::new(sink(&mut kept));
+    let end = run(rt.alloc(), &mut reader, &mut writer, &mut sources, &OPTIONS);
+    let mut replies = Vec::from_slice(rt.alloc(), b"ok\nrefused 10 unreadable\nrefused 2 path\n")?;
+    replies.extend_from_slice(ROW_REPLIES)?;
+    assert!(rt; end == Ok(End::Stopped));
+    assert_eq!(rt; sources.failures(), 1);
+    assert_eq!(rt; kept.as_slice(), replies.as_slice());
+    Ok(())
+}
+
+#[test]
+fn as_many_files_as_there_may_be(rt: HostRuntime) -> Result<(), Fail> {
+    let mut daemon = Daemon::new(rt.alloc(), OPTIONS);
+    for file in 0..1024 {
+        let path = format!(in rt.alloc(); "m{file}.py")?;
+        assert!(rt; daemon.add(path.as_bytes(), Vec::new(rt.alloc())).is_ok());
+    }
+    assert!(rt; daemon.add(b"more.py", Vec::new(rt.alloc())) == Err(Refusal::Many));
+    assert!(rt; daemon.add(b"m7/__init__.py", Vec::new(rt.alloc())) == Err(Refusal::Module));
+    assert!(rt; daemon.remove(b"m7.py").is_ok());
+    assert!(rt; daemon.add(b"more.py", Vec::new(rt.alloc())).is_ok());
+    assert_eq!(rt;
+        daemon.check()?.text.as_str(),
+        "Success: no issues found in 1024 source files\n"
     );
     Ok(())
 }

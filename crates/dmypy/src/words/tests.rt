@@ -42,6 +42,30 @@ fn sessions_with_their_options(rt: HostRuntime) -> Result<(), Fail> {
 }
 
 #[test]
+fn checks_with_their_files(rt: HostRuntime) -> Result<(), Fail> {
+    for (line, ignore_missing, names) in [
+        ("dmypy check a.py", false, "a.py"),
+        ("dmypy check a.py b/c.py a.py", false, "a.py b/c.py a.py"),
+        ("dmypy check --ignore-missing-imports a.py", true, "a.py"),
+        ("dmypy check a.py --ignore-missing-imports", true, "a.py"),
+        ("dmypy check -- -a.py", false, "-a.py"),
+    ] {
+        let options = Options {
+            ignore_missing,
+            check_untyped: false,
+            turns: 1_000_000_000,
+        };
+        let mut files = Vec::new(rt.alloc());
+        for name in names.split_ascii_whitespace() {
+            files.push(String::from_str(rt.alloc(), name)?)?;
+        }
+        let job = read_line(rt.alloc(), line)?.expect(&rt, line);
+        assert_eq!(rt; job, Job::Check(options, files), "at {line}");
+    }
+    Ok(())
+}
+
+#[test]
 fn words_that_are_no_job(rt: HostRuntime) -> Result<(), Fail> {
     for (line, part) in [
         ("", "Usage: dmypy <COMMAND>"),
@@ -49,6 +73,11 @@ fn words_that_are_no_job(rt: HostRuntime) -> Result<(), Fail> {
         ("dmypy watch", "unrecognized subcommand 'watch'"),
         ("dmypy session --strict", "unexpected argument '--strict'"),
         ("dmypy session a.py", "unexpected argument 'a.py'"),
+        ("dmypy check", "<FILE>..."),
+        (
+            "dmypy check --strict a.py",
+            "unexpected argument '--strict'",
+        ),
         ("dmypy --help", "Usage: dmypy <COMMAND>"),
         ("dmypy session --help", "--ignore-missing-imports"),
         ("dmypy session --help", "--check-untyped-defs"),

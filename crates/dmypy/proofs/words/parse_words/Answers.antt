@@ -1,8 +1,8 @@
 use Rattle.std.proofs.Common.{ap, ◌≡◌, ◌∙◌, sym, true, map, List, [], string_bytes, option_map, is_some, subst}
 use Rattle.std.proofs.lemmas.Result.{err_from_is_err_and}
 use Rattle.clap.specs.Words.{App, HasKind, Text, app_of, fault_of, found_of, is_simple, is_simple_and_free, one_of, rows_of, subcommand_of, subcommand_rows_of}
-use Rattle.dmypy.specs.Words.{IsFlag, check_untyped_id, command_line, ignore_missing_id, option_text}
-use Rattle.dmypy.proofs.CommandLine.{command_line_is_free, command_line_is_simple, found_text-rows, is_some-option_map, subcommand_met}
+use Rattle.dmypy.specs.Words.{HasFiles, IsFlag, options_of, check_untyped_id, command_line, ignore_missing_id, option_text}
+use Rattle.dmypy.proofs.CommandLine.{command_line_is_free, command_line_is_simple, found_files-rows, found_text-rows, name_of_rows, names_check-name, is_some-option_map, subcommand_met}
 use Rattle.dmypy.proofs.words.parse_words.Goals as goal
 
 pub returns-in_err-matches-clause-fault : goal.returns-in_err-matches-clause-fault
@@ -38,7 +38,7 @@ returns-clause-ignore_missing c =
     (c.in_ok-matches.ensures.matches (ap is_simple app_is ∙ command_line_is_simple)).1 ∙ ap (λ a. subcommand_of a words) app_is in
     let found = sym (ap (option_map (λ p. rows_of (found_of p.1.now))) c.unwrap.ensures) ∙ c.subcommand.ensures.rows ∙ ap (option_map (λ p. p.1)) rows_are in
     let text_is : one_of ignore_missing_id (rows_of (found_of c.unwrap.result.1.now)) ≡ option_text ignore_missing_id words = found_text-rows ignore_missing_id _ _ found in
-    subst (λ t. IsFlag t c.session_options.result.ignore_missing) text_is c.session_options.ensures.ignore_missing
+    subst (λ t. IsFlag t (options_of c.in_ok-job_of.field-0).ignore_missing) text_is c.in_ok-job_of.ensures.ignore_missing
 
 pub returns-clause-check_untyped : goal.returns-clause-check_untyped
 returns-clause-check_untyped c =
@@ -48,4 +48,22 @@ returns-clause-check_untyped c =
     (c.in_ok-matches.ensures.matches (ap is_simple app_is ∙ command_line_is_simple)).1 ∙ ap (λ a. subcommand_of a words) app_is in
     let found = sym (ap (option_map (λ p. rows_of (found_of p.1.now))) c.unwrap.ensures) ∙ c.subcommand.ensures.rows ∙ ap (option_map (λ p. p.1)) rows_are in
     let text_is : one_of check_untyped_id (rows_of (found_of c.unwrap.result.1.now)) ≡ option_text check_untyped_id words = found_text-rows check_untyped_id _ _ found in
-    subst (λ t. IsFlag t c.session_options.result.check_untyped) text_is c.session_options.ensures.check_untyped
+    subst (λ t. IsFlag t (options_of c.in_ok-job_of.field-0).check_untyped) text_is c.in_ok-job_of.ensures.check_untyped
+
+pub returns-clause-check : goal.returns-clause-check
+returns-clause-check c =
+    let app_is : app_of c.in_ok-command_line.field-0 ≡ command_line = c.in_ok-command_line.ensures in
+    let words : List Text = map string_bytes c.args.words.now in
+    let rows_are : subcommand_rows_of c.in_ok-matches.matches ≡ subcommand_of command_line words =
+    (c.in_ok-matches.ensures.matches (ap is_simple app_is ∙ command_line_is_simple)).1 ∙ ap (λ a. subcommand_of a words) app_is in
+    let named = sym (ap (option_map (λ p. p.0.now)) c.unwrap.ensures) ∙ c.subcommand.ensures.name ∙ name_of_rows c.in_ok-matches.matches ∙ ap (option_map (λ p. p.0)) rows_are in
+    c.in_ok-job_of.ensures.check ∙ names_check-name _ _ named
+
+pub returns-clause-files : goal.returns-clause-files
+returns-clause-files c =
+    let app_is : app_of c.in_ok-command_line.field-0 ≡ command_line = c.in_ok-command_line.ensures in
+    let words : List Text = map string_bytes c.args.words.now in
+    let rows_are : subcommand_rows_of c.in_ok-matches.matches ≡ subcommand_of command_line words =
+    (c.in_ok-matches.ensures.matches (ap is_simple app_is ∙ command_line_is_simple)).1 ∙ ap (λ a. subcommand_of a words) app_is in
+    let found = sym (ap (option_map (λ p. rows_of (found_of p.1.now))) c.unwrap.ensures) ∙ c.subcommand.ensures.rows ∙ ap (option_map (λ p. p.1)) rows_are in
+    subst (λ t. HasFiles t c.in_ok-job_of.field-0) (found_files-rows _ _ found) c.in_ok-job_of.ensures.files

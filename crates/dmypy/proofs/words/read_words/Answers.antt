@@ -6,7 +6,7 @@ use Rattle.dmypy.proofs.words.read_words.Goals as goal
 
 pub returns-in-Ok-clause-sessions : goal.returns-in-Ok-clause-sessions
 returns-in-Ok-clause-sessions c k d lt e =
-    row_job (map string_bytes c.args.words.now) _ c.in-Ok.job (rows_say k d lt) e c.in-Ok.ensures.turns c.in-Ok.ensures.ignore_missing c.in-Ok.ensures.check_untyped
+    row_job (map string_bytes c.args.words.now) _ c.in-Ok.job (rows_say k d lt) e c.in-Ok.ensures.turns c.in-Ok.ensures.ignore_missing c.in-Ok.ensures.check_untyped c.in-Ok.ensures.check
 
 pub returns-in-Err-clause-sessions : goal.returns-in-Err-clause-sessions
 returns-in-Err-clause-sessions c k d lt e =

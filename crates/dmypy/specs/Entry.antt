@@ -1,0 +1,17 @@
+-- What a fetch hands over.
+use Rattle.std.specs.Prelude.{ℕ, List, Result, Ok, Err, Vec}
+use Rattle.std.specs.Global.{Global}
+use Rattle.dmypy.specs.declared.sources.FetchFault.{FetchFault}
+use Rattle.dmypy.specs.declared.sources.FetchFault.TheVariants as fault
+
+-- the bytes of a path, or why there are none
+pub data Entry : Type 0 where
+  bytes : List ℕ → Entry
+  unreadable : Entry
+  no_memory : Entry
+
+-- the entry that an answer tells
+abbrev pub entry_of : Result (Vec ℕ Global) FetchFault → Entry
+entry_of (Ok handed) = bytes handed.items
+entry_of (Err fault.Unreadable) = unreadable
+entry_of (Err fault.Memory) = no_memory

@@ -1,0 +1,51 @@
+//! Where `update` gets the bytes of a path.
+
+ghost use Rattle.std.specs.Prelude.{◌≡◌, ◌≢◌, ◌≤◌, ◌+◌, ◌-◌, ◌^◌, ℕ, List, IfOk, IsErrOf, min, vec_len};
+ghost use Rattle.dmypy.specs.declared.sources.FetchFault.TheVariants.{Memory};
+ghost use Rattle.dmypy.specs.Entry.{Entry, unreadable, entry_of};
+
+use std::alloc::{AllocError, Global};
+use thiserror::Error;
+
+/// Why a source hands over no bytes.
+#[derive(Clone, Copy, Debug, PartialEq, Eq, Error)]
+pub enum FetchFault {
+    /// 1: the path names no file that can be read.
+    #[error("unreadable")]
+    Unreadable,
+    /// 2: memory was refused.
+    #[error("out of memory")]
+    Memory,
+}
+
+impl From<AllocError> for FetchFault {
+    ghost from_gives = { λ _ fault. fault ≡ Memory };
+
+    fn from(_error: AllocError) -> FetchFault {
+        FetchFault::Memory
+    }
+}
+
+/// How many bytes a fetch hands over at most: one more than a file may have, so that a file that is too large shows.
+pub const MOST_FETCHED: usize = 1_048_577;
+
+/// Where `update` gets the bytes of a path.
+pub trait Sources {
+    // How many fetches the source could not serve. The count stays at its last value, 2^64 - 1.
+    ghost failures: { Self → ℕ };
+
+    // What one fetch does: from a source, at a path, with what is handed over, to a source.
+    ghost step: { Self → List ℕ → Entry → Self → Type 0 };
+
+    /// How many fetches were answered `Unreadable`. The number stays at its last value, 2^64 - 1.
+    fn failures(&self) -> u64
+        ensures { result ≡ failures self.now };
+
+    /// The first bytes of the file at `path`, `MOST_FETCHED` of them at most.
+    fn fetch(&mut self, alloc: Global, path: &str) -> Result<Vec<u8>, FetchFault>
+        ensures step { step self.old path.now (entry_of result) self.new }
+        ensures most { IfOk result (λ bytes. vec_len bytes ≤ MOST_FETCHED) }
+        ensures unreadable { IsErrOf result FetchFault.Unreadable → failures self.new ≡ min (failures self.old + 1) (2 ^ 64 - 1) }
+        // No other answer is counted.
+        ensures others { entry_of result ≢ unreadable → failures self.new ≡ failures self.old };
+}

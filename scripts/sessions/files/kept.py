@@ -1,0 +1,2 @@
+total: int = 1
+name: str = 2
