@@ -32,6 +32,7 @@ run() {
 
 run rt ci
 run python3 scripts/refused_growths.py
+run python3 scripts/real_files.py
 
 echo "gate: $passed passed, $failed failed"
 [[ $failed -eq 0 ]]
