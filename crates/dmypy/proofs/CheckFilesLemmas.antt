@@ -5,6 +5,7 @@ use Rattle.std.proofs.lemmas.List.{drop_all}
 use Rattle.std.specs.Global.{Global}
 use Rattle.std.specs.Io.KnownBytes.{Appends}
 use Rattle.dmypy.specs.CheckFiles.{Checks, program_line, BeginsWith, check_status, err_text, out_text, file_update, is_any_refused, is_refused, refusal_line, refusal_lines, report_on, report_status, memory_line, printed_report}
+use Rattle.dmypy.specs.declared.options.Options.{Options}
 use Rattle.dmypy.specs.Entry.{Entry}
 use Rattle.dmypy.specs.Event.{Event, FetchStep, Links}
 use Rattle.dmypy.specs.Fresh.{fresh}
@@ -86,9 +87,9 @@ updates_part step source source' source'' err err' err'' s s' paths left left' p
 }
 
 -- the updates broke off
-pub checks_broken : {S : Type 0} (step : S → List ℕ → Entry → S → Type 0) (source source' : S) (out err err' : Option (List ℕ)) (paths : List (List ℕ)) (fault : RunFault)
-    → BeginsUpdates step source source' err err' start paths → Checks step source source' out out err err' paths (Err fault)
-checks_broken step source source' out err err' paths fault b = record {
+pub checks_broken : {S : Type 0} (step : S → List ℕ → Entry → S → Type 0) (options : Options) (source source' : S) (out err err' : Option (List ℕ)) (paths : List (List ℕ)) (fault : RunFault)
+    → BeginsUpdates step source source' err err' (start options) paths → Checks step options source source' out out err err' paths (Err fault)
+checks_broken step options source source' out err err' paths fault b = record {
   events = b.events;
   wanting = false;
   written = [];
@@ -96,19 +97,19 @@ checks_broken step source source' out err err' paths fault b = record {
   links = b.links;
   appends_out = appends_none out;
   appends_err = b.appends;
-  wrote = λ more. ((out_text paths (b.events ++ more) false, refl), ((b.begins more).0, append_nil _ ∙ (b.begins more).1));
+  wrote = λ more. ((out_text options paths (b.events ++ more) false, refl), ((b.begins more).0, append_nil _ ∙ (b.begins more).1));
 }
 
 -- all files are updated, and then the report is printed or not
-pub checks_printed : {S : Type 0} (step : S → List ℕ → Entry → S → Type 0) (source source' : S) (out out' err err' err'' : Option (List ℕ)) (s' : State) (paths : List (List ℕ)) (refused : Bool) (result : Result ℕ RunFault)
-    → Updates step source source' err err' start s' paths [] refused → Prints out out' err' err'' (fresh s'.present) refused result
-    → Checks step source source' out out' err err'' paths result
-checks_printed step source source' out out' err err' err'' s' paths refused (Ok status) u p =
+pub checks_printed : {S : Type 0} (step : S → List ℕ → Entry → S → Type 0) (options : Options) (source source' : S) (out out' err err' err'' : Option (List ℕ)) (s' : State) (paths : List (List ℕ)) (refused : Bool) (result : Result ℕ RunFault)
+    → Updates step source source' err err' (start options) s' paths [] refused → Prints out out' err' err'' (fresh s'.present) refused result
+    → Checks step options source source' out out' err err'' paths result
+checks_printed step options source source' out out' err err' err'' s' paths refused (Ok status) u p =
     let events = u.events in
     let all = events_nil events in
-    let state = ap (λ es. report_on paths es) (sym all) ∙ ap (λ (s : State). fresh s.present) (u.state []) in
-    let lines = ap (λ es. refusal_lines start paths es) (sym all) ∙ u.lines [] ∙ append_nil u.told in
-    let any = ap (λ es. is_any_refused start paths es) (sym all) ∙ u.any [] ∙ or_none refused in
+    let state = ap (λ es. report_on options paths es) (sym all) ∙ ap (λ (s : State). fresh s.present) (u.state []) in
+    let lines = ap (λ es. refusal_lines (start options) paths es) (sym all) ∙ u.lines [] ∙ append_nil u.told in
+    let any = ap (λ es. is_any_refused (start options) paths es) (sym all) ∙ u.any [] ∙ or_none refused in
     record {
       events = events;
       wanting = p.wanting;
@@ -120,10 +121,10 @@ checks_printed step source source' out out' err err' err'' s' paths refused (Ok 
       wrote = (
         p.wrote.0 ∙ ap (λ report. printed_report report p.wanting) (sym state),
         ap (λ zs. u.told ++ zs) p.wrote.1 ∙ ap (λ zs. zs ++ memory_line p.wanting) (sym lines),
-        p.wrote.2 ∙ ap (λ report. report_status report refused p.wanting) (sym state) ∙ ap (λ t. report_status (report_on paths events) t p.wanting) (sym any),
+        p.wrote.2 ∙ ap (λ report. report_status report refused p.wanting) (sym state) ∙ ap (λ t. report_status (report_on options paths events) t p.wanting) (sym any),
       );
     }
-checks_printed step source source' out out' err err' err'' s' paths refused (Err fault) u p = record {
+checks_printed step options source source' out out' err err' err'' s' paths refused (Err fault) u p = record {
   events = u.events;
   wanting = p.wanting;
   written = p.written;
@@ -243,11 +244,11 @@ prints_all out out' err report printed is_one_refused status same a e = record {
 }
 
 -- a check that was not broken off wrote all
-pub checks_whole : {S : Type 0} (step : S → List ℕ → Entry → S → Type 0) (source source' : S) (out out' err err' : Option (List ℕ)) (paths : List (List ℕ)) (status : ℕ)
-    → Checks step source source' out out' err err' paths (Ok status)
-    → (events : List Event) × (wanting : Bool) × Links step source events source' × Appends out out' (out_text paths events wanting)
-    × Appends err err' (err_text paths events wanting) × (status ≡ check_status paths events wanting)
-checks_whole step source source' out out' err err' paths status h = (
+pub checks_whole : {S : Type 0} (step : S → List ℕ → Entry → S → Type 0) (options : Options) (source source' : S) (out out' err err' : Option (List ℕ)) (paths : List (List ℕ)) (status : ℕ)
+    → Checks step options source source' out out' err err' paths (Ok status)
+    → (events : List Event) × (wanting : Bool) × Links step source events source' × Appends out out' (out_text options paths events wanting)
+    × Appends err err' (err_text options paths events wanting) × (status ≡ check_status options paths events wanting)
+checks_whole step options source source' out out' err err' paths status h = (
   h.events,
   h.wanting,
   h.links,

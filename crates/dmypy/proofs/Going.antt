@@ -3,6 +3,7 @@ use Rattle.std.proofs.Common.{◌≡◌, ℕ, Bool, true, false, List, [], ◌�
 use Rattle.std.specs.Prelude.{OnErr, IfOk, IfSome, Result, Ok, Err}
 use Rattle.std.specs.Io.KnownBytes.{Appends}
 use Rattle.std.specs.Io.KnownBytes.{IsAtEnd}
+use Rattle.dmypy.specs.declared.options.Options.{Options}
 use Rattle.dmypy.specs.Entry.{Entry}
 use Rattle.dmypy.specs.Event.{Event, FetchStep, Links}
 use Rattle.dmypy.specs.Reading.{Advances}
@@ -134,7 +135,7 @@ links_push step before between after (first ∷ events) links event fetched =
     (links.0, links.1, links_push step links.0 between after events links.2 event fetched)
 
 -- A session that is going on: what was taken, marked and written so far comes before what the rest of the input brings.
-pub record Going {S : Type 0} (step : S → List ℕ → Entry → S → Type 0) (source source' : S) (left left' : Option (List ℕ)) (held' : List ℕ) (told told' : Option (List ℕ)) (s : State) (ended : Bool) : Type 0 where
+pub record Going {S : Type 0} (step : S → List ℕ → Entry → S → Type 0) (options : Options) (source source' : S) (left left' : Option (List ℕ)) (held' : List ℕ) (told told' : Option (List ℕ)) (s : State) (ended : Bool) : Type 0 where
   pub taken : List ℕ
   pub events : List Event
   pub written : List ℕ
@@ -142,10 +143,10 @@ pub record Going {S : Type 0} (step : S → List ℕ → Entry → S → Type 0)
   pub appends : Appends told told' written
   pub links : Links step source events source'
   pub onward : (rest : List ℕ) (more : List Event) → IsLast ended rest
-      → session_from start (taken ++ rest) (events ++ more) ≡ onto written goes_on (session_from s rest more)
+      → session_from (start options) (taken ++ rest) (events ++ more) ≡ onto written goes_on (session_from s rest more)
 
-pub going_none : {S : Type 0} (step : S → List ℕ → Entry → S → Type 0) (source : S) (left told : Option (List ℕ)) (held : List ℕ) (s : State) (ended : Bool) → held ≡ [] → s ≡ start → Going step source source left left held told told s ended
-going_none step source left told held s ended e f = record {
+pub going_none : {S : Type 0} (step : S → List ℕ → Entry → S → Type 0) (options : Options) (source : S) (left told : Option (List ℕ)) (held : List ℕ) (s : State) (ended : Bool) → held ≡ [] → s ≡ start options → Going step options source source left left held told told s ended
+going_none step options source left told held s ended e f = record {
   taken = [];
   events = [];
   written = [];
@@ -156,26 +157,26 @@ going_none step source left told held s ended e f = record {
 }
 
 -- what a served command adds to a session that is going on
-step_on : {S : Type 0} (step : S → List ℕ → Entry → S → Type 0) (source source' : S) (left left' told told' : Option (List ℕ)) (held' : List ℕ) (s s' : State) (ended' : Bool)
-    (g : Going step source source' left left' held' told told' s false) (bytes : List ℕ) (event : Event) (answer : Answer)
+step_on : {S : Type 0} (step : S → List ℕ → Entry → S → Type 0) (options : Options) (source source' : S) (left left' told told' : Option (List ℕ)) (held' : List ℕ) (s s' : State) (ended' : Bool)
+    (g : Going step options source source' left left' held' told told' s false) (bytes : List ℕ) (event : Event) (answer : Answer)
     → Serves s s' bytes event ended' (Some answer)
     → (rest : List ℕ) (more : List Event) → IsLast ended' rest
-    → session_from start ((g.taken ++ bytes) ++ rest) ((g.events ++ event ∷ []) ++ more)
+    → session_from (start options) ((g.taken ++ bytes) ++ rest) ((g.events ++ event ∷ []) ++ more)
     ≡ onto g.written goes_on (onto (turn_of answer s' rest).reply (turn_of answer s' rest).onward (session_from (turn_of answer s' rest).state (turn_of answer s' rest).rest more))
-step_on step source source' left left' told told' held' s s' ended' g bytes event answer serves rest more last =
+step_on step options source source' left left' told told' held' s s' ended' g bytes event answer serves rest more last =
     let some : 0 < length (bytes ++ rest) = omega (arith, length-append bytes rest, serves.0) in
-    ap (λ zs. session_from start zs ((g.events ++ event ∷ []) ++ more)) (append_assoc g.taken bytes rest)
-    ∙ ap (λ ms. session_from start (g.taken ++ (bytes ++ rest)) ms) (append_assoc g.events (event ∷ []) more)
+    ap (λ zs. session_from (start options) zs ((g.events ++ event ∷ []) ++ more)) (append_assoc g.taken bytes rest)
+    ∙ ap (λ ms. session_from (start options) (g.taken ++ (bytes ++ rest)) ms) (append_assoc g.events (event ∷ []) more)
     ∙ g.onward (bytes ++ rest) (event ∷ more) (λ never. cc)
     ∙ ap (onto g.written goes_on) (session_from-turn s (bytes ++ rest) event more (turn_of answer s' rest) some (serves.1 rest last))
 
 -- a reply is written, and the session goes on
-pub going_on : {S : Type 0} (step : S → List ℕ → Entry → S → Type 0) (source source' source'' : S) (left left' left'' told told' told'' : Option (List ℕ)) (held' held'' : List ℕ) (s s' : State) (ended ended' : Bool) (bytes : List ℕ) (event : Event) (answer : Answer)
-    → Going step source source' left left' held' told told' s ended → ended ≡ false → Advances left' held' left'' held'' bytes
+pub going_on : {S : Type 0} (step : S → List ℕ → Entry → S → Type 0) (options : Options) (source source' source'' : S) (left left' left'' told told' told'' : Option (List ℕ)) (held' held'' : List ℕ) (s s' : State) (ended ended' : Bool) (bytes : List ℕ) (event : Event) (answer : Answer)
+    → Going step options source source' left left' held' told told' s ended → ended ≡ false → Advances left' held' left'' held'' bytes
     → Serves s s' bytes event ended' (Some answer) → FetchStep step source' event.fetched source'' → answer.end ≡ None → Appends told' told'' (reply_bytes answer.reply)
-    → Going step source source'' left left'' held'' told told'' s' ended'
-going_on step source source' source'' left left' left'' told told' told'' held' held'' s s' ended ended' bytes event answer g0 unended moved serves fetched end appends =
-    let g : Going step source source' left left' held' told told' s false = subst (λ t. Going step source source' left left' held' told told' s t) unended g0 in
+    → Going step options source source'' left left'' held'' told told'' s' ended'
+going_on step options source source' source'' left left' left'' told told' told'' held' held'' s s' ended ended' bytes event answer g0 unended moved serves fetched end appends =
+    let g : Going step options source source' left left' held' told told' s false = subst (λ t. Going step options source source' left left' held' told told' s t) unended g0 in
     record {
       taken = g.taken ++ bytes;
       events = g.events ++ event ∷ [];
@@ -183,7 +184,7 @@ going_on step source source' source'' left left' left'' told told' told'' held' 
       moved = advances_trans left left' left'' [] held' held'' g.taken bytes g.moved moved;
       appends = appends_trans told told' told'' g.written (reply_bytes answer.reply) g.appends appends;
       links = links_push step source source' source'' g.events g.links event fetched;
-      onward = λ rest more last. step_on step source source' left left' told told' held' s s' ended' g bytes event answer serves rest more last
+      onward = λ rest more last. step_on step options source source' left left' told told' held' s s' ended' g bytes event answer serves rest more last
           ∙ rw (end, append_assoc) refl;
     }
 
@@ -212,13 +213,13 @@ reply_part None s rest written reply part later tail e = rw e (simp append_assoc
 reply_part (Some end) s rest written reply part later tail e = rw e (simp append_assoc)
 
 -- the session ends after a reply
-pub runs_last : {S : Type 0} (step : S → List ℕ → Entry → S → Type 0) (source source' source'' : S) (left left' left'' told told' told'' : Option (List ℕ)) (held' held'' : List ℕ) (s s' : State) (ended ended' : Bool) (bytes : List ℕ) (event : Event) (answer : Answer) (end : End)
-    → Going step source source' left left' held' told told' s ended → ended ≡ false → Advances left' held' left'' held'' bytes
+pub runs_last : {S : Type 0} (step : S → List ℕ → Entry → S → Type 0) (options : Options) (source source' source'' : S) (left left' left'' told told' told'' : Option (List ℕ)) (held' held'' : List ℕ) (s s' : State) (ended ended' : Bool) (bytes : List ℕ) (event : Event) (answer : Answer) (end : End)
+    → Going step options source source' left left' held' told told' s ended → ended ≡ false → Advances left' held' left'' held'' bytes
     → Serves s s' bytes event ended' (Some answer) → FetchStep step source' event.fetched source'' → answer.end ≡ Some end → Appends told' told'' (reply_bytes answer.reply)
     → (IsTrue ended' → IsAtEnd left'') → (IsTrue ended' → held'' ≡ [])
-    → Runs step source source'' left left'' told told'' (Ok end)
-runs_last step source source' source'' left left' left'' told told' told'' held' held'' s s' ended ended' bytes event answer end g0 unended moved serves fetched is_last appends at_end none =
-    let g : Going step source source' left left' held' told told' s false = subst (λ t. Going step source source' left left' held' told told' s t) unended g0 in
+    → Runs step options source source'' left left'' told told'' (Ok end)
+runs_last step options source source' source'' left left' left'' told told' told'' held' held'' s s' ended ended' bytes event answer end g0 unended moved serves fetched is_last appends at_end none =
+    let g : Going step options source source' left left' held' told told' s false = subst (λ t. Going step options source source' left left' held' told told' s t) unended g0 in
     let all = advances_trans left left' left'' [] held' held'' g.taken bytes g.moved moved in
     record {
       taken = all.got;
@@ -230,16 +231,16 @@ runs_last step source source' source'' left left' left'' told told' told'' held'
       appends = appends_trans told told' told'' g.written (reply_bytes answer.reply) g.appends appends;
       links = links_push step source source' source'' g.events g.links event fetched;
       tells = λ rest more last.
-          ap (λ zs. session_from start zs ((g.events ++ event ∷ []) ++ more)) (ap (λ zs. zs ++ rest) all.seam ∙ append_assoc (g.taken ++ bytes) held'' rest)
-          ∙ step_on step source source' left left' told told' held' s s' ended' g bytes event answer serves (held'' ++ rest) more (last_held ended' held'' rest none last)
+          ap (λ zs. session_from (start options) zs ((g.events ++ event ∷ []) ++ more)) (ap (λ zs. zs ++ rest) all.seam ∙ append_assoc (g.taken ++ bytes) held'' rest)
+          ∙ step_on step options source source' left left' told told' held' s s' ended' g bytes event answer serves (held'' ++ rest) more (last_held ended' held'' rest none last)
           ∙ rw is_last refl;
     }
 
 -- the input ends before another command
-pub runs_ended : {S : Type 0} (step : S → List ℕ → Entry → S → Type 0) (source source' : S) (left left' told told' : Option (List ℕ)) (held' : List ℕ) (s : State) (ended : Bool)
-    → Going step source source' left left' held' told told' s ended → ended ≡ true → (IsTrue ended → IsAtEnd left') → held' ≡ []
-    → Runs step source source' left left' told told' (Ok EndOfInput)
-runs_ended step source source' left left' told told' held' s ended g over at_end none = record {
+pub runs_ended : {S : Type 0} (step : S → List ℕ → Entry → S → Type 0) (options : Options) (source source' : S) (left left' told told' : Option (List ℕ)) (held' : List ℕ) (s : State) (ended : Bool)
+    → Going step options source source' left left' held' told told' s ended → ended ≡ true → (IsTrue ended → IsAtEnd left') → held' ≡ []
+    → Runs step options source source' left left' told told' (Ok EndOfInput)
+runs_ended step options source source' left left' told told' held' s ended g over at_end none = record {
   taken = g.moved.got;
   ended = ended;
   events = g.events;
@@ -250,16 +251,16 @@ runs_ended step source source' left left' told told' held' s ended g over at_end
   links = g.links;
   tells = λ rest more last.
       let nothing : rest ≡ [] = last over in
-      ap (λ zs. session_from start zs (g.events ++ more)) (ap (λ zs. zs ++ rest) g.moved.seam ∙ append_assoc g.taken held' rest)
+      ap (λ zs. session_from (start options) zs (g.events ++ more)) (ap (λ zs. zs ++ rest) g.moved.seam ∙ append_assoc g.taken held' rest)
       ∙ g.onward (held' ++ rest) more (last_held ended held' rest (λ _. none) last)
       ∙ rw (none, nothing) (ap (onto g.written goes_on) (session_from-empty s more) ∙ written_ends g.written);
 }
 
 -- the input ends where no command begins
-pub going_last : {S : Type 0} (step : S → List ℕ → Entry → S → Type 0) (source source' source'' : S) (left left' left'' told told' : Option (List ℕ)) (held' held'' : List ℕ) (s s' : State) (ended ended' : Bool) (bytes : List ℕ)
-    → Going step source source' left left' held' told told' s ended → ended ≡ false → Advances left' held' left'' held'' bytes → bytes ≡ [] → s' ≡ s → source'' ≡ source'
-    → Going step source source'' left left'' held'' told told' s' ended'
-going_last step source source' source'' left left' left'' told told' held' held'' s s' ended ended' bytes g unended moved none same kept = record {
+pub going_last : {S : Type 0} (step : S → List ℕ → Entry → S → Type 0) (options : Options) (source source' source'' : S) (left left' left'' told told' : Option (List ℕ)) (held' held'' : List ℕ) (s s' : State) (ended ended' : Bool) (bytes : List ℕ)
+    → Going step options source source' left left' held' told told' s ended → ended ≡ false → Advances left' held' left'' held'' bytes → bytes ≡ [] → s' ≡ s → source'' ≡ source'
+    → Going step options source source'' left left'' held'' told told' s' ended'
+going_last step options source source' source'' left left' left'' told told' held' held'' s s' ended ended' bytes g unended moved none same kept = record {
   taken = g.taken ++ bytes;
   events = g.events;
   written = g.written;
@@ -270,10 +271,10 @@ going_last step source source' source'' left left' left'' told told' held' held'
 }
 
 -- the reader fails
-pub runs_unread : {S : Type 0} (step : S → List ℕ → Entry → S → Type 0) (source source' source'' : S) (left left' left'' told told' : Option (List ℕ)) (held' held'' : List ℕ) (s : State) (ended ended' : Bool) (bytes : List ℕ) (why : RunFault)
-    → Going step source source' left left' held' told told' s ended → ended ≡ false → Advances left' held' left'' held'' bytes → ended' ≡ false → source'' ≡ source'
-    → Runs step source source'' left left'' told told' (Err why)
-runs_unread step source source' source'' left left' left'' told told' held' held'' s ended ended' bytes why g unended moved open_end kept =
+pub runs_unread : {S : Type 0} (step : S → List ℕ → Entry → S → Type 0) (options : Options) (source source' source'' : S) (left left' left'' told told' : Option (List ℕ)) (held' held'' : List ℕ) (s : State) (ended ended' : Bool) (bytes : List ℕ) (why : RunFault)
+    → Going step options source source' left left' held' told told' s ended → ended ≡ false → Advances left' held' left'' held'' bytes → ended' ≡ false → source'' ≡ source'
+    → Runs step options source source'' left left'' told told' (Err why)
+runs_unread step options source source' source'' left left' left'' told told' held' held'' s ended ended' bytes why g unended moved open_end kept =
     let all = advances_trans left left' left'' [] held' held'' g.taken bytes g.moved moved in
     record {
       taken = all.got;
@@ -287,20 +288,20 @@ runs_unread step source source' source'' left left' left'' told told' held' held
       tells = λ rest more last. (
         (session_from s (bytes ++ (held'' ++ rest)) more).text,
         ap (λ (o : Session). o.text)
-            (ap (λ zs. session_from start zs (g.events ++ more))
+            (ap (λ zs. session_from (start options) zs (g.events ++ more))
             (ap (λ zs. zs ++ rest) all.seam ∙ append_assoc (g.taken ++ bytes) held'' rest ∙ append_assoc g.taken bytes (held'' ++ rest))
             ∙ g.onward (bytes ++ (held'' ++ rest)) more (still_going unended)),
       );
     }
 
 -- the writer fails
-pub runs_unwritten : {S : Type 0} (step : S → List ℕ → Entry → S → Type 0) (source source' source'' : S) (left left' left'' told told' told'' : Option (List ℕ)) (held' held'' : List ℕ) (s s' : State) (ended ended' : Bool) (bytes : List ℕ) (event : Event) (answer : Answer) (why : RunFault)
-    → Going step source source' left left' held' told told' s ended → ended ≡ false → Advances left' held' left'' held'' bytes
+pub runs_unwritten : {S : Type 0} (step : S → List ℕ → Entry → S → Type 0) (options : Options) (source source' source'' : S) (left left' left'' told told' told'' : Option (List ℕ)) (held' held'' : List ℕ) (s s' : State) (ended ended' : Bool) (bytes : List ℕ) (event : Event) (answer : Answer) (why : RunFault)
+    → Going step options source source' left left' held' told told' s ended → ended ≡ false → Advances left' held' left'' held'' bytes
     → Serves s s' bytes event ended' (Some answer) → FetchStep step source' event.fetched source'' → WritesPart told' told'' (reply_bytes answer.reply)
     → (IsTrue ended' → IsAtEnd left'') → (IsTrue ended' → held'' ≡ [])
-    → Runs step source source'' left left'' told told'' (Err why)
-runs_unwritten step source source' source'' left left' left'' told told' told'' held' held'' s s' ended ended' bytes event answer why g0 unended moved serves fetched part at_end none =
-    let g : Going step source source' left left' held' told told' s false = subst (λ t. Going step source source' left left' held' told told' s t) unended g0 in
+    → Runs step options source source'' left left'' told told'' (Err why)
+runs_unwritten step options source source' source'' left left' left'' told told' told'' held' held'' s s' ended ended' bytes event answer why g0 unended moved serves fetched part at_end none =
+    let g : Going step options source source' left left' held' told told' s false = subst (λ t. Going step options source source' left left' held' told told' s t) unended g0 in
     let all = advances_trans left left' left'' [] held' held'' g.taken bytes g.moved moved in
     record {
       taken = all.got;
@@ -315,17 +316,17 @@ runs_unwritten step source source' source'' left left' left'' told told' told'' 
           let t = turn_of answer s' (held'' ++ rest) in
           let later = session_from t.state t.rest more in
           let tail = text_onto g.written t.reply t.onward later in
-          let whole = step_on step source source' left left' told told' held' s s' ended' g bytes event answer serves (held'' ++ rest) more (last_held ended' held'' rest none last) in (
+          let whole = step_on step options source source' left left' told told' held' s s' ended' g bytes event answer serves (held'' ++ rest) more (last_held ended' held'' rest none last) in (
             part.later ++ tail.0,
-            ap (λ zs. (session_from start zs ((g.events ++ event ∷ []) ++ more)).text) (ap (λ zs. zs ++ rest) all.seam ∙ append_assoc (g.taken ++ bytes) held'' rest)
+            ap (λ zs. (session_from (start options) zs ((g.events ++ event ∷ []) ++ more)).text) (ap (λ zs. zs ++ rest) all.seam ∙ append_assoc (g.taken ++ bytes) held'' rest)
                 ∙ ap (λ (o : Session). o.text) whole ∙ tail.1
                 ∙ reply_part answer.end s' (held'' ++ rest) g.written (reply_bytes answer.reply) part.written part.later tail.0 part.seam,
           );
     }
 
 -- nothing was done
-pub runs_none : {S : Type 0} (step : S → List ℕ → Entry → S → Type 0) (source : S) (left told : Option (List ℕ)) (why : RunFault) → Runs step source source left left told told (Err why)
-runs_none step source left told why = record {
+pub runs_none : {S : Type 0} (step : S → List ℕ → Entry → S → Type 0) (options : Options) (source : S) (left told : Option (List ℕ)) (why : RunFault) → Runs step options source source left left told told (Err why)
+runs_none step options source left told why = record {
   taken = [];
   ended = false;
   events = [];
@@ -334,19 +335,19 @@ runs_none step source left told why = record {
   at_end = λ never. cc;
   appends = appends_none told;
   links = refl;
-  tells = λ rest more last. ((session_from start rest more).text, refl);
+  tells = λ rest more last. ((session_from (start options) rest more).text, refl);
 }
 
 -- what a run that ended wrote is the session of the whole input
-pub replies : {S : Type 0} (step : S → List ℕ → Entry → S → Type 0) (source source' : S) (left left' told told' : Option (List ℕ)) (end : End) → Runs step source source' left left' told told' (Ok end)
-    → IfSome left (λ input. (events : List Event) × Links step source events source' × Appends told told' (session_text input events) × (session_end input events ≡ end))
-replies step source source' None left' told told' end r = tt
-replies step source source' (Some input) None told told' end r = absurd r.consumes
-replies step source source' (Some input) (Some ys) told told' end r =
-    let whole = ap (λ es. session_from start input es) (sym (events_nil r.events)) ∙ ap (λ zs. session_from start zs (r.events ++ [])) r.consumes ∙ r.tells ys [] r.at_end in
+pub replies : {S : Type 0} (step : S → List ℕ → Entry → S → Type 0) (options : Options) (source source' : S) (left left' told told' : Option (List ℕ)) (end : End) → Runs step options source source' left left' told told' (Ok end)
+    → IfSome left (λ input. (events : List Event) × Links step source events source' × Appends told told' (session_text options input events) × (session_end options input events ≡ end))
+replies step options source source' None left' told told' end r = tt
+replies step options source source' (Some input) None told told' end r = absurd r.consumes
+replies step options source source' (Some input) (Some ys) told told' end r =
+    let whole = ap (λ es. session_from (start options) input es) (sym (events_nil r.events)) ∙ ap (λ zs. session_from (start options) zs (r.events ++ [])) r.consumes ∙ r.tells ys [] r.at_end in
     (r.events, r.links, subst (λ zs. Appends told told' zs) (sym (ap (λ (o : Session). o.text) whole)) r.appends, ap (λ (o : Session). o.ending) whole)
 
-pub replies_ok : {S : Type 0} (step : S → List ℕ → Entry → S → Type 0) (source source' : S) (left left' told told' : Option (List ℕ)) (result : Result End RunFault) → Runs step source source' left left' told told' result
-    → IfOk result (λ end. IfSome left (λ input. (events : List Event) × Links step source events source' × Appends told told' (session_text input events) × (session_end input events ≡ end)))
-replies_ok step source source' left left' told told' (Ok end) r = replies step source source' left left' told told' end r
-replies_ok step source source' left left' told told' (Err why) r = tt
+pub replies_ok : {S : Type 0} (step : S → List ℕ → Entry → S → Type 0) (options : Options) (source source' : S) (left left' told told' : Option (List ℕ)) (result : Result End RunFault) → Runs step options source source' left left' told told' result
+    → IfOk result (λ end. IfSome left (λ input. (events : List Event) × Links step source events source' × Appends told told' (session_text options input events) × (session_end options input events ≡ end)))
+replies_ok step options source source' left left' told told' (Ok end) r = replies step options source source' left left' told told' end r
+replies_ok step options source source' left left' told told' (Err why) r = tt

@@ -3,6 +3,7 @@ use Rattle.std.specs.Prelude.{◌≡◌, ℕ, ◌<◌, Bool, false, not, ◌||�
 use Rattle.std.specs.Io.KnownBytes.{Appends}
 use Rattle.dmypy.specs.declared.ending.RunFault.{RunFault}
 use Rattle.dmypy.specs.declared.refusal.Refusal.TheVariants as refusal
+use Rattle.dmypy.specs.declared.options.Options.{Options}
 use Rattle.dmypy.specs.Entry.{Entry}
 use Rattle.dmypy.specs.Event.{Event, Links, first_event}
 use Rattle.dmypy.specs.Fresh.{fresh}
@@ -47,8 +48,8 @@ is_any_refused s (path ∷ paths) events =
     is_refused turn || is_any_refused turn.state paths (drop 1 events)
 
 -- the report on the files that are accepted
-abbrev pub report_on : List (List ℕ) → List Event → Report
-report_on paths events = fresh (after_updates start paths events).present
+abbrev pub report_on : Options → List (List ℕ) → List Event → Report
+report_on options paths events = fresh (after_updates (start options) paths events).present
 
 -- what is printed of a report: its text, or nothing where the check wants memory
 abbrev pub printed_report : Report → Bool → List ℕ
@@ -63,40 +64,40 @@ abbrev pub report_status : Report → Bool → Bool → ℕ
 report_status report refused wanting = if refused || wanting then 2 else if report.clean then 0 else 1
 
 -- what goes to the output: the report
-abbrev pub out_text : List (List ℕ) → List Event → Bool → List ℕ
-out_text paths events wanting = printed_report (report_on paths events) wanting
+abbrev pub out_text : Options → List (List ℕ) → List Event → Bool → List ℕ
+out_text options paths events wanting = printed_report (report_on options paths events) wanting
 
 -- what goes to the error output: the lines on the files that are refused, and the one on want of memory
-abbrev pub err_text : List (List ℕ) → List Event → Bool → List ℕ
-err_text paths events wanting = refusal_lines start paths events ++ memory_line wanting
+abbrev pub err_text : Options → List (List ℕ) → List Event → Bool → List ℕ
+err_text options paths events wanting = refusal_lines (start options) paths events ++ memory_line wanting
 
 -- the status
-abbrev pub check_status : List (List ℕ) → List Event → Bool → ℕ
-check_status paths events wanting = report_status (report_on paths events) (is_any_refused start paths events) wanting
+abbrev pub check_status : Options → List (List ℕ) → List Event → Bool → ℕ
+check_status options paths events wanting = report_status (report_on options paths events) (is_any_refused (start options) paths events) wanting
 
 -- a text begins with these bytes
 abbrev pub BeginsWith : List ℕ → List ℕ → Type 0
 BeginsWith text written = (later : List ℕ) × (text ≡ written ++ later)
 
 -- a check that was not broken off wrote both texts whole, and has their status
-abbrev pub WroteAll : List (List ℕ) → List Event → Bool → List ℕ → List ℕ → ℕ → Type 0
-WroteAll paths events wanting written told status =
-    (written ≡ out_text paths events wanting) × (told ≡ err_text paths events wanting) × (status ≡ check_status paths events wanting)
+abbrev pub WroteAll : Options → List (List ℕ) → List Event → Bool → List ℕ → List ℕ → ℕ → Type 0
+WroteAll options paths events wanting written told status =
+    (written ≡ out_text options paths events wanting) × (told ≡ err_text options paths events wanting) × (status ≡ check_status options paths events wanting)
 
 -- one that was broken off by a write wrote what both texts begin with, for all that the other files may meet
-abbrev pub WrotePart : List (List ℕ) → List Event → Bool → List ℕ → List ℕ → Type 0
-WrotePart paths events wanting written told =
-    (more : List Event) → BeginsWith (out_text paths (events ++ more) wanting) written × BeginsWith (err_text paths (events ++ more) wanting) told
+abbrev pub WrotePart : Options → List (List ℕ) → List Event → Bool → List ℕ → List ℕ → Type 0
+WrotePart options paths events wanting written told =
+    (more : List Event) → BeginsWith (out_text options paths (events ++ more) wanting) written × BeginsWith (err_text options paths (events ++ more) wanting) told
 
 -- what was written by a check that answered so: its status, or the fault of a write
-abbrev pub Wrote : Result ℕ RunFault → List (List ℕ) → List Event → Bool → List ℕ → List ℕ → Type 0
-Wrote (Ok status) paths events wanting written told = WroteAll paths events wanting written told status
-Wrote (Err fault) paths events wanting written told = WrotePart paths events wanting written told
+abbrev pub Wrote : Result ℕ RunFault → Options → List (List ℕ) → List Event → Bool → List ℕ → List ℕ → Type 0
+Wrote (Ok status) options paths events wanting written told = WroteAll options paths events wanting written told status
+Wrote (Err fault) options paths events wanting written told = WrotePart options paths events wanting written told
 
 -- A check of files, from a source to a source by what a fetch does to it (`step`), and from known bytes of the output and of
 -- the error output to known bytes: `events` is what the updates met, `wanting` whether the check wanted memory, and `written`
 -- and `told` were written.
-pub record Checks {S : Type 0} (step : S → List ℕ → Entry → S → Type 0) (source source' : S) (out out' err err' : Option (List ℕ)) (paths : List (List ℕ)) (result : Result ℕ RunFault) : Type 0 where
+pub record Checks {S : Type 0} (step : S → List ℕ → Entry → S → Type 0) (options : Options) (source source' : S) (out out' err err' : Option (List ℕ)) (paths : List (List ℕ)) (result : Result ℕ RunFault) : Type 0 where
   pub events : List Event
   pub wanting : Bool
   pub written : List ℕ
@@ -104,7 +105,7 @@ pub record Checks {S : Type 0} (step : S → List ℕ → Entry → S → Type 0
   pub links : Links step source events source'
   pub appends_out : Appends out out' written
   pub appends_err : Appends err err' told
-  pub wrote : Wrote result paths events wanting written told
+  pub wrote : Wrote result options paths events wanting written told
 
 -- the status that the program ends with: 2 also after the fault of a write
 abbrev pub exit_status : Result ℕ RunFault → ℕ

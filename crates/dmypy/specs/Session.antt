@@ -2,6 +2,7 @@
 use Rattle.std.specs.Prelude.{ℕ, zero, suc, Bool, false, nat_lt, if◌then◌else◌, List, [], ◌∷◌, ◌++◌, length, take, drop, codes, decimal, bytes_eq, ◌&&◌, Option, None, Some, Result, Ok, Err}
 use Rattle.dmypy.specs.declared.ending.End.{End}
 use Rattle.dmypy.specs.declared.ending.End.TheVariants.{Stopped, EndOfInput, Broken}
+use Rattle.dmypy.specs.declared.options.Options.{Options}
 use Rattle.dmypy.specs.declared.refusal.Refusal.{Refusal}
 use Rattle.dmypy.specs.declared.refusal.Refusal.TheVariants as refusal
 use Rattle.dmypy.specs.Command.{Spelled, add, change, endless, update, remove, check, status, stop, unknown, spelled}
@@ -25,7 +26,7 @@ check_reply report = report.text ++ (if report.clean then codes "status 0\n" els
 
 -- the state after a completed check
 abbrev pub after_check : State → State
-after_check s = record { present = s.present; last = s.present; examined = units_of s.present }
+after_check s = record s { last = s.present; examined = units_of s.present }
 
 -- the state with this file, in place of the file of its path if there is one
 abbrev pub keeping : State → File → State
@@ -169,9 +170,9 @@ unfoldable pub session_from : State → List ℕ → List Event → Session
 session_from s input events = session_within (length input) s input events
 
 -- what a session writes for an input
-abbrev pub session_text : List ℕ → List Event → List ℕ
-session_text input events = (session_from start input events).text
+abbrev pub session_text : Options → List ℕ → List Event → List ℕ
+session_text options input events = (session_from (start options) input events).text
 
 -- how it ends
-abbrev pub session_end : List ℕ → List Event → End
-session_end input events = (session_from start input events).ending
+abbrev pub session_end : Options → List ℕ → List Event → End
+session_end options input events = (session_from (start options) input events).ending

@@ -6,6 +6,7 @@ use Rattle.std.specs.Cmp.Lexicographic.{slice_cmp}
 use Rattle.std.specs.List.{list_any}
 use Rattle.std.specs.List.Sorted.{IsStrictlySortedBy}
 use Rattle.std.specs.Ordering.{nat_cmp, match_ordering}
+use Rattle.dmypy.specs.declared.options.Options.{Options}
 use Rattle.dmypy.specs.ModuleName.{module_of, same_module}
 
 -- one file: its path and its bytes
@@ -55,12 +56,14 @@ pub record Unit : Type 0 where
   pub path : List ℕ
   pub index : ℕ
 
--- a session's state: the files that are present, the files at the last completed check, and the units that it examined
+-- a session's state: the options that it is run with, the files that are present, the files at the last completed check, and
+-- the units that it examined
 pub record State : Type 0 where
+  pub options : Options
   pub present : List File
   pub last : List File
   pub examined : List Unit
 
 -- the state in which a session begins
-abbrev pub start : State
-start = record { present = []; last = []; examined = [] }
+abbrev pub start : Options → State
+start options = record { options = options; present = []; last = []; examined = [] }

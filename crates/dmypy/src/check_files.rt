@@ -37,12 +37,12 @@ pub fn check_files<S: Sources, O: Write, E: Write>(
     // Where no write failed, all is written.
     ensures whole { faults_of out.new + zeros_of out.new + (faults_of err.new + zeros_of err.new) ≡ 0 → (events : List Event) × (wanting : Bool)
         × Links S.step sources.old events sources.new
-        × Appends (O.contents (inner_of out.old)) (O.contents (inner_of out.new)) (out_text (map string_bytes files.now) events wanting)
-        × Appends (E.contents (inner_of err.old)) (E.contents (inner_of err.new)) (err_text (map string_bytes files.now) events wanting)
-        × (result ≡ check_status (map string_bytes files.now) events wanting) }
+        × Appends (O.contents (inner_of out.old)) (O.contents (inner_of out.new)) (out_text options.now (map string_bytes files.now) events wanting)
+        × Appends (E.contents (inner_of err.old)) (E.contents (inner_of err.new)) (err_text options.now (map string_bytes files.now) events wanting)
+        × (result ≡ check_status options.now (map string_bytes files.now) events wanting) }
     // In any case what is written begins what is to be written, and where that is not all of it a write failed.
     ensures checks { (answer : Result ℕ RunFault)
-        × Checks S.step sources.old sources.new (O.contents (inner_of out.old)) (O.contents (inner_of out.new))
+        × Checks S.step options.now sources.old sources.new (O.contents (inner_of out.old)) (O.contents (inner_of out.new))
         (E.contents (inner_of err.old)) (E.contents (inner_of err.new)) (map string_bytes files.now) answer
         × (result ≡ exit_status answer)
         × OnErr answer (0 < faults_of out.new + zeros_of out.new + (faults_of err.new + zeros_of err.new)) }
@@ -62,7 +62,7 @@ fn check_and_tell<S: Sources, O: Write, E: Write>(
     options: &Options,
     files: &[String],
 ) -> Result<u8, RunFault>
-    ensures checks { Checks S.step sources.old sources.new (O.contents (inner_of out.old)) (O.contents (inner_of out.new))
+    ensures checks { Checks S.step options.now sources.old sources.new (O.contents (inner_of out.old)) (O.contents (inner_of out.new))
         (E.contents (inner_of err.old)) (E.contents (inner_of err.new)) (map string_bytes files.now) result }
     ensures cause { OnErr result (0 < faults_of out.new + zeros_of out.new + (faults_of err.new + zeros_of err.new)) }
 {

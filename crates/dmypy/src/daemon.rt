@@ -43,7 +43,7 @@ pub struct Daemon {
 impl Model for Daemon {
     ghost Value = { State };
 
-    ghost view = { λ d. record { present = d.present; last = d.last; examined = units_of d.last } };
+    ghost view = { λ d. record { options = d.options; present = d.present; last = d.last; examined = units_of d.last } };
 
     ghost invariant = { λ d. d.bodies ≡ length (units_of d.last) };
 }
@@ -51,7 +51,7 @@ impl Model for Daemon {
 impl Daemon {
     /// A daemon with no file, that has checked nothing. It takes no memory.
     pub fn new(alloc: Global, options: Options) -> Self
-        ensures { result ≡ start }
+        ensures { result ≡ start options }
     {
         Daemon {
             alloc,

@@ -40,10 +40,10 @@ pub fn run<R: Read, W: Write, S: Sources>(
     // A run that ends has written what a session writes for the input, and ends as that does.
     ensures replies { IfOk result (λ end. IfSome (R.remaining (inner_of reader.old)) (λ input. (events : List Event)
         × Links S.step sources.old events sources.new
-        × Appends (W.contents (inner_of writer.old)) (W.contents (inner_of writer.new)) (session_text input events)
-        × (session_end input events ≡ end))) }
+        × Appends (W.contents (inner_of writer.old)) (W.contents (inner_of writer.new)) (session_text options.now input events)
+        × (session_end options.now input events ≡ end))) }
     // In any case what is written begins what a session writes for each input that begins with what was read.
-    ensures runs { Runs S.step sources.old sources.new (R.remaining (inner_of reader.old)) (R.remaining (inner_of reader.new))
+    ensures runs { Runs S.step options.now sources.old sources.new (R.remaining (inner_of reader.old)) (R.remaining (inner_of reader.new))
         (W.contents (inner_of writer.old)) (W.contents (inner_of writer.new)) result }
     // What each fault comes of.
     ensures read { IsErrOf result RunFault.Read → 0 < faults_of reader.new }
@@ -84,9 +84,9 @@ fn serve_all<R: Read, W: Write, S: Sources>(
     requires room { KEPT ≤ vec_capacity line.old }
     requires empty { held_of window.old ≡ [] }
     requires open { ended_of window.old ≡ false }
-    requires begun { daemon.old ≡ start }
+    requires begun { daemon.old ≡ start daemon.old.options }
     requires reading { IsReading (R.remaining (inner_of reader.old)) (ended_of window.old) (calls_of reader.old) turns }
-    ensures runs { Runs S.step sources.old sources.new (R.remaining (inner_of reader.old)) (R.remaining (inner_of reader.new))
+    ensures runs { Runs S.step daemon.old.options sources.old sources.new (R.remaining (inner_of reader.old)) (R.remaining (inner_of reader.new))
         (W.contents (inner_of writer.old)) (W.contents (inner_of writer.new)) result }
     ensures fault { IfErr result (λ e. ComesOfRun e (faults_of reader.new) (calls_of reader.new) (faults_of writer.new + zeros_of writer.new) turns) }
 {

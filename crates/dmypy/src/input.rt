@@ -124,7 +124,8 @@ pub fn read_body<R: Read>(
 
 // Adds a part to what is kept, and tells whether all is kept still.
 fn keep_part(bytes: &mut Vec<u8>, part: &[u8], kept: bool) -> bool
-    ensures { result ≡ true → (kept ≡ true) × (bytes.new.items ≡ bytes.old.items ++ part.now) }
+    ensures kept { result ≡ true → (kept ≡ true) × (bytes.new.items ≡ bytes.old.items ++ part.now) }
+    ensures room { kept ≡ true → vec_len bytes.old + length part.now ≤ vec_capacity bytes.old → result ≡ true }
 {
     kept && bytes.extend_from_slice(part).is_ok()
 }

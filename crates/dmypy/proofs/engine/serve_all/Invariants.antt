@@ -9,7 +9,7 @@ abbrev pub invariant-commands : goal.invariant-commands
 invariant-commands g l = record {
   room : 514 ≤ vec_capacity l.line;
   reading : IsReading (g.R.Read.remaining (inner_of l.reader)) (ended_of l.window) (calls_of l.reader) l.turns;
-  going : Going g.S.Sources.step l.fn.sources l.sources (g.R.Read.remaining (inner_of l.fn.reader)) (g.R.Read.remaining (inner_of l.reader)) (held_of l.window)
+  going : Going g.S.Sources.step l.fn.daemon.options l.fn.sources l.sources (g.R.Read.remaining (inner_of l.fn.reader)) (g.R.Read.remaining (inner_of l.reader)) (held_of l.window)
       (g.W.Write.contents (inner_of l.fn.writer)) (g.W.Write.contents (inner_of l.writer)) l.daemon (ended_of l.window);
 }
 

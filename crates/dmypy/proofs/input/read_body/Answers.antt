@@ -30,6 +30,6 @@ loop-left-preserved g c =
     let less = work_skip _ _ _ _ _ (calls_of c.loop-left.reader) c.args.turns (search rules) c.skip.ensures.ended c.skip.ensures.held c.if-count-eq0.false (omega arith) in
     record {
       reading = search rules;
-      body = body_on _ _ _ _ _ _ _ _ _ _ _ _ (ended_of c.loop-left.window) _ _ _ _ c.loop-left.invariant.body (search rules) c.first-part.ensures.front c.first-part.ensures.most refl c.skip.ensures.held c.keep_part-kept.ensures;
+      body = body_on _ _ _ _ _ _ _ _ _ _ _ _ (ended_of c.loop-left.window) _ _ _ _ c.loop-left.invariant.body (search rules) c.first-part.ensures.front c.first-part.ensures.most refl c.skip.ensures.held c.keep_part-kept.ensures.kept;
       work = omega (arith, less);
     }
