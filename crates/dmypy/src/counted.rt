@@ -4,6 +4,9 @@ ghost use Rattle.std.specs.Io.KnownBytes.{ReadConsumes, WriteAppends, Keeps};
 
 use std::io::{self, Read, Write};
 
+#[cfg(test)]
+mod tests;
+
 /// A reader or a writer that counts what it passes on. Each number stays at its last value, 2^64 - 1.
 #[derive(Drop)]
 pub struct Counted<T> {

@@ -1,5 +1,8 @@
 use thiserror::Error;
 
+#[cfg(test)]
+mod tests;
+
 /// How a session ends.
 #[derive(Clone, Copy, Debug, PartialEq, Eq)]
 pub enum End {

@@ -80,7 +80,19 @@ fn words_that_are_no_job(rt: HostRuntime) -> Result<(), Fail> {
         ),
         ("dmypy --help", "Usage: dmypy <COMMAND>"),
         ("dmypy session --help", "--ignore-missing-imports"),
+        ("dmypy --help", "Checks annotated Python files"),
+        ("dmypy --help", "Answers the commands on standard input"),
+        ("dmypy --help", "Checks files once"),
         ("dmypy session --help", "--check-untyped-defs"),
+        (
+            "dmypy session --help",
+            "Leaves out errors about imports that are not found",
+        ),
+        (
+            "dmypy check --help",
+            "Checks the bodies of functions without annotations",
+        ),
+        ("dmypy check --help", "The paths of the files"),
     ] {
         assert!(rt; is_refused(rt.alloc(), line, part)?, "at {line}");
     }
