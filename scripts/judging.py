@@ -8,7 +8,7 @@ SECONDS = 60
 
 
 class Tally:
-    """What a script judged. Each failure is told at once, in a line that begins with the name of the script's subject."""
+    """What a script judged. Each failure is told at once, in a line that begins with this name."""
 
     def __init__(self, name):
         self.name = name

@@ -42,7 +42,7 @@ class Program:
         self.preload = build_preload(folder)
 
     def run(self, words, given=b"", refuse=0):
-        """A run with these words and this standard input. The growth of number `refuse` is refused, or none if it is 0."""
+        """A run with these words and this standard input. Growth number `refuse` is refused, or none if it is 0."""
         self.note.unlink(missing_ok=True)
         wanted = {"REFUSE_NTH": str(refuse), "REFUSE_NOTE": str(self.note)} if refuse else None
         return self._run(words, given, wanted)

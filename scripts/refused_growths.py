@@ -1,11 +1,11 @@
 #!/usr/bin/env python3
 """Runs the proved program with each of its growths of memory refused in turn.
 
-Stored sessions are run so (refused_in_sessions.py), and `dmypy check` on files (refused_in_checks.py). Then the growths of
-the turns that take no memory are counted (turns_without_growth.py): there are none.
+Stored sessions are run so (refused_in_sessions.py), and `dmypy check` on files (refused_in_checks.py). Before that the
+growths of the turns that take no memory are counted (turns_without_growth.py): there are none.
 
-Ends with the line `growths: P passed, F failed`, where each run, each session whose reports are compared with fresh ones,
-each kind of refusal that must occur and each turn is one, and with status 0 or 1.
+Ends with the line `growths: P passed, F failed`, where each run, each session whose reports are compared with fresh
+ones, each kind of refusal that must occur and each turn is one, and with status 0 or 1.
 """
 
 import shutil

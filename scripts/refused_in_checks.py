@@ -1,7 +1,7 @@
 """Runs `dmypy check` with each of its growths refused in turn.
 
-Each check of checks.py is run with its first growth refused, then with its second, and so on, until a run in which none was
-refused. Such a run prints and tells what checks.py says. Each other run ends with status 2 and does one of three:
+Each check of checks.py is run with its first growth refused, then with its second, and so on, until a run in which none
+was refused. Such a run prints and tells what checks.py says. Each other run ends with status 2 and does one of three:
 
 - It prints nothing and tells `error: out of memory`, before the first file.
 - It tells `dmypy: FILE: refused 9 memory` for exactly one file whose path is not refused, in its place among the lines

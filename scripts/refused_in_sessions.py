@@ -1,7 +1,7 @@
 """Runs stored sessions with each of their growths refused in turn.
 
-Each file sessions/NAME.session is run with its first growth refused, then with its second, and so on, until a run in which
-none was refused. Such a run writes sessions/NAME.stdout. Each other run does one of two:
+Each file sessions/NAME.session is run with its first growth refused, then with its second, and so on, until a run in
+which none was refused. Such a run writes sessions/NAME.stdout. Each other run does one of two:
 
 - It reads nothing, writes nothing to standard output, and ends with status 2.
 - It writes the session in which exactly one command that takes memory (`add`, `change`, `update` or `check`) was

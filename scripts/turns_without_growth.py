@@ -1,9 +1,9 @@
 """Runs sessions, and judges how many growths the turns ask for that take no memory: none.
 
-A turn goes from the last byte of one reply to the last byte of the next. In it the program reads a command and the bytes
-that it announces, does it, and writes its reply. Such are the turns of `remove`, `status`, `stop` and refused commands, but
-for the room for bytes that are wanted and then do not come. Refusals 6 and 7 are not among them: they are told after the
-name of the module was formed.
+A turn goes from the last byte of one reply to the last byte of the next. In it the program reads a command and the
+bytes that it announces, does it, and writes its reply. Such are the turns of `remove`, `status`, `stop` and refused
+commands, but for the room for bytes that are wanted and then do not come. Refusals 6 and 7 are not among them: they are
+told after the name of the module was formed. Nor are refusals 5 and 10 of `update` where bytes were read.
 """
 
 ERROR = b'x: int = "a"\n'
