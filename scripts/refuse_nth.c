@@ -5,6 +5,9 @@
  * `main` is left alone. Call number REFUSE_NTH (counted from 1) is refused: it answers NULL with errno ENOMEM, and
  * posix_memalign answers ENOMEM. Then the file that REFUSE_NOTE names is made, so that its presence tells whether a call
  * was refused. With no REFUSE_NTH, or 0, nothing is refused.
+ *
+ * Each write to standard output adds a line to the file that GROWTH_LOG names, if it names one: how many bytes the write
+ * took, and how many calls had been counted by then.
  */
 #define _GNU_SOURCE
 #include <dlfcn.h>
@@ -12,8 +15,10 @@
 #include <fcntl.h>
 #include <link.h>
 #include <stdint.h>
+#include <stdio.h>
 #include <stdlib.h>
 #include <string.h>
+#include <sys/syscall.h>
 #include <unistd.h>
 
 static void *(*real_malloc)(size_t);
@@ -87,18 +92,21 @@ static void note_refusal(void) {
     if (file >= 0) close(file);
 }
 
+/* How many calls have been counted. */
+static unsigned long counted;
+
 /* Counts a call, and tells whether it is the one to refuse. */
 static int is_refused(void *caller) {
     static int has_begun;
-    static unsigned long wanted, count;
+    static unsigned long wanted;
     if (!has_begun) {
         if (!is_of_program(caller)) return 0;
         const char *text = getenv("REFUSE_NTH");
         wanted = text ? strtoul(text, NULL, 10) : 0;
         has_begun = 1;
     }
-    count++;
-    if (count != wanted) return 0;
+    counted++;
+    if (counted != wanted) return 0;
     note_refusal();
     errno = ENOMEM;
     return 1;
@@ -162,4 +170,23 @@ int posix_memalign(void **block, size_t alignment, size_t size) {
 void free(void *block) {
     if (is_early(block) || !is_ready()) return;
     real_free(block);
+}
+
+static void log_write(ssize_t taken) {
+    const char *path = getenv("GROWTH_LOG");
+    if (!path) return;
+    int file = open(path, O_WRONLY | O_CREAT | O_APPEND | O_CLOEXEC, 0644);
+    if (file < 0) return;
+    char line[64];
+    int size = snprintf(line, sizeof line, "%zd %lu\n", taken, counted);
+    syscall(SYS_write, file, line, (size_t)size);
+    close(file);
+}
+
+ssize_t write(int file, const void *bytes, size_t size) {
+    ssize_t taken = syscall(SYS_write, file, bytes, size);
+    int saved = errno;
+    if (file == STDOUT_FILENO) log_write(taken);
+    errno = saved;
+    return taken;
 }

@@ -1,10 +1,10 @@
 -- A check of files, update by update.
-use Rattle.std.proofs.Common.{◌≡◌, ℕ, Bool, true, false, List, [], ◌∷◌, ◌++◌, Option, None, Some, refl, sym, ap, subst, ◌∙◌, append_assoc, ◌||◌, codes, if◌then◌else◌, drop, drop-cons, length, map, string_bytes, get_or, suc, ◌+◌, ◌<◌, ◌≤◌, String, arith}
+use Rattle.std.proofs.Common.{◌≡◌, ℕ, Bool, true, false, List, [], ◌∷◌, ◌++◌, Option, refl, sym, ap, subst, ◌∙◌, append_assoc, ◌||◌, codes, if◌then◌else◌, drop, drop-cons, length, map, string_bytes, get_or, suc, ◌+◌, ◌<◌, ◌≤◌, String, arith}
 use Rattle.std.specs.Prelude.{Result, Ok, Err}
 use Rattle.std.proofs.lemmas.List.{drop_all}
 use Rattle.std.specs.Global.{Global}
 use Rattle.std.specs.Io.KnownBytes.{Appends}
-use Rattle.dmypy.specs.CheckFiles.{Checks, program_line, BeginsWith, check_status, err_text, out_text, file_update, is_any_refused, is_refused, refusal_line, refusal_lines, report_on, report_status, memory_line, printed_report}
+use Rattle.dmypy.specs.CheckFiles.{Checks, program_line, check_status, err_text, out_text, file_update, is_any_refused, is_refused, refusal_line, refusal_lines, report_on, report_status, memory_line, printed_report}
 use Rattle.dmypy.specs.declared.options.Options.{Options}
 use Rattle.dmypy.specs.Entry.{Entry}
 use Rattle.dmypy.specs.Event.{Event, FetchStep, Links}

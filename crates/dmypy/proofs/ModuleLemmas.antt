@@ -1,5 +1,5 @@
 -- The parts of the module that a path names.
-use Rattle.std.proofs.Common.{◌≡◌, ℕ, zero, suc, ◌-◌, Bool, true, false, eqb, List, [], ◌∷◌, ◌++◌, ◌≤◌, not, length, take, map, unwrap_or, subst, Bor, Option, Some, None, MatchOption, bytes_eq, codes, refl, sym, ap, ◌∙◌, arith}
+use Rattle.std.proofs.Common.{◌≡◌, ℕ, ◌-◌, Bool, true, false, List, [], ◌∷◌, ◌++◌, ◌≤◌, not, length, take, map, unwrap_or, subst, Bor, Option, Some, None, MatchOption, bytes_eq, codes, refl, ap, ◌∙◌, arith}
 use Rattle.std.proofs.lemmas.List.{map-append}
 use Rattle.std.proofs.lemmas.Str.Pattern.{ends_text}
 use Rattle.std.specs.Cmp.Lexicographic.{pointwise}

@@ -1,9 +1,9 @@
 -- What it says of a file that it is not refused.
-use Rattle.std.proofs.Common.{◌≡◌, ℕ, Bool, true, false, not, ◌&&◌, nat_lt, if◌then◌else◌, List, Option, None, Some, refl}
+use Rattle.std.proofs.Common.{◌≡◌, ℕ, Bool, true, false, not, ◌&&◌, if◌then◌else◌, List, Option, None, Some, refl}
 use Rattle.std.specs.Str.{is_utf8}
 use Rattle.dmypy.specs.Path.{is_file_path}
 use Rattle.dmypy.specs.Refusal.{add_refusal, change_refusal, early_refusal}
-use Rattle.dmypy.specs.Workspace.{File, has_file}
+use Rattle.dmypy.specs.Workspace.{File}
 use Rattle.dmypy.specs.declared.keep.Keep.{Keep}
 use Rattle.dmypy.specs.declared.keep.Keep.TheVariants as keep
 use Rattle.dmypy.specs.declared.refusal.Refusal.{Refusal}

@@ -11,7 +11,7 @@ use Rattle.dmypy.specs.Refusal.{refusal_text, early_refusal, late_refusal, keep_
 use Rattle.dmypy.specs.Path.{is_file_path}
 use Rattle.dmypy.specs.declared.keep.Keep.{Keep}
 use Rattle.dmypy.specs.declared.keep.Keep.TheVariants as keep
-use Rattle.dmypy.specs.Session.{Turn, turn, act, act_with, act_fetched, file_turn, keep_turn, unless, done, told_turn, no_turn, remove_turn, status_reply, fetched_turn, update_turn, check_turn, check_reply, after_check, keeping, dropping, ok, refused, last_turn, goes_on, onto, session_within, session_from}
+use Rattle.dmypy.specs.Session.{Turn, turn, act, act_with, act_fetched, file_turn, keep_turn, unless, done, told_turn, no_turn, remove_turn, status_reply, fetched_turn, update_turn, check_turn, check_reply, after_check, keeping, dropping, refused, last_turn, goes_on, onto, session_within, session_from}
 use Rattle.dmypy.specs.Runs.{IsLast}
 use Rattle.dmypy.specs.Workspace.{File, State}
 use Rattle.dmypy.specs.Fresh.{fresh, units_of}

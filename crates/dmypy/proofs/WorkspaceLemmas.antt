@@ -1,12 +1,12 @@
 -- Files in order of their paths: where a path is among them, and what an edit at that place leaves.
-use Rattle.std.proofs.Common.{◌≡◌, ℕ, zero, suc, ◌+◌, ◌<◌, ◌≤◌, Bool, true, false, ◌||◌, not, List, [], ◌∷◌, length, map, filter, take, drop, set, get_or, Result, Ok, Err, IfOk, IfErr, is_ok, Ordering, Less, Equal, Greater, bytes_eq, nat_cmp, is_eq, is_lt, refl, sym, ap, ◌∙◌, subst, arith}
+use Rattle.std.proofs.Common.{◌≡◌, ℕ, zero, suc, ◌+◌, ◌<◌, Bool, true, false, ◌||◌, List, [], ◌∷◌, length, map, set, get_or, Result, Ok, Err, IfOk, IfErr, is_ok, Ordering, Less, Equal, Greater, bytes_eq, is_eq, is_lt, refl, sym, ap, ◌∙◌, subst, arith}
 use Rattle.std.proofs.lemmas.Cmp.{nat_list_cmp_total, tied_itself}
 use Rattle.std.proofs.lemmas.List.{get_or-map, length-map}
 use Rattle.std.proofs.lemmas.List.Sorted.{searchable_from_sorted}
 use Rattle.std.proofs.lemmas.Map.Keys.{sorted_head, sorted_tail, Less-from_sorted}
 use Rattle.std.proofs.lemmas.Map.Text.{is_eq-slice_cmp}
 use Rattle.std.proofs.lemmas.Slice.Eq.{bytes_eq-Decides}
-use Rattle.std.specs.List.{AllByRecursion, HoldsAt, insert, remove, list_any}
+use Rattle.std.specs.List.{AllByRecursion, insert, remove, list_any}
 use Rattle.std.specs.List.Sorted.{IsStrictlySortedBy, IsSearchInRange, IsBinarySearchResult, IsNonDecreasingBy}
 use Rattle.std.specs.Ordering.{ordering_index, ordering_reverse}
 use Rattle.dmypy.specs.Workspace.{File, path_cmp, IsInOrder, IsPlaceOf, IsGapFor, has_file, with_file, without_file}

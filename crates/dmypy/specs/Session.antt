@@ -1,5 +1,5 @@
 -- What a session writes: the replies to the commands that its input spells, and how it ends.
-use Rattle.std.specs.Prelude.{ℕ, zero, suc, Bool, false, nat_lt, if◌then◌else◌, List, [], ◌∷◌, ◌++◌, length, take, drop, codes, decimal, bytes_eq, ◌&&◌, Option, None, Some, Result, Ok, Err}
+use Rattle.std.specs.Prelude.{ℕ, zero, suc, Bool, nat_lt, if◌then◌else◌, List, [], ◌∷◌, ◌++◌, length, take, drop, codes, decimal, bytes_eq, ◌&&◌, Option, None, Some, Result, Ok, Err}
 use Rattle.dmypy.specs.declared.ending.End.{End}
 use Rattle.dmypy.specs.declared.ending.End.TheVariants.{Stopped, EndOfInput, Broken}
 use Rattle.dmypy.specs.declared.options.Options.{Options}

@@ -1,5 +1,5 @@
 -- What the parts of a check of files do.
-use Rattle.std.specs.Prelude.{◌≡◌, ℕ, Bool, ◌||◌, List, [], ◌++◌, codes, Option, Result, Ok, Err}
+use Rattle.std.specs.Prelude.{◌≡◌, ℕ, Bool, ◌||◌, List, ◌++◌, codes, Option, Result, Ok, Err}
 use Rattle.std.specs.Io.KnownBytes.{Appends}
 use Rattle.dmypy.specs.declared.ending.RunFault.{RunFault}
 use Rattle.dmypy.specs.declared.refusal.Refusal.{Refusal}

@@ -24,6 +24,8 @@ use std::io::{Read, Write};
 #[cfg(test)]
 mod fakes;
 #[cfg(test)]
+mod rows;
+#[cfg(test)]
 mod tests;
 
 /// Runs a session: reads commands and writes their replies, each before the next read waits. The buffers are made

@@ -42,11 +42,22 @@ impl ModuleName {
 fn spelled_parts<'a>(alloc: Global, path: &'a str) -> Result<Vec<&'a str>, AllocError>
     ensures { IfOk result (λ parts. map (λ part. part.now) parts.items ≡ spelled_parts (slice_split is_slash path.now)) }
 {
-    let mut parts: Vec<&'a str> = path.split('/').collect(alloc)?;
+    let mut parts = path_parts(alloc, path)?;
     if let Some(name) = parts.pop() {
         if name != "__init__.py" {
             parts.push(stem(name))?;
         }
+    }
+    Ok(parts)
+}
+
+// The parts of a path, between its slashes.
+fn path_parts<'a>(alloc: Global, path: &'a str) -> Result<Vec<&'a str>, AllocError>
+    ensures { IfOk result (λ parts. map (λ part. part.now) parts.items ≡ slice_split is_slash path.now) }
+{
+    let mut parts = Vec::new(alloc);
+    for part in path.split('/') {
+        parts.push(part)?;
     }
     Ok(parts)
 }

@@ -1,4 +1,3 @@
-use Rattle.std.proofs.Common.{◌≡◌}
 use Rattle.std.proofs.lemmas.Result.{err_from_is_err_and}
 use Rattle.dmypy.proofs.CheckFilesLemmas.{checks_broken, checks_printed}
 use Rattle.dmypy.proofs.check_files.check_and_tell.Goals as goal

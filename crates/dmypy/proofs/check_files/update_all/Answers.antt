@@ -1,7 +1,4 @@
-use Rattle.std.proofs.Common.{◌≡◌, subst}
 use Rattle.std.proofs.lemmas.Result.{err_from_is_err_and}
-use Rattle.dmypy.specs.Counted.{inner_of}
-use Rattle.dmypy.specs.Updates.{Updates, UpdatesOne}
 use Rattle.dmypy.proofs.CheckFilesLemmas.{left_next, left_none, updates_none, updates_on, updates_part}
 use Rattle.dmypy.proofs.check_files.update_all.Goals as goal
 

@@ -1,7 +1,5 @@
-use Rattle.std.proofs.Common.{◌≡◌, List, ℕ, Bor, [], ◌∷◌, ◌++◌, refl, sym, ap, ◌∙◌, map, lit<, arith, append-nil}
+use Rattle.std.proofs.Common.{List, ℕ, Bor, [], ◌∷◌, arith, append-nil}
 use Rattle.std.specs.List.{slice_split}
-use Rattle.std.proofs.lemmas.Iterator.Consumers.{map_from_collect}
-use Rattle.std.proofs.lemmas.Iterator.Splits.{YieldsList-from_str_split}
 use Rattle.std.proofs.lemmas.List.{map-append}
 use Rattle.dmypy.specs.Path.{is_slash}
 use Rattle.dmypy.proofs.ModuleLemmas.{spelled_parts-last, spelled_parts-none, file_part_module, file_part_folder}
@@ -10,8 +8,7 @@ use Rattle.dmypy.proofs.module_name.spelled_parts.Goals.{in-Some+then-ne+in_ok-p
 
 pub returns : goal.returns
 returns c =
-    let collected = map_from_collect _ c.collect.ensures.ran (YieldsList-from_str_split 47 c.args.path.now (lit< tt) c.split.ensures.text c.split.ensures.has_more c.split.ensures.pattern) in
-    let all = rw c.in_ok-parts.was at collected in
+    let all = c.in_ok-parts.ensures in
     let names = slice_split is_slash c.args.path.now in
     let items = c.in_ok-parts.parts.items in
     let left = c.pop.new.self.items in

@@ -1,4 +1,4 @@
-use Rattle.std.proofs.Common.{◌<◌, ◌≤◌, length, arith, rules}
+use Rattle.std.proofs.Common.{arith}
 use Rattle.std.proofs.lemmas.Result.{err_from_is_err_and}
 use Rattle.dmypy.proofs.Going.{joined_none, joined_on, joined_part, joined_all}
 use Rattle.dmypy.proofs.writing.write_parts.Goals as goal

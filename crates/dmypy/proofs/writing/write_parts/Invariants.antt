@@ -1,7 +1,4 @@
-use Rattle.std.proofs.Common.{take}
-use Rattle.std.specs.Io.KnownBytes.{Appends}
 use Rattle.dmypy.specs.Counted.{inner_of}
-use Rattle.dmypy.specs.Replies.{joined}
 use Rattle.dmypy.proofs.Going.{JoinedSoFar}
 use Rattle.dmypy.proofs.writing.write_parts.Given as goal
 

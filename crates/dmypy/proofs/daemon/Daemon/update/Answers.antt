@@ -1,6 +1,5 @@
-use Rattle.std.proofs.Common.{◌≡◌, true, false, None, Some, sym, ◌∙◌, refl}
+use Rattle.std.proofs.Common.{true, false, None, Some, sym, ◌∙◌, refl}
 use Rattle.dmypy.specs.Entry as entry
-use Rattle.dmypy.specs.Path.{is_file_path}
 use Rattle.dmypy.proofs.Refusals.{path_is_text}
 use Rattle.dmypy.proofs.Texts.{IsOk-utf8}
 use Rattle.dmypy.proofs.Turns.{update_bad, update_fetched, told_keep}

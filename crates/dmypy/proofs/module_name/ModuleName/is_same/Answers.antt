@@ -1,4 +1,4 @@
-use Rattle.std.proofs.Common.{bytes_eq, string_bytes, ◌∙◌}
+use Rattle.std.proofs.Common.{bytes_eq, string_bytes}
 use Rattle.dmypy.proofs.ModuleLemmas.{pointwise-map}
 use Rattle.dmypy.proofs.module_name.ModuleName.is_same.Goals as goal
 

@@ -1,4 +1,4 @@
-use Rattle.std.proofs.Common.{◌≡◌, ℕ, set, ap, ◌∙◌, subst}
+use Rattle.std.proofs.Common.{◌≡◌, set, ap, ◌∙◌}
 use Rattle.std.proofs.lemmas.List.{map-set}
 use Rattle.std.specs.List.{insert}
 use Rattle.dmypy.specs.Daemon.{file_in, files_in}

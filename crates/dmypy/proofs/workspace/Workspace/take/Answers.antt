@@ -1,7 +1,5 @@
-use Rattle.std.proofs.Common.{◌≡◌, ◌∙◌, sym, true}
-use Rattle.std.specs.List.{remove}
+use Rattle.std.proofs.Common.{sym}
 use Rattle.dmypy.specs.Daemon.{file_in, files_in}
-use Rattle.dmypy.specs.Workspace.{IsInOrder, IsPlaceOf}
 use Rattle.dmypy.proofs.WorkspaceLemmas.{has_file-place, has_file-gap, without_file-place, without_file-gap, in_order-remove, map-remove}
 use Rattle.dmypy.proofs.workspace.Workspace.take.Goals as goal
 

@@ -1,0 +1,29 @@
+"""What the scripts share that judge the built program."""
+
+from pathlib import Path
+
+PROGRAM = Path(__file__).resolve().parent.parent / "crates" / "dmypy" / "out" / "dmypy"
+# how long a run may take
+SECONDS = 60
+
+
+class Tally:
+    """What a script judged. Each failure is told at once, in a line that begins with this name."""
+
+    def __init__(self, name):
+        self.name = name
+        self.passed = 0
+        self.failed = 0
+
+    def judge(self, is_right, what):
+        """Counts one judgement; `what` tells what is wrong where it is not right."""
+        if is_right:
+            self.passed += 1
+        else:
+            self.failed += 1
+            print(f"{self.name}: failed: {what}", flush=True)
+
+    def close(self):
+        """Prints the line `NAME: P passed, F failed`, and gives the script's status, 0 or 1."""
+        print(f"{self.name}: {self.passed} passed, {self.failed} failed")
+        return 0 if self.failed == 0 else 1
