@@ -1,3 +1,6 @@
+ghost use Rattle.std.specs.Prelude.{Some};
+ghost use Rattle.dmypy.specs.Ending.{run_fault_text};
+
 use std::error::Error;
 use std::fmt;
 
@@ -26,6 +29,8 @@ pub enum RunFault {
 }
 
 impl fmt::Display for RunFault {
+    ghost output = { λ fault. Some (run_fault_text fault) };
+
     fn fmt<W: fmt::Write>(&self, f: &mut fmt::Formatter<W>) -> fmt::Result {
         f.write_str(match self {
             RunFault::Read => "the input cannot be read",
