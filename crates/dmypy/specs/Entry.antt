@@ -1,5 +1,5 @@
 -- What a fetch hands over.
-use Rattle.std.specs.Prelude.{ℕ, List, Result, Ok, Err, Vec}
+use Rattle.std.specs.Prelude.{ℕ, List, Result, Ok, Err, Vec, codes}
 use Rattle.std.specs.Global.{Global}
 use Rattle.dmypy.specs.declared.sources.FetchFault.{FetchFault}
 use Rattle.dmypy.specs.declared.sources.FetchFault.TheVariants as fault
@@ -15,3 +15,8 @@ abbrev pub entry_of : Result (Vec ℕ Global) FetchFault → Entry
 entry_of (Ok handed) = bytes handed.items
 entry_of (Err fault.Unreadable) = unreadable
 entry_of (Err fault.Memory) = no_memory
+
+-- the text of why a source hands over no bytes
+abbrev pub fetch_fault_text : FetchFault → List ℕ
+fetch_fault_text fault.Unreadable = codes "unreadable"
+fetch_fault_text fault.Memory = codes "out of memory"

@@ -3,6 +3,7 @@ pub mod CheckFiles
 pub mod Command
 pub mod Counted
 pub mod Daemon
+pub mod Ending
 pub mod Entry
 pub mod Event
 pub mod FoundMessages

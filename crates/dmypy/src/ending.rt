@@ -1,4 +1,8 @@
-use thiserror::Error;
+ghost use Rattle.std.specs.Prelude.{Some};
+ghost use Rattle.dmypy.specs.Ending.{run_fault_text};
+
+use std::error::Error;
+use std::fmt;
 
 #[cfg(test)]
 mod tests;
@@ -15,18 +19,29 @@ pub enum End {
 }
 
 /// Why a session stopped in the middle.
-#[derive(Clone, Copy, Debug, PartialEq, Eq, Error)]
+#[derive(Clone, Copy, Debug, PartialEq, Eq)]
 pub enum RunFault {
     /// The reader answered a fault.
-    #[error("the input cannot be read")]
     Read,
     /// The writer answered a fault, or took no byte.
-    #[error("the output cannot be written")]
     Write,
     /// The reader was called as often as the options allow, and did not end.
-    #[error("the input does not end")]
     TooManyTurns,
     /// The buffers could not be made. Nothing was read or written.
-    #[error("out of memory")]
     Memory,
 }
+
+impl fmt::Display for RunFault {
+    ghost output = { λ fault. Some (run_fault_text fault) };
+
+    fn fmt<W: fmt::Write>(&self, f: &mut fmt::Formatter<W>) -> fmt::Result {
+        f.write_str(match self {
+            RunFault::Read => "the input cannot be read",
+            RunFault::Write => "the output cannot be written",
+            RunFault::TooManyTurns => "the input does not end",
+            RunFault::Memory => "out of memory",
+        })
+    }
+}
+
+impl Error for RunFault {}

@@ -1,22 +1,34 @@
 //! Where `update` gets the bytes of a path.
 
-ghost use Rattle.std.specs.Prelude.{◌≡◌, ◌≢◌, ◌≤◌, ◌+◌, ◌-◌, ◌^◌, ℕ, List, IfOk, IsErrOf, min, vec_len};
+ghost use Rattle.std.specs.Prelude.{◌≡◌, ◌≢◌, ◌≤◌, ◌+◌, ◌-◌, ◌^◌, ℕ, List, Some, IfOk, IsErrOf, min, vec_len};
 ghost use Rattle.dmypy.specs.declared.sources.FetchFault.TheVariants.{Memory};
-ghost use Rattle.dmypy.specs.Entry.{Entry, unreadable, entry_of};
+ghost use Rattle.dmypy.specs.Entry.{Entry, unreadable, entry_of, fetch_fault_text};
 
 use std::alloc::{AllocError, Global};
-use thiserror::Error;
+use std::error::Error;
+use std::fmt;
 
 /// Why a source hands over no bytes.
-#[derive(Clone, Copy, Debug, PartialEq, Eq, Error)]
+#[derive(Clone, Copy, Debug, PartialEq, Eq)]
 pub enum FetchFault {
     /// 1: the path names no file that can be read.
-    #[error("unreadable")]
     Unreadable,
     /// 2: memory was refused.
-    #[error("out of memory")]
     Memory,
 }
+
+impl fmt::Display for FetchFault {
+    ghost output = { λ fault. Some (fetch_fault_text fault) };
+
+    fn fmt<W: fmt::Write>(&self, f: &mut fmt::Formatter<W>) -> fmt::Result {
+        f.write_str(match self {
+            Self::Unreadable => "unreadable",
+            Self::Memory => "out of memory",
+        })
+    }
+}
+
+impl Error for FetchFault {}
 
 impl From<AllocError> for FetchFault {
     ghost from_gives = { λ _ fault. fault ≡ Memory };
