@@ -5,7 +5,6 @@ use Rattle.clap.specs.declared.builder.action.ArgAction.TheVariants.{Append, Set
 use Rattle.clap.specs.declared.error.kind.ErrorKind.{ErrorKind}
 use Rattle.clap.specs.declared.error.kind.ErrorKind.TheVariants.{OutOfMemory}
 use Rattle.dmypy.specs.declared.options.Options.{Options}
-use Rattle.dmypy.specs.declared.options.TheConstants.{TURNS}
 use Rattle.dmypy.specs.declared.words.Job.{Job}
 use Rattle.dmypy.specs.declared.words.Job.TheVariants.{Session, Check}
 use Rattle.dmypy.specs.declared.words.Usage.{Usage}
@@ -63,9 +62,9 @@ option_text id words = found_text id (subcommand_of command_line words)
 abbrev pub IsFlag : Option Text → Bool → Type 0
 IsFlag text flag = (text ≡ Some (codes "true") → flag ≡ true) × (text ≡ Some (codes "false") → flag ≡ false)
 
--- a session's options, with as many reads as the program allows
+-- a session's options; the program reads its input 1,000,000,000 times at most
 abbrev pub session_options : Bool → Bool → Options
-session_options ignore_missing check_untyped = record { ignore_missing = ignore_missing; check_untyped = check_untyped; turns = TURNS }
+session_options ignore_missing check_untyped = record { ignore_missing = ignore_missing; check_untyped = check_untyped; turns = 1000000000 }
 
 -- the options of a job
 abbrev pub options_of : Job → Options
