@@ -1,4 +1,0 @@
-pub mod KeywordLemmas
-pub mod ReadLemmas
-pub mod ScanLemmas
-pub mod TextLemmas
