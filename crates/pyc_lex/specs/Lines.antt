@@ -67,7 +67,7 @@ is_empty (x ∷ xs) = false
 -- the next step with what is known, unless there is a fault
 abbrev pub and_then : {A B : Type 0} → Result A LexFault → (A → Result B LexFault) → Result B LexFault
 and_then (Ok known) next = next known
-and_then (Err found) next = Err found
+and_then (Err stopped) next = Err stopped
 
 -- the place after a piece of this text
 abbrev pub moved : Reading → List ℕ → Reading
@@ -189,7 +189,7 @@ told cut.OpenString line = fault.OpenString line
 
 -- the fault at a place where no piece stands: that of the line's indent comes first
 unfoldable pub fault_met : Reading → CutFault → Result Reading LexFault
-fault_met r bad = and_then (line_settled r) (λ s. Err (told bad s.place.line))
+fault_met r met = and_then (line_settled r) (λ s. Err (told met s.place.line))
 
 -- what is known after all pieces, or the first fault
 unfoldable pub read : Reading → List Cut → Result Reading LexFault

@@ -1,8 +1,10 @@
 //! Cuts the longest piece off the front of a text.
 
-ghost use Rattle.std.specs.Prelude.{◌≡◌, ◌<◌, ◌≤◌, ◌+◌, length, slice_index, IfOk, IsCharBoundary, true};
+ghost use Rattle.std.specs.Prelude.{◌≡◌, ◌<◌, ◌≤◌, ◌+◌, length, slice_index, IfOk, drop, true};
 ghost use Rattle.pyc_lex.specs.Characters.{is_quote as is_quote_byte};
-ghost use Rattle.pyc_lex.specs.Characters.{is_name_start};
+ghost use Rattle.pyc_lex.specs.Characters.{is_name_start, line_end_len};
+ghost use Rattle.pyc_lex.specs.Numbers.{number_at};
+ghost use Rattle.pyc_lex.specs.Operators.{operator_at};
 ghost use Rattle.std.specs.Str.{chars};
 ghost use Rattle.pyc_lex.specs.Cuts as spec;
 
@@ -89,7 +91,7 @@ fn name_front(text: &str) -> Front
 
 /// The operator at the front.
 fn operator_front(text: &[u8]) -> Front
-    ensures value { result ≡ spec.operator_front (spec.operator_at text.now) }
+    ensures value { result ≡ spec.operator_front (operator_at text.now) }
     ensures within { IfOk result (λ front. (1 ≤ front.1) × (front.1 ≤ length text.now)) }
 {
     match operator_at(text) {
@@ -131,7 +133,7 @@ fn begins_joined(text: &[u8]) -> bool
 /// How many bytes the backslash and the line end take.
 fn joined_len(text: &[u8]) -> usize
     requires { spec.begins_joined text.now ≡ true }
-    ensures value { result ≡ 1 + spec.line_end_len (drop 1 text.now) }
+    ensures value { result ≡ 1 + line_end_len (drop 1 text.now) }
     ensures within { result ≤ length text.now }
 {
     let (_, rest) = text.split_at(1);
@@ -141,7 +143,7 @@ fn joined_len(text: &[u8]) -> usize
 /// The number at the front.
 fn number_front(text: &[u8]) -> Front
     requires { spec.begins_number text.now ≡ true }
-    ensures value { result ≡ spec.number_front (spec.number_at text.now) }
+    ensures value { result ≡ spec.number_front (number_at text.now) }
     ensures within { IfOk result (λ front. (1 ≤ front.1) × (front.1 ≤ length text.now)) }
 {
     let (number, len) = number_at(text);

@@ -132,7 +132,7 @@ fn codes_after(alloc: Global, from: usize, text: &[u8]) -> Result<Option<Codes>,
 
 /// The rest of a text after the spaces at its front and a word, if the word stands there.
 fn after_word<'a>(word: &[u8], at: Rest<'a>) -> Option<Rest<'a>>
-    requires { at.from + length at.entry.text.now < 2 ^ 63 }
+    requires { at.from + length at.text.now < 2 ^ 63 }
     ensures value { option_map rest_in result ≡ spec.after_word word.now (spec.after_spaces (rest_in at.entry)) }
     ensures within { IfSome result (λ rest. rest.from + length rest.text.now ≤ at.entry.from + length at.entry.text.now) }
 {

@@ -1,6 +1,6 @@
 //! What is known of a source between two of its pieces.
 
-ghost use Rattle.std.specs.Prelude.{◌≡◌, ◌<◌, ◌≤◌, ◌+◌, ◌*◌, ◌^◌, ℕ, [], length, OnOk, IfOk};
+ghost use Rattle.std.specs.Prelude.{◌≡◌, ◌≢◌, ◌<◌, ◌≤◌, ◌+◌, ◌*◌, ◌^◌, ℕ, [], length, vec_len, Some, OnOk, IfOk};
 ghost use Rattle.pyc_lex.specs.Lines as spec;
 
 use crate::brackets::Opened;
@@ -33,11 +33,13 @@ pub(crate) struct Reader {
     ghost line_is_low: { place.line ≤ from + 1 },
     ghost column_is_low: { place.column ≤ from + 1 },
     ghost column_from_one: { 1 ≤ place.column },
+    ghost has_first_indent: { 0 < vec_len indents },
 }
 
 impl Reader {
     ghost use Rattle.pyc_lex.specs.View.{Leads, lexis_in, codes_in, Answers};
     ghost use Rattle.pyc_lex.specs.Reader.{reading_of};
+    ghost use Rattle.pyc_lex.specs.Ignores.{silenced};
 
     pub fn new(alloc: Global, from: usize) -> Result<Reader, AllocError>
         ensures { IfOk result (λ reader. reading_of reader ≡ spec.start_at from) }
@@ -153,7 +155,7 @@ impl Reader {
     fn read_comment(&mut self, alloc: Global, text: &[u8]) -> Result<(), AllocError>
         requires within { self.old.from + length text.now < 2 ^ 63 }
         requires hash { 0 < length text.now }
-        ensures { OnOk result (reading_of self.new ≡ spec.moved (spec.with_ignore (reading_of self.old) (spec.silenced self.old.from text.now)) text.now) }
+        ensures { OnOk result (reading_of self.new ≡ spec.moved (spec.with_ignore (reading_of self.old) (silenced self.old.from text.now)) text.now) }
     {
         if let Some(codes) = silenced(alloc, self.from, text)? {
             self.add_ignore(codes)?;
@@ -194,7 +196,7 @@ impl Reader {
     /// The fault at a place where no piece stands: that of the line's indent comes first.
     #[tactic(auto, unfolding(crate::specs::Lines::fault_met))]
     pub fn fault(&mut self, fault: CutFault) -> LexFault
-        ensures { result ≢ Memory → spec.fault_met (reading_of self.old) fault ≡ Err result }
+        ensures { result ≢ LexFault.Memory → spec.fault_met (reading_of self.old) fault ≡ Err result }
     {
         if let Err(indent) = self.settle_line() {
             return indent;
