@@ -1,2 +1,6 @@
+pub mod BoundaryLemmas
+pub mod IgnoreLemmas
+pub mod KeywordLemmas
 pub mod NameLemmas
+pub mod OperatorLemmas
 pub mod StringLemmas

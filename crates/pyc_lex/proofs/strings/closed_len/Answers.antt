@@ -1,28 +1,31 @@
-use Rattle.std.proofs.Common.{rules, ◌≡◌, ◌≤◌, ◌<◌, true, length, slice_index, IfSome, ℕ, ◌+◌, ◌-◌, ◌*◌, ◌/◌, ◌%◌, Bool, false, nat_eq, nat_lt, List, [], ◌∷◌, ◌++◌, slice_index_or, slice_set, bit_and, bit_or, Fits, w8, w32, w64, Bor, MutBor}
-use Rattle.pyc_lex.specs.Characters.{is_quote}
-use Rattle.pyc_lex.specs.Strings as spec
+use Rattle.std.proofs.Common.{◌≡◌, ◌<◌, ◌-◌, ◌+◌, length, arith, sym, ◌∙◌, false, true}
+use Rattle.std.proofs.lemmas.Grind.{common_steps}
+use Rattle.pyc_lex.proofs.StringLemmas.{closing-start, closing-end, closing-out_of_turns, closing-closes, closing-ends, closing-past, closing-step}
 use Rattle.pyc_lex.proofs.strings.closed_len.Goals as goal
 
--- src/strings.rt:83:13
+pub loop-turn-init : goal.loop-turn-init
+loop-turn-init c = closing-start _ _ _ (omega arith)
+
 pub returns-then-starts_with-clause-value : goal.returns-then-starts_with-clause-value
-returns-then-starts_with-clause-value c = ?
+returns-then-starts_with-clause-value c =
+    closing-closes _ _ _ _ _ c.loop-turn.invariant (grind (arith, common_steps)) (sym c.starts_with.ensures.value ∙ c.if-starts_with.true)
 
--- src/strings.rt:86:13
-pub returns-then-is_line_end-clause-value : goal.returns-then-is_line_end-clause-value
-returns-then-is_line_end-clause-value c = ?
+pub returns-then-is_cut_off-clause-value : goal.returns-then-is_cut_off-clause-value
+returns-then-is_cut_off-clause-value c =
+    closing-ends _ _ _ _ _ c.loop-turn.invariant (grind (arith, common_steps)) (sym c.starts_with.ensures.value ∙ c.if-starts_with.false) (sym c.is_cut_off.ensures ∙ c.if-is_cut_off.true)
 
--- src/strings.rt:90:13
 pub returns-then-len-rest-clause-value : goal.returns-then-len-rest-clause-value
-returns-then-len-rest-clause-value c = ?
+returns-then-len-rest-clause-value c =
+    closing-past _ _ _ _ _ c.loop-turn.invariant c.unit_len-len.result (length c.args.text.now - (c.loop-turn._turn + 1)) (omega arith) (grind (arith, common_steps))
+    (sym c.starts_with.ensures.value ∙ c.if-starts_with.false) (sym c.is_cut_off.ensures ∙ c.if-is_cut_off.false) c.unit_len-len.ensures.value (omega arith)
 
--- src/strings.rt:78:5
 pub loop-turn-preserved : goal.loop-turn-preserved
-loop-turn-preserved c = ?
+loop-turn-preserved c =
+    closing-step _ _ _ _ _ c.loop-turn.invariant c.unit_len-len.result (length c.args.text.now - (c.loop-turn._turn + 1)) c.split_at.result.1.now (omega arith) (grind (arith, common_steps))
+    (sym c.starts_with.ensures.value ∙ c.if-starts_with.false) (sym c.is_cut_off.ensures ∙ c.if-is_cut_off.false) c.unit_len-len.ensures.value (omega arith) c.unit_len-len.ensures.least c.split_at.ensures.back
 
--- src/strings.rt:72:1
 pub returns-after-loop-turn-clause-value : goal.returns-after-loop-turn-clause-value
-returns-after-loop-turn-clause-value c = ?
+returns-after-loop-turn-clause-value c = closing-out_of_turns _ _ _ _ _ c.loop-turn.invariant (omega arith)
 
--- src/strings.rt:72:1
 pub returns-then-is_empty-clause-value : goal.returns-then-is_empty-clause-value
-returns-then-is_empty-clause-value c = ?
+returns-then-is_empty-clause-value c = closing-end _ _ _ _ _ c.loop-turn.invariant (grind (arith, common_steps))

@@ -1,0 +1,12 @@
+use Rattle.std.proofs.Common.{rules, ◌≡◌, ◌<◌, ◌≤◌, ◌+◌, length, slice_index, IfOk, drop, true, ℕ, ◌-◌, ◌*◌, ◌/◌, ◌%◌, Bool, false, nat_eq, nat_lt, List, [], ◌∷◌, ◌++◌, slice_index_or, slice_set, bit_and, bit_or, Fits, w8, w32, w64, Bor, MutBor}
+use Rattle.pyc_lex.specs.Characters.{is_quote as is_quote_byte}
+use Rattle.pyc_lex.specs.Characters.{is_name_start, line_end_len}
+use Rattle.pyc_lex.specs.Numbers.{number_at}
+use Rattle.pyc_lex.specs.Operators.{operator_at}
+use Rattle.std.specs.Str.{chars}
+use Rattle.pyc_lex.specs.Cuts as spec
+use Rattle.pyc_lex.proofs.cut.number_front.Goals as goal
+
+-- src/cut.rt:144:1
+pub returns-clause-within : goal.returns-clause-within
+returns-clause-within c = ?

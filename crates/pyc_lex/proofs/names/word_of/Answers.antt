@@ -1,0 +1,8 @@
+use Rattle.std.proofs.Common.{◌≡◌, ◌∙◌, ap, sym}
+use Rattle.pyc_lex.specs.Names.{word_of, word_in}
+use Rattle.pyc_lex.proofs.NameLemmas.{nfkc_text-ascii}
+use Rattle.pyc_lex.proofs.names.word_of.Goals as goal
+
+pub returns-then-is_ascii : goal.returns-then-is_ascii
+unfolding word_of
+returns-then-is_ascii c = ?
