@@ -1,4 +1,5 @@
 pub mod BoundaryLemmas
+pub mod CutLemmas
 pub mod IgnoreLemmas
 pub mod KeywordLemmas
 pub mod NameLemmas

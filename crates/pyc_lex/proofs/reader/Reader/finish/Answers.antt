@@ -1,14 +1,16 @@
-use Rattle.std.proofs.Common.{rules, ◌≡◌, ◌≢◌, ◌<◌, ◌≤◌, ◌+◌, ◌*◌, ◌^◌, ℕ, [], length, vec_len, Some, OnOk, IfOk, ◌-◌, ◌/◌, ◌%◌, Bool, true, false, nat_eq, nat_lt, List, ◌∷◌, ◌++◌, slice_index_or, slice_set, bit_and, bit_or, Fits, w8, w32, w64, Bor, MutBor}
-use Rattle.pyc_lex.specs.Lines as spec
-use Rattle.pyc_lex.specs.View.{Leads, lexis_in, codes_in, Answers}
+use Rattle.std.proofs.Common.{◌≡◌, Option, Some, None, Ok, sym, ap, ◌∙◌}
+use Rattle.pyc_lex.specs.declared.brackets.Opened.{Opened}
+use Rattle.pyc_lex.specs.Lines.{Reading, innermost, lexis_read, finished}
 use Rattle.pyc_lex.specs.Reader.{reading_of}
-use Rattle.pyc_lex.specs.Ignores.{silenced}
 use Rattle.pyc_lex.proofs.reader.Reader.finish.Goals as goal
 
--- src/reader.rt:215:13
 pub returns-in-Some : goal.returns-in-Some
-returns-in-Some c = ?
+unfolding finished
+returns-in-Some c =
+    λ _. ap (λ (o : Option Opened). lexis_read o (reading_of c.args.self)) (ap innermost (sym c.deref.ensures.value) ∙ sym c.innermost.ensures ∙ c.in-Some.is)
 
--- src/reader.rt:211:5
 pub returns : goal.returns
-returns c = ?
+unfolding finished
+returns c =
+    ap (λ (o : Option Opened). lexis_read o (reading_of c.args.self)) (ap innermost (sym c.deref.ensures.value) ∙ sym c.innermost.ensures ∙ c.in_default.is)
+    ∙ ap (λ (r : Reading). Ok r.lexis) (sym c.in_ok-end_line.ensures)
