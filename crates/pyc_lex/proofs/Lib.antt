@@ -4,4 +4,5 @@ pub mod IgnoreLemmas
 pub mod KeywordLemmas
 pub mod NameLemmas
 pub mod OperatorLemmas
+pub mod ReadLemmas
 pub mod StringLemmas
