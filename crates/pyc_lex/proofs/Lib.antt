@@ -6,3 +6,4 @@ pub mod NameLemmas
 pub mod OperatorLemmas
 pub mod ReadLemmas
 pub mod StringLemmas
+pub mod TextLemmas

@@ -1,5 +1,5 @@
 -- One piece after another.
-use Rattle.std.proofs.Common.{◌≡◌, ◌≤◌, ◌<◌, ◌+◌, ◌-◌, ℕ, zero, suc, Bool, true, false, if◌then◌else◌, ◌==◌, List, [], ◌∷◌, length, take, drop, IsUtf8, Option, Some, None, Result, Ok, Err, refl, sym, ap, subst, ◌∙◌, arith, length-take, length-drop}
+use Rattle.std.proofs.Common.{◌≡◌, ◌≢◌, IsErrAnd, ◌≤◌, ◌<◌, ◌+◌, ◌-◌, ℕ, zero, suc, Bool, true, false, if◌then◌else◌, ◌==◌, List, [], ◌∷◌, length, take, drop, IsUtf8, Option, Some, None, Result, Ok, Err, refl, sym, ap, subst, ◌∙◌, arith, length-take, length-drop}
 use Rattle.std.proofs.lemmas.Str.{IsUtf8-drop}
 use Rattle.pyc_lex.proofs.CutLemmas.{IsPiece, cut_piece}
 use Rattle.pyc_lex.specs.declared.brackets.Opened.{Opened}
@@ -12,13 +12,16 @@ use Rattle.pyc_lex.specs.declared.fault.LexFault.{LexFault}
 use Rattle.pyc_lex.specs.Cuts.{Front, cut, cut_off, left_of, cuts_up_to, cuts}
 use Rattle.pyc_lex.specs.Ignores.{Codes, silenced}
 use Rattle.pyc_lex.specs.Indents.{columns_after, settled}
-use Rattle.pyc_lex.specs.Lines.{Reading, start_at, is_empty, and_then, moved, line_settled, measured, front_joined, bracketed, pushed, with_token, end_met, line_ended, with_ignore, step, fault_met, read}
+use Rattle.pyc_lex.specs.Lines.{Reading, Lexis, start_at, is_empty, and_then, moved, line_settled, measured, front_joined, bracketed, pushed, with_token, end_met, line_ended, with_ignore, step, fault_met, read}
+use Rattle.pyc_lex.specs.View.{Answers}
+use Rattle.pyc_lex.specs.declared.tokens.Scan.{Scan}
+use Rattle.pyc_lex.specs.declared.fault.LexFault.TheVariants.{Memory}
 use Rattle.pyc_lex.specs.Names.{kind_of_name}
 
 -- ---- what one piece changes
 
 -- what a step went through
-and_then-ok : {A B : Type 0} (x : Result A LexFault) (f : A → Result B LexFault) (y : B) → and_then x f ≡ Ok y → (a : A) × (x ≡ Ok a) × (f a ≡ Ok y)
+pub and_then-ok : {A B : Type 0} (x : Result A LexFault) (f : A → Result B LexFault) (y : B) → and_then x f ≡ Ok y → (a : A) × (x ≡ Ok a) × (f a ≡ Ok y)
 and_then-ok (Ok a) f y e = (a, refl, e)
 and_then-ok (Err stopped) f y e = cc
 
@@ -87,6 +90,12 @@ pub from-step : (r : Reading) (p : Piece) (text : List ℕ) (next : Reading) →
 from-step r p text next e = from-follows r p text next (step-follows r p text next e)
 
 -- ---- all pieces
+
+-- a fault that was met is what is told
+pub answers_err : (expected : Result Lexis LexFault) (found : LexFault) (result : Result Scan LexFault) → IsErrAnd result (λ told. told ≡ found)
+    → (found ≢ Memory → expected ≡ Err found) → Answers expected result
+answers_err expected found (Ok scan) is leads = absurd is
+answers_err expected found (Err told) is leads = λ other. leads (λ same. other (is ∙ same)) ∙ ap Err (sym is)
 
 -- what is left of a text is read to what the whole is read to, in the turns that are left
 pub record IsOnTheWay (whole : Result Reading LexFault) (end turns : ℕ) (r : Reading) (rest : List ℕ) : Type 0 where
