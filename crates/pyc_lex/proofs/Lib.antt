@@ -5,5 +5,6 @@ pub mod KeywordLemmas
 pub mod NameLemmas
 pub mod OperatorLemmas
 pub mod ReadLemmas
+pub mod ScanLemmas
 pub mod StringLemmas
 pub mod TextLemmas

@@ -1,31 +1,29 @@
-use Rattle.std.proofs.Common.{rules, ◌≡◌, ◌≢◌, ◌<◌, ◌≤◌, ◌+◌, ◌^◌, length, map, All, IfOk, IfErr, Ok, Err, slice_range, ℕ, ◌-◌, ◌*◌, ◌/◌, ◌%◌, Bool, true, false, nat_eq, nat_lt, List, [], ◌∷◌, ◌++◌, slice_index_or, slice_set, bit_and, bit_or, Fits, w8, w32, w64, Bor, MutBor}
-use Rattle.pyc_lex.specs.Lines as spec
-use Rattle.pyc_lex.specs.Lines.{lines_of}
-use Rattle.pyc_lex.specs.View.{Answers, lexis_in}
+use Rattle.std.proofs.Common.{◌≡◌, IsUtf8, drop, sym, subst, ap, ◌∙◌}
+use Rattle.std.specs.Prelude.{IsCharBoundary}
 use Rattle.pyc_lex.specs.Cuts.{cuts}
-use Rattle.pyc_lex.specs.Texts.{tokens_of, token_texts, slice_at, IsTextSpan}
+use Rattle.pyc_lex.specs.Lines.{start_at, and_then, read, finished, lines_of}
+use Rattle.pyc_lex.proofs.BoundaryLemmas.{mark_boundary}
+use Rattle.pyc_lex.proofs.ScanLemmas.{lines_of-no_utf8, lines_of-text, lines_answer, fault_answer, texts_answer, spans_answer}
 use Rattle.pyc_lex.proofs.lines.scan.Goals as goal
 
--- src/lines.rt:76:9
 pub returns-in_default-clause-fault : goal.returns-in_default-clause-fault
-returns-in_default-clause-fault c = ?
+returns-in_default-clause-fault c = λ _. lines_of-no_utf8 c.args.bytes.now c.in_default.ensures.cases.0
 
--- src/lines.rt:79:21
 pub split_at-requires : goal.split_at-requires
-split_at-requires c = ?
+split_at-requires c =
+    rw (c.in-Ok.ensures.cases.0, c.mark_len-from.ensures.value) (mark_boundary c.args.bytes.now c.in-Ok.ensures.cases.1)
 
--- src/lines.rt:67:1
+the_text : (c : goal.After-read) → lines_of c.args.bytes.now ≡ and_then (read (start_at c.mark_len-from.result) (cuts c.split_at.result.1.now)) finished
+the_text c = lines_of-text _ _ _ c.in-Ok.ensures.cases.1 c.mark_len-from.ensures.value (c.split_at.ensures.back ∙ ap (drop c.mark_len-from.result) c.in-Ok.ensures.cases.0)
+
 pub returns-clause-lines : goal.returns-clause-lines
-returns-clause-lines c = ?
+returns-clause-lines c = lines_answer _ _ c.read.result (the_text c) c.read.ensures
 
--- src/lines.rt:67:1
 pub returns-clause-fault : goal.returns-clause-fault
-returns-clause-fault c = ?
+returns-clause-fault c = fault_answer _ _ c.read.result (the_text c) c.read.ensures
 
--- src/lines.rt:67:1
 pub returns-clause-texts : goal.returns-clause-texts
-returns-clause-texts c = ?
+returns-clause-texts c = texts_answer c.args.bytes.now c.in-Ok.ensures.cases.1 c.read.result (returns-clause-lines c)
 
--- src/lines.rt:67:1
 pub returns-clause-spans : goal.returns-clause-spans
-returns-clause-spans c = ?
+returns-clause-spans c = spans_answer c.args.bytes.now c.in-Ok.ensures.cases.1 c.read.result (returns-clause-lines c)
