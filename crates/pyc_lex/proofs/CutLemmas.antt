@@ -129,10 +129,10 @@ low_exponent : (text : List ℕ) → IsLow text (exponent_len text)
 low_exponent text =
     let before : ℕ = 1 + sign_len (drop 1 text) in
     low_if text _ (slice_index text 0 == 101 || slice_index text 0 == 69) (λ e.
-        low_if text (before + digits_len (drop before text)) (nat_lt 0 (digits_len (drop before text))) (λ _.
-            low_add text before (digits_len (drop before text))
-            (low_add text 1 (sign_len (drop 1 text)) (low_either text 101 69 (omega arith) (omega arith) (omega arith) (omega arith) e) (low_sign (drop 1 text)))
-            (low_digits (drop before text))))
+    low_if text (before + digits_len (drop before text)) (nat_lt 0 (digits_len (drop before text))) (λ _.
+    low_add text before (digits_len (drop before text))
+    (low_add text 1 (sign_len (drop 1 text)) (low_either text 101 69 (omega arith) (omega arith) (omega arith) (omega arith) e) (low_sign (drop 1 text)))
+    (low_digits (drop before text))))
 
 low_imaginary : (text : List ℕ) → IsLow text (imaginary_len text)
 low_imaginary text =
@@ -262,9 +262,9 @@ ends_shift text n (Some more) ends = record {
   least = omega (arith, ends.least);
   within = omega (arith, ends.least, ends.within, length-drop n text);
   last = λ k e.
-    let at : slice_index (drop n text) (k - n) ≡ slice_index text k = get_or-drop n text (k - n) 0 ∙ ap (slice_index text) (omega (arith, e, ends.least)) in
-    let here : slice_index (drop n text) (k - n) < 128 = ends.last (k - n) (omega (arith, e, ends.least)) in
-    omega (arith, at, here);
+      let at : slice_index (drop n text) (k - n) ≡ slice_index text k = get_or-drop n text (k - n) 0 ∙ ap (slice_index text) (omega (arith, e, ends.least)) in
+      let here : slice_index (drop n text) (k - n) < 128 = ends.last (k - n) (omega (arith, e, ends.least)) in
+      omega (arith, at, here);
 }
 
 nat_decides : (a b : ℕ) → (nat_eq a b ≡ true → a ≡ b) × (a ≡ b → nat_eq a b ≡ true)
@@ -277,9 +277,9 @@ starts_ends text quotes some low e =
       least = some;
       within = front_fits text quotes (drop (length quotes) text) is;
       last = λ k n.
-        let at : slice_index text k ≡ slice_index quotes k = front_reads 0 text quotes (drop (length quotes) text) is k (omega (arith, n)) in
-        let here : slice_index quotes k < 128 = low.low k (omega (arith, n)) in
-        omega (arith, at, here);
+          let at : slice_index text k ≡ slice_index quotes k = front_reads 0 text quotes (drop (length quotes) text) is k (omega (arith, n)) in
+          let here : slice_index quotes k < 128 = low.low k (omega (arith, n)) in
+          omega (arith, at, here);
     }
 
 closed_ends : (count : ℕ) (quotes text : List ℕ) → 0 < length quotes → IsLow quotes (length quotes) → EndsIn text (closed_len count quotes text)
@@ -327,9 +327,9 @@ low_taken : (text : List ℕ) (n : ℕ) → IsLow text n → IsLow (take n text)
 low_taken text n front = record {
   within = omega arith;
   low = λ k l.
-    let at : slice_index (take n text) k ≡ slice_index text k = get_or-take n text k 0 (omega (arith, l, length-take n text)) in
-    let here : slice_index text k < 128 = front.low k (omega (arith, l, length-take n text)) in
-    omega (arith, at, here);
+      let at : slice_index (take n text) k ≡ slice_index text k = get_or-take n text k 0 (omega (arith, l, length-take n text)) in
+      let here : slice_index text k < 128 = front.low k (omega (arith, l, length-take n text)) in
+      omega (arith, at, here);
 }
 
 string_ends : (text : List ℕ) → is_quote (slice_index text 0) ≡ true → EndsIn text (string_len text)
@@ -416,10 +416,10 @@ name_takes text utf8 start =
     let len : ℕ = name_len text in
     let piece : IsPiece text len = name_piece text utf8 start in
     choose text (is_quote (slice_index text len)) _ _ (λ quote.
-        elim (prefix_of (take len text)) as (λ o. TakesPiece text (name_or_string o len text)) [
-          | None ↦ takes text _ len piece
-          | Some prefix ↦ quoted_takes prefix len text utf8 quote
-        ]) (λ _. takes text _ len piece)
+    elim (prefix_of (take len text)) as (λ o. TakesPiece text (name_or_string o len text)) [
+      | None ↦ takes text _ len piece
+      | Some prefix ↦ quoted_takes prefix len text utf8 quote
+    ]) (λ _. takes text _ len piece)
 
 -- whether there are bytes of ASCII alone
 abbrev all_low : List ℕ → Bool

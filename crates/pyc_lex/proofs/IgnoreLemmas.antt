@@ -24,16 +24,16 @@ module _ (whole : Option (List Span)) (end turns : ℕ) (spans : List Span) (at 
   -- what one turn reads
   turn : (found : Option Span) → trimmed at (take len rest) ≡ found
       → option_map (λ later. spans ++ later) (option_and_then (λ code.
-          if len == length rest then Some (code ∷ [])
-          else option_map (λ later. code ∷ later) (codes_at fewer (at + len + 1) (drop (len + 1) rest))) found) ≡ whole
+      if len == length rest then Some (code ∷ [])
+      else option_map (λ later. code ∷ later) (codes_at fewer (at + len + 1) (drop (len + 1) rest))) found) ≡ whole
   unfolding codes_at
   turn found e =
       ap (λ (o : Option Span). option_map (λ later. spans ++ later) (option_and_then (λ code.
-          if len == length rest then Some (code ∷ [])
-          else option_map (λ later. code ∷ later) (codes_at fewer (at + len + 1) (drop (len + 1) rest))) o)) (sym e)
+      if len == length rest then Some (code ∷ [])
+      else option_map (λ later. code ∷ later) (codes_at fewer (at + len + 1) (drop (len + 1) rest))) o)) (sym e)
       ∙ ap (λ (k : ℕ). option_map (λ later. spans ++ later) (option_and_then (λ code.
-          if k == length rest then Some (code ∷ [])
-          else option_map (λ later. code ∷ later) (codes_at fewer (at + k + 1) (drop (k + 1) rest))) (trimmed at (take k rest)))) len_is
+      if k == length rest then Some (code ∷ [])
+      else option_map (λ later. code ∷ later) (codes_at fewer (at + k + 1) (drop (k + 1) rest))) (trimmed at (take k rest)))) len_is
       ∙ ap (λ (k : ℕ). option_map (λ later. spans ++ later) (codes_at k at rest)) (sym n) ∙ listing.value
 
   pub listing-empty : None ≡ trimmed at (take len rest) → None ≡ whole

@@ -2,6 +2,7 @@
 use Rattle.std.proofs.Common.{◌≡◌, ◌≢◌, IsErrAnd, ◌≤◌, ◌<◌, ◌+◌, ◌-◌, ℕ, zero, suc, Bool, true, false, if◌then◌else◌, ◌==◌, List, [], ◌∷◌, length, take, drop, IsUtf8, Option, Some, None, Result, Ok, Err, refl, sym, ap, subst, ◌∙◌, arith, length-take, length-drop}
 use Rattle.std.proofs.lemmas.Str.{IsUtf8-drop}
 use Rattle.pyc_lex.proofs.CutLemmas.{IsPiece, cut_piece}
+use Rattle.pyc_lex.proofs.StackLemmas.{settled-length}
 use Rattle.pyc_lex.specs.declared.brackets.Opened.{Opened}
 use Rattle.pyc_lex.specs.declared.indents.Columns.{Columns}
 use Rattle.pyc_lex.specs.declared.tokens.Kind.{Kind}
@@ -30,13 +31,15 @@ pub record IsPushed (r next : Reading) (kind : Kind) (text : List ℕ) : Type 0 
   pub stack : List Columns
   pub brackets : List Opened
   pub is : next ≡ pushed (record r { indents = stack }) kind text brackets
+  pub low : length r.indents ≤ 65 → length stack ≤ 65
+  pub met : bracketed r.brackets kind r.place.line ≡ Ok brackets
 
-settled_stack : (r s : Reading) → line_settled r ≡ Ok s → (stack : List Columns) × (s ≡ record r { indents = stack })
+settled_stack : (r s : Reading) → line_settled r ≡ Ok s → (stack : List Columns) × (s ≡ record r { indents = stack }) × (length r.indents ≤ 65 → length stack ≤ 65)
 settled_stack r s e =
     elim (is_empty r.begun) as (λ b. (if b then and_then (settled r.indents r.margin r.place.line) (λ stack. Ok (record r { indents = stack })) else Ok r) ≡ Ok s
-    → (stack : List Columns) × (s ≡ record r { indents = stack })) [
-      | true ↦ λ e. let got = and_then-ok (settled r.indents r.margin r.place.line) (λ stack. Ok (record r { indents = stack })) s e in (got.0, cc (got.2))
-      | false ↦ λ e. (r.indents, cc)
+    → (stack : List Columns) × (s ≡ record r { indents = stack }) × (length r.indents ≤ 65 → length stack ≤ 65)) [
+      | true ↦ λ e. let got = and_then-ok (settled r.indents r.margin r.place.line) (λ stack. Ok (record r { indents = stack })) s e in (got.0, cc (got.2), settled-length r.indents got.0 r.margin r.place.line got.1)
+      | false ↦ λ e. (r.indents, cc, λ low. low)
     ] e
 
 with_token-pushed : (r next : Reading) (kind : Kind) (text : List ℕ) → with_token r kind text ≡ Ok next → IsPushed r next kind text
@@ -45,7 +48,13 @@ with_token-pushed r next kind text e =
     let second = and_then-ok (bracketed first.0.brackets kind first.0.place.line) (λ brackets. Ok (pushed first.0 kind text brackets)) next first.2 in
     let stack = settled_stack r first.0 first.1 in
     let done : next ≡ pushed first.0 kind text second.0 = cc (second.2) in
-    record { stack = stack.0; brackets = second.0; is = done ∙ ap (λ (s : Reading). pushed s kind text second.0) stack.1 }
+    record {
+      stack = stack.0;
+      brackets = second.0;
+      is = done ∙ ap (λ (s : Reading). pushed s kind text second.0) stack.1;
+      low = stack.2;
+      met = ap (λ (s : Reading). bracketed s.brackets kind s.place.line) (sym stack.1) ∙ second.1;
+    }
 
 -- what a piece leads to: a token is added, or the place moves on after another change
 abbrev pub Follows : Reading → Piece → List ℕ → Reading → Type 0

@@ -3,7 +3,7 @@ use Rattle.std.proofs.Common.{◌≡◌, ◌≢◌, if◌then◌else◌, ℕ, tr
 use Rattle.std.proofs.lemmas.Str.{is_utf8-from_IsUtf8, IsUtf8-from_is_utf8}
 use Rattle.std.proofs.lemmas.List.{take_at, drop_at}
 use Rattle.std.proofs.lemmas.List.Elements.{All-nil, All-cons, All-same, All-take, All-drop}
-use Rattle.std.specs.List.{All}
+use Rattle.std.specs.List.{All, AllPairs}
 use Rattle.std.specs.Str.{is_utf8}
 use Rattle.pyc_lex.specs.declared.tokens.Token.{Token}
 use Rattle.pyc_lex.specs.declared.tokens.LogicalLine.{LogicalLine}
@@ -14,6 +14,8 @@ use Rattle.pyc_lex.specs.Cuts.{cuts}
 use Rattle.pyc_lex.specs.Lines.{Lexis, start_at, and_then, read, finished, mark_len, pieces_of, lines_of}
 use Rattle.pyc_lex.specs.Texts.{tokens_of, slice_at, IsTextSpan, token_texts}
 use Rattle.pyc_lex.specs.View.{line_in, lexis_in, Answers}
+use Rattle.pyc_lex.specs.Limits.{IsBefore, IsWithinLimits}
+use Rattle.pyc_lex.proofs.OrderLemmas.{AreOrderly, lexis_orderly}
 use Rattle.pyc_lex.proofs.TextLemmas.{IsText, tokens_of_lexis}
 
 -- a source that is not UTF-8 has that fault
@@ -64,3 +66,17 @@ pub spans_answer : (source : List ℕ) → IsUtf8 source → (r : Result Scan Le
 spans_answer source utf8 (Ok scan) e =
     each_line (IsText source) scan.lines.items (tokens_of_lexis source (lexis_in scan) utf8 (sym (lines_of-utf8 source utf8) ∙ e)).spans
 spans_answer source utf8 (Err fault) e = tt
+
+-- the order of a source's tokens, and the limits of its lines
+orderly_lexis : (source : List ℕ) → IsUtf8 source → (scan : Scan) → lines_of source ≡ Ok (lexis_in scan) → AreOrderly (lexis_in scan).lines
+orderly_lexis source utf8 scan e = lexis_orderly source (lexis_in scan) (sym (lines_of-utf8 source utf8) ∙ e)
+
+pub order_answer : (source : List ℕ) → IsUtf8 source → (r : Result Scan LexFault) → IfOk r (λ scan. lines_of source ≡ Ok (lexis_in scan))
+    → IfOk r (λ scan. AllPairs IsBefore (tokens_of (lexis_in scan).lines))
+order_answer source utf8 (Ok scan) e = (orderly_lexis source utf8 scan e).order
+order_answer source utf8 (Err fault) e = tt
+
+pub limits_answer : (source : List ℕ) → IsUtf8 source → (r : Result Scan LexFault) → IfOk r (λ scan. lines_of source ≡ Ok (lexis_in scan))
+    → IfOk r (λ scan. All IsWithinLimits (lexis_in scan).lines)
+limits_answer source utf8 (Ok scan) e = (orderly_lexis source utf8 scan e).limits
+limits_answer source utf8 (Err fault) e = tt

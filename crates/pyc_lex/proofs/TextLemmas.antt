@@ -27,13 +27,13 @@ tokens_of-append : (lines more : List Line) → tokens_of (lines ++ more) ≡ to
 tokens_of-append [] more = refl
 tokens_of-append (line ∷ lines) more = ap (λ (ts : List Token). line.tokens ++ ts) (tokens_of-append lines more) ∙ sym (append_assoc line.tokens (tokens_of lines) (tokens_of more))
 
-tokens_of-with_line : (lines : List Line) (indent : ℕ) (begun : List Token) → tokens_of (with_line lines indent begun) ≡ tokens_of lines ++ begun
+pub tokens_of-with_line : (lines : List Line) (indent : ℕ) (begun : List Token) → tokens_of (with_line lines indent begun) ≡ tokens_of lines ++ begun
 tokens_of-with_line lines indent [] = sym (append-nil (tokens_of lines))
 tokens_of-with_line lines indent (token ∷ tokens) =
     tokens_of-append lines (record { indent = indent; tokens = token ∷ tokens } ∷ []) ∙ ap (λ (ts : List Token). tokens_of lines ++ ts) (append-nil (token ∷ tokens))
 
 -- all tokens that were read
-abbrev read_tokens : Reading → List Token
+abbrev pub read_tokens : Reading → List Token
 read_tokens r = tokens_of r.lexis.lines ++ r.begun
 
 abbrev new_tokens : Reading → Piece → List ℕ → List Token
@@ -45,7 +45,7 @@ new_tokens r _ text = []
 same_tokens : (r next : Reading) → read_tokens next ≡ read_tokens r → read_tokens next ≡ read_tokens r ++ []
 same_tokens r next e = e ∙ sym (append-nil (read_tokens r))
 
-tokens-pushed : (r next : Reading) (kind : Kind) (text : List ℕ) → IsPushed r next kind text → read_tokens next ≡ read_tokens r ++ token_at r kind text ∷ []
+pub tokens-pushed : (r next : Reading) (kind : Kind) (text : List ℕ) → IsPushed r next kind text → read_tokens next ≡ read_tokens r ++ token_at r kind text ∷ []
 tokens-pushed r next kind text f = ap read_tokens f.is ∙ sym (append_assoc (tokens_of r.lexis.lines) r.begun (token_at r kind text ∷ []))
 
 tokens-measured : (r : Reading) (text : List ℕ) → read_tokens (measured r text) ≡ read_tokens r
@@ -55,7 +55,7 @@ tokens-ignored : (r : Reading) (codes : Option Codes) → read_tokens (with_igno
 tokens-ignored r None = refl
 tokens-ignored r (Some codes) = refl
 
-tokens-line_ended : (r : Reading) → read_tokens (line_ended r) ≡ read_tokens r
+pub tokens-line_ended : (r : Reading) → read_tokens (line_ended r) ≡ read_tokens r
 tokens-line_ended r = append-nil (tokens_of (line_ended r).lexis.lines) ∙ tokens_of-with_line r.lexis.lines (length r.indents - 1) r.begun
 
 tokens-end_met : (r : Reading) → read_tokens (end_met r) ≡ read_tokens r
@@ -170,7 +170,7 @@ some_taken byte zero text l = absurd (omega (arith, l))
 some_taken byte (suc len) text l = omega arith
 
 -- a fault ends the reading
-met_fault : (r out : Reading) (fault : CutFault) → fault_met r fault ≡ Ok out → ⊥
+pub met_fault : (r out : Reading) (fault : CutFault) → fault_met r fault ≡ Ok out → ⊥
 unfolding fault_met
 met_fault r out fault e = let got = and_then-ok (line_settled r) _ out e in cc (got.2)
 
@@ -221,7 +221,7 @@ tokens_read source out utf8 e =
       spans = subst (λ (ts : List Token). All (IsText source) ts) (sym same) so.spans;
     }
 
-finished_lexis : (r : Reading) (lexis : Lexis) → finished r ≡ Ok lexis → (line_ended r).lexis ≡ lexis
+pub finished_lexis : (r : Reading) (lexis : Lexis) → finished r ≡ Ok lexis → (line_ended r).lexis ≡ lexis
 unfolding finished
 finished_lexis r lexis e =
     elim (innermost r.brackets) as (λ o. lexis_read o r ≡ Ok lexis → (line_ended r).lexis ≡ lexis) [

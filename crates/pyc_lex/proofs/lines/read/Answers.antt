@@ -29,9 +29,9 @@ pub returns-in_err-step-in-Ok : goal.returns-in_err-step-in-Ok
 returns-in_err-step-in-Ok c =
     let some : 0 < length c.loop-turn.rest.now = grind (arith, common_steps) in
     answers_err _ c.in_err-step-in-Ok.field-0.0 c.from_residual-in_err-step-in-Ok.result c.from_residual-in_err-step-in-Ok.ensures.1 (λ other.
-        ap (λ (x : Result Reading LexFault). and_then x finished)
-        (sym (on_the_way-fault _ _ _ _ _ c.loop-turn.invariant some c.in-Ok.piece c.in-Ok.len (length c.args.text.now - (c.loop-turn._turn + 1)) (sym c.cut.ensures ∙ c.in-Ok.is) (omega arith)
-        c.in_err-step-in-Ok.field-0.0 c.split_at.result.0.now c.split_at.ensures.front (c.in_err-step-in-Ok.ensures other))))
+    ap (λ (x : Result Reading LexFault). and_then x finished)
+    (sym (on_the_way-fault _ _ _ _ _ c.loop-turn.invariant some c.in-Ok.piece c.in-Ok.len (length c.args.text.now - (c.loop-turn._turn + 1)) (sym c.cut.ensures ∙ c.in-Ok.is) (omega arith)
+    c.in_err-step-in-Ok.field-0.0 c.split_at.result.0.now c.split_at.ensures.front (c.in_err-step-in-Ok.ensures other))))
 
 pub returns-in-Err : goal.returns-in-Err
 returns-in-Err c = λ other.
