@@ -1,49 +1,22 @@
 -- A source text as pieces: the longest piece is cut off the front of what is left, again and again
 -- (Python reference, lexical analysis, "Other tokens").
-use Rattle.std.specs.Prelude.{ℕ, zero, suc, ◌+◌, Bool, not, ◌||◌, ◌&&◌, ◌==◌, nat_lt, if◌then◌else◌, List, [], ◌∷◌, take, drop, length, slice_index, Result, Ok, Err}
-use Rattle.std.specs.Char.{is_ascii_alphabetic, is_ascii_digit}
+use Rattle.std.specs.Prelude.{ℕ, zero, suc, ◌+◌, Bool, ◌||◌, ◌&&◌, ◌==◌, if◌then◌else◌, List, [], ◌∷◌, take, drop, length, slice_index, Option, None, Some, Result, Ok, Err}
 use Rattle.std.specs.List.{prefix_len}
+use Rattle.std.specs.Str.{chars}
+use Rattle.pyc_lex.specs.declared.tokens.Prefix.{Prefix}
+use Rattle.pyc_lex.specs.declared.tokens.Prefix.TheVariants as prefix
+use Rattle.pyc_lex.specs.declared.tokens.Number.{Number}
+use Rattle.pyc_lex.specs.declared.tokens.Kind.{Kind}
 use Rattle.pyc_lex.specs.declared.tokens.Kind.TheVariants as kind
-use Rattle.pyc_lex.specs.declared.tokens.Operator.TheVariants as operator
 use Rattle.pyc_lex.specs.declared.cut.Piece.{Piece}
-use Rattle.pyc_lex.specs.declared.cut.Piece.TheVariants.{Token, Blank, Comment, LineEnd}
+use Rattle.pyc_lex.specs.declared.cut.Piece.TheVariants.{Name, Token, Blank, Comment, LineEnd, Joined}
 use Rattle.pyc_lex.specs.declared.cut.CutFault.{CutFault}
 use Rattle.pyc_lex.specs.declared.cut.CutFault.TheVariants as fault
-use Rattle.pyc_lex.specs.Keywords.{kind_of_word}
-
--- ---- classes of bytes
-
--- an ASCII letter or `_`
-abbrev pub is_letter : ℕ → Bool
-is_letter byte = is_ascii_alphabetic byte || byte == 95
-
--- a decimal digit
-abbrev pub is_digit : ℕ → Bool
-is_digit byte = is_ascii_digit byte
-
--- what a name goes on with
-abbrev pub is_name_byte : ℕ → Bool
-is_name_byte byte = is_letter byte || is_digit byte
-
--- a space, a tab or a form feed
-abbrev pub is_blank : ℕ → Bool
-is_blank byte = byte == 32 || byte == 9 || byte == 12
-
--- a line feed or a carriage return
-abbrev pub is_line_end : ℕ → Bool
-is_line_end byte = byte == 10 || byte == 13
-
--- what a comment goes on with
-abbrev pub is_comment_byte : ℕ → Bool
-is_comment_byte byte = not (is_line_end byte)
-
--- `'` or `"`
-abbrev pub is_quote : ℕ → Bool
-is_quote byte = byte == 39 || byte == 34
-
--- what a string in this quote goes on with: neither the quote nor a backslash nor a line end
-abbrev pub is_string_byte : ℕ → ℕ → Bool
-is_string_byte quote byte = not (byte == quote || byte == 92 || is_line_end byte)
+use Rattle.pyc_lex.specs.Characters.{is_blank, is_line_end, line_end_len, is_comment_byte, is_quote, is_digit, is_name_start}
+use Rattle.pyc_lex.specs.Names.{name_len}
+use Rattle.pyc_lex.specs.Numbers.{number_at}
+use Rattle.pyc_lex.specs.Operators.{operator_at}
+use Rattle.pyc_lex.specs.Strings.{prefix_of, is_format, string_len, has_open_field}
 
 -- ---- the piece at the front
 
@@ -51,54 +24,60 @@ is_string_byte quote byte = not (byte == quote || byte == 92 || is_line_end byte
 abbrev pub Front : Type 0
 Front = Result (Piece × ℕ) CutFault
 
--- the longest name or keyword ("Identifiers and keywords")
-unfoldable pub word : List ℕ → Front
-word text = let len = prefix_len is_name_byte text in Ok (Token (kind_of_word (take len text)), len)
+-- a string whose token has this text; an f-string with an open field is an open string
+abbrev pub string_token : Prefix → ℕ → List ℕ → Front
+string_token prefix len text =
+    if is_format prefix && has_open_field (take len text) then Err fault.OpenString else Ok (Token (kind.String prefix), len)
 
--- how many bytes a fraction at the front takes: a point and its digits, or 0 where no digit follows
-unfoldable pub fraction_len : List ℕ → ℕ
-fraction_len text =
-    let digits = prefix_len is_digit (drop 1 text) in
-    if slice_index text 0 == 46 && nat_lt 0 digits then 1 + digits else 0
+-- a string whose prefix takes so many bytes, and the rest of it so many, if it is closed
+abbrev pub string_of : Prefix → ℕ → Option ℕ → List ℕ → Front
+string_of prefix before None text = Err fault.OpenString
+string_of prefix before (Some len) text = string_token prefix (before + len) text
 
--- the digits and, where there is one, the fraction after them ("Numeric literals")
-unfoldable pub number : List ℕ → Front
-number text =
-    let whole = prefix_len is_digit text in Ok (Token kind.Number, whole + fraction_len (drop whole text))
+-- the string at the front, whose prefix takes so many bytes
+unfoldable pub quoted : Prefix → ℕ → List ℕ → Front
+quoted prefix before text = string_of prefix before (string_len (drop before text)) text
 
--- a string from its opening quote to the next such quote on the line ("String and Bytes literals")
-unfoldable pub quoted : List ℕ → Front
-quoted text =
-    let quote = slice_index text 0 in
-    let inside = drop 1 text in
-    let len = prefix_len (is_string_byte quote) inside in
-    if len == length inside then Err fault.OpenString
-    else if slice_index inside len == quote then Ok (Token kind.String, len + 2)
-    else if slice_index inside len == 92 then Err fault.BadCharacter
-    else Err fault.OpenString
+-- a name before a quote: a prefix, or a name of its own
+abbrev pub name_or_string : Option Prefix → ℕ → List ℕ → Front
+name_or_string None len text = Ok (Name, len)
+name_or_string (Some prefix) len text = quoted prefix len text
 
--- how many bytes a line end takes: two for a carriage return and a line feed ("Physical lines")
-abbrev pub line_end_len : List ℕ → ℕ
-line_end_len text = if slice_index text 0 == 13 && slice_index text 1 == 10 then 2 else 1
+-- the longest name, or the string whose prefix it is
+unfoldable pub name_front : List ℕ → Front
+name_front text =
+    let len = name_len text in
+    if is_quote (slice_index text len) then name_or_string (prefix_of (take len text)) len text else Ok (Name, len)
 
--- an operator of one character ("Operators" and "Delimiters")
-unfoldable pub mark : ℕ → Front
-mark byte =
-    if byte == 58 then Ok (Token (kind.Operator operator.Colon), 1)
-    else if byte == 61 then Ok (Token (kind.Operator operator.Equal), 1)
-    else Err fault.BadCharacter
+-- a number with its length
+abbrev pub number_front : Number × ℕ → Front
+number_front found = Ok (Token (kind.Number found.0), found.1)
+
+-- an operator with its length; where none stands, the character begins no token
+abbrev pub operator_front : Option (Kind × ℕ) → Front
+operator_front None = Err fault.BadCharacter
+operator_front (Some found) = Ok (Token found.0, found.1)
+
+-- whether a number begins: a digit, or a point and a digit
+abbrev pub begins_number : List ℕ → Bool
+begins_number text = is_digit (slice_index text 0) || slice_index text 0 == 46 && is_digit (slice_index text 1)
+
+-- whether a joined line begins: a backslash directly before a line end ("Explicit line joining")
+abbrev pub begins_joined : List ℕ → Bool
+begins_joined text = slice_index text 0 == 92 && is_line_end (slice_index text 1)
 
 -- the longest piece at the front of a text
 unfoldable pub cut : List ℕ → Front
 cut text =
     let first = slice_index text 0 in
-    if is_letter first then word text
-    else if is_digit first then number text
-    else if is_blank first then Ok (Blank, prefix_len is_blank text)
-    else if first == 35 then Ok (Comment, prefix_len is_comment_byte text)
+    if is_blank first then Ok (Blank, prefix_len is_blank text)
     else if is_line_end first then Ok (LineEnd, line_end_len text)
-    else if is_quote first then quoted text
-    else mark first
+    else if first == 35 then Ok (Comment, prefix_len is_comment_byte text)
+    else if begins_joined text then Ok (Joined, 1 + line_end_len (drop 1 text))
+    else if is_quote first then quoted prefix.Plain 0 text
+    else if begins_number text then number_front (number_at text)
+    else if is_name_start (slice_index (chars text) 0) then name_front text
+    else operator_front (operator_at text)
 
 -- ---- all pieces
 

@@ -1,91 +1,210 @@
 -- The logical lines of a source, read off the list of all its pieces (Python reference, lexical analysis).
-use Rattle.std.specs.Prelude.{◌≡◌, ◌≢◌, ℕ, ◌+◌, Bool, not, nat_le, ◌&&◌, nat_eq, if◌then◌else◌, List, [], ◌∷◌, ◌++◌, map, drop, length, count_by, Result, Ok, Err}
+use Rattle.std.specs.Prelude.{◌≡◌, ◌≢◌, ℕ, ◌+◌, ◌-◌, Bool, true, false, not, ◌&&◌, ◌||◌, ◌==◌, nat_le, nat_eq, if◌then◌else◌, List, [], ◌∷◌, ◌++◌, map, take, drop, length, slice_get, Option, None, Some, Result, Ok, Err}
 use Rattle.std.specs.List.{starts_with}
 use Rattle.std.specs.Str.{is_utf8}
+use Rattle.pyc_lex.specs.declared.tokens.Bracket.{Bracket}
+use Rattle.pyc_lex.specs.declared.tokens.Bracket.TheVariants as bracket
 use Rattle.pyc_lex.specs.declared.tokens.Kind.{Kind}
+use Rattle.pyc_lex.specs.declared.tokens.Kind.TheVariants as kind
 use Rattle.pyc_lex.specs.declared.tokens.Token.{Token}
-use Rattle.pyc_lex.specs.declared.tokens.Scan.{Scan}
+use Rattle.pyc_lex.specs.declared.indents.Columns.{Columns}
+use Rattle.pyc_lex.specs.declared.places.Place.{Place}
+use Rattle.pyc_lex.specs.declared.brackets.Opened.{Opened}
 use Rattle.pyc_lex.specs.declared.cut.Piece.{Piece}
 use Rattle.pyc_lex.specs.declared.cut.Piece.TheVariants as piece
 use Rattle.pyc_lex.specs.declared.cut.CutFault.{CutFault}
 use Rattle.pyc_lex.specs.declared.cut.CutFault.TheVariants as cut
 use Rattle.pyc_lex.specs.declared.fault.LexFault.{LexFault}
-use Rattle.pyc_lex.specs.declared.fault.LexFault.TheVariants.{NotUtf8, BadCharacter, OpenString, Memory}
+use Rattle.pyc_lex.specs.declared.fault.LexFault.TheVariants as fault
 use Rattle.pyc_lex.specs.Cuts.{Cut, found, bad, cuts}
+use Rattle.pyc_lex.specs.Ignores.{Codes, all, listed, IgnoreAt, silenced}
+use Rattle.pyc_lex.specs.Indents.{no_columns, columns_after, max_depth, settled}
+use Rattle.pyc_lex.specs.Names.{kind_of_name}
+use Rattle.pyc_lex.specs.Places.{place_after}
 
--- a byte that begins a character of UTF-8
-abbrev pub begins_character : ℕ → Bool
-begins_character byte = not (nat_le 128 byte && nat_le byte 191)
+-- the tokens of a logical line, and how many entries the stack of indents has above the first
+pub record Line : Type 0 where
+  pub indent : ℕ
+  pub tokens : List Token
 
--- how many characters begin in these bytes
-abbrev pub character_count : List ℕ → ℕ
-character_count text = count_by begins_character text
+-- what a source is: its logical lines, its ignore comments, and whether one before the first line silences the whole file
+pub record Lexis : Type 0 where
+  pub lines : List Line
+  pub ignores : List IgnoreAt
+  pub whole_file : Bool
 
--- what is known between two pieces: the lines that are complete, the tokens of the line that is begun,
+-- what is known between two pieces: what the source is so far, the stack of indents, the brackets that are open,
+-- the columns of the blanks at the line's front and whether they are still counted, the tokens of the line that is begun,
 -- and the place, as a byte, a physical line and a column
 pub record Reading : Type 0 where
-  pub lines : List (List Token)
+  pub lexis : Lexis
+  pub indents : List Columns
+  pub brackets : List Opened
+  pub margin : Columns
+  pub is_measuring : Bool
   pub begun : List Token
   pub from : ℕ
-  pub line : ℕ
-  pub column : ℕ
+  pub place : Place
 
--- the first line's beginning, at a byte
+-- the source's beginning, at a byte
 abbrev pub start_at : ℕ → Reading
-start_at from = record { lines = []; begun = []; from = from; line = 1; column = 1 }
+start_at from = record {
+  lexis = record { lines = []; ignores = []; whole_file = false };
+  indents = no_columns ∷ [];
+  brackets = [];
+  margin = no_columns;
+  is_measuring = true;
+  begun = [];
+  from = from;
+  place = record { line = 1; column = 1 };
+}
+
+-- whether a list has no element
+abbrev pub is_empty : {A : Type 0} → List A → Bool
+is_empty [] = true
+is_empty (x ∷ xs) = false
+
+-- the next step with what is known, unless there is a fault
+abbrev pub and_then : {A B : Type 0} → Result A LexFault → (A → Result B LexFault) → Result B LexFault
+and_then (Ok known) next = next known
+and_then (Err stopped) next = Err stopped
+
+-- the place after a piece of this text
+abbrev pub moved : Reading → List ℕ → Reading
+moved r text = record r { from = r.from + length text; place = place_after r.place text }
+
+-- ---- indents
+
+-- the line with the indents that its front settles, unless it has a token already
+abbrev pub line_settled : Reading → Result Reading LexFault
+line_settled r =
+    if is_empty r.begun
+    then and_then (settled r.indents r.margin r.place.line) (λ stack. Ok (record r { indents = stack }))
+    else Ok r
+
+-- blanks at the line's front are counted
+abbrev pub measured : Reading → List ℕ → Reading
+measured r text = if r.is_measuring then record r { margin = columns_after r.margin text } else r
+
+-- a joined line takes its indent from its first physical line that has one
+abbrev pub front_joined : Reading → Reading
+front_joined r = if r.margin.wide == 0 then r else record r { is_measuring = false }
+
+-- ---- brackets
+
+-- whether two brackets are of one sort
+abbrev pub is_same : Bracket → Bracket → Bool
+is_same bracket.Round bracket.Round = true
+is_same bracket.Square bracket.Square = true
+is_same bracket.Curly bracket.Curly = true
+is_same _ _ = false
+
+-- the innermost of the open brackets
+abbrev pub innermost : List Opened → Option Opened
+innermost brackets = slice_get brackets (length brackets - 1)
+
+-- the brackets that stay open once one of this sort is closed at a line, which must be the innermost
+abbrev pub closed : Option Opened → Bracket → ℕ → List Opened → Result (List Opened) LexFault
+closed None sort line brackets = Err (fault.Bracket line)
+closed (Some last) sort line brackets =
+    if is_same last.bracket sort then Ok (take (length brackets - 1) brackets) else Err (fault.Bracket line)
+
+-- the brackets that are open after a token at a line
+unfoldable pub bracketed : List Opened → Kind → ℕ → Result (List Opened) LexFault
+bracketed brackets (kind.Open sort) line =
+    if nat_le max_depth (length brackets) then Err (fault.Deep line)
+    else Ok (brackets ++ record { bracket = sort; line = line } ∷ [])
+bracketed brackets (kind.Close sort) line = closed (innermost brackets) sort line brackets
+bracketed brackets _ line = Ok brackets
+
+-- ---- tokens and lines
 
 -- a token of this text at the place of a reading
 abbrev pub token_at : Reading → Kind → List ℕ → Token
 token_at r kind text = record {
   kind = kind;
   span = record { start = r.from; end = r.from + length text };
-  line = r.line;
-  column = r.column;
+  line = r.place.line;
+  column = r.place.column;
 }
 
--- the place after a text within the line
-abbrev pub moved : Reading → List ℕ → Reading
-moved r text = record r { from = r.from + length text; column = r.column + character_count text }
+-- one more token in the line that is begun, with the brackets that are open after it
+abbrev pub pushed : Reading → Kind → List ℕ → List Opened → Reading
+pushed r kind text brackets =
+    moved (record r { brackets = brackets; is_measuring = false; begun = r.begun ++ token_at r kind text ∷ [] }) text
 
--- one more token in the line that is begun
-abbrev pub with_token : Reading → Kind → List ℕ → Reading
-with_token r kind text = moved (record r { begun = r.begun ++ token_at r kind text ∷ [] }) text
+-- what is known after a token: the first of a line settles its indent
+abbrev pub with_token : Reading → Kind → List ℕ → Result Reading LexFault
+with_token r kind text =
+    and_then (line_settled r) (λ s. and_then (bracketed s.brackets kind s.place.line) (λ brackets. Ok (pushed s kind text brackets)))
 
--- these lines and one more, where it has a token: one without is no logical line
-abbrev pub with_line : List (List Token) → List Token → List (List Token)
-with_line lines [] = lines
-with_line lines (token ∷ tokens) = lines ++ (token ∷ tokens) ∷ []
+-- these lines and one more of these tokens, where there is one: a line without tokens is no logical line
+abbrev pub with_line : List Line → ℕ → List Token → List Line
+with_line lines indent [] = lines
+with_line lines indent (token ∷ tokens) = lines ++ record { indent = indent; tokens = token ∷ tokens } ∷ []
 
 -- the line that is begun is complete
 abbrev pub line_ended : Reading → Reading
-line_ended r = record r { lines = with_line r.lines r.begun; begun = [] }
+line_ended r = record r {
+  lexis = record r.lexis { lines = with_line r.lexis.lines (length r.indents - 1) r.begun };
+  margin = no_columns;
+  is_measuring = true;
+  begun = [];
+}
 
--- the place after a line end of this text
-abbrev pub next_line : Reading → List ℕ → Reading
-next_line r text = record r { from = r.from + length text; line = r.line + 1; column = 1 }
+-- a line end completes the line, unless a bracket is open
+abbrev pub end_met : Reading → Reading
+end_met r = if is_empty r.brackets then line_ended r else r
+
+-- whether all errors are silenced
+abbrev pub is_all : Codes → Bool
+is_all all = true
+is_all (listed spans) = false
+
+-- one more ignore comment; one of all errors before the first logical line silences the file
+abbrev pub with_ignore : Reading → Option Codes → Reading
+with_ignore r None = r
+with_ignore r (Some codes) = record r {
+  lexis = record r.lexis {
+    ignores = r.lexis.ignores ++ record { line = r.place.line; codes = codes } ∷ [];
+    whole_file = r.lexis.whole_file || is_all codes && is_empty r.lexis.lines && is_empty r.begun;
+  };
+}
+
+-- ---- all pieces
 
 -- what is known after one more piece with this text
-unfoldable pub step : Reading → Piece → List ℕ → Reading
+unfoldable pub step : Reading → Piece → List ℕ → Result Reading LexFault
+step r piece.Name text = with_token r (kind_of_name text) text
 step r (piece.Token kind) text = with_token r kind text
-step r piece.Blank text = moved r text
-step r piece.Comment text = moved r text
-step r piece.LineEnd text = next_line (line_ended r) text
+step r piece.Blank text = Ok (moved (measured r text) text)
+step r piece.Comment text = Ok (moved (with_ignore r (silenced r.from text)) text)
+step r piece.LineEnd text = Ok (moved (end_met r) text)
+step r piece.Joined text = Ok (moved (front_joined r) text)
 
 -- a fault of the text with its physical line
 abbrev pub told : CutFault → ℕ → LexFault
-told cut.BadCharacter line = BadCharacter line
-told cut.OpenString line = OpenString line
+told cut.BadCharacter line = fault.BadCharacter line
+told cut.OpenString line = fault.OpenString line
 
--- what is known after all pieces, or the fault that ends them
+-- the fault at a place where no piece stands: that of the line's indent comes first
+unfoldable pub fault_met : Reading → CutFault → Result Reading LexFault
+fault_met r met = and_then (line_settled r) (λ s. Err (told met s.place.line))
+
+-- what is known after all pieces, or the first fault
 unfoldable pub read : Reading → List Cut → Result Reading LexFault
 read r [] = Ok r
-read r (bad fault ∷ later) = Err (told fault r.line)
-read r (found p text ∷ later) = read (step r p text) later
+read r (bad met ∷ later) = fault_met r met
+read r (found p text ∷ later) = and_then (step r p text) (λ next. read next later)
 
--- the lines that were read; the source's end ends the last one
-abbrev pub lines_read : Result Reading LexFault → Result (List (List Token)) LexFault
-lines_read (Ok r) = Ok (line_ended r).lines
-lines_read (Err fault) = Err fault
+-- what the source is, once all of it is read and its last line is ended; a bracket that is left open is a fault
+abbrev pub lexis_read : Option Opened → Reading → Result Lexis LexFault
+lexis_read (Some last) r = Err (fault.Bracket last.line)
+lexis_read None r = Ok (line_ended r).lexis
+
+-- what the source is at its end
+unfoldable pub finished : Reading → Result Lexis LexFault
+finished r = lexis_read (innermost r.brackets) r
 
 -- the bytes that may mark a source as UTF-8 ("Encoding declarations")
 abbrev pub byte_order_mark : List ℕ
@@ -99,16 +218,7 @@ mark_len source = if starts_with nat_eq source byte_order_mark then 3 else 0
 unfoldable pub pieces_of : List ℕ → List Cut
 pieces_of source = cuts (drop (mark_len source) source)
 
--- the logical lines of a source, each by its tokens, or the source's first lexical fault
-unfoldable pub lines_of : List ℕ → Result (List (List Token)) LexFault
+-- the logical lines and ignore comments of a source, or its first lexical fault
+unfoldable pub lines_of : List ℕ → Result Lexis LexFault
 lines_of source =
-    if is_utf8 source then lines_read (read (start_at (mark_len source)) (pieces_of source)) else Err NotUtf8
-
--- the lines of a scan, each by its tokens
-abbrev pub lines_in : Scan → List (List Token)
-lines_in scan = map (λ line. line.tokens.items) scan.lines.items
-
--- a result is what the definition says; a want of memory says nothing
-abbrev pub Answers : Result (List (List Token)) LexFault → Result Scan LexFault → Type 0
-Answers expected (Ok scan) = expected ≡ Ok (lines_in scan)
-Answers expected (Err fault) = fault ≢ Memory → expected ≡ Err fault
+    if is_utf8 source then and_then (read (start_at (mark_len source)) (pieces_of source)) finished else Err fault.NotUtf8

@@ -1,26 +1,30 @@
 -- The text of each token as a slice of the source.
-use Rattle.std.specs.Prelude.{ℕ, ◌<◌, ◌≤◌, List, [], ◌∷◌, ◌++◌, length, slice_range}
+use Rattle.std.specs.Prelude.{ℕ, ◌<◌, ◌≤◌, List, [], ◌∷◌, ◌++◌, length, slice_range, IsUtf8}
+use Rattle.pyc_lex.specs.declared.tokens.Span.{Span}
 use Rattle.pyc_lex.specs.declared.tokens.Token.{Token}
 use Rattle.pyc_lex.specs.declared.cut.Piece.{Piece}
 use Rattle.pyc_lex.specs.declared.cut.Piece.TheVariants as piece
 use Rattle.pyc_lex.specs.Cuts.{Cut, found, bad}
-use Rattle.pyc_lex.specs.Lines.{pieces_of}
+use Rattle.pyc_lex.specs.Lines.{Line, pieces_of}
 
 -- the tokens of some lines, in order
-abbrev pub tokens_in : List (List Token) → List Token
-tokens_in [] = []
-tokens_in (line ∷ lines) = line ++ tokens_in lines
+abbrev pub tokens_of : List Line → List Token
+tokens_of [] = []
+tokens_of (line ∷ lines) = line.tokens ++ tokens_of lines
 
 -- the bytes of a source at a token
 abbrev pub slice_at : List ℕ → Token → List ℕ
 slice_at source token = slice_range source token.span.start token.span.end
 
--- a token's bytes lie within the source, and there is one at least
-abbrev pub IsWithin : List ℕ → Token → Type 0
-IsWithin source token = (token.span.start < token.span.end) × (token.span.end ≤ length source)
+-- some bytes of a source that are a text, of which there is one at least
+pub record IsTextSpan (source : List ℕ) (span : Span) : Type 0 where
+  pub not_empty : span.start < span.end
+  pub within : span.end ≤ length source
+  pub is_utf8 : IsUtf8 (slice_range source span.start span.end)
 
 -- a token's text before other texts; what is no token adds none
 abbrev pub with_token_text : Piece → List ℕ → List (List ℕ) → List (List ℕ)
+with_token_text piece.Name text texts = text ∷ texts
 with_token_text (piece.Token kind) text texts = text ∷ texts
 with_token_text _ text texts = texts
 

@@ -1,19 +1,35 @@
 //! Cuts the longest piece off the front of a text.
 
-ghost use Rattle.std.specs.Prelude.{◌≡◌, ◌<◌, ◌≤◌, ◌+◌, length, slice_index, IfOk, drop, true};
-ghost use Rattle.std.specs.List.{prefix_len};
+ghost use Rattle.std.specs.Prelude.{◌≡◌, ◌<◌, ◌≤◌, ◌+◌, length, slice_index, drop, true};
+ghost use Rattle.pyc_lex.specs.Characters.{is_quote as is_quote_byte};
+ghost use Rattle.pyc_lex.specs.Characters.{is_name_start, line_end_len};
+ghost use Rattle.pyc_lex.specs.Numbers.{number_at};
+ghost use Rattle.pyc_lex.specs.Operators.{operator_at};
+ghost use Rattle.std.specs.Str.{chars};
 ghost use Rattle.pyc_lex.specs.Cuts as spec;
 
-use crate::keywords::kind_of_word;
-use crate::tokens::{Kind, Operator};
+use crate::characters::{
+    blank_len, byte_at, comment_len, is_blank, is_line_end, is_quote, line_end_len,
+};
+use crate::names::name_len;
+use crate::numbers::number_at;
+use crate::operators::operator_at;
+use crate::strings::{has_open_field, is_format, prefix_of, string_len};
+use crate::tokens::{Kind, Prefix};
+use unicode_ident::is_xid_start;
 
 /// What a run of bytes is.
 #[derive(Clone, Copy, Debug, PartialEq, Eq)]
 pub(crate) enum Piece {
+    /// A name, which may be a keyword.
+    Name,
+    /// A token of another kind.
     Token(Kind),
     Blank,
     Comment,
     LineEnd,
+    /// A backslash with the line end after it.
+    Joined,
 }
 
 /// Why no piece stands at the front of a text.
@@ -26,181 +42,131 @@ pub(crate) enum CutFault {
 /// A piece and its length in bytes.
 type Front = Result<(Piece, usize), CutFault>;
 
-fn is_letter(byte: u8) -> bool
-    ensures { result ≡ spec.is_letter byte }
+/// The string whose token has this text.
+fn string_token(prefix: Prefix, text: &[u8]) -> Front
+    ensures { result ≡ spec.string_token prefix (length text.now) text.now }
 {
-    byte.is_ascii_alphabetic() || byte == b'_'
-}
-
-fn is_name_byte(byte: u8) -> bool
-    ensures { result ≡ spec.is_name_byte byte }
-{
-    is_letter(byte) || byte.is_ascii_digit()
-}
-
-fn is_blank(byte: u8) -> bool
-    ensures { result ≡ spec.is_blank byte }
-{
-    byte == b' ' || byte == b'\t' || byte == b'\x0c'
-}
-
-fn is_line_end(byte: u8) -> bool
-    ensures { result ≡ spec.is_line_end byte }
-{
-    byte == b'\n' || byte == b'\r'
-}
-
-fn is_quote(byte: u8) -> bool
-    ensures { result ≡ spec.is_quote byte }
-{
-    byte == b'\'' || byte == b'"'
-}
-
-fn is_string_byte(quote: u8, byte: u8) -> bool
-    ensures { result ≡ spec.is_string_byte quote byte }
-{
-    !(byte == quote || byte == b'\\' || is_line_end(byte))
-}
-
-fn name_len(text: &[u8]) -> usize
-    ensures value { result ≡ prefix_len spec.is_name_byte text.now }
-    ensures within { result ≤ length text.now }
-{
-    text.iter().take_while(|byte| is_name_byte(**byte)).count()
-}
-
-fn digits_len(text: &[u8]) -> usize
-    ensures value { result ≡ prefix_len spec.is_digit text.now }
-    ensures within { result ≤ length text.now }
-{
-    text.iter().take_while(|byte| byte.is_ascii_digit()).count()
-}
-
-fn blank_len(text: &[u8]) -> usize
-    ensures value { result ≡ prefix_len spec.is_blank text.now }
-    ensures within { result ≤ length text.now }
-{
-    text.iter().take_while(|byte| is_blank(**byte)).count()
-}
-
-fn comment_len(text: &[u8]) -> usize
-    ensures value { result ≡ prefix_len spec.is_comment_byte text.now }
-    ensures within { result ≤ length text.now }
-{
-    text.iter().take_while(|byte| !is_line_end(**byte)).count()
-}
-
-fn string_len(quote: u8, text: &[u8]) -> usize
-    ensures value { result ≡ prefix_len (spec.is_string_byte quote) text.now }
-    ensures within { result ≤ length text.now }
-{
-    text.iter()
-        .take_while(|byte| is_string_byte(quote, **byte))
-        .count()
-}
-
-/// The length of the fraction at the front, or 0 where there is none.
-#[tactic(auto, unfolding(crate::specs::Cuts::fraction_len))]
-fn fraction_len(text: &[u8]) -> usize
-    ensures value { result ≡ spec.fraction_len text.now }
-    ensures within { result ≤ length text.now }
-{
-    if text.is_empty() || text[0] != b'.' {
-        return 0;
-    }
-    let (_, rest) = text.split_at(1);
-    match digits_len(rest) {
-        0 => 0,
-        digits => 1 + digits,
+    if is_format(prefix) && has_open_field(text) {
+        Err(CutFault::OpenString)
+    } else {
+        Ok((Piece::Token(Kind::String(prefix)), text.len()))
     }
 }
 
-#[tactic(auto, unfolding(crate::specs::Cuts::word))]
-fn word(text: &[u8]) -> Front
-    requires { spec.is_letter (slice_index text.now 0) ≡ true }
-    ensures value { result ≡ spec.word text.now }
-    ensures within { IfOk result (λ front. (1 ≤ front.1) × (front.1 ≤ length text.now)) }
-{
-    let (name, _) = text.split_at(name_len(text));
-    Ok((Piece::Token(kind_of_word(name)), name.len()))
-}
-
-#[tactic(auto, unfolding(crate::specs::Cuts::number))]
-fn number(text: &[u8]) -> Front
-    requires { spec.is_digit (slice_index text.now 0) ≡ true }
-    ensures value { result ≡ spec.number text.now }
-    ensures within { IfOk result (λ front. (1 ≤ front.1) × (front.1 ≤ length text.now)) }
-{
-    let whole = digits_len(text);
-    let (_, rest) = text.split_at(whole);
-    Ok((Piece::Token(Kind::Number), whole + fraction_len(rest)))
-}
-
+/// The string at the front, whose prefix takes so many bytes.
 #[tactic(auto, unfolding(crate::specs::Cuts::quoted))]
-fn quoted(text: &[u8]) -> Front
-    requires { 0 < length text.now }
-    ensures value { result ≡ spec.quoted text.now }
-    ensures within { IfOk result (λ front. (1 ≤ front.1) × (front.1 ≤ length text.now)) }
+fn quoted(prefix: Prefix, before: usize, text: &[u8]) -> Front
+    requires { is_quote_byte (slice_index text.now before) ≡ true }
+    ensures { result ≡ spec.quoted prefix before text.now }
 {
-    let quote = text[0];
-    let (_, inside) = text.split_at(1);
-    let len = string_len(quote, inside);
-    if len == inside.len() {
-        Err(CutFault::OpenString)
-    } else if inside[len] == quote {
-        Ok((Piece::Token(Kind::String), len + 2))
-    } else if inside[len] == b'\\' {
-        Err(CutFault::BadCharacter)
-    } else {
-        Err(CutFault::OpenString)
+    let (_, string) = text.split_at(before);
+    match string_len(string) {
+        Some(len) => {
+            let (token, _) = text.split_at(before + len);
+            string_token(prefix, token)
+        }
+        None => Err(CutFault::OpenString),
     }
 }
 
-fn line_end_len(text: &[u8]) -> usize
-    requires { 0 < length text.now }
-    ensures value { result ≡ spec.line_end_len text.now }
-    ensures within { (1 ≤ result) × (result ≤ length text.now) }
+/// The longest name, or the string whose prefix it is.
+#[tactic(auto, unfolding(crate::specs::Cuts::name_front))]
+fn name_front(text: &str) -> Front
+    ensures { result ≡ spec.name_front text.now }
 {
-    if text[0] == b'\r' && text.len() >= 2 && text[1] == b'\n' {
-        2
-    } else {
-        1
+    let len = name_len(text);
+    let bytes = text.as_bytes();
+    if !is_quote(byte_at(bytes, len)) {
+        return Ok((Piece::Name, len));
+    }
+    let (name, _) = bytes.split_at(len);
+    match prefix_of(name) {
+        Some(prefix) => quoted(prefix, len, bytes),
+        None => Ok((Piece::Name, len)),
     }
 }
 
-#[tactic(auto, unfolding(crate::specs::Cuts::mark))]
-fn mark(byte: u8) -> Front
-    ensures value { result ≡ spec.mark byte }
-    ensures within { IfOk result (λ front. front.1 ≡ 1) }
+/// The operator at the front.
+fn operator_front(text: &[u8]) -> Front
+    ensures { result ≡ spec.operator_front (operator_at text.now) }
 {
-    match byte {
-        b':' => Ok((Piece::Token(Kind::Operator(Operator::Colon)), 1)),
-        b'=' => Ok((Piece::Token(Kind::Operator(Operator::Equal)), 1)),
-        _ => Err(CutFault::BadCharacter),
+    match operator_at(text) {
+        Some((kind, len)) => Ok((Piece::Token(kind), len)),
+        None => Err(CutFault::BadCharacter),
     }
+}
+
+/// Whether a name starts here.
+fn begins_name(text: &str) -> bool
+    requires { 0 < length text.now }
+    ensures { result ≡ is_name_start (slice_index (chars text.now) 0) }
+{
+    let first = text.as_bytes()[0];
+    if first.is_ascii() {
+        return first.is_ascii_alphabetic() || first == b'_';
+    }
+    match text.chars().next() {
+        Some(character) => is_xid_start(character),
+        None => false,
+    }
+}
+
+/// Whether a number begins here.
+fn begins_number(text: &[u8]) -> bool
+    ensures { result ≡ spec.begins_number text.now }
+{
+    byte_at(text, 0).is_ascii_digit()
+        || byte_at(text, 0) == b'.' && byte_at(text, 1).is_ascii_digit()
+}
+
+/// Whether a backslash and a line end stand here.
+fn begins_joined(text: &[u8]) -> bool
+    ensures { result ≡ spec.begins_joined text.now }
+{
+    byte_at(text, 0) == b'\\' && is_line_end(byte_at(text, 1))
+}
+
+/// How many bytes the backslash and the line end take.
+fn joined_len(text: &[u8]) -> usize
+    requires { spec.begins_joined text.now ≡ true }
+    ensures value { result ≡ 1 + line_end_len (drop 1 text.now) }
+    ensures within { result ≤ length text.now }
+{
+    let (_, rest) = text.split_at(1);
+    1 + line_end_len(rest)
+}
+
+/// The number at the front.
+fn number_front(text: &[u8]) -> Front
+    ensures { result ≡ spec.number_front (number_at text.now) }
+{
+    let (number, len) = number_at(text);
+    Ok((Piece::Token(Kind::Number(number)), len))
 }
 
 /// The longest piece at the front of a text.
 #[tactic(auto, unfolding(crate::specs::Cuts::cut))]
-pub(crate) fn cut(text: &[u8]) -> Front
+pub(crate) fn cut(text: &str) -> Front
     requires { 0 < length text.now }
-    ensures value { result ≡ spec.cut text.now }
-    ensures within { IfOk result (λ front. (1 ≤ front.1) × (front.1 ≤ length text.now)) }
+    ensures { result ≡ spec.cut text.now }
 {
-    let first = text[0];
-    if is_letter(first) {
-        word(text)
-    } else if first.is_ascii_digit() {
-        number(text)
-    } else if is_blank(first) {
-        Ok((Piece::Blank, blank_len(text)))
-    } else if first == b'#' {
-        Ok((Piece::Comment, comment_len(text)))
+    let bytes = text.as_bytes();
+    let first = bytes[0];
+    if is_blank(first) {
+        Ok((Piece::Blank, blank_len(bytes)))
     } else if is_line_end(first) {
-        Ok((Piece::LineEnd, line_end_len(text)))
+        Ok((Piece::LineEnd, line_end_len(bytes)))
+    } else if first == b'#' {
+        Ok((Piece::Comment, comment_len(bytes)))
+    } else if begins_joined(bytes) {
+        Ok((Piece::Joined, joined_len(bytes)))
     } else if is_quote(first) {
-        quoted(text)
+        quoted(Prefix::Plain, 0, bytes)
+    } else if begins_number(bytes) {
+        number_front(bytes)
+    } else if begins_name(text) {
+        name_front(text)
     } else {
-        mark(first)
+        operator_front(bytes)
     }
 }

@@ -15,8 +15,17 @@ pub enum LexFault {
     NotUtf8,
     /// A character that begins no token.
     BadCharacter(usize),
-    /// A string that the line or the source ends in.
+    /// A string that the source ends in, or its line where it has one quote, or an f-string with an open field; at its
+    /// first line.
     OpenString(usize),
+    /// A closing bracket that matches nothing, or the innermost of those that are left open.
+    Bracket(usize),
+    /// A line whose indent is none of those around it.
+    Dedent(usize),
+    /// A line whose indent compares otherwise with those around it where a tab is one column wide.
+    Tabs(usize),
+    /// More than 64 indents above the first, or more than 64 open brackets.
+    Deep(usize),
     /// A growth was refused; this says nothing of the source.
     Memory,
 }
@@ -29,6 +38,16 @@ impl fmt::Display for LexFault {
             LexFault::NotUtf8 => write!(f, "source is not UTF-8"),
             LexFault::BadCharacter(line) => write!(f, "invalid character on line {line}"),
             LexFault::OpenString(line) => write!(f, "unterminated string literal on line {line}"),
+            LexFault::Bracket(line) => write!(f, "unmatched bracket on line {line}"),
+            LexFault::Dedent(line) => write!(
+                f,
+                "unindent does not match any outer indentation level on line {line}"
+            ),
+            LexFault::Tabs(line) => write!(
+                f,
+                "inconsistent use of tabs and spaces in indentation on line {line}"
+            ),
+            LexFault::Deep(line) => write!(f, "too deeply nested on line {line}"),
             LexFault::Memory => write!(f, "out of memory"),
         }
     }

@@ -1,26 +1,29 @@
 //! Reads the logical lines of a source in one pass.
 
-ghost use Rattle.std.specs.Prelude.{◌≡◌, ◌≢◌, ◌<◌, ◌≤◌, ◌+◌, ◌^◌, length, map, All, IfOk, IfErr, Ok, Err, slice_range};
-ghost use Rattle.std.specs.Str as utf8;
+ghost use Rattle.std.specs.Prelude.{◌≡◌, ◌≢◌, ◌<◌, ◌≤◌, ◌+◌, ◌^◌, length, map, All, AllPairs, IfOk, IfErr, Ok, Err, slice_range};
 ghost use Rattle.pyc_lex.specs.Lines as spec;
-ghost use Rattle.pyc_lex.specs.Lines.{lines_of, lines_in, Answers};
+ghost use Rattle.pyc_lex.specs.Lines.{lines_of};
+ghost use Rattle.pyc_lex.specs.View.{Answers, lexis_in};
 ghost use Rattle.pyc_lex.specs.Cuts.{cuts};
-ghost use Rattle.pyc_lex.specs.Texts.{tokens_in, token_texts, slice_at, IsWithin};
+ghost use Rattle.pyc_lex.specs.Limits.{IsBefore, IsWithinLimits};
+ghost use Rattle.pyc_lex.specs.Texts.{tokens_of, token_texts, slice_at, IsTextSpan};
 
-use crate::cut::{CutFault, cut};
+use crate::cut::cut;
 use crate::fault::LexFault;
 use crate::reader::Reader;
 use crate::tokens::{Scan, Span};
 use std::alloc::Global;
 use std::str;
 
-/// The bytes of a source at a span.
-pub fn text_of(bytes: &[u8], span: Span) -> &[u8]
-    requires ordered { span.start ≤ span.end }
-    requires within { span.end ≤ length bytes.now }
+/// The text of a token: the bytes of a source at its span. It takes no memory.
+pub fn ident(bytes: &[u8], span: Span) -> &str
+    requires { IsTextSpan bytes.now span }
     ensures { result.now ≡ slice_range bytes.now span.start span.end }
 {
-    &bytes[span.start..span.end]
+    match str::from_utf8(&bytes[span.start..span.end]) {
+        Ok(text) => text,
+        Err(_) => unreachable!(),
+    }
 }
 
 /// How many bytes the byte order mark takes at the front.
@@ -36,27 +39,12 @@ fn mark_len(bytes: &[u8]) -> usize
     }
 }
 
-fn told(fault: CutFault, line: usize) -> LexFault
-    ensures { result ≡ spec.told fault line }
-{
-    match fault {
-        CutFault::BadCharacter => LexFault::BadCharacter(line),
-        CutFault::OpenString => LexFault::OpenString(line),
-    }
-}
-
-fn is_utf8(bytes: &[u8]) -> bool
-    ensures { result ≡ utf8.is_utf8 bytes.now }
-{
-    str::from_utf8(bytes).is_ok()
-}
-
 /// Reads all pieces of a text that begins at a byte of the source.
-fn read(alloc: Global, from: usize, text: &[u8]) -> Result<Scan, LexFault>
+fn read(alloc: Global, from: usize, text: &str) -> Result<Scan, LexFault>
     requires { from + length text.now < 2 ^ 63 }
-    ensures { Answers (spec.lines_read (spec.read (spec.start_at from) (cuts text.now))) result }
+    ensures { Answers (spec.and_then (spec.read (spec.start_at from) (cuts text.now)) spec.finished) result }
 {
-    let mut reader = Reader::new(alloc, from);
+    let mut reader = Reader::new(alloc, from)?;
     let mut rest = text;
     for _turn in 0..text.len() {
         if rest.is_empty() {
@@ -68,26 +56,31 @@ fn read(alloc: Global, from: usize, text: &[u8]) -> Result<Scan, LexFault>
                 reader.step(alloc, piece, front)?;
                 rest = left;
             }
-            Err(fault) => return Err(told(fault, reader.line)),
+            Err(fault) => return Err(reader.fault(fault)),
         }
     }
-    Ok(reader.finish(alloc)?)
+    reader.finish(alloc)
 }
 
-/// The logical lines of a source with their tokens, or its first lexical fault in text order; a source that is
-/// not UTF-8 has that fault before all others. `Memory` comes only from a growth that was refused.
+/// The logical lines of a source with their tokens and its ignore comments, or its first lexical fault in text order; a
+/// source that is not UTF-8 has that fault before all others, and a bracket that is left open comes last. `Memory` comes
+/// only from a growth that was refused.
 pub fn scan(alloc: Global, bytes: &[u8]) -> Result<Scan, LexFault>
-    ensures lines { IfOk result (λ scan. lines_of bytes.now ≡ Ok (lines_in scan)) }
+    ensures lines { IfOk result (λ scan. lines_of bytes.now ≡ Ok (lexis_in scan)) }
     ensures fault { IfErr result (λ fault. fault ≢ LexFault.Memory → lines_of bytes.now ≡ Err fault) }
 
     // Each token's text is its slice of the source.
-    ensures texts { IfOk result (λ scan. map (slice_at bytes.now) (tokens_in (lines_in scan)) ≡ token_texts bytes.now) }
-    ensures within { IfOk result (λ scan. All (λ line. All (IsWithin bytes.now) line.tokens.items) scan.lines.items) }
+    ensures texts { IfOk result (λ scan. map (slice_at bytes.now) (tokens_of (lexis_in scan).lines) ≡ token_texts bytes.now) }
+    ensures spans { IfOk result (λ scan. All (λ line. All (λ token. IsTextSpan bytes.now token.span) line.tokens.items) scan.lines.items) }
+
+    // Lines and tokens are in text order, and no two tokens overlap.
+    ensures order { IfOk result (λ scan. AllPairs IsBefore (tokens_of (lexis_in scan).lines)) }
+    ensures limits { IfOk result (λ scan. All IsWithinLimits (lexis_in scan).lines) }
 {
-    if !is_utf8(bytes) {
+    let Ok(source) = str::from_utf8(bytes) else {
         return Err(LexFault::NotUtf8);
-    }
+    };
     let from = mark_len(bytes);
-    let (_, text) = bytes.split_at(from);
+    let (_, text) = source.split_at(from);
     read(alloc, from, text)
 }

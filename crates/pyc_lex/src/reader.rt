@@ -1,62 +1,87 @@
 //! What is known of a source between two of its pieces.
 
-ghost use Rattle.std.specs.Prelude.{◌≡◌, ◌<◌, ◌≤◌, ◌+◌, ◌^◌, ℕ, [], length, OnOk, IfOk};
+ghost use Rattle.std.specs.Prelude.{◌≡◌, ◌≢◌, ◌<◌, ◌≤◌, ◌+◌, ◌*◌, ◌^◌, ℕ, [], length, Some, OnOk, IfOk};
 ghost use Rattle.pyc_lex.specs.Lines as spec;
 
-use crate::cut::Piece;
-use crate::tokens::{Kind, LogicalLine, Scan, Span, Token};
+use crate::brackets::Opened;
+use crate::cut::{CutFault, Piece};
+use crate::fault::LexFault;
+use crate::ignores::silenced;
+use crate::indents::Columns;
+use crate::names::kind_of_name;
+use crate::places::Place;
+use crate::stack::{innermost, meet, settle};
+use crate::tokens::{Codes, Ignore, Kind, LogicalLine, Scan, Span, Token};
 use std::alloc::{AllocError, Global};
-use std::mem;
 
-/// The complete lines, the tokens of the line that is begun, and the place: a byte, a physical line and a column.
+/// What the source is so far, the stack of indents, the open brackets, the columns of the blanks at the line's front and
+/// whether they are still counted, the tokens of the line that is begun, and the place.
 #[derive(Drop)]
 pub(crate) struct Reader {
     lines: Vec<LogicalLine>,
+    ignores: Vec<Ignore>,
+    whole_file: bool,
+    indents: Vec<Columns>,
+    brackets: Vec<Opened>,
+    margin: Columns,
+    is_measuring: bool,
     begun: Vec<Token>,
     from: usize,
-    pub line: usize,
-    column: usize,
-    ghost line_is_low: { line ≤ from + 1 },
-    ghost column_is_low: { column ≤ from + 1 },
-}
-
-/// How many characters begin in these bytes.
-fn character_count(text: &[u8]) -> usize
-    ensures value { result ≡ spec.character_count text.now }
-    ensures within { result ≤ length text.now }
-{
-    text.iter()
-        .filter(|byte| !(128..=191).contains(*byte))
-        .count()
+    place: Place,
+    ghost wide_is_low: { margin.wide ≤ 8 * from },
+    ghost narrow_is_low: { margin.narrow ≤ from },
+    ghost line_is_low: { place.line ≤ from + 1 },
+    ghost column_is_low: { place.column ≤ from + 1 },
+    ghost column_from_one: { 1 ≤ place.column },
 }
 
 impl Reader {
-    ghost use Rattle.pyc_lex.specs.View.{reading_of};
+    ghost use Rattle.pyc_lex.specs.View.{Leads, lexis_in, codes_in, Answers};
+    ghost use Rattle.pyc_lex.specs.Reader.{reading_of};
+    ghost use Rattle.pyc_lex.specs.Ignores.{silenced};
 
-    pub fn new(alloc: Global, from: usize) -> Reader
-        ensures { reading_of result ≡ spec.start_at from }
+    pub fn new(alloc: Global, from: usize) -> Result<Reader, AllocError>
+        ensures { IfOk result (λ reader. reading_of reader ≡ spec.start_at from) }
     {
-        Reader {
+        let mut indents = Vec::new(alloc);
+        indents.push(Columns::NONE)?;
+        Ok(Reader {
             lines: Vec::new(alloc),
+            ignores: Vec::new(alloc),
+            whole_file: false,
+            indents,
+            brackets: Vec::new(alloc),
+            margin: Columns::NONE,
+            is_measuring: true,
             begun: Vec::new(alloc),
             from,
-            line: 1,
-            column: 1,
-        }
+            place: Place { line: 1, column: 1 },
+        })
     }
 
-    /// Goes on within the line.
+    /// Goes on past a piece.
     fn advance(&mut self, text: &[u8])
         requires { self.old.from + length text.now < 2 ^ 63 }
         ensures { reading_of self.new ≡ spec.moved (reading_of self.old) text.now }
     {
-        self.column += character_count(text);
+        self.place = self.place.after(text);
         self.from += text.len();
     }
 
-    fn add_token(&mut self, kind: Kind, text: &[u8]) -> Result<(), AllocError>
+    /// Settles the indent of the line, unless it has a token already.
+    fn settle_line(&mut self) -> Result<(), LexFault>
+        ensures { Leads (spec.line_settled (reading_of self.old)) result (reading_of self.new) }
+    {
+        if self.begun.is_empty() {
+            settle(&mut self.indents, self.margin, self.place.line)?;
+        }
+        Ok(())
+    }
+
+    /// Adds a token to the line that is begun.
+    fn push_token(&mut self, kind: Kind, text: &[u8]) -> Result<(), AllocError>
         requires { self.old.from + length text.now < 2 ^ 63 }
-        ensures { OnOk result (reading_of self.new ≡ spec.with_token (reading_of self.old) kind text.now) }
+        ensures { OnOk result (reading_of self.new ≡ spec.pushed (reading_of self.old) kind text.now (reading_of self.old).brackets) }
     {
         let span = Span {
             start: self.from,
@@ -65,66 +90,146 @@ impl Reader {
         self.begun.push(Token {
             kind,
             span,
-            line: self.line,
-            column: self.column,
+            line: self.place.line,
+            column: self.place.column,
         })?;
+        self.is_measuring = false;
         self.advance(text);
         Ok(())
+    }
+
+    fn add_token(&mut self, kind: Kind, text: &[u8]) -> Result<(), LexFault>
+        requires { self.old.from + length text.now < 2 ^ 63 }
+        ensures { Leads (spec.with_token (reading_of self.old) kind text.now) result (reading_of self.new) }
+    {
+        self.settle_line()?;
+        meet(&mut self.brackets, kind, self.place.line)?;
+        self.push_token(kind, text)?;
+        Ok(())
+    }
+
+    /// Counts blanks at the line's front.
+    fn measure(&mut self, text: &[u8])
+        requires { self.old.from + length text.now < 2 ^ 63 }
+        ensures { reading_of self.new ≡ spec.moved (spec.measured (reading_of self.old) text.now) text.now }
+    {
+        if self.is_measuring {
+            let margin = self.margin.after(text);
+            self.advance(text);
+            self.margin = margin;
+        } else {
+            self.advance(text);
+        }
     }
 
     /// Completes the line that is begun, if it has a token.
     fn end_line(&mut self, alloc: Global) -> Result<(), AllocError>
         ensures { OnOk result (reading_of self.new ≡ spec.line_ended (reading_of self.old)) }
     {
-        if self.begun.is_empty() {
-            return Ok(());
+        if !self.begun.is_empty() {
+            let tokens = Vec::from_slice(alloc, &self.begun)?;
+            let indent = self.indents.len().saturating_sub(1);
+            self.lines.push(LogicalLine { indent, tokens })?;
+            self.begun.clear();
         }
-        let tokens = mem::replace(&mut self.begun, Vec::new(alloc));
-        self.lines.push(LogicalLine { tokens })?;
+        self.margin = Columns::NONE;
+        self.is_measuring = true;
         Ok(())
     }
 
-    fn begin_line(&mut self, alloc: Global, text: &[u8]) -> Result<(), AllocError>
-        requires within { self.old.from + length text.now < 2 ^ 63 }
-        requires not_empty { 1 ≤ length text.now }
-        ensures { OnOk result (reading_of self.new ≡ spec.next_line (spec.line_ended (reading_of self.old)) text.now) }
+    /// Notes an ignore comment.
+    fn add_ignore(&mut self, codes: Codes) -> Result<(), AllocError>
+        ensures { OnOk result (reading_of self.new ≡ spec.with_ignore (reading_of self.old) (Some (codes_in codes))) }
     {
-        self.end_line(alloc)?;
-        self.from += text.len();
-        self.line += 1;
-        self.column = 1;
+        if matches!(&codes, Codes::All) && self.lines.is_empty() && self.begun.is_empty() {
+            self.whole_file = true;
+        }
+        self.ignores.push(Ignore {
+            line: self.place.line,
+            codes,
+        })?;
+        Ok(())
+    }
+
+    fn read_comment(&mut self, alloc: Global, text: &[u8]) -> Result<(), AllocError>
+        requires within { self.old.from + length text.now < 2 ^ 63 }
+        requires hash { 0 < length text.now }
+        ensures { OnOk result (reading_of self.new ≡ spec.moved (spec.with_ignore (reading_of self.old) (silenced self.old.from text.now)) text.now) }
+    {
+        if let Some(codes) = silenced(alloc, self.from, text)? {
+            self.add_ignore(codes)?;
+        }
+        self.advance(text);
         Ok(())
     }
 
     /// Reads one piece, of which this is the text.
     #[tactic(auto, unfolding(crate::specs::Lines::step))]
-    pub fn step(&mut self, alloc: Global, piece: Piece, text: &[u8]) -> Result<(), AllocError>
+    pub fn step(&mut self, alloc: Global, piece: Piece, text: &str) -> Result<(), LexFault>
         requires within { self.old.from + length text.now < 2 ^ 63 }
         requires not_empty { 1 ≤ length text.now }
-        ensures { OnOk result (reading_of self.new ≡ spec.step (reading_of self.old) piece text.now) }
+        ensures { Leads (spec.step (reading_of self.old) piece text.now) result (reading_of self.new) }
     {
+        let bytes = text.as_bytes();
         match piece {
-            Piece::Token(kind) => self.add_token(kind, text),
-            Piece::Blank | Piece::Comment => {
-                self.advance(text);
-                Ok(())
+            Piece::Name => self.add_token(kind_of_name(alloc, text)?, bytes)?,
+            Piece::Token(kind) => self.add_token(kind, bytes)?,
+            Piece::Blank => self.measure(bytes),
+            Piece::Comment => self.read_comment(alloc, bytes)?,
+            Piece::LineEnd => {
+                if self.brackets.is_empty() {
+                    self.end_line(alloc)?;
+                }
+                self.advance(bytes);
             }
-            Piece::LineEnd => self.begin_line(alloc, text),
+            Piece::Joined => {
+                if self.margin.wide != 0 {
+                    self.is_measuring = false;
+                }
+                self.advance(bytes);
+            }
+        }
+        Ok(())
+    }
+
+    /// The fault at a place where no piece stands: that of the line's indent comes first.
+    #[tactic(auto, unfolding(crate::specs::Lines::fault_met))]
+    pub fn fault(&mut self, fault: CutFault) -> LexFault
+        ensures { result ≢ LexFault.Memory → spec.fault_met (reading_of self.old) fault ≡ Err result }
+    {
+        if let Err(indent) = self.settle_line() {
+            return indent;
+        }
+        match fault {
+            CutFault::BadCharacter => LexFault::BadCharacter(self.place.line),
+            CutFault::OpenString => LexFault::OpenString(self.place.line),
         }
     }
 
-    /// The lines; the source's end ends the last one.
-    pub fn finish(mut self, alloc: Global) -> Result<Scan, AllocError>
-        ensures { IfOk result (λ scan. spec.lines_in scan ≡ (spec.line_ended (reading_of self)).lines) }
+    /// What the source is, at its end.
+    pub fn finish(mut self, alloc: Global) -> Result<Scan, LexFault>
+        ensures { Answers (spec.finished (reading_of self)) result }
     {
+        if let Some(last) = innermost(&self.brackets) {
+            return Err(LexFault::Bracket(last.line));
+        }
         self.end_line(alloc)?;
         let Reader {
             lines,
+            ignores,
+            whole_file,
+            indents: _,
+            brackets: _,
+            margin: _,
+            is_measuring: _,
             begun: _,
             from: _,
-            line: _,
-            column: _,
+            place: _,
         } = self;
-        Ok(Scan { lines })
+        Ok(Scan {
+            lines,
+            ignores,
+            whole_file,
+        })
     }
 }

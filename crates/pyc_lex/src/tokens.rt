@@ -1,4 +1,4 @@
-//! Tokens and logical lines, as the scan of a source text gives them.
+//! Tokens, logical lines and ignore comments, as the scan of a source text gives them.
 
 ghost use Rattle.std.specs.Prelude.{◌<◌, vec_len};
 
@@ -49,24 +49,122 @@ pub enum Keyword {
     Yield,
 }
 
-/// An operator or a delimiter.
+/// Which of the words that are keywords in some places alone a name is, in Normalization Form KC.
 #[derive(Clone, Copy, Debug, PartialEq, Eq)]
-pub enum Operator {
-    Colon,
+pub enum Word {
+    /// None of them.
+    Other,
+    Match,
+    Case,
+    Type,
+}
+
+/// What a number is.
+#[derive(Clone, Copy, Debug, PartialEq, Eq)]
+pub enum Number {
+    /// Digits of a base alone.
+    Integer,
+    /// Decimal digits with a point or an exponent.
+    Float,
+    /// Decimal digits with a `j` after them, perhaps with a point or an exponent.
+    Imaginary,
+}
+
+/// The prefix of a string, in either case.
+#[derive(Clone, Copy, Debug, PartialEq, Eq)]
+pub enum Prefix {
+    /// No prefix.
+    Plain,
+    /// `u`
+    Unicode,
+    /// `r`
+    Raw,
+    /// `b`
+    Bytes,
+    /// `br` or `rb`
+    RawBytes,
+    /// `f`
+    Format,
+    /// `fr` or `rf`
+    RawFormat,
+}
+
+/// An operator on two values that an augmented assignment may have before its `=`.
+#[derive(Clone, Copy, Debug, PartialEq, Eq)]
+pub enum Arithmetic {
+    Plus,
+    Minus,
+    Star,
+    Slash,
+    DoubleSlash,
+    Percent,
+    At,
+    Ampersand,
+    Bar,
+    Caret,
+    LeftShift,
+    RightShift,
+    DoubleStar,
+}
+
+/// An operator that compares two values.
+#[derive(Clone, Copy, Debug, PartialEq, Eq)]
+pub enum Comparison {
+    Less,
+    Greater,
+    LessEqual,
+    GreaterEqual,
+    /// `==`
     Equal,
+    NotEqual,
+}
+
+/// A sort of brackets.
+#[derive(Clone, Copy, Debug, PartialEq, Eq)]
+pub enum Bracket {
+    /// `(` and `)`
+    Round,
+    /// `[` and `]`
+    Square,
+    /// `{` and `}`
+    Curly,
+}
+
+/// A delimiter, or an operator of none of the groups above.
+#[derive(Clone, Copy, Debug, PartialEq, Eq)]
+pub enum Delimiter {
+    Comma,
+    Colon,
+    Dot,
+    Semicolon,
+    /// `=`
+    Equal,
+    /// `->`
+    Arrow,
+    /// `:=`
+    ColonEqual,
+    /// `...`
+    Ellipsis,
+    Tilde,
 }
 
 /// What a token is.
 #[derive(Clone, Copy, Debug, PartialEq, Eq)]
 pub enum Kind {
     /// An identifier that is no keyword.
-    Name,
+    Name(Word),
     Keyword(Keyword),
-    /// Decimal digits, perhaps with a fraction.
-    Number,
-    /// A string literal, its quotes included.
-    String,
-    Operator(Operator),
+    Number(Number),
+    /// A string literal, its prefix and its quotes included.
+    String(Prefix),
+    /// An operator on two values, as `+`.
+    Arithmetic(Arithmetic),
+    /// The operator of an augmented assignment, as `+=`.
+    Augmented(Arithmetic),
+    Comparison(Comparison),
+    Open(Bracket),
+    Close(Bracket),
+    Delimiter(Delimiter),
 }
 
 /// A token with its place: its bytes, its physical line and its column in characters, both from 1.
@@ -78,15 +176,36 @@ pub struct Token {
     pub column: usize,
 }
 
-/// The tokens of a logical line, of which there is at least one.
+/// The tokens of a logical line, of which there is at least one, and how many entries the stack of indents has above
+/// its first.
 #[derive(Debug, Drop)]
 pub struct LogicalLine {
+    pub indent: usize,
     pub tokens: Vec<Token>,
     pub ghost not_empty: { 0 < vec_len tokens },
 }
 
-/// The logical lines of a source, in text order.
+/// Which errors an ignore comment silences.
+#[derive(Debug, Drop)]
+pub enum Codes {
+    /// All of them.
+    All,
+    /// Those of the codes at these spans.
+    Listed(Vec<Span>),
+}
+
+/// An ignore comment with its physical line, counted from 1.
+#[derive(Debug, Drop)]
+pub struct Ignore {
+    pub line: usize,
+    pub codes: Codes,
+}
+
+/// The logical lines and the ignore comments of a source, both in text order, and whether an ignore comment of all
+/// errors stands before the first logical line.
 #[derive(Debug, Drop)]
 pub struct Scan {
     pub lines: Vec<LogicalLine>,
+    pub ignores: Vec<Ignore>,
+    pub whole_file: bool,
 }

@@ -1,7 +1,7 @@
 use Rattle.std.proofs.Common.{◌+◌, ◌-◌, length}
 use Rattle.pyc_lex.specs.Cuts.{cuts}
 use Rattle.pyc_lex.specs.Lines.{read, start_at}
-use Rattle.pyc_lex.specs.View.{reading_of}
+use Rattle.pyc_lex.specs.Reader.{reading_of}
 use Rattle.pyc_lex.proofs.ReadLemmas.{IsOnTheWay}
 use Rattle.pyc_lex.proofs.lines.read.Given as goal
 
