@@ -1,5 +1,21 @@
 //! Texts with the tokens or the fault that Python's lexical analysis gives them.
 
+mod brackets;
+mod characters;
+mod encoding;
+mod idents;
+mod ignores;
+mod indents;
+mod joined_lines;
+mod limits;
+mod names;
+mod nesting;
+mod numbers;
+mod open_strings;
+mod operators;
+mod strings;
+mod tables;
+
 use crate::{Codes, Ignore, LexFault, Scan, Token, scan};
 use std::alloc::Global;
 use std::fmt::Write;
