@@ -4,10 +4,11 @@
     bench/lexing.py [--program PROGRAM] [FOLDER]
 
 The source is one text: the `.py` files below FOLDER that scan without a fault, one after another in order of their paths,
-up to 20 MB; FOLDER is this Python's standard library where none is given. PROGRAM is built from `bench/tokens.rt.txt`
-(`scripts/build_tokens.py`, which is called where no PROGRAM is given). It scans the text several times on one core, and
-times each scan alone, without the reading of the text; the median and the best are printed. The memory is the most that
-the program holds with one scan, less the most that it holds without a scan.
+up to 20 MB; FOLDER is this Python's standard library where none is given. A second text has the most tokens and lines that
+so many bytes can have. PROGRAM is built from `bench/tokens.rt.txt` (`scripts/build_tokens.py`, which is called where no
+PROGRAM is given). It scans the text several times in one thread, and times each scan alone, without the reading of the
+text. What is printed is the speed by the processor time of all scans, and that of the quickest scan by the clock; on a busy
+machine the first is the truer one. The memory is the most that the program holds with one scan, less the bytes of the text.
 
 Nothing is passed or failed: the numbers depend on the machine. The status is 1 where the program does not answer as it
 must.
@@ -16,7 +17,6 @@ must.
 import argparse
 import os
 import platform
-import statistics
 import subprocess
 import sys
 import sysconfig
@@ -57,7 +57,7 @@ def source_of(program, folder):
 
 
 def scanned(program, file, scans):
-    """What the program prints of so many scans of a file, and the most memory that it holds, in bytes."""
+    """What the program prints of so many scans of a file, its processor time in seconds, and the most bytes that it holds."""
     with open(file, "rb") as source, tempfile.TemporaryFile() as out:
         process = subprocess.Popen([program, str(scans)], stdin=source, stdout=out)
         _, status, used = os.wait4(process.pid, 0)
@@ -66,17 +66,18 @@ def scanned(program, file, scans):
         rows = rows_of(out.read())
     if process.returncode or len(rows) != scans:
         raise Stop(f"{program} {scans} ended with status {process.returncode} after {len(rows)} scans")
-    return rows, 1024 * used.ru_maxrss
+    return rows, used.ru_utime + used.ru_stime, 1024 * used.ru_maxrss
 
 
 def measure(program, file, what):
     """Prints the speed and the memory of the scan of a file."""
-    rows, _ = scanned(program, file, SCANS)
+    rows, seconds, _ = scanned(program, file, SCANS)
     size, lines, tokens, _ = rows[0]
-    speeds = [size / row[3] * 1000 for row in rows]
-    memory = scanned(program, file, 1)[1] - scanned(program, file, 0)[1]
+    seconds -= scanned(program, file, 0)[1]
+    memory = scanned(program, file, 1)[2] - size
     print(f"{what}: {size} bytes, {lines} logical lines, {tokens} tokens")
-    print(f"  speed   {statistics.median(speeds):.1f} MB a second (best {max(speeds):.1f}), {SCANS} scans")
+    print(f"  speed   {SCANS * size / seconds / 1e6:.1f} MB a second of processor time, {SCANS} scans")
+    print(f"          {1000 * size / min(row[3] for row in rows):.1f} MB a second by the clock, the quickest scan")
     print(f"  memory  {memory / tokens:.1f} bytes a token", flush=True)
 
 

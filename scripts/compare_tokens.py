@@ -4,10 +4,11 @@
     scripts/compare_tokens.py [--program PROGRAM] FOLDER
 
 PROGRAM prints the tokens of the source on its standard input (`bench/tokens.rt.txt`); without it, it is built first
-(`scripts/build_tokens.py`), which takes minutes. A file is equal where the texts of all tokens, their lines and columns, the logical lines with
-their indents, and the ignore comments are the same. Each other file is named with the reason, which is one of:
+(`scripts/build_tokens.py`), which takes minutes. A file is equal where the texts of all tokens, their lines and columns,
+the logical lines with their indents, and the ignore comments are the same. Each other file is named with the reason, which
+is one of:
 
-- Python refuses the file as well, in its tokenizer or its compiler;
+- both refuse the file, where Python does so in its tokenizer or its compiler; or Python alone does, in both of them;
 - a rule by which this lexis differs from Python's (`RULES`);
 - `unexplained`.
 
@@ -40,10 +41,8 @@ LEADING_ZEROS = re.compile(r"0[0-9_]*[1-9]")
 # `#`, spaces, `type:`, spaces, `ignore`, perhaps codes in brackets, and then the end, a space, a tab or `#`
 IGNORE = re.compile(r"# *type: *ignore(?:\[([^\[\]#]*)\])?(?=$|[ \t#])")
 
-# a string as this lexis cuts it: up to the first quote like the one that opens it, without looking into fields
-STRING = re.compile(
-    r"""[a-zA-Z]*(\'\'\'(?:\\.|[^\\])*?\'\'\'|\"\"\"(?:\\.|[^\\])*?\"\"\"|'(?:\\.|[^\\'\n])*'|"(?:\\.|[^\\"\n])*")""", re.DOTALL
-)
+# a string as this lexis cuts it: up to the first quotes like those that open it, without a look into fields
+STRING = re.compile(r"[a-zA-Z]*(?:(\"{3}|'{3})(?:\\.|[^\\])*?\1|([\"'])(?:\\.|(?!\2)[^\\\n])*\2)", re.DOTALL)
 
 RULES = {
     "not UTF-8": "the source is not UTF-8: an encoding that a comment declares is not read",
@@ -52,7 +51,7 @@ RULES = {
     "leading zeros": "a number with leading zeros is one token, which Python before 3.12 cuts in two",
     "character": "Python's tokenizer gives a token for a character that begins none",
     "<>": "Python's tokenizer gives `<>` as one token",
-    "name": "the two take the characters of names from different tables",
+    "name": "the two take the characters of names from different tables: `tokenize` before 3.12 from those of `re`",
 }
 
 Token = collections.namedtuple("Token", "line column text")
@@ -231,7 +230,10 @@ def judged(own, python, source, text, path):
             return "refused by both", f"{own.what} here, {refused} there"
         return rule_of_fault(own, text) or "unexplained", own.what
     if isinstance(python, Fault):
-        return "refused by Python alone", f"{python.what} on line {python.line} there"
+        told = f"{python.what} on line {python.line} there"
+        if compiler_fault(source, path):
+            return "refused by Python alone", told
+        return ("unexplained" if python.what.isascii() else "name"), told
     return rule_of_tokens(own, python) or "unexplained", first_difference(own, python)
 
 
