@@ -1,0 +1,14 @@
+pub mod Tree
+pub mod Kinds
+pub mod Levels
+pub mod Yield
+pub mod Height
+pub mod Places
+pub mod Targets
+pub mod Well
+pub mod Parser
+pub mod Items
+pub mod Expressions
+pub mod Statements
+pub mod Lines
+pub mod WellLines
