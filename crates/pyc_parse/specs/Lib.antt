@@ -12,3 +12,6 @@ pub mod Expressions
 pub mod Statements
 pub mod Lines
 pub mod WellLines
+pub mod SimpleStatements
+pub mod Headers
+pub mod LineFault
