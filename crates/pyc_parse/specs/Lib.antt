@@ -15,3 +15,4 @@ pub mod WellLines
 pub mod SimpleStatements
 pub mod Headers
 pub mod LineFault
+pub mod View

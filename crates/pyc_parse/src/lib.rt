@@ -2,5 +2,7 @@
 #![tactic(auto)]
 
 mod place;
+mod tree;
 
 pub use place::{Place, Sort};
+pub use tree::{Clause, Expr, Link, Piece, Pieces, Tail};
