@@ -1,2 +1,3 @@
 pub mod ViewLemmas
 pub mod HeightLemmas
+pub mod TargetLemmas

@@ -16,3 +16,4 @@ pub mod SimpleStatements
 pub mod Headers
 pub mod LineFault
 pub mod View
+pub mod Reads

@@ -1,6 +1,8 @@
 //! The trees of the lines of a Python source, and its blocks.
-#![tactic(auto)]
+#![tactic(auto, using(crate::proofs::ViewLemmas::views, crate::proofs::HeightLemmas::heights, crate::proofs::TargetLemmas::target_forms))]
 
+mod built;
+mod error;
 mod place;
 mod tree;
 
