@@ -1,8 +1,9 @@
 -- The height of a tree in nodes: an atom is 1; each expression, argument, parameter, clause of a comprehension and item of
 -- a `with` adds 1; joined strings and a chain of comparisons are one node, and an entry of a dictionary is none.
-use Rattle.std.specs.Prelude.{ℕ, ◌+◌, max}
+use Rattle.std.specs.Prelude.{ℕ, ◌+◌, max, if◌then◌else◌}
 use Rattle.pyc_parse.specs.Tree.{Tree, Pieces, Links, Clauses, Perhaps, Tail}
 use Rattle.pyc_parse.specs.Tree as tree
+use Rattle.pyc_parse.specs.Places.{has_comma}
 
 -- how high a tree of the profile may be
 abbrev pub max_height : ℕ
@@ -10,8 +11,7 @@ max_height = 1000
 
 -- how many nodes items without brackets make beside their own: where there is a comma, a tuple
 abbrev pub tuple_node : Pieces → ℕ
-tuple_node (tree.piece _ _ _) = 1
-tuple_node _ = 0
+tuple_node items = if has_comma items then 1 else 0
 
 unfoldable mutual
   -- the height of a tree

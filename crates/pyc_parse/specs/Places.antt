@@ -16,6 +16,11 @@ use Rattle.pyc_parse.specs.Tree as tree
 use Rattle.pyc_parse.specs.Kinds.{begins_expression, is_name}
 use Rattle.pyc_parse.specs.Levels.{level}
 
+-- whether items have a comma: so they make a tuple
+abbrev pub has_comma : Pieces → Bool
+has_comma (tree.piece _ _ _) = true
+has_comma _ = false
+
 -- whether an expression stands at this level or a tighter one
 abbrev pub is_at : ℕ → Tree → Bool
 is_at least e = nat_le least (level e)

@@ -19,7 +19,7 @@ use Rattle.pyc_parse.specs.Tree.{Tree, Pieces, Links, Clauses, Perhaps, Tail}
 use Rattle.pyc_parse.specs.Tree as tree
 use Rattle.pyc_parse.specs.Kinds.{is_name, is_number, is_string, is_constant, is_comparison}
 use Rattle.pyc_parse.specs.Levels.{level, binds, left_level, right_level, prefix_level}
-use Rattle.pyc_parse.specs.Places.{is_at, fits, next_place, may_end}
+use Rattle.pyc_parse.specs.Places.{is_at, fits, next_place, may_end, has_comma}
 use Rattle.pyc_parse.specs.Targets.{is_target}
 
 -- ---- tests of a node
@@ -54,11 +54,6 @@ is_expression_list e = is_at 1 e
 -- whether a tree may stand in parentheses of its own
 abbrev pub is_enclosed : Tree → Bool
 is_enclosed e = is_yield e || is_at 1 e
-
--- whether items have a comma: so they make a tuple
-abbrev pub has_comma : Pieces → Bool
-has_comma (tree.piece _ _ _) = true
-has_comma _ = false
 
 -- whether there is an item
 abbrev pub has_item : Pieces → Bool

@@ -1,15 +1,17 @@
 //! Trees with their heights, which are refused where they pass the profile's limit: so no higher tree is ever built.
 
-ghost use Rattle.std.specs.Prelude.{◌≡◌, ◌≤◌, max, IfOk, IfErr};
+ghost use Rattle.std.specs.Prelude.{◌≡◌, ◌≤◌, false, max, if◌then◌else◌, IfOk, IfErr};
 ghost use Rattle.pyc_parse.specs.declared.error.ParseError.TheVariants.{Memory};
-ghost use Rattle.pyc_parse.specs.Height.{height as height_of};
+ghost use Rattle.pyc_parse.specs.Height.{height as height_of, pieces_height, links_height, clauses_height, perhaps_height, tail_height};
+ghost use Rattle.pyc_parse.specs.Places as places;
 ghost use Rattle.pyc_parse.specs.Reads.{Makes};
 ghost use Rattle.pyc_parse.specs.Targets as targets;
 ghost use Rattle.pyc_parse.specs.Tree as tree;
-ghost use Rattle.pyc_parse.specs.View.{tree_of};
+ghost use Rattle.pyc_parse.specs.View.{tree_of, pieces_of, tail_of, perhaps_of, links_before, clauses_before};
 
 use crate::error::ParseError;
-use crate::tree::Expr;
+use crate::place::Sort;
+use crate::tree::{Clause, Expr, Link, Pieces, Tail};
 use pyc_lex::Token;
 use std::alloc::Global;
 
@@ -25,6 +27,55 @@ pub struct Built {
     pub ghost height_is: { height ≡ height_of (tree_of expr) },
     pub ghost low: { height ≤ 1000 },
     pub ghost target_is: { is_target ≡ targets.is_target (tree_of expr) },
+}
+
+/// Items with their height, whether they have a comma, and whether they may be assigned to.
+#[derive(Drop)]
+pub struct BuiltPieces {
+    pub pieces: Pieces,
+    pub height: usize,
+    pub has_comma: bool,
+    pub are_targets: bool,
+    pub ghost height_is: { height ≡ pieces_height (pieces_of pieces) },
+    pub ghost low: { height ≤ 1000 },
+    pub ghost comma_is: { has_comma ≡ places.has_comma (pieces_of pieces) },
+    pub ghost targets_are: { are_targets ≡ targets.are_targets false (pieces_of pieces) },
+}
+
+/// Comparisons with the height of their operands.
+#[derive(Drop)]
+pub struct BuiltLinks {
+    pub links: Vec<Link>,
+    pub height: usize,
+    pub ghost height_is: { height ≡ links_height (links_before links.items tree.unlinked) },
+    pub ghost low: { height ≤ 1000 },
+}
+
+/// The clauses of a comprehension with their height.
+#[derive(Drop)]
+pub struct BuiltClauses {
+    pub clauses: Vec<Clause>,
+    pub height: usize,
+    pub ghost height_is: { height ≡ clauses_height (clauses_before clauses.items tree.no_clause) },
+    pub ghost low: { height ≤ 1001 },
+}
+
+/// An expression with its height, or none, whose height is 0.
+#[derive(Drop)]
+pub struct BuiltOption {
+    pub expr: Option<Box<Expr>>,
+    pub height: usize,
+    pub ghost height_is: { height ≡ perhaps_height (perhaps_of expr) },
+    pub ghost low: { height ≤ 1000 },
+}
+
+/// A token and the expression after it with its height, or nothing, whose height is 0.
+#[derive(Drop)]
+pub struct BuiltTail {
+    pub tail: Tail,
+    pub height: usize,
+    pub ghost height_is: { height ≡ tail_height (tail_of tail) },
+    pub ghost low: { height ≤ 1000 },
 }
 
 /// The same expression on the heap.
@@ -61,6 +112,20 @@ fn made(expr: Expr, height: usize, is_target: bool) -> Result<Built, ParseError>
     })
 }
 
+/// How many nodes items without brackets make beside their own: where there is a comma, a tuple.
+fn tuple_node(has_comma: bool) -> usize
+    ensures { result ≡ (if has_comma then 1 else 0) }
+{
+    if has_comma { 1 } else { 0 }
+}
+
+/// Whether a display may hold targets.
+fn holds_targets(sort: Sort) -> bool
+    ensures { result ≡ targets.holds_targets sort }
+{
+    matches!(sort, Sort::Tuple | Sort::List)
+}
+
 /// An identifier.
 pub fn name(token: Token) -> Built
     ensures { tree_of result.expr ≡ tree.name token }
@@ -72,17 +137,299 @@ pub fn name(token: Token) -> Built
     }
 }
 
+/// A number.
+pub fn number(token: Token) -> Built
+    ensures { tree_of result.expr ≡ tree.number token }
+{
+    Built {
+        expr: Expr::Number(token),
+        height: 1,
+        is_target: false,
+    }
+}
+
+/// `False`, `None`, `True` or `...`.
+pub fn constant(token: Token) -> Built
+    ensures { tree_of result.expr ≡ tree.constant token }
+{
+    Built {
+        expr: Expr::Constant(token),
+        height: 1,
+        is_target: false,
+    }
+}
+
+/// String literals, one after another.
+pub fn strings(first: Token, more: Vec<Token>) -> Built
+    ensures { tree_of result.expr ≡ tree.strings first more.items }
+{
+    Built {
+        expr: Expr::Strings(first, more),
+        height: 1,
+        is_target: false,
+    }
+}
+
+/// A form in parentheses.
+pub fn parenthesized(alloc: Global, opening: Token, inner: Built, closing: Token) -> Result<Built, ParseError>
+    ensures { Makes (λ b. tree_of b.expr) (tree.parenthesized opening (tree_of inner.expr) closing) result }
+{
+    let height = inner.height + 1;
+    let is_target = inner.is_target;
+    let inner = boxed(alloc, inner.expr)?;
+    made(Expr::Parenthesized(opening, inner, closing), height, is_target)
+}
+
+/// A display of items in brackets.
+pub fn display(sort: Sort, opening: Token, items: BuiltPieces, closing: Token) -> Result<Built, ParseError>
+    ensures { Makes (λ b. tree_of b.expr) (tree.display sort opening (pieces_of items.pieces) closing) result }
+{
+    let height = items.height + 1;
+    let is_target = holds_targets(sort) && items.are_targets;
+    made(Expr::Display(sort, opening, items.pieces, closing), height, is_target)
+}
+
+/// A comprehension, or a generator, in brackets.
+pub fn comprehension(alloc: Global, sort: Sort, opening: Token, element: Built, clauses: BuiltClauses, closing: Token) -> Result<Built, ParseError>
+    ensures { Makes (λ b. tree_of b.expr) (tree.comprehension sort opening (tree_of element.expr) (clauses_before clauses.clauses.items tree.no_clause) closing) result }
+{
+    let height = taller(element.height, clauses.height) + 1;
+    let element = boxed(alloc, element.expr)?;
+    made(Expr::Comprehension(sort, opening, element, clauses.clauses, closing), height, false)
+}
+
+/// An object, `.` and a name.
+pub fn attribute(alloc: Global, object: Built, dot: Token, name: Token) -> Result<Built, ParseError>
+    ensures { Makes (λ b. tree_of b.expr) (tree.attribute (tree_of object.expr) dot name) result }
+{
+    let height = object.height + 1;
+    let is_target = true;
+    let object = boxed(alloc, object.expr)?;
+    made(Expr::Attribute(object, dot, name), height, is_target)
+}
+
+/// A callee and its arguments in parentheses.
+pub fn call(alloc: Global, callee: Built, opening: Token, arguments: BuiltPieces, closing: Token) -> Result<Built, ParseError>
+    ensures { Makes (λ b. tree_of b.expr) (tree.call (tree_of callee.expr) opening (pieces_of arguments.pieces) closing) result }
+{
+    let height = taller(callee.height, arguments.height) + 1;
+    let callee = boxed(alloc, callee.expr)?;
+    made(Expr::Call(callee, opening, arguments.pieces, closing), height, false)
+}
+
+/// An object and its indices in square brackets.
+pub fn subscript(alloc: Global, object: Built, opening: Token, indices: BuiltPieces, closing: Token) -> Result<Built, ParseError>
+    ensures { Makes (λ b. tree_of b.expr) (tree.subscript (tree_of object.expr) opening (pieces_of indices.pieces) closing) result }
+{
+    let height = taller(object.height, indices.height + tuple_node(indices.has_comma)) + 1;
+    let is_target = true;
+    let object = boxed(alloc, object.expr)?;
+    made(Expr::Subscript(object, opening, indices.pieces, closing), height, is_target)
+}
+
+/// `await` and its operand.
+pub fn awaited(alloc: Global, word: Token, operand: Built) -> Result<Built, ParseError>
+    ensures { Makes (λ b. tree_of b.expr) (tree.await word (tree_of operand.expr)) result }
+{
+    let height = operand.height + 1;
+    let operand = boxed(alloc, operand.expr)?;
+    made(Expr::Await(word, operand), height, false)
+}
+
+/// A sign, `~` or `not`, and its operand.
+pub fn unary(alloc: Global, sign: Token, operand: Built) -> Result<Built, ParseError>
+    ensures { Makes (λ b. tree_of b.expr) (tree.unary sign (tree_of operand.expr)) result }
+{
+    let height = operand.height + 1;
+    let operand = boxed(alloc, operand.expr)?;
+    made(Expr::Unary(sign, operand), height, false)
+}
+
 /// An operator between two operands.
-pub fn binary(
-    alloc: Global,
-    left: Built,
-    operator: Token,
-    right: Built,
-) -> Result<Built, ParseError>
+pub fn binary(alloc: Global, left: Built, operator: Token, right: Built) -> Result<Built, ParseError>
     ensures { Makes (λ b. tree_of b.expr) (tree.binary (tree_of left.expr) operator (tree_of right.expr)) result }
 {
     let height = taller(left.height, right.height) + 1;
     let left = boxed(alloc, left.expr)?;
     let right = boxed(alloc, right.expr)?;
     made(Expr::Binary(left, operator, right), height, false)
+}
+
+/// A chain of comparisons.
+pub fn compare(alloc: Global, left: Built, links: BuiltLinks) -> Result<Built, ParseError>
+    ensures { Makes (λ b. tree_of b.expr) (tree.compare (tree_of left.expr) (links_before links.links.items tree.unlinked)) result }
+{
+    let height = taller(left.height, links.height) + 1;
+    let left = boxed(alloc, left.expr)?;
+    made(Expr::Compare(left, links.links), height, false)
+}
+
+/// A value, `if`, a test, `else`, another value.
+pub fn conditional(alloc: Global, value: Built, word_if: Token, test: Built, word_else: Token, other: Built) -> Result<Built, ParseError>
+    ensures { Makes (λ b. tree_of b.expr) (tree.conditional (tree_of value.expr) word_if (tree_of test.expr) word_else (tree_of other.expr)) result }
+{
+    let height = taller(value.height, taller(test.height, other.height)) + 1;
+    let value = boxed(alloc, value.expr)?;
+    let test = boxed(alloc, test.expr)?;
+    let other = boxed(alloc, other.expr)?;
+    made(Expr::Conditional(value, word_if, test, word_else, other), height, false)
+}
+
+/// `lambda`, parameters, `:` and a body.
+pub fn lambda(alloc: Global, word: Token, parameters: BuiltPieces, colon: Token, body: Built) -> Result<Built, ParseError>
+    ensures { Makes (λ b. tree_of b.expr) (tree.lambda word (pieces_of parameters.pieces) colon (tree_of body.expr)) result }
+{
+    let height = taller(parameters.height, body.height) + 1;
+    let body = boxed(alloc, body.expr)?;
+    made(Expr::Lambda(word, parameters.pieces, colon, body), height, false)
+}
+
+/// Items with commas and no brackets: a tuple.
+pub fn bare(items: BuiltPieces) -> Result<Built, ParseError>
+    ensures { Makes (λ b. tree_of b.expr) (tree.bare (pieces_of items.pieces)) result }
+{
+    let height = items.height + 1;
+    let is_target = items.are_targets;
+    made(Expr::Bare(items.pieces), height, is_target)
+}
+
+/// `yield`, perhaps with a value.
+pub fn yielded(word: Token, value: BuiltOption) -> Result<Built, ParseError>
+    ensures { Makes (λ b. tree_of b.expr) (tree.yield word (perhaps_of value.expr)) result }
+{
+    let height = value.height + 1;
+    made(Expr::Yield(word, value.expr), height, false)
+}
+
+/// `yield`, `from` and a value.
+pub fn yield_from(alloc: Global, word: Token, from: Token, value: Built) -> Result<Built, ParseError>
+    ensures { Makes (λ b. tree_of b.expr) (tree.yield_from word from (tree_of value.expr)) result }
+{
+    let height = value.height + 1;
+    let value = boxed(alloc, value.expr)?;
+    made(Expr::YieldFrom(word, from, value), height, false)
+}
+
+/// `*` and an operand.
+pub fn starred(alloc: Global, star: Token, operand: Built) -> Result<Built, ParseError>
+    ensures { Makes (λ b. tree_of b.expr) (tree.starred star (tree_of operand.expr)) result }
+{
+    let height = operand.height + 1;
+    let operand = boxed(alloc, operand.expr)?;
+    made(Expr::Starred(star, operand), height, false)
+}
+
+/// `**` and a value, in a call.
+pub fn double_starred(alloc: Global, stars: Token, operand: Built) -> Result<Built, ParseError>
+    ensures { Makes (λ b. tree_of b.expr) (tree.double_starred stars (tree_of operand.expr)) result }
+{
+    let height = operand.height + 1;
+    let operand = boxed(alloc, operand.expr)?;
+    made(Expr::DoubleStarred(stars, operand), height, false)
+}
+
+/// A key, `:` and a value, in a dictionary.
+pub fn entry(alloc: Global, key: Built, colon: Token, value: Built) -> Result<Built, ParseError>
+    ensures { Makes (λ b. tree_of b.expr) (tree.entry (tree_of key.expr) colon (tree_of value.expr)) result }
+{
+    let height = taller(key.height, value.height);
+    let key = boxed(alloc, key.expr)?;
+    let value = boxed(alloc, value.expr)?;
+    made(Expr::Entry(key, colon, value), height, false)
+}
+
+/// `**` and a mapping, in a dictionary.
+pub fn mapping(alloc: Global, stars: Token, operand: Built) -> Result<Built, ParseError>
+    ensures { Makes (λ b. tree_of b.expr) (tree.mapping stars (tree_of operand.expr)) result }
+{
+    let height = operand.height;
+    let operand = boxed(alloc, operand.expr)?;
+    made(Expr::Mapping(stars, operand), height, false)
+}
+
+/// A lower bound, `:` and an upper bound.
+pub fn slice(lower: BuiltOption, colon: Token, upper: BuiltOption) -> Result<Built, ParseError>
+    ensures { Makes (λ b. tree_of b.expr) (tree.slice (perhaps_of lower.expr) colon (perhaps_of upper.expr)) result }
+{
+    let height = taller(lower.height, upper.height) + 1;
+    made(Expr::Slice(lower.expr, colon, upper.expr), height, false)
+}
+
+/// A lower bound, `:`, an upper bound, `:` and a step.
+pub fn stride(lower: BuiltOption, colon: Token, upper: BuiltOption, second: Token, step: BuiltOption) -> Result<Built, ParseError>
+    ensures { Makes (λ b. tree_of b.expr) (tree.stride (perhaps_of lower.expr) colon (perhaps_of upper.expr) second (perhaps_of step.expr)) result }
+{
+    let height = taller(lower.height, taller(upper.height, step.height)) + 1;
+    made(Expr::Stride(lower.expr, colon, upper.expr, second, step.expr), height, false)
+}
+
+/// A plain argument of a call.
+pub fn argument(alloc: Global, value: Built) -> Result<Built, ParseError>
+    ensures { Makes (λ b. tree_of b.expr) (tree.argument (tree_of value.expr)) result }
+{
+    let height = value.height + 1;
+    let value = boxed(alloc, value.expr)?;
+    made(Expr::Argument(value), height, false)
+}
+
+/// A name, `=` and a value, in a call.
+pub fn keyword(alloc: Global, name: Token, equal: Token, value: Built) -> Result<Built, ParseError>
+    ensures { Makes (λ b. tree_of b.expr) (tree.keyword name equal (tree_of value.expr)) result }
+{
+    let height = value.height + 1;
+    let value = boxed(alloc, value.expr)?;
+    made(Expr::Keyword(name, equal, value), height, false)
+}
+
+/// A generator that is the only argument of a call.
+pub fn generator(alloc: Global, element: Built, clauses: BuiltClauses) -> Result<Built, ParseError>
+    ensures { Makes (λ b. tree_of b.expr) (tree.generator (tree_of element.expr) (clauses_before clauses.clauses.items tree.no_clause)) result }
+{
+    let height = taller(element.height, clauses.height) + 1;
+    let element = boxed(alloc, element.expr)?;
+    made(Expr::Generator(element, clauses.clauses), height, false)
+}
+
+/// A parameter with its annotation and its default.
+pub fn parameter(name: Token, annotation: BuiltTail, default: BuiltTail) -> Result<Built, ParseError>
+    ensures { Makes (λ b. tree_of b.expr) (tree.parameter name (tail_of annotation.tail) (tail_of default.tail)) result }
+{
+    let height = taller(annotation.height, default.height) + 1;
+    made(Expr::Parameter(name, annotation.tail, default.tail), height, false)
+}
+
+/// `*` and a parameter with its annotation.
+pub fn star_parameter(star: Token, name: Token, annotation: BuiltTail) -> Result<Built, ParseError>
+    ensures { Makes (λ b. tree_of b.expr) (tree.star_parameter star name (tail_of annotation.tail)) result }
+{
+    let height = annotation.height + 1;
+    made(Expr::StarParameter(star, name, annotation.tail), height, false)
+}
+
+/// `**` and a parameter with its annotation.
+pub fn double_parameter(stars: Token, name: Token, annotation: BuiltTail) -> Result<Built, ParseError>
+    ensures { Makes (λ b. tree_of b.expr) (tree.double_parameter stars name (tail_of annotation.tail)) result }
+{
+    let height = annotation.height + 1;
+    made(Expr::DoubleParameter(stars, name, annotation.tail), height, false)
+}
+
+/// A context manager, perhaps with its target.
+pub fn with_item(alloc: Global, value: Built, target: BuiltTail) -> Result<Built, ParseError>
+    ensures { Makes (λ b. tree_of b.expr) (tree.with_item (tree_of value.expr) (tail_of target.tail)) result }
+{
+    let height = taller(value.height, target.height) + 1;
+    let value = boxed(alloc, value.expr)?;
+    made(Expr::WithItem(value, target.tail), height, false)
+}
+
+/// `*` alone among parameters.
+pub fn bare_star(token: Token) -> Built
+    ensures { tree_of result.expr ≡ tree.bare_star token }
+{
+    Built {
+        expr: Expr::BareStar(token),
+        height: 1,
+        is_target: false,
+    }
 }
