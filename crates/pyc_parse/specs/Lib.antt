@@ -17,3 +17,4 @@ pub mod Headers
 pub mod LineFault
 pub mod View
 pub mod Reads
+pub mod Nests

@@ -21,12 +21,12 @@ pub const MAX_HEIGHT: usize = 1000;
 /// A tree with its height, and whether it may be assigned to.
 #[derive(Drop)]
 pub struct Built {
-    pub expr: Expr,
+    pub expr: Box<Expr>,
     pub height: usize,
     pub is_target: bool,
-    pub ghost height_is: { height ≡ height_of (tree_of expr) },
+    pub ghost height_is: { height ≡ height_of (tree_of expr.value) },
     pub ghost low: { height ≤ 1000 },
-    pub ghost target_is: { is_target ≡ targets.is_target (tree_of expr) },
+    pub ghost target_is: { is_target ≡ targets.is_target (tree_of expr.value) },
 }
 
 /// Items with their height, whether they have a comma, and whether they may be assigned to.
@@ -97,14 +97,20 @@ fn taller(a: usize, b: usize) -> usize
 }
 
 /// A tree of this height, unless that passes the limit.
-fn made(expr: Expr, height: usize, is_target: bool) -> Result<Built, ParseError>
+fn made(
+    alloc: Global,
+    expr: Expr,
+    height: usize,
+    is_target: bool,
+) -> Result<Built, ParseError>
     requires height_is { height ≡ height_of (tree_of expr) }
     requires target_is { is_target ≡ targets.is_target (tree_of expr) }
-    ensures { Makes (λ b. tree_of b.expr) (tree_of expr) result }
+    ensures { Makes (λ b. tree_of b.expr.value) (tree_of expr) result }
 {
     if height > MAX_HEIGHT {
         return Err(ParseError::Refused);
     }
+    let expr = boxed(alloc, expr)?;
     Ok(Built {
         expr,
         height,
@@ -127,309 +133,265 @@ fn holds_targets(sort: Sort) -> bool
 }
 
 /// An identifier.
-pub fn name(token: Token) -> Built
-    ensures { tree_of result.expr ≡ tree.name token }
+pub fn name(alloc: Global, token: Token) -> Result<Built, ParseError>
+    ensures { Makes (λ b. tree_of b.expr.value) (tree.name token) result }
 {
-    Built {
-        expr: Expr::Name(token),
-        height: 1,
-        is_target: true,
-    }
+    made(alloc, Expr::Name(token), 1, true)
 }
 
 /// A number.
-pub fn number(token: Token) -> Built
-    ensures { tree_of result.expr ≡ tree.number token }
+pub fn number(alloc: Global, token: Token) -> Result<Built, ParseError>
+    ensures { Makes (λ b. tree_of b.expr.value) (tree.number token) result }
 {
-    Built {
-        expr: Expr::Number(token),
-        height: 1,
-        is_target: false,
-    }
+    made(alloc, Expr::Number(token), 1, false)
 }
 
 /// `False`, `None`, `True` or `...`.
-pub fn constant(token: Token) -> Built
-    ensures { tree_of result.expr ≡ tree.constant token }
+pub fn constant(alloc: Global, token: Token) -> Result<Built, ParseError>
+    ensures { Makes (λ b. tree_of b.expr.value) (tree.constant token) result }
 {
-    Built {
-        expr: Expr::Constant(token),
-        height: 1,
-        is_target: false,
-    }
+    made(alloc, Expr::Constant(token), 1, false)
 }
 
 /// String literals, one after another.
-pub fn strings(first: Token, more: Vec<Token>) -> Built
-    ensures { tree_of result.expr ≡ tree.strings first more.items }
+pub fn strings(alloc: Global, first: Token, more: Vec<Token>) -> Result<Built, ParseError>
+    ensures { Makes (λ b. tree_of b.expr.value) (tree.strings first more.items) result }
 {
-    Built {
-        expr: Expr::Strings(first, more),
-        height: 1,
-        is_target: false,
-    }
+    made(alloc, Expr::Strings(first, more), 1, false)
 }
 
 /// A form in parentheses.
 pub fn parenthesized(alloc: Global, opening: Token, inner: Built, closing: Token) -> Result<Built, ParseError>
-    ensures { Makes (λ b. tree_of b.expr) (tree.parenthesized opening (tree_of inner.expr) closing) result }
+    ensures { Makes (λ b. tree_of b.expr.value) (tree.parenthesized opening (tree_of inner.expr.value) closing) result }
 {
     let height = inner.height + 1;
     let is_target = inner.is_target;
-    let inner = boxed(alloc, inner.expr)?;
-    made(Expr::Parenthesized(opening, inner, closing), height, is_target)
+    made(alloc, Expr::Parenthesized(opening, inner.expr, closing), height, is_target)
 }
 
 /// A display of items in brackets.
-pub fn display(sort: Sort, opening: Token, items: BuiltPieces, closing: Token) -> Result<Built, ParseError>
-    ensures { Makes (λ b. tree_of b.expr) (tree.display sort opening (pieces_of items.pieces) closing) result }
+pub fn display(alloc: Global, sort: Sort, opening: Token, items: BuiltPieces, closing: Token) -> Result<Built, ParseError>
+    ensures { Makes (λ b. tree_of b.expr.value) (tree.display sort opening (pieces_of items.pieces) closing) result }
 {
     let height = items.height + 1;
     let is_target = holds_targets(sort) && items.are_targets;
-    made(Expr::Display(sort, opening, items.pieces, closing), height, is_target)
+    made(alloc, Expr::Display(sort, opening, items.pieces, closing), height, is_target)
 }
 
 /// A comprehension, or a generator, in brackets.
 pub fn comprehension(alloc: Global, sort: Sort, opening: Token, element: Built, clauses: BuiltClauses, closing: Token) -> Result<Built, ParseError>
-    ensures { Makes (λ b. tree_of b.expr) (tree.comprehension sort opening (tree_of element.expr) (clauses_before clauses.clauses.items tree.no_clause) closing) result }
+    ensures { Makes (λ b. tree_of b.expr.value) (tree.comprehension sort opening (tree_of element.expr.value) (clauses_before clauses.clauses.items tree.no_clause) closing) result }
 {
     let height = taller(element.height, clauses.height) + 1;
-    let element = boxed(alloc, element.expr)?;
-    made(Expr::Comprehension(sort, opening, element, clauses.clauses, closing), height, false)
+    made(alloc, Expr::Comprehension(sort, opening, element.expr, clauses.clauses, closing), height, false)
 }
 
 /// An object, `.` and a name.
 pub fn attribute(alloc: Global, object: Built, dot: Token, name: Token) -> Result<Built, ParseError>
-    ensures { Makes (λ b. tree_of b.expr) (tree.attribute (tree_of object.expr) dot name) result }
+    ensures { Makes (λ b. tree_of b.expr.value) (tree.attribute (tree_of object.expr.value) dot name) result }
 {
     let height = object.height + 1;
     let is_target = true;
-    let object = boxed(alloc, object.expr)?;
-    made(Expr::Attribute(object, dot, name), height, is_target)
+    made(alloc, Expr::Attribute(object.expr, dot, name), height, is_target)
 }
 
 /// A callee and its arguments in parentheses.
 pub fn call(alloc: Global, callee: Built, opening: Token, arguments: BuiltPieces, closing: Token) -> Result<Built, ParseError>
-    ensures { Makes (λ b. tree_of b.expr) (tree.call (tree_of callee.expr) opening (pieces_of arguments.pieces) closing) result }
+    ensures { Makes (λ b. tree_of b.expr.value) (tree.call (tree_of callee.expr.value) opening (pieces_of arguments.pieces) closing) result }
 {
     let height = taller(callee.height, arguments.height) + 1;
-    let callee = boxed(alloc, callee.expr)?;
-    made(Expr::Call(callee, opening, arguments.pieces, closing), height, false)
+    made(alloc, Expr::Call(callee.expr, opening, arguments.pieces, closing), height, false)
 }
 
 /// An object and its indices in square brackets.
 pub fn subscript(alloc: Global, object: Built, opening: Token, indices: BuiltPieces, closing: Token) -> Result<Built, ParseError>
-    ensures { Makes (λ b. tree_of b.expr) (tree.subscript (tree_of object.expr) opening (pieces_of indices.pieces) closing) result }
+    ensures { Makes (λ b. tree_of b.expr.value) (tree.subscript (tree_of object.expr.value) opening (pieces_of indices.pieces) closing) result }
 {
     let height = taller(object.height, indices.height + tuple_node(indices.has_comma)) + 1;
     let is_target = true;
-    let object = boxed(alloc, object.expr)?;
-    made(Expr::Subscript(object, opening, indices.pieces, closing), height, is_target)
+    made(alloc, Expr::Subscript(object.expr, opening, indices.pieces, closing), height, is_target)
 }
 
 /// `await` and its operand.
 pub fn awaited(alloc: Global, word: Token, operand: Built) -> Result<Built, ParseError>
-    ensures { Makes (λ b. tree_of b.expr) (tree.await word (tree_of operand.expr)) result }
+    ensures { Makes (λ b. tree_of b.expr.value) (tree.await word (tree_of operand.expr.value)) result }
 {
     let height = operand.height + 1;
-    let operand = boxed(alloc, operand.expr)?;
-    made(Expr::Await(word, operand), height, false)
+    made(alloc, Expr::Await(word, operand.expr), height, false)
 }
 
 /// A sign, `~` or `not`, and its operand.
 pub fn unary(alloc: Global, sign: Token, operand: Built) -> Result<Built, ParseError>
-    ensures { Makes (λ b. tree_of b.expr) (tree.unary sign (tree_of operand.expr)) result }
+    ensures { Makes (λ b. tree_of b.expr.value) (tree.unary sign (tree_of operand.expr.value)) result }
 {
     let height = operand.height + 1;
-    let operand = boxed(alloc, operand.expr)?;
-    made(Expr::Unary(sign, operand), height, false)
+    made(alloc, Expr::Unary(sign, operand.expr), height, false)
 }
 
 /// An operator between two operands.
 pub fn binary(alloc: Global, left: Built, operator: Token, right: Built) -> Result<Built, ParseError>
-    ensures { Makes (λ b. tree_of b.expr) (tree.binary (tree_of left.expr) operator (tree_of right.expr)) result }
+    ensures { Makes (λ b. tree_of b.expr.value) (tree.binary (tree_of left.expr.value) operator (tree_of right.expr.value)) result }
 {
     let height = taller(left.height, right.height) + 1;
-    let left = boxed(alloc, left.expr)?;
-    let right = boxed(alloc, right.expr)?;
-    made(Expr::Binary(left, operator, right), height, false)
+    made(alloc, Expr::Binary(left.expr, operator, right.expr), height, false)
 }
 
 /// A chain of comparisons.
 pub fn compare(alloc: Global, left: Built, links: BuiltLinks) -> Result<Built, ParseError>
-    ensures { Makes (λ b. tree_of b.expr) (tree.compare (tree_of left.expr) (links_before links.links.items tree.unlinked)) result }
+    ensures { Makes (λ b. tree_of b.expr.value) (tree.compare (tree_of left.expr.value) (links_before links.links.items tree.unlinked)) result }
 {
     let height = taller(left.height, links.height) + 1;
-    let left = boxed(alloc, left.expr)?;
-    made(Expr::Compare(left, links.links), height, false)
+    made(alloc, Expr::Compare(left.expr, links.links), height, false)
 }
 
 /// A value, `if`, a test, `else`, another value.
 pub fn conditional(alloc: Global, value: Built, word_if: Token, test: Built, word_else: Token, other: Built) -> Result<Built, ParseError>
-    ensures { Makes (λ b. tree_of b.expr) (tree.conditional (tree_of value.expr) word_if (tree_of test.expr) word_else (tree_of other.expr)) result }
+    ensures { Makes (λ b. tree_of b.expr.value) (tree.conditional (tree_of value.expr.value) word_if (tree_of test.expr.value) word_else (tree_of other.expr.value)) result }
 {
     let height = taller(value.height, taller(test.height, other.height)) + 1;
-    let value = boxed(alloc, value.expr)?;
-    let test = boxed(alloc, test.expr)?;
-    let other = boxed(alloc, other.expr)?;
-    made(Expr::Conditional(value, word_if, test, word_else, other), height, false)
+    made(alloc, Expr::Conditional(value.expr, word_if, test.expr, word_else, other.expr), height, false)
 }
 
 /// `lambda`, parameters, `:` and a body.
 pub fn lambda(alloc: Global, word: Token, parameters: BuiltPieces, colon: Token, body: Built) -> Result<Built, ParseError>
-    ensures { Makes (λ b. tree_of b.expr) (tree.lambda word (pieces_of parameters.pieces) colon (tree_of body.expr)) result }
+    ensures { Makes (λ b. tree_of b.expr.value) (tree.lambda word (pieces_of parameters.pieces) colon (tree_of body.expr.value)) result }
 {
     let height = taller(parameters.height, body.height) + 1;
-    let body = boxed(alloc, body.expr)?;
-    made(Expr::Lambda(word, parameters.pieces, colon, body), height, false)
+    made(alloc, Expr::Lambda(word, parameters.pieces, colon, body.expr), height, false)
 }
 
 /// Items with commas and no brackets: a tuple.
-pub fn bare(items: BuiltPieces) -> Result<Built, ParseError>
-    ensures { Makes (λ b. tree_of b.expr) (tree.bare (pieces_of items.pieces)) result }
+pub fn bare(alloc: Global, items: BuiltPieces) -> Result<Built, ParseError>
+    ensures { Makes (λ b. tree_of b.expr.value) (tree.bare (pieces_of items.pieces)) result }
 {
     let height = items.height + 1;
     let is_target = items.are_targets;
-    made(Expr::Bare(items.pieces), height, is_target)
+    made(alloc, Expr::Bare(items.pieces), height, is_target)
 }
 
 /// `yield`, perhaps with a value.
-pub fn yielded(word: Token, value: BuiltOption) -> Result<Built, ParseError>
-    ensures { Makes (λ b. tree_of b.expr) (tree.yield word (perhaps_of value.expr)) result }
+pub fn yielded(alloc: Global, word: Token, value: BuiltOption) -> Result<Built, ParseError>
+    ensures { Makes (λ b. tree_of b.expr.value) (tree.yield word (perhaps_of value.expr)) result }
 {
     let height = value.height + 1;
-    made(Expr::Yield(word, value.expr), height, false)
+    made(alloc, Expr::Yield(word, value.expr), height, false)
 }
 
 /// `yield`, `from` and a value.
 pub fn yield_from(alloc: Global, word: Token, from: Token, value: Built) -> Result<Built, ParseError>
-    ensures { Makes (λ b. tree_of b.expr) (tree.yield_from word from (tree_of value.expr)) result }
+    ensures { Makes (λ b. tree_of b.expr.value) (tree.yield_from word from (tree_of value.expr.value)) result }
 {
     let height = value.height + 1;
-    let value = boxed(alloc, value.expr)?;
-    made(Expr::YieldFrom(word, from, value), height, false)
+    made(alloc, Expr::YieldFrom(word, from, value.expr), height, false)
 }
 
 /// `*` and an operand.
 pub fn starred(alloc: Global, star: Token, operand: Built) -> Result<Built, ParseError>
-    ensures { Makes (λ b. tree_of b.expr) (tree.starred star (tree_of operand.expr)) result }
+    ensures { Makes (λ b. tree_of b.expr.value) (tree.starred star (tree_of operand.expr.value)) result }
 {
     let height = operand.height + 1;
-    let operand = boxed(alloc, operand.expr)?;
-    made(Expr::Starred(star, operand), height, false)
+    made(alloc, Expr::Starred(star, operand.expr), height, false)
 }
 
 /// `**` and a value, in a call.
 pub fn double_starred(alloc: Global, stars: Token, operand: Built) -> Result<Built, ParseError>
-    ensures { Makes (λ b. tree_of b.expr) (tree.double_starred stars (tree_of operand.expr)) result }
+    ensures { Makes (λ b. tree_of b.expr.value) (tree.double_starred stars (tree_of operand.expr.value)) result }
 {
     let height = operand.height + 1;
-    let operand = boxed(alloc, operand.expr)?;
-    made(Expr::DoubleStarred(stars, operand), height, false)
+    made(alloc, Expr::DoubleStarred(stars, operand.expr), height, false)
 }
 
 /// A key, `:` and a value, in a dictionary.
 pub fn entry(alloc: Global, key: Built, colon: Token, value: Built) -> Result<Built, ParseError>
-    ensures { Makes (λ b. tree_of b.expr) (tree.entry (tree_of key.expr) colon (tree_of value.expr)) result }
+    ensures { Makes (λ b. tree_of b.expr.value) (tree.entry (tree_of key.expr.value) colon (tree_of value.expr.value)) result }
 {
     let height = taller(key.height, value.height);
-    let key = boxed(alloc, key.expr)?;
-    let value = boxed(alloc, value.expr)?;
-    made(Expr::Entry(key, colon, value), height, false)
+    made(alloc, Expr::Entry(key.expr, colon, value.expr), height, false)
 }
 
 /// `**` and a mapping, in a dictionary.
 pub fn mapping(alloc: Global, stars: Token, operand: Built) -> Result<Built, ParseError>
-    ensures { Makes (λ b. tree_of b.expr) (tree.mapping stars (tree_of operand.expr)) result }
+    ensures { Makes (λ b. tree_of b.expr.value) (tree.mapping stars (tree_of operand.expr.value)) result }
 {
     let height = operand.height;
-    let operand = boxed(alloc, operand.expr)?;
-    made(Expr::Mapping(stars, operand), height, false)
+    made(alloc, Expr::Mapping(stars, operand.expr), height, false)
 }
 
 /// A lower bound, `:` and an upper bound.
-pub fn slice(lower: BuiltOption, colon: Token, upper: BuiltOption) -> Result<Built, ParseError>
-    ensures { Makes (λ b. tree_of b.expr) (tree.slice (perhaps_of lower.expr) colon (perhaps_of upper.expr)) result }
+pub fn slice(alloc: Global, lower: BuiltOption, colon: Token, upper: BuiltOption) -> Result<Built, ParseError>
+    ensures { Makes (λ b. tree_of b.expr.value) (tree.slice (perhaps_of lower.expr) colon (perhaps_of upper.expr)) result }
 {
     let height = taller(lower.height, upper.height) + 1;
-    made(Expr::Slice(lower.expr, colon, upper.expr), height, false)
+    made(alloc, Expr::Slice(lower.expr, colon, upper.expr), height, false)
 }
 
 /// A lower bound, `:`, an upper bound, `:` and a step.
-pub fn stride(lower: BuiltOption, colon: Token, upper: BuiltOption, second: Token, step: BuiltOption) -> Result<Built, ParseError>
-    ensures { Makes (λ b. tree_of b.expr) (tree.stride (perhaps_of lower.expr) colon (perhaps_of upper.expr) second (perhaps_of step.expr)) result }
+pub fn stride(alloc: Global, lower: BuiltOption, colon: Token, upper: BuiltOption, second: Token, step: BuiltOption) -> Result<Built, ParseError>
+    ensures { Makes (λ b. tree_of b.expr.value) (tree.stride (perhaps_of lower.expr) colon (perhaps_of upper.expr) second (perhaps_of step.expr)) result }
 {
     let height = taller(lower.height, taller(upper.height, step.height)) + 1;
-    made(Expr::Stride(lower.expr, colon, upper.expr, second, step.expr), height, false)
+    made(alloc, Expr::Stride(lower.expr, colon, upper.expr, second, step.expr), height, false)
 }
 
 /// A plain argument of a call.
 pub fn argument(alloc: Global, value: Built) -> Result<Built, ParseError>
-    ensures { Makes (λ b. tree_of b.expr) (tree.argument (tree_of value.expr)) result }
+    ensures { Makes (λ b. tree_of b.expr.value) (tree.argument (tree_of value.expr.value)) result }
 {
     let height = value.height + 1;
-    let value = boxed(alloc, value.expr)?;
-    made(Expr::Argument(value), height, false)
+    made(alloc, Expr::Argument(value.expr), height, false)
 }
 
 /// A name, `=` and a value, in a call.
 pub fn keyword(alloc: Global, name: Token, equal: Token, value: Built) -> Result<Built, ParseError>
-    ensures { Makes (λ b. tree_of b.expr) (tree.keyword name equal (tree_of value.expr)) result }
+    ensures { Makes (λ b. tree_of b.expr.value) (tree.keyword name equal (tree_of value.expr.value)) result }
 {
     let height = value.height + 1;
-    let value = boxed(alloc, value.expr)?;
-    made(Expr::Keyword(name, equal, value), height, false)
+    made(alloc, Expr::Keyword(name, equal, value.expr), height, false)
 }
 
 /// A generator that is the only argument of a call.
 pub fn generator(alloc: Global, element: Built, clauses: BuiltClauses) -> Result<Built, ParseError>
-    ensures { Makes (λ b. tree_of b.expr) (tree.generator (tree_of element.expr) (clauses_before clauses.clauses.items tree.no_clause)) result }
+    ensures { Makes (λ b. tree_of b.expr.value) (tree.generator (tree_of element.expr.value) (clauses_before clauses.clauses.items tree.no_clause)) result }
 {
     let height = taller(element.height, clauses.height) + 1;
-    let element = boxed(alloc, element.expr)?;
-    made(Expr::Generator(element, clauses.clauses), height, false)
+    made(alloc, Expr::Generator(element.expr, clauses.clauses), height, false)
 }
 
 /// A parameter with its annotation and its default.
-pub fn parameter(name: Token, annotation: BuiltTail, default: BuiltTail) -> Result<Built, ParseError>
-    ensures { Makes (λ b. tree_of b.expr) (tree.parameter name (tail_of annotation.tail) (tail_of default.tail)) result }
+pub fn parameter(alloc: Global, name: Token, annotation: BuiltTail, default: BuiltTail) -> Result<Built, ParseError>
+    ensures { Makes (λ b. tree_of b.expr.value) (tree.parameter name (tail_of annotation.tail) (tail_of default.tail)) result }
 {
     let height = taller(annotation.height, default.height) + 1;
-    made(Expr::Parameter(name, annotation.tail, default.tail), height, false)
+    made(alloc, Expr::Parameter(name, annotation.tail, default.tail), height, false)
 }
 
 /// `*` and a parameter with its annotation.
-pub fn star_parameter(star: Token, name: Token, annotation: BuiltTail) -> Result<Built, ParseError>
-    ensures { Makes (λ b. tree_of b.expr) (tree.star_parameter star name (tail_of annotation.tail)) result }
+pub fn star_parameter(alloc: Global, star: Token, name: Token, annotation: BuiltTail) -> Result<Built, ParseError>
+    ensures { Makes (λ b. tree_of b.expr.value) (tree.star_parameter star name (tail_of annotation.tail)) result }
 {
     let height = annotation.height + 1;
-    made(Expr::StarParameter(star, name, annotation.tail), height, false)
+    made(alloc, Expr::StarParameter(star, name, annotation.tail), height, false)
 }
 
 /// `**` and a parameter with its annotation.
-pub fn double_parameter(stars: Token, name: Token, annotation: BuiltTail) -> Result<Built, ParseError>
-    ensures { Makes (λ b. tree_of b.expr) (tree.double_parameter stars name (tail_of annotation.tail)) result }
+pub fn double_parameter(alloc: Global, stars: Token, name: Token, annotation: BuiltTail) -> Result<Built, ParseError>
+    ensures { Makes (λ b. tree_of b.expr.value) (tree.double_parameter stars name (tail_of annotation.tail)) result }
 {
     let height = annotation.height + 1;
-    made(Expr::DoubleParameter(stars, name, annotation.tail), height, false)
+    made(alloc, Expr::DoubleParameter(stars, name, annotation.tail), height, false)
 }
 
 /// A context manager, perhaps with its target.
 pub fn with_item(alloc: Global, value: Built, target: BuiltTail) -> Result<Built, ParseError>
-    ensures { Makes (λ b. tree_of b.expr) (tree.with_item (tree_of value.expr) (tail_of target.tail)) result }
+    ensures { Makes (λ b. tree_of b.expr.value) (tree.with_item (tree_of value.expr.value) (tail_of target.tail)) result }
 {
     let height = taller(value.height, target.height) + 1;
-    let value = boxed(alloc, value.expr)?;
-    made(Expr::WithItem(value, target.tail), height, false)
+    made(alloc, Expr::WithItem(value.expr, target.tail), height, false)
 }
 
 /// `*` alone among parameters.
-pub fn bare_star(token: Token) -> Built
-    ensures { tree_of result.expr ≡ tree.bare_star token }
+pub fn bare_star(alloc: Global, token: Token) -> Result<Built, ParseError>
+    ensures { Makes (λ b. tree_of b.expr.value) (tree.bare_star token) result }
 {
-    Built {
-        expr: Expr::BareStar(token),
-        height: 1,
-        is_target: false,
-    }
+    made(alloc, Expr::BareStar(token), 1, false)
 }

@@ -3,7 +3,10 @@
 
 mod built;
 mod error;
+mod grammar;
+mod kinds;
 mod place;
+mod tokens;
 mod tree;
 
 pub use place::{Place, Sort};
