@@ -84,7 +84,7 @@ unfolding tree_of
 view_Comprehension s o x clauses c =
     let row = clauses_in (e.Comprehension s o x clauses c) in
     ap (λ found. tree.comprehension s o (tree_of x.value) found c)
-      (clauses_row-items row.0 row.1 ∙ ap (λ items. clauses_before items tree.no_clause) (items_hidden-the_row-Clause-0 clauses))
+    (clauses_row-items row.0 row.1 ∙ ap (λ items. clauses_before items tree.no_clause) (items_hidden-the_row-Clause-0 clauses))
 
 pub view_Attribute : (x : Box Expr Global) (dot name : Token) → tree_of (e.Attribute x dot name) ≡ tree.attribute (tree_of x.value) dot name
 unfolding tree_of
@@ -171,8 +171,8 @@ pub view_Stride : (lower : Option (Box Expr Global)) (colon : Token) (upper : Op
 unfolding tree_of
 view_Stride lower colon upper second step =
     ap (λ a. tree.stride a colon (held (back-Expr-Yield-1 upper)) second (held (back-Expr-Yield-1 step))) (held-back lower)
-      ∙ (ap (λ b. tree.stride (perhaps_of lower) colon b second (held (back-Expr-Yield-1 step))) (held-back upper)
-        ∙ ap (tree.stride (perhaps_of lower) colon (perhaps_of upper) second) (held-back step))
+    ∙ (ap (λ b. tree.stride (perhaps_of lower) colon b second (held (back-Expr-Yield-1 step))) (held-back upper)
+    ∙ ap (tree.stride (perhaps_of lower) colon (perhaps_of upper) second) (held-back step))
 
 pub view_Argument : (x : Box Expr Global) → tree_of (e.Argument x) ≡ tree.argument (tree_of x.value)
 unfolding tree_of
@@ -237,7 +237,7 @@ view_Pieces each end =
     let found : Pieces-F Clause Expr Ending Link Piece Items = record { each = each; last = end } in
     let row = pieces_in (Pieces' (shape-the_row-Piece-2 each) (hidden-the_row-Piece-2 each) (back-Expr-Yield-1 end)) in
     ap pieces_of (rolls-Pieces' found)
-      ∙ (pieces_row-items row.0 row.1 _ ∙ (ap (λ items. pieces_before items _) (items_hidden-the_row-Piece-2 each) ∙ ap (pieces_before each.items) (last_held-back end)))
+    ∙ (pieces_row-items row.0 row.1 _ ∙ (ap (λ items. pieces_before items _) (items_hidden-the_row-Piece-2 each) ∙ ap (pieces_before each.items) (last_held-back end)))
 
 -- what each form of the code is as a plain tree
 pub ruleset views = (view_Name, view_Number, view_Constant, view_Strings, view_Parenthesized, view_Display, view_Comprehension, view_Attribute, view_Call, view_Subscript, view_Await, view_Unary, view_Binary, view_Compare, view_Conditional, view_Lambda, view_Bare, view_Yield, view_YieldFrom, view_Starred, view_DoubleStarred, view_Entry, view_Mapping, view_Slice, view_Stride, view_Argument, view_Keyword, view_Generator, view_Parameter, view_StarParameter, view_BareStar, view_DoubleParameter, view_WithItem, view_Nothing, view_After, view_For, view_If, view_Pieces)

@@ -75,7 +75,7 @@ module _ (self : ℕ → Parser Tree) where
     opening ← take_one
     next ← peek
     if same_kind next (kind.Close bracket.Round) then rule.empty self bracket.Round opening
-      else (if same_kind next (kind.Keyword word.Yield) then rule.yield_enclosed self opening else rule.filled self bracket.Round opening)
+        else (if same_kind next (kind.Keyword word.Yield) then rule.yield_enclosed self opening else rule.filled self bracket.Round opening)
 
   -- square or curly brackets and what is between them
   unfoldable pub brackets : Bracket → Parser Tree
@@ -158,7 +158,7 @@ module _ (self : ℕ → Parser Tree) where
       e ← self 6
       rest ← links n
       pure (tree.link first second e rest))
-      else pure tree.unlinked
+        else pure tree.unlinked
 
   unfoldable pub all_links : Parser Links
   all_links = λ ts. links (length ts) ts

@@ -56,7 +56,7 @@ module _ (self : ℕ → Parser Tree) where
     upper ← bound
     next ← peek
     if is_colon next then (do second ← take_one; step ← bound; made (tree.stride lower colon upper second step))
-      else made (tree.slice lower colon upper)
+        else made (tree.slice lower colon upper)
 
   -- an index: an expression or a slice
   unfoldable pub index : Parser Tree
@@ -113,7 +113,7 @@ module _ (self : ℕ → Parser Tree) where
     star ← take_one
     next ← peek
     if is_name next then (do name ← take_one; note ← annotation is_annotated; made (tree.star_parameter star name note))
-      else made (tree.bare_star star)
+        else made (tree.bare_star star)
 
   -- `**` and a parameter
   unfoldable pub double_parameter : Bool → Parser Tree
@@ -163,7 +163,7 @@ module _ (self : ℕ → Parser Tree) where
   abbrev pub parameter_by : Bool → Kind → Parser Tree
   parameter_by is_annotated k =
       if is_star k then star_parameter is_annotated
-        else (if is_double_star k then double_parameter is_annotated else plain_parameter is_annotated)
+      else (if is_double_star k then double_parameter is_annotated else plain_parameter is_annotated)
 
   -- an item of the form that a place asks for
   abbrev pub item_by : Place → Kind → Parser Tree
@@ -203,8 +203,8 @@ module _ (self : ℕ → Parser Tree) where
         f ← item (next_place here e)
         rest ← items n (next_place here e) f
         pure (tree.piece e comma rest))
-        else checked (may_end (next_place here e)) (tree.piece e comma tree.none))
-      else checked (may_end (next_place here e)) (tree.last e)
+          else checked (may_end (next_place here e)) (tree.piece e comma tree.none))
+        else checked (may_end (next_place here e)) (tree.last e)
 
   -- an item that is read already, and those after it
   unfoldable pub listed : Place → Tree → Parser Pieces
@@ -334,7 +334,7 @@ module _ (self : ℕ → Parser Tree) where
     t ← take_one
     next ← peek
     if same_kind next (kind.Keyword word.From) then yield_from t
-      else (if begins place.Items next then yield_value t else made (tree.yield t tree.absent))
+        else (if begins place.Items next then yield_value t else made (tree.yield t tree.absent))
 
   -- a `yield` in parentheses, after the opening one
   unfoldable pub yield_enclosed : Token → Parser Tree

@@ -33,7 +33,7 @@ separated one may_trail (suc n) = do
     if may_trail && not (is_name next) then pure (item x comma no_item) else (do
       rest ← separated one may_trail n
       pure (item x comma rest)))
-    else pure (last_item x)
+      else pure (last_item x)
 
 abbrev pub all_separated : {A : Type 0} → Parser A → Bool → Parser (Separated A)
 all_separated one may_trail = λ ts. separated one may_trail (length ts) ts
@@ -43,7 +43,7 @@ unfoldable pub alias : Parser (Option Alias)
 alias = do
   next ← peek
   if same_kind next (kind.Keyword word.As) then (do t ← take_one; name ← expect_name; pure (Some (record { word = t; name = name })))
-    else pure None
+      else pure None
 
 -- dots, each with a name; the number bounds them
 unfoldable pub parts : ℕ → Parser (List Part)
@@ -55,7 +55,7 @@ parts (suc n) = do
     name ← expect_name
     more ← parts n
     pure (record { dot = dot; name = name } ∷ more))
-    else pure []
+      else pure []
 
 unfoldable pub all_parts : Parser (List Part)
 all_parts = λ ts. parts (length ts) ts
@@ -175,7 +175,7 @@ module _ (self : ℕ → Parser Tree) where
       f ← value
       rest ← chain n f
       pure (record { target = e; equal = equal } ∷ rest.0, rest.1)) else fail)
-      else pure ([], e)
+        else pure ([], e)
 
   abbrev pub chained : (List Assigned × Tree) → Statement
   chained ([], e) = statement.expression e

@@ -72,16 +72,19 @@ mutual
     double_parameter : Token → Token → Tail → Tree
     -- a context manager with its target after `as`, in a `with`
     with_item : Tree → Tail → Tree
+
   -- items with commas between them, and perhaps one after the last
   pub data Pieces : Type 0 where
     none : Pieces
     -- the last one, without a comma
     last : Tree → Pieces
     piece : Tree → Token → Pieces → Pieces
+
   -- comparisons, each with its operator, which may have a second word: `not in` or `is not`
   pub data Links : Type 0 where
     unlinked : Links
     link : Token → Option Token → Tree → Links → Links
+
   -- the clauses of a comprehension
   pub data Clauses : Type 0 where
     no_clause : Clauses
@@ -89,10 +92,12 @@ mutual
     for_clause : Option Token → Token → Tree → Token → Tree → Clauses → Clauses
     -- `if` and a condition
     if_clause : Token → Tree → Clauses → Clauses
+
   -- an expression, or none
   pub data Perhaps : Type 0 where
     absent : Perhaps
     present : Tree → Perhaps
+
   -- a token with an expression after it, or nothing
   pub data Tail : Type 0 where
     nothing : Tail

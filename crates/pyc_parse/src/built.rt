@@ -97,12 +97,7 @@ fn taller(a: usize, b: usize) -> usize
 }
 
 /// A tree of this height, unless that passes the limit.
-fn made(
-    alloc: Global,
-    expr: Expr,
-    height: usize,
-    is_target: bool,
-) -> Result<Built, ParseError>
+fn made(alloc: Global, expr: Expr, height: usize, is_target: bool) -> Result<Built, ParseError>
     requires height_is { height ≡ height_of (tree_of expr) }
     requires target_is { is_target ≡ targets.is_target (tree_of expr) }
     ensures { Makes (λ b. tree_of b.expr.value) (tree_of expr) result }
@@ -161,29 +156,62 @@ pub fn strings(alloc: Global, first: Token, more: Vec<Token>) -> Result<Built, P
 }
 
 /// A form in parentheses.
-pub fn parenthesized(alloc: Global, opening: Token, inner: Built, closing: Token) -> Result<Built, ParseError>
+pub fn parenthesized(
+    alloc: Global,
+    opening: Token,
+    inner: Built,
+    closing: Token,
+) -> Result<Built, ParseError>
     ensures { Makes (λ b. tree_of b.expr.value) (tree.parenthesized opening (tree_of inner.expr.value) closing) result }
 {
     let height = inner.height + 1;
     let is_target = inner.is_target;
-    made(alloc, Expr::Parenthesized(opening, inner.expr, closing), height, is_target)
+    made(
+        alloc,
+        Expr::Parenthesized(opening, inner.expr, closing),
+        height,
+        is_target,
+    )
 }
 
 /// A display of items in brackets.
-pub fn display(alloc: Global, sort: Sort, opening: Token, items: BuiltPieces, closing: Token) -> Result<Built, ParseError>
+pub fn display(
+    alloc: Global,
+    sort: Sort,
+    opening: Token,
+    items: BuiltPieces,
+    closing: Token,
+) -> Result<Built, ParseError>
     ensures { Makes (λ b. tree_of b.expr.value) (tree.display sort opening (pieces_of items.pieces) closing) result }
 {
     let height = items.height + 1;
     let is_target = holds_targets(sort) && items.are_targets;
-    made(alloc, Expr::Display(sort, opening, items.pieces, closing), height, is_target)
+    made(
+        alloc,
+        Expr::Display(sort, opening, items.pieces, closing),
+        height,
+        is_target,
+    )
 }
 
 /// A comprehension, or a generator, in brackets.
-pub fn comprehension(alloc: Global, sort: Sort, opening: Token, element: Built, clauses: BuiltClauses, closing: Token) -> Result<Built, ParseError>
+pub fn comprehension(
+    alloc: Global,
+    sort: Sort,
+    opening: Token,
+    element: Built,
+    clauses: BuiltClauses,
+    closing: Token,
+) -> Result<Built, ParseError>
     ensures { Makes (λ b. tree_of b.expr.value) (tree.comprehension sort opening (tree_of element.expr.value) (clauses_before clauses.clauses.items tree.no_clause) closing) result }
 {
     let height = taller(element.height, clauses.height) + 1;
-    made(alloc, Expr::Comprehension(sort, opening, element.expr, clauses.clauses, closing), height, false)
+    made(
+        alloc,
+        Expr::Comprehension(sort, opening, element.expr, clauses.clauses, closing),
+        height,
+        false,
+    )
 }
 
 /// An object, `.` and a name.
@@ -192,24 +220,54 @@ pub fn attribute(alloc: Global, object: Built, dot: Token, name: Token) -> Resul
 {
     let height = object.height + 1;
     let is_target = true;
-    made(alloc, Expr::Attribute(object.expr, dot, name), height, is_target)
+    made(
+        alloc,
+        Expr::Attribute(object.expr, dot, name),
+        height,
+        is_target,
+    )
 }
 
 /// A callee and its arguments in parentheses.
-pub fn call(alloc: Global, callee: Built, opening: Token, arguments: BuiltPieces, closing: Token) -> Result<Built, ParseError>
+pub fn call(
+    alloc: Global,
+    callee: Built,
+    opening: Token,
+    arguments: BuiltPieces,
+    closing: Token,
+) -> Result<Built, ParseError>
     ensures { Makes (λ b. tree_of b.expr.value) (tree.call (tree_of callee.expr.value) opening (pieces_of arguments.pieces) closing) result }
 {
     let height = taller(callee.height, arguments.height) + 1;
-    made(alloc, Expr::Call(callee.expr, opening, arguments.pieces, closing), height, false)
+    made(
+        alloc,
+        Expr::Call(callee.expr, opening, arguments.pieces, closing),
+        height,
+        false,
+    )
 }
 
 /// An object and its indices in square brackets.
-pub fn subscript(alloc: Global, object: Built, opening: Token, indices: BuiltPieces, closing: Token) -> Result<Built, ParseError>
+pub fn subscript(
+    alloc: Global,
+    object: Built,
+    opening: Token,
+    indices: BuiltPieces,
+    closing: Token,
+) -> Result<Built, ParseError>
     ensures { Makes (λ b. tree_of b.expr.value) (tree.subscript (tree_of object.expr.value) opening (pieces_of indices.pieces) closing) result }
 {
-    let height = taller(object.height, indices.height + tuple_node(indices.has_comma)) + 1;
+    let height = taller(
+        object.height,
+        indices.height + tuple_node(indices.has_comma),
+    ) + 1;
     let is_target = true;
-    made(alloc, Expr::Subscript(object.expr, opening, indices.pieces, closing), height, is_target)
+    made(
+        alloc,
+        Expr::Subscript(object.expr, opening, indices.pieces, closing),
+        height,
+        is_target,
+    )
 }
 
 /// `await` and its operand.
@@ -229,11 +287,21 @@ pub fn unary(alloc: Global, sign: Token, operand: Built) -> Result<Built, ParseE
 }
 
 /// An operator between two operands.
-pub fn binary(alloc: Global, left: Built, operator: Token, right: Built) -> Result<Built, ParseError>
+pub fn binary(
+    alloc: Global,
+    left: Built,
+    operator: Token,
+    right: Built,
+) -> Result<Built, ParseError>
     ensures { Makes (λ b. tree_of b.expr.value) (tree.binary (tree_of left.expr.value) operator (tree_of right.expr.value)) result }
 {
     let height = taller(left.height, right.height) + 1;
-    made(alloc, Expr::Binary(left.expr, operator, right.expr), height, false)
+    made(
+        alloc,
+        Expr::Binary(left.expr, operator, right.expr),
+        height,
+        false,
+    )
 }
 
 /// A chain of comparisons.
@@ -245,19 +313,42 @@ pub fn compare(alloc: Global, left: Built, links: BuiltLinks) -> Result<Built, P
 }
 
 /// A value, `if`, a test, `else`, another value.
-pub fn conditional(alloc: Global, value: Built, word_if: Token, test: Built, word_else: Token, other: Built) -> Result<Built, ParseError>
+pub fn conditional(
+    alloc: Global,
+    value: Built,
+    word_if: Token,
+    test: Built,
+    word_else: Token,
+    other: Built,
+) -> Result<Built, ParseError>
     ensures { Makes (λ b. tree_of b.expr.value) (tree.conditional (tree_of value.expr.value) word_if (tree_of test.expr.value) word_else (tree_of other.expr.value)) result }
 {
     let height = taller(value.height, taller(test.height, other.height)) + 1;
-    made(alloc, Expr::Conditional(value.expr, word_if, test.expr, word_else, other.expr), height, false)
+    made(
+        alloc,
+        Expr::Conditional(value.expr, word_if, test.expr, word_else, other.expr),
+        height,
+        false,
+    )
 }
 
 /// `lambda`, parameters, `:` and a body.
-pub fn lambda(alloc: Global, word: Token, parameters: BuiltPieces, colon: Token, body: Built) -> Result<Built, ParseError>
+pub fn lambda(
+    alloc: Global,
+    word: Token,
+    parameters: BuiltPieces,
+    colon: Token,
+    body: Built,
+) -> Result<Built, ParseError>
     ensures { Makes (λ b. tree_of b.expr.value) (tree.lambda word (pieces_of parameters.pieces) colon (tree_of body.expr.value)) result }
 {
     let height = taller(parameters.height, body.height) + 1;
-    made(alloc, Expr::Lambda(word, parameters.pieces, colon, body.expr), height, false)
+    made(
+        alloc,
+        Expr::Lambda(word, parameters.pieces, colon, body.expr),
+        height,
+        false,
+    )
 }
 
 /// Items with commas and no brackets: a tuple.
@@ -278,11 +369,21 @@ pub fn yielded(alloc: Global, word: Token, value: BuiltOption) -> Result<Built, 
 }
 
 /// `yield`, `from` and a value.
-pub fn yield_from(alloc: Global, word: Token, from: Token, value: Built) -> Result<Built, ParseError>
+pub fn yield_from(
+    alloc: Global,
+    word: Token,
+    from: Token,
+    value: Built,
+) -> Result<Built, ParseError>
     ensures { Makes (λ b. tree_of b.expr.value) (tree.yield_from word from (tree_of value.expr.value)) result }
 {
     let height = value.height + 1;
-    made(alloc, Expr::YieldFrom(word, from, value.expr), height, false)
+    made(
+        alloc,
+        Expr::YieldFrom(word, from, value.expr),
+        height,
+        false,
+    )
 }
 
 /// `*` and an operand.
@@ -298,7 +399,12 @@ pub fn double_starred(alloc: Global, stars: Token, operand: Built) -> Result<Bui
     ensures { Makes (λ b. tree_of b.expr.value) (tree.double_starred stars (tree_of operand.expr.value)) result }
 {
     let height = operand.height + 1;
-    made(alloc, Expr::DoubleStarred(stars, operand.expr), height, false)
+    made(
+        alloc,
+        Expr::DoubleStarred(stars, operand.expr),
+        height,
+        false,
+    )
 }
 
 /// A key, `:` and a value, in a dictionary.
@@ -306,7 +412,12 @@ pub fn entry(alloc: Global, key: Built, colon: Token, value: Built) -> Result<Bu
     ensures { Makes (λ b. tree_of b.expr.value) (tree.entry (tree_of key.expr.value) colon (tree_of value.expr.value)) result }
 {
     let height = taller(key.height, value.height);
-    made(alloc, Expr::Entry(key.expr, colon, value.expr), height, false)
+    made(
+        alloc,
+        Expr::Entry(key.expr, colon, value.expr),
+        height,
+        false,
+    )
 }
 
 /// `**` and a mapping, in a dictionary.
@@ -318,19 +429,41 @@ pub fn mapping(alloc: Global, stars: Token, operand: Built) -> Result<Built, Par
 }
 
 /// A lower bound, `:` and an upper bound.
-pub fn slice(alloc: Global, lower: BuiltOption, colon: Token, upper: BuiltOption) -> Result<Built, ParseError>
+pub fn slice(
+    alloc: Global,
+    lower: BuiltOption,
+    colon: Token,
+    upper: BuiltOption,
+) -> Result<Built, ParseError>
     ensures { Makes (λ b. tree_of b.expr.value) (tree.slice (perhaps_of lower.expr) colon (perhaps_of upper.expr)) result }
 {
     let height = taller(lower.height, upper.height) + 1;
-    made(alloc, Expr::Slice(lower.expr, colon, upper.expr), height, false)
+    made(
+        alloc,
+        Expr::Slice(lower.expr, colon, upper.expr),
+        height,
+        false,
+    )
 }
 
 /// A lower bound, `:`, an upper bound, `:` and a step.
-pub fn stride(alloc: Global, lower: BuiltOption, colon: Token, upper: BuiltOption, second: Token, step: BuiltOption) -> Result<Built, ParseError>
+pub fn stride(
+    alloc: Global,
+    lower: BuiltOption,
+    colon: Token,
+    upper: BuiltOption,
+    second: Token,
+    step: BuiltOption,
+) -> Result<Built, ParseError>
     ensures { Makes (λ b. tree_of b.expr.value) (tree.stride (perhaps_of lower.expr) colon (perhaps_of upper.expr) second (perhaps_of step.expr)) result }
 {
     let height = taller(lower.height, taller(upper.height, step.height)) + 1;
-    made(alloc, Expr::Stride(lower.expr, colon, upper.expr, second, step.expr), height, false)
+    made(
+        alloc,
+        Expr::Stride(lower.expr, colon, upper.expr, second, step.expr),
+        height,
+        false,
+    )
 }
 
 /// A plain argument of a call.
@@ -354,31 +487,66 @@ pub fn generator(alloc: Global, element: Built, clauses: BuiltClauses) -> Result
     ensures { Makes (λ b. tree_of b.expr.value) (tree.generator (tree_of element.expr.value) (clauses_before clauses.clauses.items tree.no_clause)) result }
 {
     let height = taller(element.height, clauses.height) + 1;
-    made(alloc, Expr::Generator(element.expr, clauses.clauses), height, false)
+    made(
+        alloc,
+        Expr::Generator(element.expr, clauses.clauses),
+        height,
+        false,
+    )
 }
 
 /// A parameter with its annotation and its default.
-pub fn parameter(alloc: Global, name: Token, annotation: BuiltTail, default: BuiltTail) -> Result<Built, ParseError>
+pub fn parameter(
+    alloc: Global,
+    name: Token,
+    annotation: BuiltTail,
+    default: BuiltTail,
+) -> Result<Built, ParseError>
     ensures { Makes (λ b. tree_of b.expr.value) (tree.parameter name (tail_of annotation.tail) (tail_of default.tail)) result }
 {
     let height = taller(annotation.height, default.height) + 1;
-    made(alloc, Expr::Parameter(name, annotation.tail, default.tail), height, false)
+    made(
+        alloc,
+        Expr::Parameter(name, annotation.tail, default.tail),
+        height,
+        false,
+    )
 }
 
 /// `*` and a parameter with its annotation.
-pub fn star_parameter(alloc: Global, star: Token, name: Token, annotation: BuiltTail) -> Result<Built, ParseError>
+pub fn star_parameter(
+    alloc: Global,
+    star: Token,
+    name: Token,
+    annotation: BuiltTail,
+) -> Result<Built, ParseError>
     ensures { Makes (λ b. tree_of b.expr.value) (tree.star_parameter star name (tail_of annotation.tail)) result }
 {
     let height = annotation.height + 1;
-    made(alloc, Expr::StarParameter(star, name, annotation.tail), height, false)
+    made(
+        alloc,
+        Expr::StarParameter(star, name, annotation.tail),
+        height,
+        false,
+    )
 }
 
 /// `**` and a parameter with its annotation.
-pub fn double_parameter(alloc: Global, stars: Token, name: Token, annotation: BuiltTail) -> Result<Built, ParseError>
+pub fn double_parameter(
+    alloc: Global,
+    stars: Token,
+    name: Token,
+    annotation: BuiltTail,
+) -> Result<Built, ParseError>
     ensures { Makes (λ b. tree_of b.expr.value) (tree.double_parameter stars name (tail_of annotation.tail)) result }
 {
     let height = annotation.height + 1;
-    made(alloc, Expr::DoubleParameter(stars, name, annotation.tail), height, false)
+    made(
+        alloc,
+        Expr::DoubleParameter(stars, name, annotation.tail),
+        height,
+        false,
+    )
 }
 
 /// A context manager, perhaps with its target.
@@ -386,7 +554,12 @@ pub fn with_item(alloc: Global, value: Built, target: BuiltTail) -> Result<Built
     ensures { Makes (λ b. tree_of b.expr.value) (tree.with_item (tree_of value.expr.value) (tail_of target.tail)) result }
 {
     let height = taller(value.height, target.height) + 1;
-    made(alloc, Expr::WithItem(value.expr, target.tail), height, false)
+    made(
+        alloc,
+        Expr::WithItem(value.expr, target.tail),
+        height,
+        false,
+    )
 }
 
 /// `*` alone among parameters.
@@ -394,4 +567,44 @@ pub fn bare_star(alloc: Global, token: Token) -> Result<Built, ParseError>
     ensures { Makes (λ b. tree_of b.expr.value) (tree.bare_star token) result }
 {
     made(alloc, Expr::BareStar(token), 1, false)
+}
+
+/// Nothing, in place of a token and an expression.
+pub fn nothing() -> BuiltTail
+    ensures { tail_of result.tail ≡ tree.nothing }
+{
+    BuiltTail {
+        tail: Tail::Nothing,
+        height: 0,
+    }
+}
+
+/// A token and the expression after it.
+pub fn after(mark: Token, value: Built) -> BuiltTail
+    ensures { tail_of result.tail ≡ tree.after mark (tree_of value.expr.value) }
+{
+    BuiltTail {
+        tail: Tail::After(mark, value.expr),
+        height: value.height,
+    }
+}
+
+/// No expression.
+pub fn absent() -> BuiltOption
+    ensures { perhaps_of result.expr ≡ tree.absent }
+{
+    BuiltOption {
+        expr: None,
+        height: 0,
+    }
+}
+
+/// An expression.
+pub fn present(value: Built) -> BuiltOption
+    ensures { perhaps_of result.expr ≡ tree.present (tree_of value.expr.value) }
+{
+    BuiltOption {
+        expr: Some(value.expr),
+        height: value.height,
+    }
 }

@@ -7,7 +7,9 @@ ghost use Rattle.pyc_parse.specs.Nests.{Nests};
 ghost use Rattle.pyc_parse.specs.Reads.{Reads};
 ghost use Rattle.pyc_parse.specs.View.{tree_of};
 
+mod items;
 mod operators;
+mod parameters;
 
 use crate::built::Built;
 use crate::error::ParseError;

@@ -4,6 +4,7 @@
 ghost use Rattle.std.specs.Prelude.{◌≡◌};
 ghost use Rattle.pyc_parse.specs.Kinds as spec;
 ghost use Rattle.pyc_parse.specs.Levels as levels;
+ghost use Rattle.pyc_parse.specs.Places as places;
 
 use pyc_lex::{Arithmetic, Bracket, Delimiter, Keyword, Kind};
 
@@ -118,5 +119,35 @@ pub fn right_level(kind: Kind) -> u8
         Kind::Keyword(Keyword::And) => 4,
         Kind::Arithmetic(operator) => operator_right(operator),
         _ => 0,
+    }
+}
+
+/// Whether a token is `:`.
+pub fn is_colon(kind: Kind) -> bool
+    ensures { result ≡ places.is_colon kind }
+{
+    matches!(kind, Kind::Delimiter(Delimiter::Colon))
+}
+
+/// Whether a token may begin an expression.
+pub fn begins_expression(kind: Kind) -> bool
+    ensures { result ≡ spec.begins_expression kind }
+{
+    match kind {
+        Kind::Name(_) | Kind::Number(_) | Kind::String(_) | Kind::Open(_) => true,
+        Kind::Keyword(word) => matches!(
+            word,
+            Keyword::False
+                | Keyword::None
+                | Keyword::True
+                | Keyword::Not
+                | Keyword::Await
+                | Keyword::Lambda
+        ),
+        Kind::Arithmetic(operator) => matches!(operator, Arithmetic::Plus | Arithmetic::Minus),
+        Kind::Delimiter(delimiter) => {
+            matches!(delimiter, Delimiter::Tilde | Delimiter::Ellipsis)
+        }
+        _ => false,
     }
 }

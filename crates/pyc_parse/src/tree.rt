@@ -56,13 +56,7 @@ pub enum Expr {
     /// A lower bound, `:` and an upper bound, in a subscript.
     Slice(Option<Box<Expr>>, Token, Option<Box<Expr>>),
     /// The same, then `:` and a step.
-    Stride(
-        Option<Box<Expr>>,
-        Token,
-        Option<Box<Expr>>,
-        Token,
-        Option<Box<Expr>>,
-    ),
+    Stride(Option<Box<Expr>>, Token, Option<Box<Expr>>, Token, Option<Box<Expr>>),
     /// A plain argument of a call.
     Argument(Box<Expr>),
     /// A name, `=` and a value, in a call.

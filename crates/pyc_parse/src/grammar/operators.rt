@@ -59,7 +59,12 @@ impl<F: Fn(Global, &mut Tokens<'_>, usize, u8) -> Result<Built, ParseError>> Gra
 
     /// An operator and its right operand of this level, after the left one.
     #[tactic(auto, using(crate::proofs::Steps::Reads_made), unfolding(crate::specs::Expressions::operated))]
-    pub fn operated(&self, tokens: &mut Tokens<'_>, left: Built, level: u8) -> Result<Built, ParseError>
+    pub fn operated(
+        &self,
+        tokens: &mut Tokens<'_>,
+        left: Built,
+        level: u8,
+    ) -> Result<Built, ParseError>
         requires { Nests self.now.depth (F.pre self.now.expr) (F.post self.now.expr) }
         ensures { Reads (λ b. tree_of b.expr.value) (spec.operated (spec.expr self.now.depth) (tree_of left.expr.value) level tokens.old.rest.now) result tokens.new.rest.now }
     {
