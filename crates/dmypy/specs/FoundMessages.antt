@@ -8,7 +8,7 @@ use Rattle.pyc_types.specs.Assignable.{Goes, assignable}
 use Rattle.dmypy.specs.declared.message.Code.TheVariants.{Assignment, Syntax}
 use Rattle.dmypy.specs.declared.tree.Statement.{Statement}
 use Rattle.dmypy.specs.declared.tree.SyntaxFault.{SyntaxFault}
-use Rattle.dmypy.specs.declared.tree.SyntaxFault.TheVariants.{NotUtf8, BadCharacter, OpenString, Line}
+use Rattle.dmypy.specs.declared.tree.SyntaxFault.TheVariants.{NotUtf8, BadCharacter, OpenString, Bracket, Dedent, Tabs, Deep, Line}
 use Rattle.dmypy.specs.Message.{Message}
 use Rattle.dmypy.specs.Outcome.{Outcome, tree, fault}
 
@@ -23,6 +23,10 @@ unfoldable pub fault_text : SyntaxFault → List ℕ
 fault_text NotUtf8 = codes "Source is not UTF-8"
 fault_text BadCharacter = codes "Invalid character"
 fault_text OpenString = codes "Unterminated string literal"
+fault_text Bracket = codes "Unmatched bracket"
+fault_text Dedent = codes "Unindent does not match any outer indentation level"
+fault_text Tabs = codes "Inconsistent use of tabs and spaces in indentation"
+fault_text Deep = codes "Too deeply nested"
 fault_text Line = codes "Invalid syntax"
 
 -- the message on a statement whose value is not assignable

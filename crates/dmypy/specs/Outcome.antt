@@ -5,17 +5,19 @@ use Rattle.std.specs.Option.{option_map_or}
 use Rattle.pyc_lex.specs.declared.tokens.Kind.{Kind}
 use Rattle.pyc_lex.specs.declared.tokens.Kind.TheVariants as kind
 use Rattle.pyc_lex.specs.declared.tokens.Keyword.TheVariants as keyword
-use Rattle.pyc_lex.specs.declared.tokens.Operator.TheVariants as operator
+use Rattle.pyc_lex.specs.declared.tokens.Delimiter.TheVariants as delimiter
+use Rattle.pyc_lex.specs.declared.tokens.Number.TheVariants as number
+use Rattle.pyc_lex.specs.declared.tokens.Prefix.TheVariants as prefix
 use Rattle.pyc_lex.specs.declared.tokens.Token.{Token}
 use Rattle.pyc_lex.specs.declared.fault.LexFault.{LexFault}
 use Rattle.pyc_lex.specs.declared.fault.LexFault.TheVariants as lexical
-use Rattle.pyc_lex.specs.Lines.{lines_of}
+use Rattle.pyc_lex.specs.Lines.{Line, Lexis, lines_of}
 use Rattle.pyc_lex.specs.Texts.{slice_at}
 use Rattle.pyc_types.specs.declared.builtin_classes.Builtin.{Builtin}
 use Rattle.pyc_types.specs.declared.builtin_classes.Builtin.TheVariants as builtin
 use Rattle.dmypy.specs.declared.tree.Statement.{Statement}
 use Rattle.dmypy.specs.declared.tree.SyntaxFault.{SyntaxFault}
-use Rattle.dmypy.specs.declared.tree.SyntaxFault.TheVariants.{NotUtf8, BadCharacter, OpenString, Line}
+use Rattle.dmypy.specs.declared.tree.SyntaxFault.TheVariants.{NotUtf8, BadCharacter, OpenString, Bracket, Dedent, Tabs, Deep, Line as NoStatement}
 use Rattle.dmypy.specs.declared.tree.Outcome.{Outcome as Declared}
 use Rattle.dmypy.specs.declared.tree.Outcome.TheVariants.{Tree, Fault}
 
@@ -38,30 +40,28 @@ builtin_named name =
 -- the type that a token of this kind and text means as an annotation: a builtin class by its name, or `None`
 -- (typing specification, "Type annotations")
 unfoldable pub annotation_type : Kind → List ℕ → Option Builtin
-annotation_type kind.Name text = builtin_named text
+annotation_type (kind.Name word) text = builtin_named text
 annotation_type (kind.Keyword keyword.None) text = Some builtin.None
 annotation_type _ text = None
 
--- whether a number with this text has a fraction: a point stands in it
-abbrev pub has_fraction : List ℕ → Bool
-has_fraction text = list_any (λ byte. byte == 46) text
-
--- the type of a number: float with a fraction, else int (Python reference, lexical analysis, "Numeric literals")
-abbrev pub number_type : List ℕ → Builtin
-number_type text = if has_fraction text then builtin.Float else builtin.Int
-
--- the type of the value that a token of this kind and text stands for (Python reference, expressions, "Literals")
-unfoldable pub literal_type : Kind → List ℕ → Option Builtin
-literal_type kind.Number text = Some (number_type text)
-literal_type kind.String text = Some builtin.Str
-literal_type (kind.Keyword keyword.True) text = Some builtin.Bool
-literal_type (kind.Keyword keyword.False) text = Some builtin.Bool
-literal_type (kind.Keyword keyword.None) text = Some builtin.None
-literal_type _ text = None
+-- the type of the value that a token of this kind stands for (Python reference, expressions, "Literals");
+-- a complex number and bytes are none of the types here
+unfoldable pub literal_type : Kind → Option Builtin
+literal_type (kind.Number number.Integer) = Some builtin.Int
+literal_type (kind.Number number.Float) = Some builtin.Float
+literal_type (kind.String prefix.Plain) = Some builtin.Str
+literal_type (kind.String prefix.Unicode) = Some builtin.Str
+literal_type (kind.String prefix.Raw) = Some builtin.Str
+literal_type (kind.String prefix.Format) = Some builtin.Str
+literal_type (kind.String prefix.RawFormat) = Some builtin.Str
+literal_type (kind.Keyword keyword.True) = Some builtin.Bool
+literal_type (kind.Keyword keyword.False) = Some builtin.Bool
+literal_type (kind.Keyword keyword.None) = Some builtin.None
+literal_type _ = None
 
 -- whether tokens of these kinds are a name, a colon and an equal sign
 abbrev pub is_form : Kind → Kind → Kind → Bool
-is_form kind.Name (kind.Operator operator.Colon) (kind.Operator operator.Equal) = true
+is_form (kind.Name word) (kind.Delimiter delimiter.Colon) (kind.Delimiter delimiter.Equal) = true
 is_form _ _ _ = false
 
 -- the statement of a name and a value, where both types are there
@@ -70,14 +70,19 @@ typed_statement name value (Some annotation_is) (Some value_is) =
     Some (record { name = name.span; annotation = annotation_is; value = value_is; line = value.line; column = value.column })
 typed_statement name value _ _ = None
 
--- the statement that the tokens of a line are: `NAME: TYPE = VALUE` with no white space before it, where the name is no builtin class
+-- the statement that the tokens of a line are: `NAME: TYPE = VALUE` with no white space before it and its value on the name's
+-- physical line, where the name is no builtin class
 -- (Python reference, simple statements, "Annotated assignment statements")
 unfoldable pub statement_of : List ℕ → List Token → Option Statement
 statement_of source (name ∷ colon ∷ annotation ∷ equal ∷ value ∷ []) =
-    if is_form name.kind colon.kind equal.kind && name.column == 1 && not (is_some (builtin_named (slice_at source name)))
-    then typed_statement name value (annotation_type annotation.kind (slice_at source annotation)) (literal_type value.kind (slice_at source value))
+    if is_form name.kind colon.kind equal.kind && name.column == 1 && value.line == name.line && not (is_some (builtin_named (slice_at source name)))
+    then typed_statement name value (annotation_type annotation.kind (slice_at source annotation)) (literal_type value.kind)
     else None
 statement_of source _ = None
+
+-- the statement that a line is, which has no indent
+abbrev pub statement_in : List ℕ → Line → Option Statement
+statement_in source line = if line.indent == 0 then statement_of source line.tokens else None
 
 -- ---- all lines
 
@@ -100,23 +105,27 @@ first_line [] = 1
 first_line (token ∷ tokens) = token.line
 
 -- the outcome of these lines after the statements before them: all statements, or a fault at the first line that is none
-unfoldable pub outcome_after : List ℕ → List Statement → List (List Token) → Outcome
+unfoldable pub outcome_after : List ℕ → List Statement → List Line → Outcome
 outcome_after source before [] = tree before
 outcome_after source before (line ∷ lines) =
     option_map_or (λ statement. outcome_after source (before ++ statement ∷ []) lines)
-    (unless_bound source before (statement_of source line))
-    (fault (first_line line) Line)
+    (unless_bound source before (statement_in source line))
+    (fault (first_line line.tokens) NoStatement)
 
 -- the outcome of a source with a lexical fault; want of memory is none of its faults
 abbrev pub lexical_outcome : LexFault → Outcome
 lexical_outcome lexical.NotUtf8 = fault 1 NotUtf8
 lexical_outcome (lexical.BadCharacter line) = fault line BadCharacter
 lexical_outcome (lexical.OpenString line) = fault line OpenString
+lexical_outcome (lexical.Bracket line) = fault line Bracket
+lexical_outcome (lexical.Dedent line) = fault line Dedent
+lexical_outcome (lexical.Tabs line) = fault line Tabs
+lexical_outcome (lexical.Deep line) = fault line Deep
 lexical_outcome lexical.Memory = fault 1 NotUtf8
 
 -- the outcome of a source whose lexical analysis gave these lines or this fault
-abbrev pub outcome_read : List ℕ → Result (List (List Token)) LexFault → Outcome
-outcome_read source (Ok lines) = outcome_after source [] lines
+abbrev pub outcome_read : List ℕ → Result Lexis LexFault → Outcome
+outcome_read source (Ok lexis) = outcome_after source [] lexis.lines
 outcome_read source (Err found) = lexical_outcome found
 
 -- the outcome of a source: its first lexical fault, else its first line that is no statement, else its statements

@@ -103,6 +103,10 @@ fn fault_text(what: SyntaxFault) -> &'static str
         SyntaxFault::NotUtf8 => "Source is not UTF-8",
         SyntaxFault::BadCharacter => "Invalid character",
         SyntaxFault::OpenString => "Unterminated string literal",
+        SyntaxFault::Bracket => "Unmatched bracket",
+        SyntaxFault::Dedent => "Unindent does not match any outer indentation level",
+        SyntaxFault::Tabs => "Inconsistent use of tabs and spaces in indentation",
+        SyntaxFault::Deep => "Too deeply nested",
         SyntaxFault::Line => "Invalid syntax",
     }
 }

@@ -1,13 +1,16 @@
 //! The outcome of a file: its statements, or its first fault.
 
-ghost use Rattle.std.specs.Prelude.{◌≡◌, ◌≢◌, ◌≤◌, [], map, All, IfOk, OnOk, IfSome, length};
-ghost use Rattle.pyc_lex.specs.Texts.{IsWithin};
+ghost use Rattle.std.specs.Prelude.{◌≡◌, ◌≢◌, [], map, All, IfOk, OnOk, IfSome, slice_range};
+ghost use Rattle.pyc_lex.specs.Texts.{IsTextSpan};
+ghost use Rattle.pyc_lex.specs.View.{line_in};
 ghost use Rattle.dmypy.specs.Outcome as spec;
 ghost use Rattle.dmypy.specs.Outcome.{outcome_in, outcome_of};
 
 use crate::tree::{Fault, Module, Outcome, Statement, SyntaxFault};
 use indexmap::IndexSet;
-use pyc_lex::{Keyword, Kind, LexFault, LogicalLine, Operator, Token, scan, text_of};
+use pyc_lex::{
+    Delimiter, Keyword, Kind, LexFault, LogicalLine, Number, Prefix, Span, Token, ident, scan,
+};
 use pyc_types::Builtin;
 use std::alloc::{AllocError, Global};
 
@@ -30,6 +33,10 @@ fn lexical_outcome(fault: LexFault) -> Result<Outcome, AllocError>
         LexFault::NotUtf8 => Ok(at_fault(1, SyntaxFault::NotUtf8)),
         LexFault::BadCharacter(line) => Ok(at_fault(line, SyntaxFault::BadCharacter)),
         LexFault::OpenString(line) => Ok(at_fault(line, SyntaxFault::OpenString)),
+        LexFault::Bracket(line) => Ok(at_fault(line, SyntaxFault::Bracket)),
+        LexFault::Dedent(line) => Ok(at_fault(line, SyntaxFault::Dedent)),
+        LexFault::Tabs(line) => Ok(at_fault(line, SyntaxFault::Tabs)),
+        LexFault::Deep(line) => Ok(at_fault(line, SyntaxFault::Deep)),
         LexFault::Memory => Err(AllocError),
     }
 }
@@ -46,14 +53,14 @@ fn outcome_of_lines(
     bytes: &[u8],
     lines: &[LogicalLine],
 ) -> Result<Outcome, AllocError>
-    requires { All (λ line. All (IsWithin bytes.now) line.tokens.items) lines.now }
+    requires { All (λ line. All (λ token. IsTextSpan bytes.now token.span) line.tokens.items) lines.now }
     ensures { IfOk result (λ outcome. outcome_in outcome
-        ≡ spec.outcome_after bytes.now [] (map (λ line. line.tokens.items) lines.now)) }
+        ≡ spec.outcome_after bytes.now [] (map line_in lines.now)) }
 {
     let mut statements = Vec::new(alloc);
     let mut names = IndexSet::new(alloc);
     for line in lines {
-        let Some(statement) = statement_of(bytes, &line.tokens) else {
+        let Some(statement) = statement_in(bytes, line) else {
             return Ok(no_statement(line));
         };
         if !names.insert(text_of(bytes, statement.name))? {
@@ -71,19 +78,40 @@ fn no_statement(line: &LogicalLine) -> Outcome
     at_fault(line.tokens[0].line, SyntaxFault::Line)
 }
 
+/// The bytes of a source at a token.
+fn text_of(bytes: &[u8], span: Span) -> &[u8]
+    requires { IsTextSpan bytes.now span }
+    ensures { result.now ≡ slice_range bytes.now span.start span.end }
+{
+    ident(bytes, span).as_bytes()
+}
+
+/// The statement that a line is, which has no indent.
+fn statement_in(bytes: &[u8], line: &LogicalLine) -> Option<Statement>
+    requires { All (λ token. IsTextSpan bytes.now token.span) line.now.tokens.items }
+    ensures statement { result ≡ spec.statement_in bytes.now (line_in line.now) }
+    ensures name { IfSome result (λ statement. IsTextSpan bytes.now statement.name) }
+{
+    if line.indent == 0 {
+        statement_of(bytes, &line.tokens)
+    } else {
+        None
+    }
+}
+
 /// The statement that the tokens of a line are.
 #[tactic(auto, unfolding(crate::specs::Outcome::statement_of))]
 fn statement_of(bytes: &[u8], tokens: &[Token]) -> Option<Statement>
-    requires { All (IsWithin bytes.now) tokens.now }
+    requires { All (λ token. IsTextSpan bytes.now token.span) tokens.now }
     ensures statement { result ≡ spec.statement_of bytes.now tokens.now }
-    ensures ordered { IfSome result (λ statement. statement.name.start ≤ statement.name.end) }
-    ensures within { IfSome result (λ statement. statement.name.end ≤ length bytes.now) }
+    ensures name { IfSome result (λ statement. IsTextSpan bytes.now statement.name) }
 {
     let [name, colon, annotation, equal, value] = tokens else {
         return None;
     };
     if !is_form(name.kind, colon.kind, equal.kind)
         || name.column != 1
+        || value.line != name.line
         || builtin_named(text_of(bytes, name.span)).is_some()
     {
         return None;
@@ -91,7 +119,7 @@ fn statement_of(bytes: &[u8], tokens: &[Token]) -> Option<Statement>
     Some(Statement {
         name: name.span,
         annotation: annotation_type(annotation.kind, text_of(bytes, annotation.span))?,
-        value: literal_type(value.kind, text_of(bytes, value.span))?,
+        value: literal_type(value.kind)?,
         line: value.line,
         column: value.column,
     })
@@ -104,9 +132,9 @@ fn is_form(name: Kind, colon: Kind, equal: Kind) -> bool
     matches!(
         (name, colon, equal),
         (
-            Kind::Name,
-            Kind::Operator(Operator::Colon),
-            Kind::Operator(Operator::Equal)
+            Kind::Name(_),
+            Kind::Delimiter(Delimiter::Colon),
+            Kind::Delimiter(Delimiter::Equal)
         )
     )
 }
@@ -134,7 +162,7 @@ fn annotation_type(kind: Kind, text: &[u8]) -> Option<Builtin>
     ensures { result ≡ spec.annotation_type kind text.now }
 {
     match kind {
-        Kind::Name => builtin_named(text),
+        Kind::Name(_) => builtin_named(text),
         Kind::Keyword(Keyword::None) => Some(Builtin::None),
         _ => None,
     }
@@ -142,32 +170,16 @@ fn annotation_type(kind: Kind, text: &[u8]) -> Option<Builtin>
 
 /// The type of the value that a token stands for.
 #[tactic(auto, unfolding(crate::specs::Outcome::literal_type))]
-fn literal_type(kind: Kind, text: &[u8]) -> Option<Builtin>
-    ensures { result ≡ spec.literal_type kind text.now }
+fn literal_type(kind: Kind) -> Option<Builtin>
+    ensures { result ≡ spec.literal_type kind }
 {
     match kind {
-        Kind::Number => Some(number_type(text)),
-        Kind::String => Some(Builtin::Str),
+        Kind::Number(Number::Integer) => Some(Builtin::Int),
+        Kind::Number(Number::Float) => Some(Builtin::Float),
+        Kind::String(Prefix::Plain | Prefix::Unicode | Prefix::Raw) => Some(Builtin::Str),
+        Kind::String(Prefix::Format | Prefix::RawFormat) => Some(Builtin::Str),
         Kind::Keyword(Keyword::True | Keyword::False) => Some(Builtin::Bool),
         Kind::Keyword(Keyword::None) => Some(Builtin::None),
         _ => None,
     }
-}
-
-/// The type of a number with this text.
-fn number_type(text: &[u8]) -> Builtin
-    ensures { result ≡ spec.number_type text.now }
-{
-    if has_fraction(text) {
-        Builtin::Float
-    } else {
-        Builtin::Int
-    }
-}
-
-/// Whether a number with this text has a fraction.
-fn has_fraction(text: &[u8]) -> bool
-    ensures { result ≡ spec.has_fraction text.now }
-{
-    text.iter().any(|byte| *byte == b'.')
 }

@@ -27,8 +27,16 @@ pub enum SyntaxFault {
     NotUtf8,
     /// A character that begins no token.
     BadCharacter,
-    /// A string that the line or the source ends in.
+    /// A string that its line or the source ends in, or an f-string with an open field.
     OpenString,
+    /// A bracket that matches none.
+    Bracket,
+    /// A line whose indent is none of those around it.
+    Dedent,
+    /// A line whose indent compares otherwise where a tab is one column wide.
+    Tabs,
+    /// Too many indents or open brackets.
+    Deep,
     /// A logical line that is no statement.
     Line,
 }

@@ -39,8 +39,8 @@ codes_at zero from text = None
 codes_at (suc count) from text =
     let len = prefix_len is_code_byte text in
     option_and_then (λ code.
-        if len == length text then Some (code ∷ [])
-        else option_map (λ later. code ∷ later) (codes_at count (from + len + 1) (drop (len + 1) text)))
+    if len == length text then Some (code ∷ [])
+    else option_map (λ later. code ∷ later) (codes_at count (from + len + 1) (drop (len + 1) text)))
     (trimmed from (take len text))
 
 -- whether an ignore may end here: at the end of the comment, at a space, a tab or a `#`
@@ -53,7 +53,7 @@ listed_codes from text =
     let inside = drop 1 text in
     let len = prefix_len is_list_byte inside in
     if slice_index inside len == 93 then
-      (if ends_ignore (drop (len + 1) inside) then option_map listed (codes_at (len + 1) (from + 1) (take len inside)) else None)
+    (if ends_ignore (drop (len + 1) inside) then option_map listed (codes_at (len + 1) (from + 1) (take len inside)) else None)
     else None
 
 -- the codes that follow `ignore`: all, or those in brackets
@@ -75,5 +75,5 @@ after_spaces at = let len = prefix_len is_space at.1 in (at.0 + len, drop len at
 unfoldable pub silenced : ℕ → List ℕ → Option Codes
 silenced from comment =
     option_and_then (λ kind.
-        option_and_then (λ word. codes_after word.0 word.1) (after_word (codes "ignore") (after_spaces kind)))
+    option_and_then (λ word. codes_after word.0 word.1) (after_word (codes "ignore") (after_spaces kind)))
     (after_word (codes "type:") (after_spaces (from + 1, drop 1 comment)))

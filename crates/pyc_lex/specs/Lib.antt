@@ -3,6 +3,7 @@ pub mod Cuts
 pub mod Fault
 pub mod Ignores
 pub mod Indents
+pub mod Limits
 pub mod Lines
 pub mod Names
 pub mod Numbers

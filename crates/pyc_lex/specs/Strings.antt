@@ -36,6 +36,10 @@ quotes_len text = if slice_index text 1 == slice_index text 0 && slice_index tex
 abbrev pub unit_len : List ℕ → ℕ
 unit_len text = if slice_index text 0 == 92 then 1 + line_end_len (drop 1 text) else 1
 
+-- whether a byte is a bare line end in a string in single quotes
+abbrev pub is_cut_off : List ℕ → ℕ → Bool
+is_cut_off quotes byte = length quotes == 1 && is_line_end byte
+
 -- how many bytes a string goes on for after its opening quotes, its closing quotes included, or none where it is open;
 -- one in single quotes may not hold a bare line end. The number bounds how far it is read
 unfoldable pub closed_len : ℕ → List ℕ → List ℕ → Option ℕ
@@ -43,7 +47,7 @@ closed_len zero quotes text = None
 closed_len (suc count) quotes [] = None
 closed_len (suc count) quotes (byte ∷ rest) =
     if starts_with nat_eq (byte ∷ rest) quotes then Some (length quotes)
-    else if length quotes == 1 && is_line_end byte then None
+    else if is_cut_off quotes byte then None
     else let len = unit_len (byte ∷ rest) in option_map (λ more. len + more) (closed_len count quotes (drop len (byte ∷ rest)))
 
 -- how many bytes the string at the front takes, or none where it is open

@@ -1,6 +1,6 @@
 //! Cuts the longest piece off the front of a text.
 
-ghost use Rattle.std.specs.Prelude.{◌≡◌, ◌<◌, ◌≤◌, ◌+◌, length, slice_index, IfOk, drop, true};
+ghost use Rattle.std.specs.Prelude.{◌≡◌, ◌<◌, ◌≤◌, ◌+◌, length, slice_index, drop, true};
 ghost use Rattle.pyc_lex.specs.Characters.{is_quote as is_quote_byte};
 ghost use Rattle.pyc_lex.specs.Characters.{is_name_start, line_end_len};
 ghost use Rattle.pyc_lex.specs.Numbers.{number_at};
@@ -57,8 +57,7 @@ fn string_token(prefix: Prefix, text: &[u8]) -> Front
 #[tactic(auto, unfolding(crate::specs::Cuts::quoted))]
 fn quoted(prefix: Prefix, before: usize, text: &[u8]) -> Front
     requires { is_quote_byte (slice_index text.now before) ≡ true }
-    ensures value { result ≡ spec.quoted prefix before text.now }
-    ensures within { IfOk result (λ front. (1 ≤ front.1) × (front.1 ≤ length text.now)) }
+    ensures { result ≡ spec.quoted prefix before text.now }
 {
     let (_, string) = text.split_at(before);
     match string_len(string) {
@@ -73,9 +72,7 @@ fn quoted(prefix: Prefix, before: usize, text: &[u8]) -> Front
 /// The longest name, or the string whose prefix it is.
 #[tactic(auto, unfolding(crate::specs::Cuts::name_front))]
 fn name_front(text: &str) -> Front
-    requires { is_name_start (slice_index (chars text.now) 0) ≡ true }
-    ensures value { result ≡ spec.name_front text.now }
-    ensures within { IfOk result (λ front. (1 ≤ front.1) × (front.1 ≤ length text.now)) }
+    ensures { result ≡ spec.name_front text.now }
 {
     let len = name_len(text);
     let bytes = text.as_bytes();
@@ -91,8 +88,7 @@ fn name_front(text: &str) -> Front
 
 /// The operator at the front.
 fn operator_front(text: &[u8]) -> Front
-    ensures value { result ≡ spec.operator_front (operator_at text.now) }
-    ensures within { IfOk result (λ front. (1 ≤ front.1) × (front.1 ≤ length text.now)) }
+    ensures { result ≡ spec.operator_front (operator_at text.now) }
 {
     match operator_at(text) {
         Some((kind, len)) => Ok((Piece::Token(kind), len)),
@@ -142,9 +138,7 @@ fn joined_len(text: &[u8]) -> usize
 
 /// The number at the front.
 fn number_front(text: &[u8]) -> Front
-    requires { spec.begins_number text.now ≡ true }
-    ensures value { result ≡ spec.number_front (number_at text.now) }
-    ensures within { IfOk result (λ front. (1 ≤ front.1) × (front.1 ≤ length text.now)) }
+    ensures { result ≡ spec.number_front (number_at text.now) }
 {
     let (number, len) = number_at(text);
     Ok((Piece::Token(Kind::Number(number)), len))
@@ -154,8 +148,7 @@ fn number_front(text: &[u8]) -> Front
 #[tactic(auto, unfolding(crate::specs::Cuts::cut))]
 pub(crate) fn cut(text: &str) -> Front
     requires { 0 < length text.now }
-    ensures value { result ≡ spec.cut text.now }
-    ensures within { IfOk result (λ front. (1 ≤ front.1) × (front.1 ≤ length text.now)) }
+    ensures { result ≡ spec.cut text.now }
 {
     let bytes = text.as_bytes();
     let first = bytes[0];

@@ -160,7 +160,13 @@ pub(crate) fn silenced(
     ensures { IfOk result (λ codes. option_map codes_in codes ≡ spec.silenced from comment.now) }
 {
     let (_, text) = comment.split_at(1);
-    let Some(rest) = after_word(b"type:", Rest { from: from + 1, text }) else {
+    let Some(rest) = after_word(
+        b"type:",
+        Rest {
+            from: from + 1,
+            text,
+        },
+    ) else {
         return Ok(None);
     };
     let Some(rest) = after_word(b"ignore", rest) else {

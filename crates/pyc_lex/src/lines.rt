@@ -1,10 +1,11 @@
 //! Reads the logical lines of a source in one pass.
 
-ghost use Rattle.std.specs.Prelude.{◌≡◌, ◌≢◌, ◌<◌, ◌≤◌, ◌+◌, ◌^◌, length, map, All, IfOk, IfErr, Ok, Err, slice_range};
+ghost use Rattle.std.specs.Prelude.{◌≡◌, ◌≢◌, ◌<◌, ◌≤◌, ◌+◌, ◌^◌, length, map, All, AllPairs, IfOk, IfErr, Ok, Err, slice_range};
 ghost use Rattle.pyc_lex.specs.Lines as spec;
 ghost use Rattle.pyc_lex.specs.Lines.{lines_of};
 ghost use Rattle.pyc_lex.specs.View.{Answers, lexis_in};
 ghost use Rattle.pyc_lex.specs.Cuts.{cuts};
+ghost use Rattle.pyc_lex.specs.Limits.{IsBefore, IsWithinLimits};
 ghost use Rattle.pyc_lex.specs.Texts.{tokens_of, token_texts, slice_at, IsTextSpan};
 
 use crate::cut::cut;
@@ -71,6 +72,10 @@ pub fn scan(alloc: Global, bytes: &[u8]) -> Result<Scan, LexFault>
     // Each token's text is its slice of the source.
     ensures texts { IfOk result (λ scan. map (slice_at bytes.now) (tokens_of (lexis_in scan).lines) ≡ token_texts bytes.now) }
     ensures spans { IfOk result (λ scan. All (λ line. All (λ token. IsTextSpan bytes.now token.span) line.tokens.items) scan.lines.items) }
+
+    // Lines and tokens are in text order, and no two tokens overlap.
+    ensures order { IfOk result (λ scan. AllPairs IsBefore (tokens_of (lexis_in scan).lines)) }
+    ensures limits { IfOk result (λ scan. All IsWithinLimits (lexis_in scan).lines) }
 {
     let Ok(source) = str::from_utf8(bytes) else {
         return Err(LexFault::NotUtf8);

@@ -4,6 +4,7 @@ ghost use Rattle.std.specs.Prelude.{◌≡◌, ◌<◌, ◌≤◌, length, map, 
 ghost use Rattle.std.specs.List.{prefix_len};
 ghost use Rattle.pyc_lex.specs.Names as spec;
 
+use crate::characters::byte_at;
 use crate::tokens::{Keyword, Kind, Word};
 use std::alloc::{AllocError, Global};
 use unicode_ident::is_xid_continue;
@@ -92,8 +93,9 @@ pub(crate) fn name_len(text: &str) -> usize
     ensures value { result ≡ spec.name_len text.now }
     ensures within { result ≤ length text.now }
 {
-    let len = ascii_name_len(text.as_bytes());
-    if len == text.len() || text.as_bytes()[len].is_ascii() {
+    let bytes = text.as_bytes();
+    let len = ascii_name_len(bytes);
+    if byte_at(bytes, len).is_ascii() {
         return len;
     }
     let (_, rest) = text.split_at(len);

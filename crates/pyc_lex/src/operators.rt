@@ -55,9 +55,7 @@ const EQUAL: [(&[u8], Kind); 2] = [
     (b"=", Kind::Delimiter(Delimiter::Equal)),
 ];
 
-const EXCLAMATION: [(&[u8], Kind); 1] = [
-    (b"!=", Kind::Comparison(Comparison::NotEqual)),
-];
+const EXCLAMATION: [(&[u8], Kind); 1] = [(b"!=", Kind::Comparison(Comparison::NotEqual))];
 
 const PLUS: [(&[u8], Kind); 2] = [
     (b"+=", Kind::Augmented(Arithmetic::Plus)),
@@ -89,41 +87,23 @@ const CARET: [(&[u8], Kind); 2] = [
     (b"^", Kind::Arithmetic(Arithmetic::Caret)),
 ];
 
-const TILDE: [(&[u8], Kind); 1] = [
-    (b"~", Kind::Delimiter(Delimiter::Tilde)),
-];
+const TILDE: [(&[u8], Kind); 1] = [(b"~", Kind::Delimiter(Delimiter::Tilde))];
 
-const OPEN_ROUND: [(&[u8], Kind); 1] = [
-    (b"(", Kind::Open(Bracket::Round)),
-];
+const OPEN_ROUND: [(&[u8], Kind); 1] = [(b"(", Kind::Open(Bracket::Round))];
 
-const CLOSE_ROUND: [(&[u8], Kind); 1] = [
-    (b")", Kind::Close(Bracket::Round)),
-];
+const CLOSE_ROUND: [(&[u8], Kind); 1] = [(b")", Kind::Close(Bracket::Round))];
 
-const OPEN_SQUARE: [(&[u8], Kind); 1] = [
-    (b"[", Kind::Open(Bracket::Square)),
-];
+const OPEN_SQUARE: [(&[u8], Kind); 1] = [(b"[", Kind::Open(Bracket::Square))];
 
-const CLOSE_SQUARE: [(&[u8], Kind); 1] = [
-    (b"]", Kind::Close(Bracket::Square)),
-];
+const CLOSE_SQUARE: [(&[u8], Kind); 1] = [(b"]", Kind::Close(Bracket::Square))];
 
-const OPEN_CURLY: [(&[u8], Kind); 1] = [
-    (b"{", Kind::Open(Bracket::Curly)),
-];
+const OPEN_CURLY: [(&[u8], Kind); 1] = [(b"{", Kind::Open(Bracket::Curly))];
 
-const CLOSE_CURLY: [(&[u8], Kind); 1] = [
-    (b"}", Kind::Close(Bracket::Curly)),
-];
+const CLOSE_CURLY: [(&[u8], Kind); 1] = [(b"}", Kind::Close(Bracket::Curly))];
 
-const COMMA: [(&[u8], Kind); 1] = [
-    (b",", Kind::Delimiter(Delimiter::Comma)),
-];
+const COMMA: [(&[u8], Kind); 1] = [(b",", Kind::Delimiter(Delimiter::Comma))];
 
-const SEMICOLON: [(&[u8], Kind); 1] = [
-    (b";", Kind::Delimiter(Delimiter::Semicolon)),
-];
+const SEMICOLON: [(&[u8], Kind); 1] = [(b";", Kind::Delimiter(Delimiter::Semicolon))];
 
 /// The first operator of the table whose spelling begins a text, and its length.
 fn operator_in(mut table: &[(&[u8], Kind)], text: &[u8]) -> Option<(Kind, usize)>

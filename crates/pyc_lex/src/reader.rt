@@ -1,6 +1,6 @@
 //! What is known of a source between two of its pieces.
 
-ghost use Rattle.std.specs.Prelude.{◌≡◌, ◌≢◌, ◌<◌, ◌≤◌, ◌+◌, ◌*◌, ◌^◌, ℕ, [], length, vec_len, Some, OnOk, IfOk};
+ghost use Rattle.std.specs.Prelude.{◌≡◌, ◌≢◌, ◌<◌, ◌≤◌, ◌+◌, ◌*◌, ◌^◌, ℕ, [], length, Some, OnOk, IfOk};
 ghost use Rattle.pyc_lex.specs.Lines as spec;
 
 use crate::brackets::Opened;
@@ -33,7 +33,6 @@ pub(crate) struct Reader {
     ghost line_is_low: { place.line ≤ from + 1 },
     ghost column_is_low: { place.column ≤ from + 1 },
     ghost column_from_one: { 1 ≤ place.column },
-    ghost has_first_indent: { 0 < vec_len indents },
 }
 
 impl Reader {
@@ -129,7 +128,7 @@ impl Reader {
     {
         if !self.begun.is_empty() {
             let tokens = Vec::from_slice(alloc, &self.begun)?;
-            let indent = self.indents.len() - 1;
+            let indent = self.indents.len().saturating_sub(1);
             self.lines.push(LogicalLine { indent, tokens })?;
             self.begun.clear();
         }

@@ -60,12 +60,20 @@ fn quotes_len(text: &[u8]) -> usize
 fn unit_len(text: &[u8]) -> usize
     requires { 0 < length text.now }
     ensures value { result ≡ spec.unit_len text.now }
+    ensures least { 1 ≤ result }
 {
     if text[0] != b'\\' {
         return 1;
     }
     let (_, rest) = text.split_at(1);
     1 + line_end_len(rest)
+}
+
+/// Whether a byte is a bare line end that ends the line of a string in single quotes.
+fn is_cut_off(quotes: &[u8], byte: u8) -> bool
+    ensures { result ≡ spec.is_cut_off quotes.now byte }
+{
+    quotes.len() == 1 && is_line_end(byte)
 }
 
 /// How many bytes a string goes on for after its opening quotes, its closing quotes included, or none where it is open.
@@ -82,7 +90,7 @@ fn closed_len(quotes: &[u8], text: &[u8]) -> Option<usize>
         if rest.starts_with(quotes) {
             return Some(text.len() - rest.len() + quotes.len());
         }
-        if quotes.len() == 1 && is_line_end(rest[0]) {
+        if is_cut_off(quotes, rest[0]) {
             return None;
         }
         let len = unit_len(rest);

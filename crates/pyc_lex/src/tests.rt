@@ -17,7 +17,9 @@ fn write_token(shown: &mut String, bytes: &[u8], token: &Token) -> Result<(), Fa
     if span.start > span.end || span.end > bytes.len() {
         return Err("a span outside the source")?;
     }
-    let text = str::from_utf8(&bytes[span.start..span.end]).ok().ok_or("no text")?;
+    let text = str::from_utf8(&bytes[span.start..span.end])
+        .ok()
+        .ok_or("no text")?;
     write!(shown, "[{line}:{column} {kind:?} {text}]")?;
     Ok(())
 }
@@ -30,7 +32,9 @@ fn write_ignore(shown: &mut String, bytes: &[u8], ignore: &Ignore) -> Result<(),
             if span.start > span.end || span.end > bytes.len() {
                 return Err("a span outside the source")?;
             }
-            let code = str::from_utf8(&bytes[span.start..span.end]).ok().ok_or("no text")?;
+            let code = str::from_utf8(&bytes[span.start..span.end])
+                .ok()
+                .ok_or("no text")?;
             write!(shown, " {code}")?;
         }
     }
@@ -72,10 +76,7 @@ fn gives_lines_of_tokens(rt: HostRuntime) -> Result<(), Fail> {
             "a\rb\r\n\nc",
             "0 [1:1 Name(Other) a];0 [2:1 Name(Other) b];0 [4:1 Name(Other) c];",
         ),
-        (
-            "\n \t\u{c}# é \\ $\n\nif # else",
-            "0 [4:1 Keyword(If) if];",
-        ),
+        ("\n \t\u{c}# é \\ $\n\nif # else", "0 [4:1 Keyword(If) if];"),
         (
             "'é\u{1}#' = \"it's\"  y",
             "0 [1:1 String(Plain) 'é\u{1}#'][1:7 Delimiter(Equal) =][1:9 String(Plain) \"it's\"][1:17 Name(Other) y];",
@@ -122,10 +123,7 @@ fn tells_the_first_fault(rt: HostRuntime) {
         (b"\r\n\r$", LexFault::BadCharacter(3)),
         (b"\"\xc3\xa9\" \xc2\xa7", LexFault::BadCharacter(1)),
         (b"$ \"a", LexFault::BadCharacter(1)),
-        (
-            b"\xef\xbb\xbf\xef\xbb\xbfx",
-            LexFault::BadCharacter(1),
-        ),
+        (b"\xef\xbb\xbf\xef\xbb\xbfx", LexFault::BadCharacter(1)),
         (b"\"a\" \xff", LexFault::NotUtf8),
         (b"$\xc3", LexFault::NotUtf8),
         (b"(\n[\n", LexFault::Bracket(2)),

@@ -51,7 +51,7 @@ fn reports_what_is_not_assignable(rt: HostRuntime) -> Result<(), Fail> {
 
 #[test]
 fn reports_the_first_fault(rt: HostRuntime) -> Result<(), Fail> {
-    let cases: [(&[u8], &str); 11] = [
+    let cases: [(&[u8], &str); 17] = [
         (b" x: int = 1\n", "1:1 syntax: Invalid syntax;"),
         (b"x: int = 1\nx: int = 1\n", "2:1 syntax: Invalid syntax;"),
         (b"int: int = 1\n", "1:1 syntax: Invalid syntax;"),
@@ -66,6 +66,21 @@ fn reports_the_first_fault(rt: HostRuntime) -> Result<(), Fail> {
             "3:1 syntax: Unterminated string literal;",
         ),
         (b"x = 1\n\xff", "1:1 syntax: Source is not UTF-8;"),
+        (b"x: int = 1\ny = (1 +\n", "2:1 syntax: Unmatched bracket;"),
+        (
+            b"if x:\n    y\n  z",
+            "3:1 syntax: Unindent does not match any outer indentation level;",
+        ),
+        (
+            b"if x:\n        y\n\tz",
+            "3:1 syntax: Inconsistent use of tabs and spaces in indentation;",
+        ),
+        (
+            b"\n(((((((((((((((((((((((((((((((((((((((((((((((((((((((((((((((((",
+            "2:1 syntax: Too deeply nested;",
+        ),
+        (b"x: int = \\\n1\n", "1:1 syntax: Invalid syntax;"),
+        (b"x: str = b'a'\n", "1:1 syntax: Invalid syntax;"),
     ];
     for (source, want) in cases {
         assert_eq!(rt; shown(rt.alloc(), source)?.as_str(), want);

@@ -1,4 +1,5 @@
 use Rattle.std.proofs.Common.{◌≡◌, [], map, drop}
+use Rattle.pyc_lex.specs.View.{line_in}
 use Rattle.dmypy.specs.Outcome.{outcome_after, name_in}
 use Rattle.dmypy.proofs.outcome.outcome_of_lines.Given as goal
 
@@ -6,7 +7,7 @@ use Rattle.dmypy.proofs.outcome.outcome_of_lines.Given as goal
 abbrev pub invariant-loop-line : goal.invariant-loop-line
 invariant-loop-line l = record {
   settled :
-      outcome_after l.bytes l.statements.items (map (λ line. line.tokens.items) (drop l.line-index l.lines))
-      ≡ outcome_after l.bytes [] (map (λ line. line.tokens.items) l.lines);
+      outcome_after l.bytes l.statements.items (map line_in (drop l.line-index l.lines))
+      ≡ outcome_after l.bytes [] (map line_in l.lines);
   named : map (λ name. name.now) l.names.keys ≡ map (name_in l.bytes) l.statements.items;
 }
