@@ -43,6 +43,21 @@ strings = do
   more ← literals
   rule.checked (are_joined (is_bytes t.kind) more) (tree.strings t more)
 
+-- ---- the operator of a comparison
+
+abbrev pub some_token : Parser Token → Parser (Option Token)
+some_token p = do
+  t ← p
+  pure (Some t)
+
+-- the second word of a comparison's operator, by the first: `not in`, and perhaps `is not`
+unfoldable pub second_word : Kind → Parser (Option Token)
+second_word (kind.Keyword word.Not) = some_token (expect (kind.Keyword word.In))
+second_word (kind.Keyword word.Is) = do
+  next ← peek
+  if same_kind next (kind.Keyword word.Not) then some_token take_one else pure None
+second_word _ = pure None
+
 module _ (self : ℕ → Parser Tree) where
   -- ---- operands
 
@@ -134,31 +149,27 @@ module _ (self : ℕ → Parser Tree) where
     name ← expect_name
     made (tree.attribute left dot name)
 
-  abbrev pub some_token : Parser Token → Parser (Option Token)
-  some_token p = do
-    t ← p
-    pure (Some t)
+  -- a comparison with its operator ("Comparisons"), in front of those after it
+  unfoldable pub one_link : Parser (Links → Links)
+  one_link = do
+    first ← take_one
+    second ← second_word first.kind
+    e ← self 6
+    pure (tree.link first second e)
 
-  -- the second word of a comparison's operator, by the first: `not in`, and perhaps `is not`
-  unfoldable pub second_word : Kind → Parser (Option Token)
-  second_word (kind.Keyword word.Not) = some_token (expect (kind.Keyword word.In))
-  second_word (kind.Keyword word.Is) = do
-    next ← peek
-    if same_kind next (kind.Keyword word.Not) then some_token take_one else pure None
-  second_word _ = pure None
+  -- a comparison in front of those after it
+  abbrev pub linked : Parser Links → Parser Links
+  linked rest = do
+    first ← one_link
+    more ← rest
+    pure (first more)
 
-  -- comparisons, each with its operator ("Comparisons"); the number bounds them
+  -- comparisons; the number bounds them
   unfoldable pub links : ℕ → Parser Links
   links zero = pure tree.unlinked
   links (suc n) = do
     k ← peek
-    if is_comparison k then (do
-      first ← take_one
-      second ← second_word first.kind
-      e ← self 6
-      rest ← links n
-      pure (tree.link first second e rest))
-        else pure tree.unlinked
+    if is_comparison k then linked (links n) else pure tree.unlinked
 
   unfoldable pub all_links : Parser Links
   all_links = λ ts. links (length ts) ts

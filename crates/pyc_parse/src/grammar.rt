@@ -7,6 +7,7 @@ ghost use Rattle.pyc_parse.specs.Nests.{Nests};
 ghost use Rattle.pyc_parse.specs.Reads.{Reads};
 ghost use Rattle.pyc_parse.specs.View.{tree_of};
 
+mod comparisons;
 mod items;
 mod operators;
 mod parameters;
