@@ -1,0 +1,4 @@
+pub mod ViewLemmas
+pub mod HeightLemmas
+pub mod TargetLemmas
+pub mod Steps

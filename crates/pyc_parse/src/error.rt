@@ -1,0 +1,23 @@
+//! Why tokens have no tree.
+
+ghost use Rattle.std.specs.Prelude.{◌≡◌};
+ghost use Rattle.pyc_parse.specs.declared.error.ParseError.TheVariants.{Memory};
+
+use std::alloc::AllocError;
+
+/// Why a rule of the grammar gives no tree.
+#[derive(Clone, Copy, Debug, PartialEq, Eq)]
+pub enum ParseError {
+    /// The tokens are none of the rule, or their tree is too high.
+    Refused,
+    /// A growth was refused; this says nothing of the tokens.
+    Memory,
+}
+
+impl From<AllocError> for ParseError {
+    ghost from_gives = { λ _ error. error ≡ Memory };
+
+    fn from(_error: AllocError) -> ParseError {
+        ParseError::Memory
+    }
+}

@@ -1,0 +1,153 @@
+//! Tests of the kinds of tokens, and how tightly operators bind.
+#![tactic(auto)]
+
+ghost use Rattle.std.specs.Prelude.{◌≡◌};
+ghost use Rattle.pyc_parse.specs.Kinds as spec;
+ghost use Rattle.pyc_parse.specs.Levels as levels;
+ghost use Rattle.pyc_parse.specs.Places as places;
+
+use pyc_lex::{Arithmetic, Bracket, Delimiter, Keyword, Kind};
+
+/// Whether two kinds are one.
+#[tactic(auto, unfolding(crate::specs::Kinds::same_kind))]
+pub fn same_kind(a: Kind, b: Kind) -> bool
+    ensures { result ≡ spec.same_kind a b }
+{
+    match (a, b) {
+        (Kind::Name(a), Kind::Name(b)) => a == b,
+        (Kind::Keyword(a), Kind::Keyword(b)) => a == b,
+        (Kind::Number(a), Kind::Number(b)) => a == b,
+        (Kind::String(a), Kind::String(b)) => a == b,
+        (Kind::Arithmetic(a), Kind::Arithmetic(b)) => a == b,
+        (Kind::Augmented(a), Kind::Augmented(b)) => a == b,
+        (Kind::Comparison(a), Kind::Comparison(b)) => a == b,
+        (Kind::Open(a), Kind::Open(b)) => a == b,
+        (Kind::Close(a), Kind::Close(b)) => a == b,
+        (Kind::Delimiter(a), Kind::Delimiter(b)) => a == b,
+        _ => false,
+    }
+}
+
+/// Whether a token is an identifier.
+pub fn is_name(kind: Kind) -> bool
+    ensures { result ≡ spec.is_name kind }
+{
+    matches!(kind, Kind::Name(_))
+}
+
+/// Whether a token begins a clause of a comprehension.
+pub fn begins_clause(kind: Kind) -> bool
+    ensures { result ≡ spec.begins_clause kind }
+{
+    matches!(
+        kind,
+        Kind::Keyword(Keyword::For) | Kind::Keyword(Keyword::Async)
+    )
+}
+
+/// The level of an operator's right operand, at least.
+fn operator_right(operator: Arithmetic) -> u8
+    ensures { result ≡ levels.operator_right operator }
+{
+    match operator {
+        Arithmetic::Bar => 7,
+        Arithmetic::Caret => 8,
+        Arithmetic::Ampersand => 9,
+        Arithmetic::LeftShift | Arithmetic::RightShift => 10,
+        Arithmetic::Plus | Arithmetic::Minus => 11,
+        Arithmetic::Star
+        | Arithmetic::At
+        | Arithmetic::Slash
+        | Arithmetic::DoubleSlash
+        | Arithmetic::Percent
+        | Arithmetic::DoubleStar => 12,
+    }
+}
+
+/// The level of an operator between two operands.
+fn operator_level(operator: Arithmetic) -> u8
+    ensures { result ≡ levels.operator_level operator }
+{
+    match operator {
+        Arithmetic::Bar => 6,
+        Arithmetic::Caret => 7,
+        Arithmetic::Ampersand => 8,
+        Arithmetic::LeftShift | Arithmetic::RightShift => 9,
+        Arithmetic::Plus | Arithmetic::Minus => 10,
+        Arithmetic::Star
+        | Arithmetic::At
+        | Arithmetic::Slash
+        | Arithmetic::DoubleSlash
+        | Arithmetic::Percent => 11,
+        Arithmetic::DoubleStar => 13,
+    }
+}
+
+/// The level of what a word makes with an expression before it, 0 where it makes nothing.
+fn word_level(word: Keyword) -> u8
+    ensures { result ≡ levels.word_level word }
+{
+    match word {
+        Keyword::If => 1,
+        Keyword::Or => 2,
+        Keyword::And => 3,
+        Keyword::In | Keyword::Is | Keyword::Not => 5,
+        _ => 0,
+    }
+}
+
+/// The level of what a token makes with an expression before it, 0 where it makes nothing.
+pub fn binds(kind: Kind) -> u8
+    ensures { result ≡ levels.binds kind }
+{
+    match kind {
+        Kind::Keyword(word) => word_level(word),
+        Kind::Arithmetic(operator) => operator_level(operator),
+        Kind::Comparison(_) => 5,
+        Kind::Open(Bracket::Round) | Kind::Open(Bracket::Square) => 15,
+        Kind::Delimiter(Delimiter::Dot) => 15,
+        _ => 0,
+    }
+}
+
+/// The level of the expression after an operator between two operands, at least, 0 where it is none.
+pub fn right_level(kind: Kind) -> u8
+    ensures { result ≡ levels.right_level kind }
+{
+    match kind {
+        Kind::Keyword(Keyword::Or) => 3,
+        Kind::Keyword(Keyword::And) => 4,
+        Kind::Arithmetic(operator) => operator_right(operator),
+        _ => 0,
+    }
+}
+
+/// Whether a token is `:`.
+pub fn is_colon(kind: Kind) -> bool
+    ensures { result ≡ places.is_colon kind }
+{
+    matches!(kind, Kind::Delimiter(Delimiter::Colon))
+}
+
+/// Whether a token may begin an expression.
+pub fn begins_expression(kind: Kind) -> bool
+    ensures { result ≡ spec.begins_expression kind }
+{
+    match kind {
+        Kind::Name(_) | Kind::Number(_) | Kind::String(_) | Kind::Open(_) => true,
+        Kind::Keyword(word) => matches!(
+            word,
+            Keyword::False
+                | Keyword::None
+                | Keyword::True
+                | Keyword::Not
+                | Keyword::Await
+                | Keyword::Lambda
+        ),
+        Kind::Arithmetic(operator) => matches!(operator, Arithmetic::Plus | Arithmetic::Minus),
+        Kind::Delimiter(delimiter) => {
+            matches!(delimiter, Delimiter::Tilde | Delimiter::Ellipsis)
+        }
+        _ => false,
+    }
+}

@@ -1,0 +1,13 @@
+//! The trees of the lines of a Python source, and its blocks.
+#![tactic(auto, using(crate::proofs::ViewLemmas::views, crate::proofs::HeightLemmas::heights, crate::proofs::TargetLemmas::target_forms))]
+
+mod built;
+mod error;
+mod grammar;
+mod kinds;
+mod place;
+mod tokens;
+mod tree;
+
+pub use place::{Place, Sort};
+pub use tree::{Clause, Expr, Link, Piece, Pieces, Tail};
