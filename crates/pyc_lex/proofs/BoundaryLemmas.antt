@@ -1,5 +1,5 @@
 -- Where a text may be cut: after bytes of ASCII.
-use Rattle.std.proofs.Common.{ℕ, zero, suc, ◌+◌, ◌<◌, ◌≤◌, Bool, true, List, [], ◌∷◌, length, drop, slice_index, nat_eq, false, ◌≡◌, refl, if◌then◌else◌, ◌++◌, sym, ap, ◌∙◌, IsUtf8, IsCharBoundary, subst, arith, add-one}
+use Rattle.std.proofs.Common.{ℕ, zero, suc, ◌+◌, ◌<◌, ◌≤◌, Bool, true, List, length, drop, slice_index, nat_eq, false, ◌≡◌, refl, if◌then◌else◌, ◌++◌, sym, ap, ◌∙◌, IsUtf8, IsCharBoundary, subst, arith, add-one}
 use Rattle.std.proofs.lemmas.Str.{IsCharBoundary-start, IsCharBoundary-after_ascii}
 use Rattle.std.proofs.lemmas.List.Sums.{prefix_len_passes, prefix_len-le-length}
 use Rattle.std.proofs.lemmas.Str.{IsCharBoundary-past_char}

@@ -1,8 +1,7 @@
 -- Each piece has a byte at least, and the text may be cut after it.
-use Rattle.std.proofs.Common.{◌≡◌, ◌⊎◌, ℕ, zero, suc, ◌+◌, ◌-◌, ◌<◌, ◌≤◌, Bool, true, false, ◌||◌, ◌&&◌, ◌==◌, nat_eq, nat_lt, not, if◌then◌else◌, List, [], ◌∷◌, ◌++◌, take, drop, length, slice_index, get_or, chars, IsUtf8, IsCharBoundary, encode_utf8_all, take_while, option_map, Option, Some, None, Ok, Err, refl, sym, ap, subst, ◌∙◌, inl, inr, arith, add-one, add-zero, one-add, true≢false, get_or-drop, get_or-take, length-drop, length-take, take-append-drop}
+use Rattle.std.proofs.Common.{◌≡◌, ◌⊎◌, ℕ, zero, suc, ◌+◌, ◌-◌, ◌<◌, ◌≤◌, Bool, true, false, ◌||◌, ◌&&◌, ◌==◌, nat_eq, nat_lt, not, if◌then◌else◌, List, [], ◌∷◌, ◌++◌, take, drop, length, slice_index, chars, IsUtf8, IsCharBoundary, encode_utf8_all, option_map, Option, Some, None, Ok, Err, refl, sym, ap, subst, ◌∙◌, inl, inr, arith, add-zero, one-add, true≢false, get_or-drop, get_or-take, length-drop, length-take, take-append-drop}
 use Rattle.std.proofs.lemmas.Bool.{cases_lt}
 use Rattle.std.proofs.lemmas.Bool.Decides.{nat_tests}
-use Rattle.std.proofs.lemmas.List.{get_or_past}
 use Rattle.std.proofs.lemmas.List.Prefix.{front_reads, front_fits}
 use Rattle.std.proofs.lemmas.List.Sums.{prefix_len-le-length, prefix_len_stops}
 use Rattle.std.proofs.lemmas.Slice.Eq.{starts_is}
@@ -24,7 +23,7 @@ use Rattle.pyc_lex.specs.Names.{name_len}
 use Rattle.pyc_lex.specs.Numbers.{is_digit_of, grouped_len, digits_len, base_named, fraction_len, sign_len, exponent_len, imaginary_len, decimal, number_in, number_by, number_at}
 use Rattle.pyc_lex.specs.Strings.{prefix_of, is_format, quotes_len, unit_len, is_cut_off, closed_len, string_len, has_open_field}
 use Rattle.pyc_lex.specs.Operators.{operator_in, operator_at, operators}
-use Rattle.pyc_lex.specs.Cuts.{Front, string_token, string_of, quoted, name_or_string, name_front, number_front, operator_front, begins_number, begins_joined, cut}
+use Rattle.pyc_lex.specs.Cuts.{Front, string_of, quoted, name_or_string, name_front, operator_front, begins_number, begins_joined, cut}
 use Rattle.pyc_lex.proofs.BoundaryLemmas.{boundary_past, boundary_past_prefix}
 use Rattle.pyc_lex.proofs.NameLemmas.{front_len, name_len-front}
 

@@ -1,15 +1,15 @@
 -- The length of a name, and names in ASCII.
-use Rattle.std.proofs.Common.{◌≡◌, ℕ, suc, ◌+◌, ◌<◌, ◌≤◌, ◌||◌, ◌==◌, Bool, true, false, List, [], ◌∷◌, ◌++◌, if◌then◌else◌, length, take, drop, get_or, slice_index, All, IsUtf8, IsAscii, chars, encode_utf8, encode_utf8_all, take_while, refl, sym, ap, ◌∙◌, arith, length-append, length-drop, one-add, zero-add, add-zero, get_or-drop, inl, inr, IsCharBoundary}
+use Rattle.std.proofs.Common.{◌≡◌, ℕ, suc, ◌+◌, ◌<◌, ◌≤◌, ◌||◌, ◌==◌, true, false, List, [], ◌∷◌, ◌++◌, if◌then◌else◌, length, take, drop, get_or, slice_index, All, IsUtf8, IsAscii, chars, encode_utf8, encode_utf8_all, take_while, refl, sym, ap, ◌∙◌, arith, length-append, one-add, zero-add, add-zero, get_or-drop, inl, inr, IsCharBoundary}
 use Rattle.std.proofs.lemmas.List.{at_drop_more, at_drop_all, get_or_past}
 use Rattle.std.proofs.lemmas.Bool.{cases_lt}
 use Rattle.std.proofs.lemmas.Bool.Decides.{nat_tests}
 use Rattle.std.proofs.lemmas.List.Elements.{All-nil, All-cons}
 use Rattle.std.proofs.lemmas.List.Sums.{prefix_len_stops}
 use Rattle.std.proofs.lemmas.Str.{chars-nil, len_utf8_ascii, IsUtf8-drop, length-encode, encode_ascii, chars-IsAscii, encodes-IsAscii, encodes-chars, chars_past_char, IsUtf8-past_char}
-use Rattle.std.specs.Char.{len_utf8, is_ascii_alphanumeric, is_ascii_alphabetic}
+use Rattle.std.specs.Char.{len_utf8, is_ascii_alphabetic}
 use Rattle.std.specs.List.{prefix_len}
-use Rattle.unicode_ident.specs.Ident.{is_xid_start, is_xid_continue}
-use Rattle.unicode_ident.proofs.IdentLemmas.{is_xid_continue-ascii, is_xid_start-ascii, is_xid_start-is_xid_continue}
+use Rattle.unicode_ident.specs.Ident.{is_xid_continue}
+use Rattle.unicode_ident.proofs.IdentLemmas.{is_xid_continue-ascii, is_xid_start-ascii}
 use Rattle.unicode_normalization.specs.Forms.{Nfkc, nfkc}
 use Rattle.unicode_normalization.proofs.FormsLemmas.{normalize-ascii}
 use Rattle.pyc_lex.proofs.BoundaryLemmas.{boundary_past_prefix}

@@ -1,9 +1,9 @@
 -- The table of operators, split by the bytes that they begin with.
-use Rattle.std.proofs.Common.{◌≡◌, ◌≢◌, ◌≤◌, ◌+◌, ℕ, Bool, true, false, ◌&&◌, if◌then◌else◌, nat_eq, ◌==◌, List, [], ◌∷◌, length, slice_index, Some, None, refl, ap, sym, ◌∙◌, arith}
+use Rattle.std.proofs.Common.{◌≡◌, ◌≢◌, ℕ, Bool, true, false, ◌&&◌, if◌then◌else◌, nat_eq, ◌==◌, List, [], ◌∷◌, length, slice_index, Some, None, refl, ap, ◌∙◌, arith}
 use Rattle.std.proofs.lemmas.Bool.Decides.{nat_tests}
 use Rattle.std.specs.List.{starts_with}
 use Rattle.pyc_lex.specs.declared.tokens.Kind.{Kind}
-use Rattle.pyc_lex.specs.Operators.{operators, operator_in, operator_at}
+use Rattle.pyc_lex.specs.Operators.{operators, operator_in}
 
 -- the entries of a table whose spellings begin with a byte
 abbrev pub of_first : ℕ → List (List ℕ × Kind) → List (List ℕ × Kind)

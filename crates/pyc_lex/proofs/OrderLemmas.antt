@@ -1,11 +1,10 @@
 -- Tokens are in text order, and lines stay within the limits.
-use Rattle.std.proofs.Common.{◌≡◌, ◌≤◌, ◌<◌, ◌+◌, ◌-◌, ◌==◌, ℕ, zero, suc, Bool, true, false, if◌then◌else◌, List, [], ◌∷◌, ◌++◌, length, get_or, Option, Some, None, Result, Ok, Err, refl, sym, ap, subst, ◌∙◌, arith, length-append}
+use Rattle.std.proofs.Common.{◌≡◌, ◌≤◌, ◌+◌, ◌-◌, ◌==◌, ℕ, true, false, if◌then◌else◌, List, [], ◌∷◌, ◌++◌, length, Option, Some, None, Ok, refl, sym, ap, subst, ◌∙◌, arith}
 use Rattle.std.proofs.lemmas.List.Elements.{All-nil, All-cons, All-append}
 use Rattle.std.proofs.lemmas.List.Quantifiers.{all_pairs_push}
 use Rattle.std.specs.List.{All, AllPairs}
 use Rattle.pyc_lex.specs.declared.tokens.Kind.{Kind}
 use Rattle.pyc_lex.specs.declared.tokens.Token.{Token}
-use Rattle.pyc_lex.specs.declared.brackets.Opened.{Opened}
 use Rattle.pyc_lex.specs.declared.cut.Piece.{Piece}
 use Rattle.pyc_lex.specs.declared.cut.Piece.TheVariants as piece
 use Rattle.pyc_lex.specs.Cuts.{Cut, found, bad}
@@ -15,7 +14,7 @@ use Rattle.pyc_lex.specs.Limits.{IsBefore, depth_past, depth_after, NestsWithin,
 use Rattle.pyc_lex.specs.Lines.{Line, Lexis, Reading, start_at, is_empty, moved, measured, with_ignore, end_met, line_ended, front_joined, token_at, with_line, step, read, and_then, finished, mark_len, pieces_of}
 use Rattle.pyc_lex.specs.Names.{kind_of_name}
 use Rattle.pyc_lex.specs.Texts.{tokens_of}
-use Rattle.pyc_lex.proofs.ReadLemmas.{and_then-ok, IsPushed, Follows, step-follows, from-step}
+use Rattle.pyc_lex.proofs.ReadLemmas.{and_then-ok, IsPushed, Follows, step-follows}
 use Rattle.pyc_lex.proofs.StackLemmas.{IsStepped, bracketed-length}
 use Rattle.pyc_lex.proofs.TextLemmas.{read_tokens, tokens_of-with_line, tokens-pushed, tokens-line_ended, finished_lexis, met_fault}
 

@@ -1,5 +1,5 @@
 -- What a scan answers, from what the reading of its pieces answers.
-use Rattle.std.proofs.Common.{◌≡◌, ◌≢◌, if◌then◌else◌, ℕ, true, false, Bool, List, [], ◌∷◌, ◌++◌, length, take, map, drop, IfOk, IfErr, IsUtf8, Result, Ok, Err, refl, sym, ◌∙◌}
+use Rattle.std.proofs.Common.{◌≡◌, ◌≢◌, if◌then◌else◌, ℕ, true, false, List, [], ◌∷◌, ◌++◌, length, take, map, drop, IfOk, IfErr, IsUtf8, Result, Ok, Err, refl, sym, ◌∙◌}
 use Rattle.std.proofs.lemmas.Str.{is_utf8-from_IsUtf8, IsUtf8-from_is_utf8}
 use Rattle.std.proofs.lemmas.List.{take_at, drop_at}
 use Rattle.std.proofs.lemmas.List.Elements.{All-nil, All-cons, All-same, All-take, All-drop}

@@ -1,7 +1,7 @@
 -- Strings, read from one unit to the next, and an f-string's braces, read byte by byte.
 use Rattle.std.proofs.Common.{◌≡◌, ℕ, zero, suc, ◌+◌, ◌-◌, ◌<◌, ◌≤◌, Bool, true, false, not, ◌||◌, ◌&&◌, ◌==◌, nat_eq, List, [], ◌∷◌, drop, length, slice_index, if◌then◌else◌, Option, Some, None, option_map, refl, sym, ap, ◌∙◌, arith, length-drop}
 use Rattle.std.specs.List.{list_any, starts_with}
-use Rattle.pyc_lex.specs.Strings.{unit_len, is_cut_off, closed_len, without_doubled, has_open_brace, has_open_field}
+use Rattle.pyc_lex.specs.Strings.{unit_len, is_cut_off, closed_len, without_doubled, has_open_brace}
 
 -- ---- the end of a string
 

@@ -1,5 +1,5 @@
 -- The tokens of a source, and the slices of the source at their spans.
-use Rattle.std.proofs.Common.{◌≡◌, ◌≤◌, ◌<◌, ◌+◌, ◌-◌, ◌==◌, nat_eq, ℕ, zero, suc, Bool, true, false, ◌&&◌, if◌then◌else◌, List, [], ◌∷◌, ◌++◌, map, length, take, drop, IsUtf8, Option, Some, None, Result, Ok, Err, refl, sym, ap, subst, ◌∙◌, arith, append_assoc, length-append, length-take}
+use Rattle.std.proofs.Common.{◌≡◌, ◌≤◌, ◌<◌, ◌+◌, ◌-◌, ◌==◌, ℕ, zero, suc, true, false, if◌then◌else◌, List, [], ◌∷◌, ◌++◌, map, length, take, drop, IsUtf8, Option, Some, None, Ok, Err, refl, sym, ap, subst, ◌∙◌, arith, append_assoc, length-append, length-take}
 use Rattle.std.proofs.lemmas.List.{append-nil, map-append, take-append-drop, take_at, drop_at}
 use Rattle.std.proofs.lemmas.List.Elements.{All-nil, All-cons, All-append}
 use Rattle.std.proofs.lemmas.Str.{IsUtf8-take, IsUtf8-drop}
@@ -9,16 +9,14 @@ use Rattle.pyc_lex.specs.declared.tokens.Token.{Token}
 use Rattle.pyc_lex.specs.declared.cut.Piece.{Piece}
 use Rattle.pyc_lex.specs.declared.cut.Piece.TheVariants as piece
 use Rattle.pyc_lex.specs.declared.cut.CutFault.{CutFault}
-use Rattle.pyc_lex.specs.declared.fault.LexFault.{LexFault}
-use Rattle.pyc_lex.specs.declared.brackets.Opened.{Opened}
-use Rattle.pyc_lex.specs.Cuts.{Front, Cut, found, cut, cut_off, left_of, cuts, cuts_up_to}
+use Rattle.pyc_lex.specs.Cuts.{Cut, found, cut, cut_off, left_of, cuts, cuts_up_to}
 use Rattle.pyc_lex.specs.Ignores.{Codes, silenced}
 use Rattle.pyc_lex.specs.Indents.{columns_after}
-use Rattle.pyc_lex.specs.Lines.{Line, Reading, Lexis, start_at, is_empty, and_then, step, read, fault_met, line_settled, token_at, with_line, line_ended, measured, with_ignore, end_met, front_joined, innermost, lexis_read, finished, mark_len, pieces_of, lines_of}
+use Rattle.pyc_lex.specs.Lines.{Line, Reading, Lexis, start_at, is_empty, and_then, step, read, fault_met, line_settled, token_at, with_line, line_ended, measured, with_ignore, end_met, front_joined, innermost, lexis_read, finished, mark_len, pieces_of}
 use Rattle.pyc_lex.specs.Names.{kind_of_name}
 use Rattle.pyc_lex.specs.Texts.{tokens_of, slice_at, IsTextSpan, with_token_text, texts_among, token_texts}
 use Rattle.pyc_lex.proofs.BoundaryLemmas.{mark_boundary}
-use Rattle.pyc_lex.proofs.CutLemmas.{IsPiece, HasPiece, cut_takes}
+use Rattle.pyc_lex.proofs.CutLemmas.{HasPiece, cut_takes}
 use Rattle.pyc_lex.proofs.ReadLemmas.{and_then-ok, IsPushed, Follows, step-follows, from-step}
 
 -- ---- the tokens that a piece adds

@@ -1,5 +1,4 @@
-use Rattle.std.proofs.Common.{◌≡◌, IsUtf8, drop, sym, subst, ap, ◌∙◌}
-use Rattle.std.specs.Prelude.{IsCharBoundary}
+use Rattle.std.proofs.Common.{◌≡◌, drop, ap, ◌∙◌}
 use Rattle.pyc_lex.specs.Cuts.{cuts}
 use Rattle.pyc_lex.specs.Lines.{start_at, and_then, read, finished, lines_of}
 use Rattle.pyc_lex.proofs.BoundaryLemmas.{mark_boundary}

@@ -1,10 +1,8 @@
-use Rattle.std.proofs.Common.{◌≡◌, ◌≤◌, ◌+◌, length, get_or, drop, chars, sym, ◌∙◌, arith}
-use Rattle.std.proofs.lemmas.Bool.Decides.{nat_tests}
+use Rattle.std.proofs.Common.{length, chars, sym, ◌∙◌, arith}
 use Rattle.std.proofs.lemmas.Iterator.{YieldsList-from_chars}
 use Rattle.std.proofs.lemmas.Iterator.Consumers.{YieldsList-turn, YieldsList-end}
 use Rattle.std.proofs.lemmas.List.{length_push}
-use Rattle.pyc_lex.specs.Names.{name_len}
-use Rattle.pyc_lex.proofs.NameLemmas.{front_len, name_len-front, front_len-within, front_len-drop, front_len-at_end}
+use Rattle.pyc_lex.proofs.NameLemmas.{name_len-front, front_len-within, front_len-drop, front_len-at_end}
 use Rattle.pyc_lex.proofs.names.character_name_len.Goals as goal
 
 pub returns-then-not-is_xid_continue : goal.returns-then-not-is_xid_continue

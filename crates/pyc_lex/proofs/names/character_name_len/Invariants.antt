@@ -1,7 +1,5 @@
 use Rattle.std.proofs.Common.{◌≡◌, ◌+◌, length, drop}
-use Rattle.std.specs.Str.{chars, encode_utf8_all}
-use Rattle.std.specs.List.{take_while}
-use Rattle.unicode_ident.specs.Ident.{is_xid_continue}
+use Rattle.std.specs.Str.{chars}
 use Rattle.pyc_lex.proofs.NameLemmas.{front_len}
 use Rattle.pyc_lex.proofs.names.character_name_len.Given as goal
 

@@ -1,7 +1,7 @@
-use Rattle.std.proofs.Common.{◌≡◌, ◌≤◌, ◌+◌, ◌<◌, length, drop, slice_index, chars, sym, ap, ◌∙◌, arith}
+use Rattle.std.proofs.Common.{◌<◌, drop, slice_index, chars, sym, ap, ◌∙◌, arith}
 use Rattle.std.specs.List.{prefix_len}
 use Rattle.std.proofs.lemmas.Bool.Decides.{nat_tests}
-use Rattle.pyc_lex.specs.Names.{name_len, is_ascii_name_byte}
+use Rattle.pyc_lex.specs.Names.{is_ascii_name_byte}
 use Rattle.pyc_lex.proofs.BoundaryLemmas.{boundary_past_prefix}
 use Rattle.pyc_lex.proofs.NameLemmas.{front_len, name_byte_low, name_len-front, front_len-within, name_len-ascii, name_len-at_ascii}
 use Rattle.pyc_lex.proofs.names.name_len.Goals as goal

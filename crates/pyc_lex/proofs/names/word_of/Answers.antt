@@ -1,4 +1,4 @@
-use Rattle.std.proofs.Common.{◌≡◌, ◌∙◌, ap, sym}
+use Rattle.std.proofs.Common.{◌∙◌, ap, sym}
 use Rattle.pyc_lex.specs.Names.{word_of, word_in}
 use Rattle.pyc_lex.proofs.NameLemmas.{nfkc_text-ascii}
 use Rattle.pyc_lex.proofs.names.word_of.Goals as goal

@@ -1,4 +1,4 @@
-use Rattle.std.proofs.Common.{◌≡◌, ◌<◌, ◌-◌, ◌+◌, length, arith, sym, ◌∙◌, false, true}
+use Rattle.std.proofs.Common.{◌-◌, ◌+◌, length, arith, sym, ◌∙◌}
 use Rattle.std.proofs.lemmas.Grind.{common_steps}
 use Rattle.pyc_lex.proofs.StringLemmas.{closing-start, closing-end, closing-out_of_turns, closing-closes, closing-ends, closing-past, closing-step}
 use Rattle.pyc_lex.proofs.strings.closed_len.Goals as goal

@@ -1,4 +1,4 @@
-use Rattle.std.proofs.Common.{◌≡◌, Option, Some, None, Ok, sym, ap, ◌∙◌}
+use Rattle.std.proofs.Common.{Option, Ok, sym, ap, ◌∙◌}
 use Rattle.pyc_lex.specs.declared.brackets.Opened.{Opened}
 use Rattle.pyc_lex.specs.Lines.{Reading, innermost, lexis_read, finished}
 use Rattle.pyc_lex.specs.Reader.{reading_of}
