@@ -1,4 +1,5 @@
 //! Trees with their heights, which are refused where they pass the profile's limit: so no higher tree is ever built.
+#![tactic(auto, using(crate::proofs::ViewLemmas::views, crate::proofs::HeightLemmas::heights, crate::proofs::TargetLemmas::target_forms))]
 
 ghost use Rattle.std.specs.Prelude.{◌≡◌, ◌≤◌, false, max, if◌then◌else◌, IfOk, IfErr};
 ghost use Rattle.pyc_parse.specs.declared.error.ParseError.TheVariants.{Memory};

@@ -1,8 +1,9 @@
 //! The trees of the lines of a Python source, and its blocks.
-#![tactic(auto, using(crate::proofs::ViewLemmas::views, crate::proofs::HeightLemmas::heights, crate::proofs::TargetLemmas::target_forms))]
+#![tactic(auto)]
 
 mod built;
 mod error;
+mod forms;
 mod grammar;
 mod kinds;
 mod place;
