@@ -1,5 +1,5 @@
 -- What a test says of the forms that it does not name.
-use Rattle.std.proofs.Common.{◌≡◌, refl, Bool, false, Option, Some, None}
+use Rattle.std.proofs.Common.{◌≡◌, refl, ℕ, List, Bool, false, Option, Some, None}
 use Rattle.std.specs.declared.alloc.Global.{Global}
 use Rattle.std.specs.declared.boxed.Box.{Box}
 use Rattle.pyc_lex.specs.declared.tokens.Token.{Token}
@@ -9,6 +9,10 @@ use Rattle.pyc_parse.specs.declared.tree.Expr.{Expr, None', Some'}
 use Rattle.pyc_parse.specs.declared.tree.Expr.TheVariants as e
 use Rattle.pyc_parse.specs.declared.tree.Tail.{Tail}
 use Rattle.pyc_parse.specs.Places.{is_at, is_item, is_target_item, is_index, is_with_item, is_entry, is_last_argument, is_keyword_argument, is_argument, is_plain_parameter, is_late_parameter, is_parameter, after_argument, after_parameter}
+use Rattle.pyc_parse.specs.Items.{keyword}
+use Rattle.pyc_parse.specs.Parser.{Parser}
+use Rattle.pyc_parse.specs.Targets.{is_starred}
+use Rattle.pyc_parse.specs.Tree.{Tree}
 use Rattle.pyc_parse.specs.Well.{is_element}
 use Rattle.pyc_parse.specs.View.{tree_of}
 
@@ -98,3 +102,14 @@ pub element_other : (x : Expr) → ((a : Box Expr Global) (b : Token) (d : Box E
 unfolding tree_of
 element_other (e.Entry' p x a q y) first = absurd (first _ _ _ refl)
 element_other _ first = refl
+
+pub unstarred : (x : Expr) → ((a : Token) (b : Box Expr Global) → x ≡ e.Starred a b → ⊥) → false ≡ is_starred (tree_of x)
+unfolding tree_of
+unstarred (e.Starred' a p x) first = absurd (first _ _ refl)
+unstarred _ first = refl
+
+-- an argument that is no name is no keyword
+pub keyword_other : (self : ℕ → Parser Tree) (x : Expr) → ((a : Token) → x ≡ e.Name a → ⊥) → (ts : List Token) → keyword self (tree_of x) ts ≡ None
+unfolding tree_of
+keyword_other self (e.Name a) first ts = absurd (first _ refl)
+keyword_other self _ first ts = refl

@@ -3,3 +3,7 @@ pub mod HeightLemmas
 pub mod TargetLemmas
 pub mod Steps
 pub mod FormLemmas
+pub mod FrontLemmas
+pub mod ListLemmas
+pub mod PartedLemmas
+pub mod Turns

@@ -18,3 +18,4 @@ pub mod LineFault
 pub mod View
 pub mod Reads
 pub mod Nests
+pub mod Parted

@@ -9,6 +9,7 @@ ghost use Rattle.pyc_parse.specs.View.{tree_of};
 
 mod comparisons;
 mod items;
+mod lists;
 mod operators;
 mod parameters;
 

@@ -4,6 +4,7 @@
 mod built;
 mod error;
 mod forms;
+mod front;
 mod grammar;
 mod kinds;
 mod place;
