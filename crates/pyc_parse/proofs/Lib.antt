@@ -2,7 +2,8 @@ pub mod ViewLemmas
 pub mod HeightLemmas
 pub mod TargetLemmas
 pub mod Steps
+pub mod Sound
 pub mod SoundTables
 pub mod SoundTools
-pub mod Sound
 pub mod SoundItems
+pub mod SoundLists

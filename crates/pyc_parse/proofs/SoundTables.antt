@@ -21,7 +21,7 @@ use Rattle.pyc_parse.specs.Levels.{binds, left_level, right_level}
 
 -- ---- kinds
 
-never : {G : Type 0} → false ≡ true → G
+pub never : {G : Type 0} → false ≡ true → G
 never e = absurd (cc)
 
 pub same_kind_is : (a b : Kind) → same_kind a b ≡ true → a ≡ b

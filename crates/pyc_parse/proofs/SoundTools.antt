@@ -1,5 +1,5 @@
 -- What the steps of a rule read, handed on to what follows from it.
-use Rattle.std.proofs.Common.{◌≡◌, refl, ap, sym, ◌∙◌, subst, ℕ, zero, suc, ◌+◌, ◌≤◌, ◌<◌, Bool, true, false, nat_lt, nat_le, if◌then◌else◌, List, [], ◌∷◌, ◌++◌, length, take, drop, Option, None, Some}
+use Rattle.std.proofs.Common.{◌≡◌, refl, ap, sym, ◌∙◌, subst, ℕ, zero, suc, ◌+◌, ◌≤◌, ◌<◌, Bool, true, false, ◌||◌, nat_lt, nat_le, if◌then◌else◌, List, [], ◌∷◌, ◌++◌, length, length-append, arith, Option, None, Some}
 use Rattle.std.proofs.lemmas.Bool.{leb-true, le-leb, ltb-false, ltb-true}
 use Rattle.pyc_lex.specs.declared.tokens.Kind.{Kind}
 use Rattle.pyc_lex.specs.declared.tokens.Token.{Token}
@@ -10,7 +10,7 @@ use Rattle.pyc_parse.specs.Height.{height, max_height}
 use Rattle.pyc_parse.specs.Places.{is_at}
 use Rattle.pyc_parse.specs.Parser.{Outcome, Parser, and_then, pure, fail, take_one, expect, expect_name, made}
 use Rattle.pyc_parse.specs.Items.{checked}
-use Rattle.pyc_parse.proofs.SoundTables.{same_kind_is}
+use Rattle.pyc_parse.proofs.SoundTables.{never, same_kind_is}
 
 -- ---- what is read is one thing
 
@@ -117,3 +117,25 @@ at_level n t h = le-leb n (level t) h
 
 pub level_at : (n : ℕ) (t : Tree) → is_at n t ≡ true → n ≤ level t
 level_at n t h = leb-true n (level t) h
+
+-- ---- tests of two parts
+
+pub or_first : (x y : Bool) → (x || y) ≡ true → y ≡ false → x ≡ true
+or_first true y e second = refl
+or_first false y e second = sym second ∙ e
+
+pub either_first : (x y : Bool) → x ≡ true → (x || y) ≡ true
+either_first true y e = refl
+either_first false y e = never e
+
+pub either_second : (x y : Bool) → y ≡ true → (x || y) ≡ true
+either_second true y e = refl
+either_second false y e = e
+
+-- ---- lengths
+
+pub one_less : (ts : List Token) (t : Token) (later : List Token) → ts ≡ t ∷ later → length later < length ts
+one_less ts t later is = omega (arith, ap length is)
+
+pub no_more : (ts : List Token) (front later : List Token) → ts ≡ front ++ later → length later ≤ length ts
+no_more ts front later is = omega (arith, length-append front later, ap length is)
