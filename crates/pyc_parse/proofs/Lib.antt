@@ -7,3 +7,4 @@ pub mod SoundTables
 pub mod SoundTools
 pub mod SoundItems
 pub mod SoundLists
+pub mod SoundBrackets
