@@ -8,3 +8,4 @@ pub mod SoundTools
 pub mod SoundItems
 pub mod SoundLists
 pub mod SoundBrackets
+pub mod SoundExpressions

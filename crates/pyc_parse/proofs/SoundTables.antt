@@ -1,6 +1,7 @@
 -- What the tables of kinds and levels say to the proofs of the grammar.
 use Rattle.std.proofs.Common.{◌≡◌, refl, ap, sym, ◌∙◌, ℕ, ◌+◌, ◌≤◌, ◌<◌, ◌⊎◌, inl, inr, Bool, true, false, arith, le_refl}
 use denote.Enum.Bare.{same_true}
+use Rattle.pyc_lex.specs.declared.tokens.Arithmetic.{Arithmetic}
 use Rattle.pyc_lex.specs.declared.tokens.Arithmetic.TheVariants as op
 use Rattle.pyc_lex.specs.declared.tokens.Bracket.TheVariants as bracket
 use Rattle.pyc_lex.specs.declared.tokens.Delimiter.TheVariants as delimiter
@@ -65,12 +66,23 @@ left_near _ = inl refl
 pub left_below : (k : Kind) (n : ℕ) → binds k < n → left_level k ≤ n
 left_below k n below = omega (arith, left_near k)
 
+pub left_awaited : (k : Kind) → binds k < 15 → left_level k ≤ 14
+left_awaited k below = omega (arith, left_near k)
+
 pub left_low : (k : Kind) → left_level k ≤ 15
 left_low (kind.Keyword word.If) = omega arith
 left_low (kind.Arithmetic op.Bar) = omega arith
 left_low (kind.Open bracket.Round) = omega arith
 left_low (kind.Delimiter delimiter.Dot) = omega arith
 left_low _ = omega arith
+
+-- a token that compares stands at the level of comparisons
+pub binds_comparison : (k : Kind) → is_comparison k ≡ true → binds k ≡ 5
+binds_comparison (kind.Comparison _) is = refl
+binds_comparison (kind.Keyword word.In) is = refl
+binds_comparison (kind.Keyword word.Is) is = refl
+binds_comparison (kind.Keyword word.Not) is = refl
+binds_comparison _ is = never is
 
 -- what an operator between two operands asks for on its right
 pub right_near : (k : Kind) → 1 ≤ right_level k → (right_level k ≤ binds k + 1) × (right_level k ≤ 12) × (2 ≤ binds k) × (binds k ≡ 5 → ⊥)
@@ -79,6 +91,10 @@ right_near (kind.Keyword word.And) some = omega arith
 right_near (kind.Arithmetic op.Bar) some = omega arith
 right_near (kind.Arithmetic _) some = omega arith
 right_near _ some = absurd (omega arith)
+
+pub right_arithmetic : (o : Arithmetic) → 1 ≤ right_level (kind.Arithmetic o)
+right_arithmetic op.Bar = omega arith
+right_arithmetic _ = omega arith
 
 pub left_after : (sign k : Kind) → 1 ≤ right_level sign → binds k < right_level sign → left_level k ≤ binds sign
 left_after sign k some below = omega (arith, left_near k, right_near sign some)
