@@ -359,3 +359,7 @@ pub expr_sound : (depth : ℕ) → Good (grammar.expr depth)
 unfolding grammar.expr
 expr_sound zero = record { reads = λ least ts t rest e some high. refused _ e }
 expr_sound (suc depth) = record { reads = λ least ts t rest e some high. whole_sound (grammar.expr depth) (expr_sound depth) least ts t rest some high e }
+
+-- and so are those of the profile
+pub expression_sound : Good grammar.expression
+expression_sound = expr_sound max_height

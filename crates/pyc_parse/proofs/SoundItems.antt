@@ -20,7 +20,7 @@ use Rattle.pyc_parse.specs.Places.{is_at, fits, is_star, is_double_star, is_colo
 use Rattle.pyc_parse.specs.Well.{IsWell, MayBe, MayFollow}
 use Rattle.pyc_parse.specs.Parser.{Parser, and_then, take_one, made}
 use Rattle.pyc_parse.specs.Items as rule
-use Rattle.pyc_parse.proofs.Sound.{IsRead, IsPart, IsTail, IsBound, Good}
+use Rattle.pyc_parse.proofs.Sound.{IsRead, IsPart, IsOf, IsTail, IsBound, Good}
 use Rattle.pyc_parse.proofs.SoundTables.{same_kind_is, is_star_is, is_double_star_is, is_colon_is}
 use Rattle.pyc_parse.proofs.SoundTools.{refused, bind, choose, only, after_one, after_expected, after_name, pure_as, checked_as, made_as, after_made, at_level}
 
@@ -274,12 +274,18 @@ module _ (S : ℕ → Parser Tree) (good : Good S) where
   item_by_sound (place.KeywordOnly is_annotated) ts t rest e = parameter_by_sound is_annotated ts t rest e
   item_by_sound place.Ended ts t rest e = refused _ e
 
-  -- an item that fits its place, and what follows from it
+  -- an item that fits its place
+  pub item_sound : (here : Place) (ts : List Token) (t : Tree) (rest : List Token) → rule.item S here ts ≡ Some (t, rest) → IsOf (fits here) ts t rest
+  unfolding rule.item
+  item_sound here ts t rest e =
+      bind (rule.item_by S here (kind_of ts) ts) _ (t, rest) e (λ u later is last.
+      let part = item_by_sound here ts u later is in
+      checked_as (IsOf (fits here) ts) (fits here u) u t later rest last (λ fitting.
+      record { well = part.well; text = part.text; low = part.low; passes = fitting }))
+
   pub after_item : {B G : Type 0} (here : Place) (f : Tree → Parser B) (ts : List Token) (r : B × List Token) → and_then (rule.item S here ts) f ≡ Some r
       → ((t : Tree) (later : List Token) → fits here t ≡ true → IsPart ts t later → f t later ≡ Some r → G) → G
-  unfolding rule.item
-  after_item {G = G} here f ts r e go =
-      bind (rule.item S here ts) f r e (λ t later found next.
-      bind (rule.item_by S here (kind_of ts) ts) _ (t, later) found (λ u us is last.
-      checked_as (λ x left. f x left ≡ Some r → G) (fits here u) u t us later last
-        (λ fitting. go u us fitting (item_by_sound here ts u us is)) next))
+  after_item here f ts r e go =
+      bind (rule.item S here ts) f r e (λ t later is next.
+      let got = item_sound here ts t later is in
+      go t later got.passes (record { well = got.well; text = got.text; low = got.low }) next)
