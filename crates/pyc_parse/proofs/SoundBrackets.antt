@@ -1,29 +1,25 @@
 -- Displays, comprehensions, parentheses, yields, calls and subscripts are well-formed.
-use Rattle.std.proofs.Common.{◌≡◌, refl, ap, sym, ◌∙◌, subst, ℕ, zero, suc, ◌+◌, max, ◌≤◌, ◌<◌, Bool, true, false, ◌||◌, if◌then◌else◌, List, [], ◌∷◌, ◌++◌, length, Option, None, Some, append_assoc, arith}
+use Rattle.std.proofs.Common.{◌≡◌, refl, ap, sym, ◌∙◌, subst, ℕ, ◌≤◌, Bool, true, false, if◌then◌else◌, List, ◌∷◌, ◌++◌, Option, Some, append_assoc, arith}
 use Rattle.pyc_lex.specs.declared.tokens.Bracket.{Bracket}
 use Rattle.pyc_lex.specs.declared.tokens.Bracket.TheVariants as bracket
-use Rattle.pyc_lex.specs.declared.tokens.Delimiter.TheVariants as delimiter
 use Rattle.pyc_lex.specs.declared.tokens.Keyword.TheVariants as word
-use Rattle.pyc_lex.specs.declared.tokens.Kind.{Kind}
 use Rattle.pyc_lex.specs.declared.tokens.Kind.TheVariants as kind
 use Rattle.pyc_lex.specs.declared.tokens.Token.{Token}
-use Rattle.pyc_parse.specs.declared.place.Place.{Place}
 use Rattle.pyc_parse.specs.declared.place.Place.TheVariants as place
 use Rattle.pyc_parse.specs.declared.place.Sort.{Sort}
 use Rattle.pyc_parse.specs.declared.place.Sort.TheVariants as sort
 use Rattle.pyc_parse.specs.Tree.{Tree, Pieces, Clauses}
 use Rattle.pyc_parse.specs.Tree as tree
 use Rattle.pyc_parse.specs.Kinds.{kind_of, same_kind, begins_clause}
-use Rattle.pyc_parse.specs.Levels.{binds, left_level, level}
-use Rattle.pyc_parse.specs.Yield.{yield_of, pieces_yield, clauses_yield, perhaps_yield}
-use Rattle.pyc_parse.specs.Height.{height, pieces_height, max_height}
-use Rattle.pyc_parse.specs.Places.{is_at, fits, begins, may_end, next_place, is_item, is_entry, place_in, sort_of, empty_sort}
-use Rattle.pyc_parse.specs.Well.{IsWell, ArePieces, AreArguments, MayBe, is_yield, is_enclosed, is_display, is_element, is_expression_list, bracket_of, place_of, has_item, has_for}
-use Rattle.pyc_parse.specs.Parser.{Parser, and_then, made}
+use Rattle.pyc_parse.specs.Levels.{binds, level}
+use Rattle.pyc_parse.specs.Yield.{yield_of, pieces_yield}
+use Rattle.pyc_parse.specs.Places.{is_at, fits, begins, is_item, is_entry, place_in, sort_of, empty_sort}
+use Rattle.pyc_parse.specs.Well.{IsWell, ArePieces, AreArguments, is_yield, is_display, is_element, bracket_of, place_of}
+use Rattle.pyc_parse.specs.Parser.{Parser, made}
 use Rattle.pyc_parse.specs.Items as rule
 use Rattle.pyc_parse.proofs.Sound.{IsPart, IsOf, IsForm, Goes, AreListed, Good, first_of}
-use Rattle.pyc_parse.proofs.SoundTables.{never, same_kind_is, left_low}
-use Rattle.pyc_parse.proofs.SoundTools.{refused, bind, choose, only, after_one, after_expected, pure_as, made_as, after_made, at_level, or_first, either_first, either_second, one_less, no_more}
+use Rattle.pyc_parse.proofs.SoundTables.{same_kind_is, left_low}
+use Rattle.pyc_parse.proofs.SoundTools.{refused, bind, choose, only, after_one, after_expected, made_as, after_made, or_first, either_first, either_second, one_less, no_more}
 use Rattle.pyc_parse.proofs.SoundItems.{after_self, after_item}
 use Rattle.pyc_parse.proofs.SoundLists.{is_first, after_listed, after_clauses, expressions_sound}
 
@@ -34,9 +30,9 @@ sort_bracket bracket.Round e = refl
 sort_bracket bracket.Square e = refl
 sort_bracket bracket.Curly e = curly (is_entry e)
   where
-  curly : (b : Bool) → bracket_of (if b then sort.Dict else sort.Set) ≡ bracket.Curly
-  curly true = refl
-  curly false = refl
+    curly : (b : Bool) → bracket_of (if b then sort.Dict else sort.Set) ≡ bracket.Curly
+    curly true = refl
+    curly false = refl
 
 empty_bracket : (sign : Bracket) → bracket_of (empty_sort sign) ≡ sign
 empty_bracket bracket.Round = refl
@@ -82,6 +78,14 @@ are_arguments tree.none h = tt
 are_arguments (tree.last e) h = (h.0, h.1)
 are_arguments (tree.piece e comma more) h = h
 
+-- a callee, with the parenthesis after it
+record IsCalled (callee : Tree) (opening : Token) (ts ts1 : List Token) : Type 0 where
+  high : 15 ≤ level callee
+  well : IsWell callee
+  sign : kind_of ts ≡ kind.Open bracket.Round
+  opens : opening.kind ≡ kind.Open bracket.Round
+  text : ts ≡ opening ∷ ts1
+
 module _ (S : ℕ → Parser Tree) (good : Good S) where
   -- ---- `yield`
 
@@ -110,13 +114,14 @@ module _ (S : ℕ → Parser Tree) (good : Good S) where
       after_one _ ts (u, rest) e (λ t ts1 is_one same e1.
       let sign : t.kind ≡ kind.Keyword word.Yield = same ∙ is in
       choose _ _ (same_kind (kind_of ts1) (kind.Keyword word.From)) ts1 (u, rest) e1
-        (λ from e2. yield_from_sound t ts ts1 u rest sign is_one from e2)
-        (λ other e2. choose _ _ (begins place.Items (kind_of ts1)) ts1 (u, rest) e2
-          (λ begun e3. yield_value_sound t ts ts1 u rest sign is_one e3)
-          (λ none e3. made_as (IsOf is_yield ts) (tree.yield t tree.absent) u ts1 rest e3 (λ small.
-            record { well = (sign, tt); text = is_one; low = small; passes = refl }))))
+      (λ from e2. yield_from_sound t ts ts1 u rest sign is_one from e2)
+      (λ other e2. choose _ _ (begins place.Items (kind_of ts1)) ts1 (u, rest) e2
+      (λ begun e3. yield_value_sound t ts ts1 u rest sign is_one e3)
+      (λ none e3. made_as (IsOf is_yield ts) (tree.yield t tree.absent) u ts1 rest e3 (λ small.
+      record { well = (sign, tt); text = is_one; low = small; passes = refl }))))
 
-  pub yield_enclosed_sound : (opening : Token) (ts0 ts : List Token) (t : Tree) (rest : List Token) → opening.kind ≡ kind.Open bracket.Round → ts0 ≡ opening ∷ ts
+  pub yield_enclosed_sound : (opening : Token) (ts0 ts : List Token) (t : Tree) (rest : List Token) → opening.kind ≡ kind.Open bracket.Round
+      → ts0 ≡ opening ∷ ts
       → kind_of ts ≡ kind.Keyword word.Yield → rule.yield_enclosed S opening ts ≡ Some (t, rest) → IsForm 16 ts0 t rest
   unfolding rule.yield_enclosed IsWell yield_of
   yield_enclosed_sound opening ts0 ts t rest sign text is e =
@@ -128,7 +133,8 @@ module _ (S : ℕ → Parser Tree) (good : Good S) where
 
   -- ---- displays
 
-  pub empty_sound : (sign : Bracket) (opening : Token) (ts0 ts : List Token) (t : Tree) (rest : List Token) → opening.kind ≡ kind.Open sign → ts0 ≡ opening ∷ ts
+  pub empty_sound : (sign : Bracket) (opening : Token) (ts0 ts : List Token) (t : Tree) (rest : List Token) → opening.kind ≡ kind.Open sign
+      → ts0 ≡ opening ∷ ts
       → same_kind (kind_of ts) (kind.Close sign) ≡ true → rule.empty S sign opening ts ≡ Some (t, rest) → IsForm 16 ts0 t rest
   unfolding rule.empty IsWell yield_of
   empty_sound sign opening ts0 ts t rest opens text is e =
@@ -138,11 +144,18 @@ module _ (S : ℕ → Parser Tree) (good : Good S) where
         well = (
           opens ∙ ap kind.Open (sym (empty_bracket sign)),
           same ∙ (same_kind_is (kind_of ts) (kind.Close sign) is ∙ ap kind.Close (sym (empty_bracket sign))),
-          empty_display sign, empty_pieces sign);
-        text = cc; low = small; at = refl }))
+          empty_display sign,
+          empty_pieces sign,
+        );
+        text = cc;
+        low = small;
+        at = refl;
+      }))
 
-  comprehended_sound : (sign : Bracket) (opening : Token) (x : Tree) (ts0 ts1 ts : List Token) (t : Tree) (rest : List Token) → opening.kind ≡ kind.Open sign
-      → ts0 ≡ opening ∷ ts1 → IsPart ts1 x ts → begins_clause (kind_of ts) ≡ true → rule.comprehended S sign opening x ts ≡ Some (t, rest) → IsForm 16 ts0 t rest
+  comprehended_sound : (sign : Bracket) (opening : Token) (x : Tree) (ts0 ts1 ts : List Token) (t : Tree) (rest : List Token)
+      → opening.kind ≡ kind.Open sign
+      → ts0 ≡ opening ∷ ts1 → IsPart ts1 x ts → begins_clause (kind_of ts) ≡ true → rule.comprehended S sign opening x ts ≡ Some (t, rest)
+      → IsForm 16 ts0 t rest
   unfolding rule.comprehended IsWell yield_of
   comprehended_sound sign opening x ts0 ts1 ts t rest opens text part begins e =
       after_clauses S good _ ts (t, rest) e begins (λ found ts2 clauses headed text_found e1.
@@ -151,11 +164,15 @@ module _ (S : ℕ → Parser Tree) (good : Good S) where
       made_as (IsForm 16 ts0) (tree.comprehension (sort_of sign x) opening x found closing) t ts3 rest e3 (λ small.
       record {
         well = (opens ∙ ap kind.Open (sym (sort_bracket sign x)), shut ∙ ap kind.Close (sym (sort_bracket sign x)), element, part.well, headed, clauses);
-        text = simp append_assoc (cc); low = small; at = refl }))))
+        text = simp append_assoc (cc);
+        low = small;
+        at = refl;
+      }))))
 
   -- what brackets hold makes a display
   shown : (kind_of_display : Sort) (opening : Token) (found : Pieces) (closing : Token) (ts0 ts1 ts2 ts3 : List Token) (t : Tree) (rest : List Token)
-      → opening.kind ≡ kind.Open (bracket_of kind_of_display) → closing.kind ≡ kind.Close (bracket_of kind_of_display) → is_display kind_of_display found ≡ true
+      → opening.kind ≡ kind.Open (bracket_of kind_of_display) → closing.kind ≡ kind.Close (bracket_of kind_of_display)
+      → is_display kind_of_display found ≡ true
       → ArePieces (place_of kind_of_display) found → ts0 ≡ opening ∷ ts1 → ts1 ≡ pieces_yield found ++ ts2 → ts2 ≡ closing ∷ ts3
       → made (tree.display kind_of_display opening found closing) ts3 ≡ Some (t, rest) → IsForm 16 ts0 t rest
   unfolding IsWell yield_of
@@ -163,8 +180,10 @@ module _ (S : ℕ → Parser Tree) (good : Good S) where
       made_as (IsForm 16 ts0) (tree.display kind_of_display opening found closing) t ts3 rest e (λ small.
       record { well = (opens, shut, display, pieces); text = simp append_assoc (cc); low = small; at = refl })
 
-  enclosed_sound : (sign : Bracket) (first : Tree) (opening : Token) (found : Pieces) (closing : Token) (ts0 ts1 ts2 ts3 : List Token) (t : Tree) (rest : List Token)
-      → opening.kind ≡ kind.Open sign → closing.kind ≡ kind.Close sign → ts0 ≡ opening ∷ ts1 → AreListed (place_in sign) first ts1 found ts2 → ts2 ≡ closing ∷ ts3
+  enclosed_sound : (sign : Bracket) (first : Tree) (opening : Token) (found : Pieces) (closing : Token) (ts0 ts1 ts2 ts3 : List Token) (t : Tree)
+      (rest : List Token)
+      → opening.kind ≡ kind.Open sign → closing.kind ≡ kind.Close sign → ts0 ≡ opening ∷ ts1 → AreListed (place_in sign) first ts1 found ts2
+      → ts2 ≡ closing ∷ ts3
       → rule.enclosed S sign first opening found closing ts3 ≡ Some (t, rest) → IsForm 16 ts0 t rest
   unfolding IsWell yield_of
   enclosed_sound bracket.Round first opening tree.none closing ts0 ts1 ts2 ts3 t rest opens shut text all is_closing e = refused _ all.first
@@ -179,89 +198,99 @@ module _ (S : ℕ → Parser Tree) (good : Good S) where
   enclosed_sound bracket.Curly first opening found closing ts0 ts1 ts2 ts3 t rest opens shut text all is_closing e =
       let braced = braced_items (is_entry first) first found refl all.first all.pieces in
       shown (sort_of bracket.Curly first) opening found closing ts0 ts1 ts2 ts3 t rest
-        (opens ∙ ap kind.Open (sym (sort_bracket bracket.Curly first))) (shut ∙ ap kind.Close (sym (sort_bracket bracket.Curly first)))
-        braced.1 braced.0 text all.text is_closing e
+      (opens ∙ ap kind.Open (sym (sort_bracket bracket.Curly first))) (shut ∙ ap kind.Close (sym (sort_bracket bracket.Curly first)))
+      braced.1 braced.0 text all.text is_closing e
 
-  displayed_sound : (sign : Bracket) (opening : Token) (x : Tree) (ts0 ts1 ts : List Token) (t : Tree) (rest : List Token) → opening.kind ≡ kind.Open sign
-      → ts0 ≡ opening ∷ ts1 → fits (place_in sign) x ≡ true → IsPart ts1 x ts → rule.displayed S sign opening x ts ≡ Some (t, rest) → IsForm 16 ts0 t rest
+  displayed_sound : (sign : Bracket) (opening : Token) (x : Tree) (ts0 ts1 ts : List Token) (t : Tree) (rest : List Token)
+      → opening.kind ≡ kind.Open sign
+      → ts0 ≡ opening ∷ ts1 → fits (place_in sign) x ≡ true → IsPart ts1 x ts → rule.displayed S sign opening x ts ≡ Some (t, rest)
+      → IsForm 16 ts0 t rest
   unfolding rule.displayed
   displayed_sound sign opening x ts0 ts1 ts t rest opens text fitting part e =
       after_listed S good (place_in sign) x _ ts1 ts (t, rest) e fitting part (λ found ts2 all e1.
       after_expected (kind.Close sign) _ ts2 (t, rest) e1 (λ closing ts3 is_closing shut e2.
       enclosed_sound sign x opening found closing ts0 ts1 ts2 ts3 t rest opens shut text all is_closing e2))
 
-  pub filled_sound : (sign : Bracket) (opening : Token) (ts0 ts : List Token) (t : Tree) (rest : List Token) → opening.kind ≡ kind.Open sign → ts0 ≡ opening ∷ ts
+  pub filled_sound : (sign : Bracket) (opening : Token) (ts0 ts : List Token) (t : Tree) (rest : List Token) → opening.kind ≡ kind.Open sign
+      → ts0 ≡ opening ∷ ts
       → rule.filled S sign opening ts ≡ Some (t, rest) → IsForm 16 ts0 t rest
   unfolding rule.filled
   filled_sound sign opening ts0 ts t rest opens text e =
       after_item S good (place_in sign) _ ts (t, rest) e (λ x ts1 fitting part e1.
       choose _ _ (begins_clause (kind_of ts1)) ts1 (t, rest) e1
-        (λ begins e2. comprehended_sound sign opening x ts0 ts ts1 t rest opens text part begins e2)
-        (λ other e2. displayed_sound sign opening x ts0 ts ts1 t rest opens text fitting part e2))
+      (λ begins e2. comprehended_sound sign opening x ts0 ts ts1 t rest opens text part begins e2)
+      (λ other e2. displayed_sound sign opening x ts0 ts ts1 t rest opens text fitting part e2))
 
   -- ---- calls and subscripts
 
   -- a call with its arguments
-  called_by : (callee : Tree) (opening : Token) (found : Pieces) (closing : Token) (ts ts1 ts2 ts3 : List Token) (t : Tree) (rest : List Token) → 15 ≤ level callee
-      → IsWell callee → kind_of ts ≡ kind.Open bracket.Round → opening.kind ≡ kind.Open bracket.Round → ts ≡ opening ∷ ts1 → AreArguments found → ts1 ≡ pieces_yield found ++ ts2
-      → ts2 ≡ closing ∷ ts3 → closing.kind ≡ kind.Close bracket.Round → made (tree.call callee opening found closing) ts3 ≡ Some (t, rest) → Goes callee ts t rest
+  called_by : (callee : Tree) (opening : Token) (found : Pieces) (closing : Token) (ts ts1 ts2 ts3 : List Token) (t : Tree) (rest : List Token)
+      → IsCalled callee opening ts ts1 → AreArguments found → ts1 ≡ pieces_yield found ++ ts2 → ts2 ≡ closing ∷ ts3
+      → closing.kind ≡ kind.Close bracket.Round
+      → made (tree.call callee opening found closing) ts3 ≡ Some (t, rest) → Goes callee ts t rest
   unfolding IsWell yield_of
-  called_by callee opening found closing ts ts1 ts2 ts3 t rest high well sign opens text arguments text_found is_closing shut e =
+  called_by callee opening found closing ts ts1 ts2 ts3 t rest is arguments text is_closing shut e =
       made_as (Goes callee ts) (tree.call callee opening found closing) t ts3 rest e (λ small.
       record {
-        well = (high, well, opens, shut, arguments); text = simp append_assoc (cc); low = small; at = sym (ap binds sign); fits = left_low (kind_of ts3);
-        shorter = omega (arith, one_less ts opening ts1 text, no_more ts1 (pieces_yield found) ts2 text_found, one_less ts2 closing ts3 is_closing) })
+        well = (is.high, is.well, is.opens, shut, arguments);
+        text = simp append_assoc (cc);
+        low = small;
+        at = sym (ap binds is.sign);
+        fits = left_low (kind_of ts3);
+        shorter = omega (arith, one_less ts opening ts1 is.text, no_more ts1 (pieces_yield found) ts2 text, one_less ts2 closing ts3 is_closing);
+      })
 
-  call_empty_sound : (callee : Tree) (opening : Token) (ts ts1 : List Token) (t : Tree) (rest : List Token) → 15 ≤ level callee → IsWell callee
-      → kind_of ts ≡ kind.Open bracket.Round → opening.kind ≡ kind.Open bracket.Round → ts ≡ opening ∷ ts1 → same_kind (kind_of ts1) (kind.Close bracket.Round) ≡ true
-      → rule.call_empty S callee opening ts1 ≡ Some (t, rest) → Goes callee ts t rest
+  call_empty_sound : (callee : Tree) (opening : Token) (ts ts1 : List Token) (t : Tree) (rest : List Token) → IsCalled callee opening ts ts1
+      → same_kind (kind_of ts1) (kind.Close bracket.Round) ≡ true → rule.call_empty S callee opening ts1 ≡ Some (t, rest) → Goes callee ts t rest
   unfolding rule.call_empty IsWell yield_of
-  call_empty_sound callee opening ts ts1 t rest high well sign opens text is e =
+  call_empty_sound callee opening ts ts1 t rest is shuts e =
       after_one _ ts1 (t, rest) e (λ closing ts2 is_one same e1.
-      called_by callee opening tree.none closing ts ts1 ts1 ts2 t rest high well sign opens text tt refl is_one (same ∙ same_kind_is (kind_of ts1) (kind.Close bracket.Round) is) e1)
+      called_by callee opening tree.none closing ts ts1 ts1 ts2 t rest is tt refl is_one
+      (same ∙ same_kind_is (kind_of ts1) (kind.Close bracket.Round) shuts) e1)
 
-  called_with_sound : (callee : Tree) (opening : Token) (x : Tree) (ts ts1 ts2 : List Token) (t : Tree) (rest : List Token) → 15 ≤ level callee → IsWell callee
-      → kind_of ts ≡ kind.Open bracket.Round → opening.kind ≡ kind.Open bracket.Round → ts ≡ opening ∷ ts1 → fits place.Arguments x ≡ true → IsPart ts1 x ts2
+  called_with_sound : (callee : Tree) (opening : Token) (x : Tree) (ts ts1 ts2 : List Token) (t : Tree) (rest : List Token)
+      → IsCalled callee opening ts ts1 → fits place.Arguments x ≡ true → IsPart ts1 x ts2
       → rule.called_with S callee opening x ts2 ≡ Some (t, rest) → Goes callee ts t rest
   unfolding rule.called_with
-  called_with_sound callee opening x ts ts1 ts2 t rest high well sign opens text fitting part e =
+  called_with_sound callee opening x ts ts1 ts2 t rest is fitting part e =
       after_listed S good place.Arguments x _ ts1 ts2 (t, rest) e fitting part (λ found ts3 all e1.
       after_expected (kind.Close bracket.Round) _ ts3 (t, rest) e1 (λ closing ts4 is_closing shut e2.
-      called_by callee opening found closing ts ts1 ts3 ts4 t rest high well sign opens text (are_arguments found all.pieces) all.text is_closing shut e2))
+      called_by callee opening found closing ts ts1 ts3 ts4 t rest is (are_arguments found all.pieces) all.text is_closing shut e2))
 
-  generated_sound : (callee : Tree) (opening : Token) (x : Tree) (ts ts1 ts2 : List Token) (t : Tree) (rest : List Token) → 15 ≤ level callee → IsWell callee
-      → kind_of ts ≡ kind.Open bracket.Round → opening.kind ≡ kind.Open bracket.Round → ts ≡ opening ∷ ts1 → IsPart ts1 x ts2 → begins_clause (kind_of ts2) ≡ true
+  generated_sound : (callee : Tree) (opening : Token) (x : Tree) (ts ts1 ts2 : List Token) (t : Tree) (rest : List Token)
+      → IsCalled callee opening ts ts1 → IsPart ts1 x ts2 → begins_clause (kind_of ts2) ≡ true
       → rule.generated S callee opening x ts2 ≡ Some (t, rest) → Goes callee ts t rest
   unfolding IsWell yield_of
-  generated_sound callee opening (tree.argument x) ts ts1 ts2 t rest high well sign opens text part begins e =
+  generated_sound callee opening (tree.argument x) ts ts1 ts2 t rest is part begins e =
       after_clauses S good _ ts2 (t, rest) e begins (λ found ts3 clauses headed text_found e1.
       after_expected (kind.Close bracket.Round) _ ts3 (t, rest) e1 (λ closing ts4 is_closing shut e2.
       after_made (tree.generator x found) _ ts4 (t, rest) e2 (λ low_generator e3.
       after_made (tree.argument (tree.generator x found)) _ ts4 (t, rest) e3 (λ low_argument e4.
-      called_by callee opening (tree.last (tree.argument (tree.generator x found))) closing ts ts1 ts3 ts4 t rest high well sign opens text
-        (part.well.0, part.well.1, headed, clauses) (simp append_assoc (cc)) is_closing shut e4))))
-  generated_sound callee opening _ ts ts1 ts2 t rest high well sign opens text part begins e = refused _ e
+      called_by callee opening (tree.last (tree.argument (tree.generator x found))) closing ts ts1 ts3 ts4 t rest is
+      (part.well.0, part.well.1, headed, clauses) (simp append_assoc (cc)) is_closing shut e4))))
+  generated_sound callee opening _ ts ts1 ts2 t rest is part begins e = refused _ e
 
-  call_filled_sound : (callee : Tree) (opening : Token) (ts ts1 : List Token) (t : Tree) (rest : List Token) → 15 ≤ level callee → IsWell callee
-      → kind_of ts ≡ kind.Open bracket.Round → opening.kind ≡ kind.Open bracket.Round → ts ≡ opening ∷ ts1
+  call_filled_sound : (callee : Tree) (opening : Token) (ts ts1 : List Token) (t : Tree) (rest : List Token) → IsCalled callee opening ts ts1
       → rule.call_filled S callee opening ts1 ≡ Some (t, rest) → Goes callee ts t rest
   unfolding rule.call_filled
-  call_filled_sound callee opening ts ts1 t rest high well sign opens text e =
+  call_filled_sound callee opening ts ts1 t rest is e =
       after_item S good place.Arguments _ ts1 (t, rest) e (λ x ts2 fitting part e1.
       choose _ _ (begins_clause (kind_of ts2)) ts2 (t, rest) e1
-        (λ begins e2. generated_sound callee opening x ts ts1 ts2 t rest high well sign opens text part begins e2)
-        (λ other e2. called_with_sound callee opening x ts ts1 ts2 t rest high well sign opens text fitting part e2))
+      (λ begins e2. generated_sound callee opening x ts ts1 ts2 t rest is part begins e2)
+      (λ other e2. called_with_sound callee opening x ts ts1 ts2 t rest is fitting part e2))
 
-  pub called_sound : (callee : Tree) (ts : List Token) (t : Tree) (rest : List Token) → 15 ≤ level callee → IsWell callee → kind_of ts ≡ kind.Open bracket.Round
-      → rule.called S callee ts ≡ Some (t, rest) → Goes callee ts t rest
+  pub called_sound : (callee : Tree) (ts : List Token) (t : Tree) (rest : List Token) → 15 ≤ level callee → IsWell callee
+      → kind_of ts ≡ kind.Open bracket.Round → rule.called S callee ts ≡ Some (t, rest) → Goes callee ts t rest
   unfolding rule.called
   called_sound callee ts t rest high well sign e =
       after_one _ ts (t, rest) e (λ opening ts1 is_one same e1.
+      let is : IsCalled callee opening ts ts1 = record { high = high; well = well; sign = sign; opens = same ∙ sign; text = is_one } in
       choose _ _ (same_kind (kind_of ts1) (kind.Close bracket.Round)) ts1 (t, rest) e1
-        (λ is e2. call_empty_sound callee opening ts ts1 t rest high well sign (same ∙ sign) is_one is e2)
-        (λ other e2. call_filled_sound callee opening ts ts1 t rest high well sign (same ∙ sign) is_one e2))
+      (λ shuts e2. call_empty_sound callee opening ts ts1 t rest is shuts e2)
+      (λ other e2. call_filled_sound callee opening ts ts1 t rest is e2))
 
-  pub subscripted_sound : (x : Tree) (ts : List Token) (t : Tree) (rest : List Token) → 15 ≤ level x → IsWell x → kind_of ts ≡ kind.Open bracket.Square
+  pub subscripted_sound : (x : Tree) (ts : List Token) (t : Tree) (rest : List Token) → 15 ≤ level x → IsWell x
+      → kind_of ts ≡ kind.Open bracket.Square
       → rule.subscripted S x ts ≡ Some (t, rest) → Goes x ts t rest
   unfolding rule.subscripted IsWell yield_of
   subscripted_sound x ts t rest high well sign e =
@@ -271,6 +300,10 @@ module _ (S : ℕ → Parser Tree) (good : Good S) where
       after_expected (kind.Close bracket.Square) _ ts3 (t, rest) e3 (λ closing ts4 is_closing shut e4.
       made_as (Goes x ts) (tree.subscript x opening found closing) t ts4 rest e4 (λ small.
       record {
-        well = (high, well, same ∙ sign, shut, is_first found first all.first, all.pieces); text = simp append_assoc (cc); low = small;
-        at = sym (ap binds sign); fits = left_low (kind_of ts4);
-        shorter = omega (arith, one_less ts opening ts1 is_one, no_more ts1 (pieces_yield found) ts3 all.text, one_less ts3 closing ts4 is_closing) })))))
+        well = (high, well, same ∙ sign, shut, is_first found first all.first, all.pieces);
+        text = simp append_assoc (cc);
+        low = small;
+        at = sym (ap binds sign);
+        fits = left_low (kind_of ts4);
+        shorter = omega (arith, one_less ts opening ts1 is_one, no_more ts1 (pieces_yield found) ts3 all.text, one_less ts3 closing ts4 is_closing);
+      })))))

@@ -1,5 +1,5 @@
 -- Lists with commas are well-formed where they stand, and so are targets and clauses.
-use Rattle.std.proofs.Common.{◌≡◌, refl, ap, sym, ◌∙◌, ℕ, zero, suc, ◌+◌, max, ◌≤◌, ◌<◌, Bool, true, false, if◌then◌else◌, List, [], ◌∷◌, ◌++◌, length, Option, None, Some, append_assoc, append-nil, arith}
+use Rattle.std.proofs.Common.{◌≡◌, refl, ap, sym, ◌∙◌, ℕ, zero, suc, ◌≤◌, true, List, [], ◌∷◌, ◌++◌, length, Option, None, Some, append_assoc, arith}
 use Rattle.pyc_lex.specs.declared.tokens.Delimiter.TheVariants as delimiter
 use Rattle.pyc_lex.specs.declared.tokens.Keyword.TheVariants as word
 use Rattle.pyc_lex.specs.declared.tokens.Kind.{Kind}
@@ -10,7 +10,6 @@ use Rattle.pyc_parse.specs.declared.place.Place.TheVariants as place
 use Rattle.pyc_parse.specs.Tree.{Tree, Pieces, Clauses}
 use Rattle.pyc_parse.specs.Tree as tree
 use Rattle.pyc_parse.specs.Kinds.{kind_of, same_kind, begins_clause}
-use Rattle.pyc_parse.specs.Levels.{level}
 use Rattle.pyc_parse.specs.Yield.{yield_of, pieces_yield, clauses_yield, optional_token}
 use Rattle.pyc_parse.specs.Height.{height, pieces_height, max_height}
 use Rattle.pyc_parse.specs.Targets.{is_target}
@@ -66,20 +65,20 @@ module _ (S : ℕ → Parser Tree) (good : Good S) where
   items_sound zero here e ts0 ts found rest fitting part is = last_sound here e ts0 ts found rest fitting part is
   items_sound (suc n) here e ts0 ts found rest fitting part is =
       choose _ _ (same_kind (kind_of ts) (kind.Delimiter delimiter.Comma)) ts (found, rest) is
-        (λ comes e0.
-          after_one _ ts (found, rest) e0 (λ comma ts1 is_one same e1.
-          let sign : comma.kind ≡ kind.Delimiter delimiter.Comma = same ∙ same_kind_is (kind_of ts) (kind.Delimiter delimiter.Comma) comes in
-          choose _ _ (begins (next_place here e) (kind_of ts1)) ts1 (found, rest) e1
-            (λ begun e2.
-              after_item S good (next_place here e) _ ts1 (found, rest) e2 (λ x ts2 fitting_x part_x e3.
-              bind (rule.items S n (next_place here e) x ts2) _ (found, rest) e3 (λ more ts3 is_more e4.
-              let later = items_sound n (next_place here e) x ts1 ts2 more ts3 fitting_x part_x is_more in
-              pure_as (AreListed here e ts0) (tree.piece e comma more) found ts3 rest e4
-                (record { pieces = (fitting, part.well, sign, later.pieces); text = simp append_assoc (cc); low = omega arith; first = refl }))))
-            (λ none e2.
-              checked_as (AreListed here e ts0) (may_end (next_place here e)) (tree.piece e comma tree.none) found ts1 rest e2 (λ ends.
-              record { pieces = (fitting, part.well, sign, ends); text = simp append_assoc (cc); low = omega arith; first = refl }))))
-        (λ other e0. last_sound here e ts0 ts found rest fitting part e0)
+      (λ comes e0.
+      after_one _ ts (found, rest) e0 (λ comma ts1 is_one same e1.
+      let sign : comma.kind ≡ kind.Delimiter delimiter.Comma = same ∙ same_kind_is (kind_of ts) (kind.Delimiter delimiter.Comma) comes in
+      choose _ _ (begins (next_place here e) (kind_of ts1)) ts1 (found, rest) e1
+      (λ begun e2.
+      after_item S good (next_place here e) _ ts1 (found, rest) e2 (λ x ts2 fitting_x part_x e3.
+      bind (rule.items S n (next_place here e) x ts2) _ (found, rest) e3 (λ more ts3 is_more e4.
+      let later = items_sound n (next_place here e) x ts1 ts2 more ts3 fitting_x part_x is_more in
+      pure_as (AreListed here e ts0) (tree.piece e comma more) found ts3 rest e4
+      (record { pieces = (fitting, part.well, sign, later.pieces); text = simp append_assoc (cc); low = omega arith; first = refl }))))
+      (λ none e2.
+      checked_as (AreListed here e ts0) (may_end (next_place here e)) (tree.piece e comma tree.none) found ts1 rest e2 (λ ends.
+      record { pieces = (fitting, part.well, sign, ends); text = simp append_assoc (cc); low = omega arith; first = refl }))))
+      (λ other e0. last_sound here e ts0 ts found rest fitting part e0)
 
   -- items after the first
   pub listed_sound : (here : Place) (e : Tree) (ts0 ts : List Token) (found : Pieces) (rest : List Token) → fits here e ≡ true → IsPart ts0 e ts
@@ -99,15 +98,16 @@ module _ (S : ℕ → Parser Tree) (good : Good S) where
   unfolding rule.some_items IsWell yield_of height
   some_items_sound here ts found rest ends is =
       choose _ _ (begins here (kind_of ts)) ts (found, rest) is
-        (λ begun e0.
-          after_item S good here _ ts (found, rest) e0 (λ e ts1 fitting part e1.
-          let all = listed_sound here e ts ts1 found rest fitting part e1 in
-          record { pieces = all.pieces; text = all.text; low = all.low }))
-        (λ none e0. pure_as (ArePart here ts) tree.none found ts rest e0 (record { pieces = ends; text = refl; low = omega arith }))
+      (λ begun e0.
+      after_item S good here _ ts (found, rest) e0 (λ e ts1 fitting part e1.
+      let all = listed_sound here e ts ts1 found rest fitting part e1 in
+      record { pieces = all.pieces; text = all.text; low = all.low }))
+      (λ none e0. pure_as (ArePart here ts) tree.none found ts rest e0 (record { pieces = ends; text = refl; low = omega arith }))
 
   -- ---- expressions and targets
 
-  untupled_sound : (found : Pieces) (ts0 ts : List Token) (t : Tree) (rest : List Token) → ArePieces place.Items found → ts0 ≡ pieces_yield found ++ ts
+  untupled_sound : (found : Pieces) (ts0 ts : List Token) (t : Tree) (rest : List Token) → ArePieces place.Items found
+      → ts0 ≡ pieces_yield found ++ ts
       → pieces_height found ≤ max_height → has_item found ≡ true → rule.untupled S found ts ≡ Some (t, rest) → IsOf is_expression_list ts0 t rest
   unfolding IsWell yield_of height
   untupled_sound tree.none ts0 ts t rest pieces text low some e = never some
@@ -118,7 +118,8 @@ module _ (S : ℕ → Parser Tree) (good : Good S) where
       made_as (IsOf is_expression_list ts0) (tree.bare (tree.piece x comma more)) t ts rest e (λ small.
       record { well = (refl, pieces); text = text; low = small; passes = refl })
 
-  expressions_at : (here : Place) (ts : List Token) (t : Tree) (rest : List Token) → ((found : Pieces) → ArePieces here found → ArePieces place.Items found)
+  expressions_at : (here : Place) (ts : List Token) (t : Tree) (rest : List Token)
+      → ((found : Pieces) → ArePieces here found → ArePieces place.Items found)
       → rule.expressions S here ts ≡ Some (t, rest) → IsOf is_expression_list ts t rest
   unfolding rule.expressions
   expressions_at here ts t rest are_items e =
@@ -152,10 +153,11 @@ module _ (S : ℕ → Parser Tree) (good : Good S) where
       after_expected (kind.Keyword word.In) _ ts2 (front, rest) e2 (λ word_in ts3 is_in sign_in e3.
       after_self S good 2 _ ts3 (front, rest) e3 (omega arith) (omega arith) (λ x ts4 got e4.
       pure_as (IsClause ts0) (tree.for_clause word_async word_for to word_in x) front ts4 rest e4
-        (record {
-          clauses = λ more are. (async, sign_for, target.passes, target.well, sign_in, got.high, got.well, are);
-          text = λ more left is. simp append_assoc (cc);
-          heads = λ more begins. refl })))))
+      (record {
+        clauses = λ more are. (async, sign_for, target.passes, target.well, sign_in, got.high, got.well, are);
+        text = λ more left is. simp append_assoc (cc);
+        heads = λ more begins. refl;
+      })))))
 
   async_clause_sound : (ts : List Token) (front : Clauses → Clauses) (rest : List Token) → kind_of ts ≡ kind.Keyword word.Async
       → rule.async_clause S ts ≡ Some (front, rest) → IsClause ts front rest
@@ -171,10 +173,11 @@ module _ (S : ℕ → Parser Tree) (good : Good S) where
       after_one _ ts (front, rest) e (λ word_if ts1 is_one same e1.
       after_self S good 2 _ ts1 (front, rest) e1 (omega arith) (omega arith) (λ x ts2 got e2.
       pure_as (IsClause ts) (tree.if_clause word_if x) front ts2 rest e2
-        (record {
-          clauses = λ more are. (same ∙ is, got.high, got.well, are);
-          text = λ more left is. simp append_assoc (cc);
-          heads = λ more begins. never (sym (ap begins_clause is) ∙ begins) })))
+      (record {
+        clauses = λ more are. (same ∙ is, got.high, got.well, are);
+        text = λ more left is. simp append_assoc (cc);
+        heads = λ more begins. never (sym (ap begins_clause is) ∙ begins);
+      })))
 
   -- a clause in front of those after it
   one_more : (clause : Parser (Clauses → Clauses)) (n : ℕ) (ts : List Token) (found : Clauses) (rest : List Token)
@@ -187,7 +190,7 @@ module _ (S : ℕ → Parser Tree) (good : Good S) where
       bind (rule.clauses_of S n ts1) _ (found, rest) e1 (λ more ts2 is_more e2.
       let after = later ts1 more ts2 is_more in
       pure_as (AreClausesRead (suc n) ts) (front more) found ts2 rest e2
-        (record { clauses = head.clauses more after.clauses; text = head.text more ts2 after.text; heads = λ begins few. head.heads more begins })))
+      (record { clauses = head.clauses more after.clauses; text = head.text more ts2 after.text; heads = λ begins few. head.heads more begins })))
 
   clauses_by : (k : Kind) (n : ℕ) (ts : List Token) (found : Clauses) (rest : List Token) → kind_of ts ≡ k
       → ((us : List Token) (more : Clauses) (left : List Token) → rule.clauses_of S n us ≡ Some (more, left) → AreClausesRead n us more left)
@@ -201,9 +204,10 @@ module _ (S : ℕ → Parser Tree) (good : Good S) where
       one_more (rule.if_clause S) n ts found rest later (λ front left one. if_clause_sound ts front left is one) e
   clauses_by _ n ts found rest is later e =
       pure_as (AreClausesRead (suc n) ts) tree.no_clause found ts rest e
-        (record { clauses = tt; text = refl; heads = λ begins few. never (sym (ap begins_clause is) ∙ begins) })
+      (record { clauses = tt; text = refl; heads = λ begins few. never (sym (ap begins_clause is) ∙ begins) })
 
-  clauses_of_sound : (n : ℕ) (ts : List Token) (found : Clauses) (rest : List Token) → rule.clauses_of S n ts ≡ Some (found, rest) → AreClausesRead n ts found rest
+  clauses_of_sound : (n : ℕ) (ts : List Token) (found : Clauses) (rest : List Token) → rule.clauses_of S n ts ≡ Some (found, rest)
+      → AreClausesRead n ts found rest
   unfolding rule.clauses_of IsWell yield_of
   clauses_of_sound zero ts found rest e =
       pure_as (AreClausesRead 0 ts) tree.no_clause found ts rest e (record { clauses = tt; text = refl; heads = λ begins few. none_begins ts few begins })

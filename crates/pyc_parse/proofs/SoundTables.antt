@@ -1,5 +1,5 @@
 -- What the tables of kinds and levels say to the proofs of the grammar.
-use Rattle.std.proofs.Common.{◌≡◌, refl, ap, sym, ◌∙◌, ℕ, ◌+◌, ◌≤◌, ◌<◌, ◌⊎◌, inl, inr, Bool, true, false, arith, le_refl}
+use Rattle.std.proofs.Common.{◌≡◌, refl, ap, sym, ℕ, ◌+◌, ◌≤◌, ◌<◌, ◌⊎◌, inl, inr, true, false, arith}
 use denote.Enum.Bare.{same_true}
 use Rattle.pyc_lex.specs.declared.tokens.Arithmetic.{Arithmetic}
 use Rattle.pyc_lex.specs.declared.tokens.Arithmetic.TheVariants as op

@@ -1,6 +1,6 @@
 -- What the steps of a rule read, handed on to what follows from it.
-use Rattle.std.proofs.Common.{◌≡◌, refl, ap, sym, ◌∙◌, subst, ℕ, zero, suc, ◌+◌, ◌≤◌, ◌<◌, Bool, true, false, ◌||◌, nat_lt, nat_le, if◌then◌else◌, List, [], ◌∷◌, ◌++◌, length, length-append, arith, Option, None, Some}
-use Rattle.std.proofs.lemmas.Bool.{leb-true, le-leb, ltb-false, ltb-true}
+use Rattle.std.proofs.Common.{◌≡◌, refl, ap, sym, ◌∙◌, subst, ℕ, ◌≤◌, ◌<◌, Bool, true, false, ◌||◌, nat_le, if◌then◌else◌, List, [], ◌∷◌, ◌++◌, length, length-append, arith, None, Some}
+use Rattle.std.proofs.lemmas.Bool.{leb-true, le-leb}
 use Rattle.pyc_lex.specs.declared.tokens.Kind.{Kind}
 use Rattle.pyc_lex.specs.declared.tokens.Token.{Token}
 use Rattle.pyc_parse.specs.Tree.{Tree}
@@ -8,7 +8,7 @@ use Rattle.pyc_parse.specs.Kinds.{kind_of, same_kind, is_name}
 use Rattle.pyc_parse.specs.Levels.{level}
 use Rattle.pyc_parse.specs.Height.{height, max_height}
 use Rattle.pyc_parse.specs.Places.{is_at}
-use Rattle.pyc_parse.specs.Parser.{Outcome, Parser, and_then, pure, fail, take_one, expect, expect_name, made}
+use Rattle.pyc_parse.specs.Parser.{Outcome, Parser, and_then, fail, take_one, expect, expect_name, made}
 use Rattle.pyc_parse.specs.Items.{checked}
 use Rattle.pyc_parse.proofs.SoundTables.{never, same_kind_is}
 
@@ -99,9 +99,9 @@ pub made_as : (P : Tree → List Token → Type 0) (t u : Tree) (ts rest : List 
 unfolding made
 made_as P t u ts rest e h = guarded (nat_le (height t) max_height) e (λ low. h (leb-true (height t) max_height low))
   where
-  guarded : (b : Bool) → if◌then◌else◌ {A = Outcome Tree} b (Some (t, ts)) None ≡ Some (u, rest) → (b ≡ true → P t ts) → P u rest
-  guarded true e h = pure_as P t u ts rest e (h refl)
-  guarded false e h = refused _ e
+    guarded : (b : Bool) → if◌then◌else◌ {A = Outcome Tree} b (Some (t, ts)) None ≡ Some (u, rest) → (b ≡ true → P t ts) → P u rest
+    guarded true e h = pure_as P t u ts rest e (h refl)
+    guarded false e h = refused _ e
 
 -- a tree that the rule goes on with
 pub after_made : {B G : Type 0} (t : Tree) (f : Tree → Parser B) (ts : List Token) (r : B × List Token) → and_then (made t ts) f ≡ Some r
