@@ -7,3 +7,10 @@ pub mod FrontLemmas
 pub mod ListLemmas
 pub mod PartedLemmas
 pub mod Turns
+pub mod Sound
+pub mod SoundTables
+pub mod SoundTools
+pub mod SoundItems
+pub mod SoundLists
+pub mod SoundBrackets
+pub mod SoundExpressions
