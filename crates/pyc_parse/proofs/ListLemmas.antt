@@ -1,6 +1,7 @@
 -- The turns of a list with commas: what is read so far, before what is left to read.
-use Rattle.std.proofs.Common.{◌≡◌, ℕ, zero, suc, Bool, true, false, if◌then◌else◌, List, Option, Some, None, refl, ap, sym, ◌∙◌}
+use Rattle.std.proofs.Common.{◌≡◌, ℕ, zero, suc, Bool, true, false, if◌then◌else◌, List, [], Option, Some, None, refl, ap, sym, ◌∙◌}
 use Rattle.pyc_lex.specs.declared.tokens.Delimiter.TheVariants as delimiter
+use Rattle.pyc_lex.specs.declared.tokens.Kind.{Kind}
 use Rattle.pyc_lex.specs.declared.tokens.Kind.TheVariants as kind
 use Rattle.pyc_lex.specs.declared.tokens.Token.{Token}
 use Rattle.pyc_parse.specs.declared.place.Place.{Place}
@@ -18,6 +19,10 @@ abbrev pub with_front : List Piece → Outcome Pieces → Outcome Pieces
 with_front front None = None
 with_front front (Some p) = Some (pieces_before front p.0, p.1)
 
+pub with_nothing : (o : Outcome Pieces) → with_front [] o ≡ o
+with_nothing None = refl
+with_nothing (Some p) = refl
+
 -- one more item before them
 pub front_pushed : (front after : List Piece) (e : Tree) (comma : Token) → ((end : Pieces) → pieces_before after end ≡ pieces_before front (tree.piece e comma end))
     → (o : Outcome Pieces) → with_front front (and_then o (λ rest. pure (tree.piece e comma rest))) ≡ with_front after o
@@ -29,37 +34,45 @@ front_checked front true found ts = refl
 front_checked front false found ts = refl
 
 -- an item follows the comma
-pub items_step : (self : ℕ → Parser Tree) (n : ℕ) (here : Place) (e : Tree) (ts : List Token) (front after : List Piece) (comma : Token) (later : List Token) (f : Tree) (rest : List Token)
-    → same_kind (kind_of ts) (kind.Delimiter delimiter.Comma) ≡ true → take_one ts ≡ Some (comma, later) → begins (next_place here e) (kind_of later) ≡ true
-    → item self (next_place here e) later ≡ Some (f, rest) → ((end : Pieces) → pieces_before after end ≡ pieces_before front (tree.piece e comma end))
-    → with_front front (items self (suc n) here e ts) ≡ with_front after (items self n (next_place here e) f rest)
+pub items_step : (self : ℕ → Parser Tree) (n : ℕ) (here : Place) (e : Tree) (ts : List Token) (front after : List Piece) (k next : Kind) (so : Place) (comma : Token) (later : List Token) (f : Tree) (rest : List Token)
+    → k ≡ kind_of ts → same_kind k (kind.Delimiter delimiter.Comma) ≡ true → take_one ts ≡ Some (comma, later) → so ≡ next_place here e
+    → next ≡ kind_of later → begins so next ≡ true → item self so later ≡ Some (f, rest)
+    → ((end : Pieces) → pieces_before after end ≡ pieces_before front (tree.piece e comma end))
+    → with_front front (items self (suc n) here e ts) ≡ with_front after (items self n so f rest)
 unfolding items
-items_step self n here e ts front after comma later f rest is_comma took begun read more =
-    rw (is_comma, took, begun, read) (front_pushed front after e comma more (items self n (next_place here e) f rest))
+items_step self n here e ts front after k next so comma later f rest is_kind is_comma took is_place is_next begun read more =
+    rw (sym is_kind, is_comma, took, sym is_place, sym is_next, begun, read) (front_pushed front after e comma more (items self n so f rest))
 
 -- what follows the comma is refused
-pub items_bad : (self : ℕ → Parser Tree) (n : ℕ) (here : Place) (e : Tree) (ts : List Token) (front : List Piece) (comma : Token) (later : List Token)
-    → same_kind (kind_of ts) (kind.Delimiter delimiter.Comma) ≡ true → take_one ts ≡ Some (comma, later) → begins (next_place here e) (kind_of later) ≡ true
-    → item self (next_place here e) later ≡ None → with_front front (items self (suc n) here e ts) ≡ None
+pub items_bad : (self : ℕ → Parser Tree) (n : ℕ) (here : Place) (e : Tree) (ts : List Token) (front : List Piece) (k next : Kind) (so : Place) (comma : Token) (later : List Token)
+    → k ≡ kind_of ts → same_kind k (kind.Delimiter delimiter.Comma) ≡ true → take_one ts ≡ Some (comma, later) → so ≡ next_place here e
+    → next ≡ kind_of later → begins so next ≡ true → item self so later ≡ None → with_front front (items self (suc n) here e ts) ≡ None
 unfolding items
-items_bad self n here e ts front comma later is_comma took begun read = rw (is_comma, took, begun, read) refl
+items_bad self n here e ts front k next so comma later is_kind is_comma took is_place is_next begun read =
+    rw (sym is_kind, is_comma, took, sym is_place, sym is_next, begun, read) refl
+
+-- no comma is taken
+pub items_untaken : (self : ℕ → Parser Tree) (n : ℕ) (here : Place) (e : Tree) (ts : List Token) (front : List Piece) (k : Kind)
+    → k ≡ kind_of ts → same_kind k (kind.Delimiter delimiter.Comma) ≡ true → take_one ts ≡ None → with_front front (items self (suc n) here e ts) ≡ None
+unfolding items
+items_untaken self n here e ts front k is_kind is_comma took = rw (sym is_kind, is_comma, took) refl
 
 -- no item follows the comma
-pub items_ended : (self : ℕ → Parser Tree) (n : ℕ) (here : Place) (e : Tree) (ts : List Token) (front after : List Piece) (comma : Token) (later : List Token)
-    → same_kind (kind_of ts) (kind.Delimiter delimiter.Comma) ≡ true → take_one ts ≡ Some (comma, later) → begins (next_place here e) (kind_of later) ≡ false
-    → ((end : Pieces) → pieces_before after end ≡ pieces_before front (tree.piece e comma end))
-    → with_front front (items self (suc n) here e ts) ≡ checked (may_end (next_place here e)) (pieces_before after tree.none) later
+pub items_ended : (self : ℕ → Parser Tree) (n : ℕ) (here : Place) (e : Tree) (ts : List Token) (front after : List Piece) (k next : Kind) (so : Place) (comma : Token) (later : List Token)
+    → k ≡ kind_of ts → same_kind k (kind.Delimiter delimiter.Comma) ≡ true → take_one ts ≡ Some (comma, later) → so ≡ next_place here e
+    → next ≡ kind_of later → begins so next ≡ false → ((end : Pieces) → pieces_before after end ≡ pieces_before front (tree.piece e comma end))
+    → with_front front (items self (suc n) here e ts) ≡ checked (may_end so) (pieces_before after tree.none) later
 unfolding items
-items_ended self n here e ts front after comma later is_comma took begun more =
-    rw (is_comma, took, begun, more tree.none) (front_checked front (may_end (next_place here e)) (tree.piece e comma tree.none) later)
+items_ended self n here e ts front after k next so comma later is_kind is_comma took is_place is_next begun more =
+    rw (sym is_kind, is_comma, took, sym is_place, sym is_next, begun, more tree.none) (front_checked front (may_end so) (tree.piece e comma tree.none) later)
 
--- no comma follows, or no token is left
-pub items_closed : (self : ℕ → Parser Tree) (n : ℕ) (here : Place) (e : Tree) (ts : List Token) (front : List Piece)
-    → same_kind (kind_of ts) (kind.Delimiter delimiter.Comma) ≡ false
+-- no comma follows, or no turn is left
+pub items_closed : (self : ℕ → Parser Tree) (n : ℕ) (here : Place) (e : Tree) (ts : List Token) (front : List Piece) (k : Kind)
+    → k ≡ kind_of ts → same_kind k (kind.Delimiter delimiter.Comma) ≡ false
     → with_front front (items self n here e ts) ≡ checked (may_end (next_place here e)) (pieces_before front (tree.last e)) ts
 unfolding items
-items_closed self zero here e ts front none = front_checked front (may_end (next_place here e)) (tree.last e) ts
-items_closed self (suc n) here e ts front none = rw none (front_checked front (may_end (next_place here e)) (tree.last e) ts)
+items_closed self zero here e ts front k is_kind none = front_checked front (may_end (next_place here e)) (tree.last e) ts
+items_closed self (suc n) here e ts front k is_kind none = rw (sym is_kind, none) (front_checked front (may_end (next_place here e)) (tree.last e) ts)
 
 pub items_over : (self : ℕ → Parser Tree) (here : Place) (e : Tree) (ts : List Token) (front : List Piece)
     → with_front front (items self 0 here e ts) ≡ checked (may_end (next_place here e)) (pieces_before front (tree.last e)) ts

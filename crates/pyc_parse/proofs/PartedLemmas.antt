@@ -1,5 +1,5 @@
 -- Items that are an expression alone.
-use Rattle.std.proofs.Common.{◌≡◌, ◌&&◌, not, false, true, Bool, List, [], ◌∷◌, Option, Some, None, refl, ap, sym, ◌∙◌, true≢false}
+use Rattle.std.proofs.Common.{◌≡◌, ℕ, ◌&&◌, not, false, true, Bool, List, [], ◌∷◌, Option, Some, None, refl, ap, sym, ◌∙◌, true≢false}
 use Rattle.std.proofs.Math.Bool.{and-true}
 use Rattle.std.specs.declared.alloc.Global.{Global}
 use Rattle.std.specs.declared.boxed.Box.{Box}
@@ -44,3 +44,13 @@ alone_item_target so items t is one = is ∙ (ap (are_targets false) one ∙ and
 
 pub alone_target : (so : Bool) (b : Bool) (t : Tree) → b ≡ so && not (is_starred t) → so ≡ is_item_target t → b ≡ is_target t
 alone_target so b t is item = is ∙ (ap (λ x. x && not (is_starred t)) item ∙ sym (target_of_item t))
+
+-- nothing is held
+pub nothing_held : (x : Items) (y : Items) → (out-Pieces x).last ≡ None → has_comma (pieces_of x) ≡ false → pieces_of y ≡ pieces_before (out-Pieces x).each.items tree.none
+    → (pieces_of x ≡ pieces_of y) × (is_one (pieces_of x) ≡ false)
+nothing_held x y last none is =
+    let held : pieces_of x ≡ tree.none = alone x None last none in
+    (held ∙ sym (is ∙ (no_comma (out-Pieces x).each.items tree.none (ap has_comma (empty last) ∙ none))), ap is_one held)
+  where
+    empty : (out-Pieces x).last ≡ None → pieces_before (out-Pieces x).each.items tree.none ≡ pieces_of x
+    empty some = ap (pieces_before (out-Pieces x).each.items) (ap last_of (sym some)) ∙ sym (view_parts x)
