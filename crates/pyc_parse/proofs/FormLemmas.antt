@@ -9,7 +9,7 @@ use Rattle.pyc_parse.specs.declared.tree.Expr.{Expr, None', Some'}
 use Rattle.pyc_parse.specs.declared.tree.Expr.TheVariants as e
 use Rattle.pyc_parse.specs.declared.tree.Tail.{Tail}
 use Rattle.pyc_parse.specs.Places.{is_at, is_item, is_target_item, is_index, is_with_item, is_entry, is_last_argument, is_keyword_argument, is_argument, is_plain_parameter, is_late_parameter, is_parameter, after_argument, after_parameter}
-use Rattle.pyc_parse.specs.Items.{keyword}
+use Rattle.pyc_parse.specs.Items.{keyword, generated}
 use Rattle.pyc_parse.specs.Parser.{Parser}
 use Rattle.pyc_parse.specs.Targets.{is_starred}
 use Rattle.pyc_parse.specs.Tree.{Tree}
@@ -113,3 +113,10 @@ pub keyword_other : (self : ℕ → Parser Tree) (x : Expr) → ((a : Token) →
 unfolding tree_of
 keyword_other self (e.Name a) first ts = absurd (first _ refl)
 keyword_other self _ first ts = refl
+
+-- an argument that is not plain is no element
+pub generated_other : (self : ℕ → Parser Tree) (callee : Tree) (opening : Token) (x : Expr) → ((a : Box Expr Global) → x ≡ e.Argument a → ⊥) → (ts : List Token)
+    → generated self callee opening (tree_of x) ts ≡ None
+unfolding tree_of
+generated_other self callee opening (e.Argument' p x) first ts = absurd (first _ refl)
+generated_other self callee opening _ first ts = refl

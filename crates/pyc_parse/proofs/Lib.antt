@@ -14,3 +14,5 @@ pub mod SoundItems
 pub mod SoundLists
 pub mod SoundBrackets
 pub mod SoundExpressions
+pub mod ChainLemmas
+pub mod LoopLemmas

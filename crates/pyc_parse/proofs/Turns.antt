@@ -8,3 +8,7 @@ one_more f n at below e = let turn : suc (n - (at + 1)) ≡ n - at = omega arith
 -- no turn is left
 pub no_more : {X : Type 0} {x : X} (f : ℕ → X) (n at : ℕ) → n ≤ at → f (n - at) ≡ x → f 0 ≡ x
 no_more f n at done e = let none : 0 ≡ n - at = omega arith in ap f none ∙ e
+
+-- a call is left
+pub deeper : {X : Type 0} (f : ℕ → X) (n : ℕ) → 0 < n → f n ≡ f (suc (n - 1))
+deeper f n some = let e : n ≡ suc (n - 1) = omega arith in ap f e

@@ -19,3 +19,4 @@ pub mod View
 pub mod Reads
 pub mod Nests
 pub mod Parted
+pub mod Turns

@@ -51,6 +51,7 @@ pub struct BuiltLinks {
     pub links: Vec<Link>,
     pub height: usize,
     pub ghost height_is: { height ≡ links_height (links_before links.items tree.unlinked) },
+    pub ghost heights: { (end : tree.Links) → links_height (links_before links.items end) ≡ max height (links_height end) },
     pub ghost low: { height ≤ 1000 },
 }
 
@@ -60,6 +61,7 @@ pub struct BuiltClauses {
     pub clauses: Vec<Clause>,
     pub height: usize,
     pub ghost height_is: { height ≡ clauses_height (clauses_before clauses.items tree.no_clause) },
+    pub ghost heights: { (end : tree.Clauses) → clauses_height (clauses_before clauses.items end) ≡ max height (clauses_height end) },
     pub ghost low: { height ≤ 1001 },
 }
 
@@ -100,10 +102,16 @@ pub fn taller(a: usize, b: usize) -> usize
 }
 
 /// A tree of this height, unless that passes the limit.
-fn made(alloc: Global, expr: Expr, height: usize, is_target: bool) -> Result<Built, ParseError>
+fn made_with(
+    alloc: Global,
+    expr: Expr,
+    height: usize,
+    is_target: bool,
+    is_item_target: bool,
+) -> Result<Built, ParseError>
     requires height_is { height ≡ height_of (tree_of expr) }
     requires target_is { is_target ≡ targets.is_target (tree_of expr) }
-    requires item_target_is { is_target ≡ targets.is_item_target (tree_of expr) }
+    requires item_target_is { is_item_target ≡ targets.is_item_target (tree_of expr) }
     ensures { Makes (λ b. tree_of b.expr.value) (tree_of expr) result }
 {
     if height > MAX_HEIGHT {
@@ -113,6 +121,33 @@ fn made(alloc: Global, expr: Expr, height: usize, is_target: bool) -> Result<Bui
     Ok(Built {
         expr,
         height,
+        is_target,
+        is_item_target,
+    })
+}
+
+/// The same for a tree that is a target as an item of a list where it is one by itself.
+fn made(alloc: Global, expr: Expr, height: usize, is_target: bool) -> Result<Built, ParseError>
+    requires height_is { height ≡ height_of (tree_of expr) }
+    requires target_is { is_target ≡ targets.is_target (tree_of expr) }
+    requires item_target_is { is_target ≡ targets.is_item_target (tree_of expr) }
+    ensures { Makes (λ b. tree_of b.expr.value) (tree_of expr) result }
+{
+    made_with(alloc, expr, height, is_target, is_target)
+}
+
+/// A tree of one node.
+fn leaf(alloc: Global, expr: Expr, is_target: bool) -> Result<Built, ParseError>
+    requires height_is { height_of (tree_of expr) ≡ 1 }
+    requires target_is { is_target ≡ targets.is_target (tree_of expr) }
+    requires item_target_is { is_target ≡ targets.is_item_target (tree_of expr) }
+    ensures made { IfOk result (λ b. tree_of b.expr.value ≡ tree_of expr) }
+    ensures memory { IfErr result (λ e. e ≡ Memory) }
+{
+    let expr = boxed(alloc, expr)?;
+    Ok(Built {
+        expr,
+        height: 1,
         is_target,
         is_item_target: is_target,
     })
@@ -134,30 +169,34 @@ fn holds_targets(sort: Sort) -> bool
 
 /// An identifier.
 pub fn name(alloc: Global, token: Token) -> Result<Built, ParseError>
-    ensures { Makes (λ b. tree_of b.expr.value) (tree.name token) result }
+    ensures made { IfOk result (λ b. tree_of b.expr.value ≡ tree.name token) }
+    ensures memory { IfErr result (λ e. e ≡ Memory) }
 {
-    made(alloc, Expr::Name(token), 1, true)
+    leaf(alloc, Expr::Name(token), true)
 }
 
 /// A number.
 pub fn number(alloc: Global, token: Token) -> Result<Built, ParseError>
-    ensures { Makes (λ b. tree_of b.expr.value) (tree.number token) result }
+    ensures made { IfOk result (λ b. tree_of b.expr.value ≡ tree.number token) }
+    ensures memory { IfErr result (λ e. e ≡ Memory) }
 {
-    made(alloc, Expr::Number(token), 1, false)
+    leaf(alloc, Expr::Number(token), false)
 }
 
 /// `False`, `None`, `True` or `...`.
 pub fn constant(alloc: Global, token: Token) -> Result<Built, ParseError>
-    ensures { Makes (λ b. tree_of b.expr.value) (tree.constant token) result }
+    ensures made { IfOk result (λ b. tree_of b.expr.value ≡ tree.constant token) }
+    ensures memory { IfErr result (λ e. e ≡ Memory) }
 {
-    made(alloc, Expr::Constant(token), 1, false)
+    leaf(alloc, Expr::Constant(token), false)
 }
 
 /// String literals, one after another.
 pub fn strings(alloc: Global, first: Token, more: Vec<Token>) -> Result<Built, ParseError>
-    ensures { Makes (λ b. tree_of b.expr.value) (tree.strings first more.items) result }
+    ensures made { IfOk result (λ b. tree_of b.expr.value ≡ tree.strings first more.items) }
+    ensures memory { IfErr result (λ e. e ≡ Memory) }
 {
-    made(alloc, Expr::Strings(first, more), 1, false)
+    leaf(alloc, Expr::Strings(first, more), false)
 }
 
 /// A form in parentheses.
@@ -396,17 +435,9 @@ pub fn starred(alloc: Global, star: Token, operand: Built) -> Result<Built, Pars
     ensures { Makes (λ b. tree_of b.expr.value) (tree.starred star (tree_of operand.expr.value)) result }
 {
     let height = operand.height + 1;
-    if height > MAX_HEIGHT {
-        return Err(ParseError::Refused);
-    }
     let is_item_target = operand.is_target;
-    let expr = boxed(alloc, Expr::Starred(star, operand.expr))?;
-    Ok(Built {
-        expr,
-        height,
-        is_target: false,
-        is_item_target,
-    })
+    let expr = Expr::Starred(star, operand.expr);
+    made_with(alloc, expr, height, false, is_item_target)
 }
 
 /// `**` and a value, in a call.
@@ -498,13 +529,20 @@ pub fn keyword(alloc: Global, name: Token, equal: Token, value: Built) -> Result
 }
 
 /// A generator that is the only argument of a call.
-pub fn generator(alloc: Global, element: Built, clauses: BuiltClauses) -> Result<Built, ParseError>
-    ensures { Makes (λ b. tree_of b.expr.value) (tree.generator (tree_of element.expr.value) (clauses_before clauses.clauses.items tree.no_clause)) result }
+pub fn generator(
+    alloc: Global,
+    element: Box<Expr>,
+    height: usize,
+    clauses: BuiltClauses,
+) -> Result<Built, ParseError>
+    requires height_is { height ≡ height_of (tree_of element.value) }
+    requires low { height ≤ 1000 }
+    ensures { Makes (λ b. tree_of b.expr.value) (tree.generator (tree_of element.value) (clauses_before clauses.clauses.items tree.no_clause)) result }
 {
-    let height = taller(element.height, clauses.height) + 1;
+    let height = taller(height, clauses.height) + 1;
     made(
         alloc,
-        Expr::Generator(element.expr, clauses.clauses),
+        Expr::Generator(element, clauses.clauses),
         height,
         false,
     )

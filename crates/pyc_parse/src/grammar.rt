@@ -7,11 +7,16 @@ ghost use Rattle.pyc_parse.specs.Nests.{Nests};
 ghost use Rattle.pyc_parse.specs.Reads.{Reads};
 ghost use Rattle.pyc_parse.specs.View.{tree_of};
 
+mod calls;
 mod comparisons;
+mod comprehensions;
+mod displays;
 mod items;
 mod lists;
+mod operands;
 mod operators;
 mod parameters;
+mod yields;
 
 use crate::built::Built;
 use crate::error::ParseError;
@@ -35,4 +40,24 @@ impl<F: Fn(Global, &mut Tokens<'_>, usize, u8) -> Result<Built, ParseError>> Gra
     {
         (self.expr)(self.alloc, tokens, self.depth, least)
     }
+}
+
+/// An expression of a level, with as much depth as is told.
+pub fn expr(
+    alloc: Global,
+    tokens: &mut Tokens<'_>,
+    depth: usize,
+    least: u8,
+) -> Result<Built, ParseError>
+    ensures { Reads (λ b. tree_of b.expr.value) (spec.expr depth least tokens.old.rest.now) result tokens.new.rest.now }
+{
+    if depth == 0 {
+        return Err(ParseError::Refused);
+    }
+    Grammar {
+        alloc,
+        depth: depth - 1,
+        expr,
+    }
+    .whole(tokens, least)
 }

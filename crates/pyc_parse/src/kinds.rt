@@ -5,9 +5,11 @@ ghost use Rattle.std.specs.Prelude.{◌≡◌};
 ghost use Rattle.pyc_parse.specs.Kinds as spec;
 ghost use Rattle.pyc_parse.specs.Levels as levels;
 ghost use Rattle.pyc_parse.specs.Places as places;
+ghost use Rattle.pyc_parse.specs.Turns as turns;
+ghost use Rattle.pyc_parse.specs.Well as well;
 
 use crate::place::Place;
-use pyc_lex::{Arithmetic, Bracket, Delimiter, Keyword, Kind};
+use pyc_lex::{Arithmetic, Bracket, Delimiter, Keyword, Kind, Prefix};
 
 /// Whether two kinds are one.
 #[tactic(auto, unfolding(crate::specs::Kinds::same_kind))]
@@ -216,5 +218,25 @@ pub fn begins(here: Place, kind: Kind) -> bool
         | Place::LastArguments => {
             begins_expression(kind) || is_star(kind) || is_double_star(kind)
         }
+    }
+}
+
+/// Whether a token begins a clause of a comprehension, `if` too.
+pub fn is_clause(kind: Kind) -> bool
+    ensures { result ≡ turns.is_clause kind }
+{
+    match kind {
+        Kind::Keyword(word) => matches!(word, Keyword::For | Keyword::Async | Keyword::If),
+        _ => false,
+    }
+}
+
+/// Whether a token is a string literal of bytes.
+pub fn is_bytes(kind: Kind) -> bool
+    ensures { result ≡ well.is_bytes kind }
+{
+    match kind {
+        Kind::String(prefix) => matches!(prefix, Prefix::Bytes | Prefix::RawBytes),
+        _ => false,
     }
 }

@@ -2,6 +2,7 @@
 #![tactic(auto)]
 
 mod built;
+mod chains;
 mod error;
 mod forms;
 mod front;

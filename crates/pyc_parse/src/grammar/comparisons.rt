@@ -6,12 +6,14 @@ ghost use Rattle.pyc_parse.specs.Expressions as spec;
 ghost use Rattle.pyc_parse.specs.Nests.{Nests};
 ghost use Rattle.pyc_parse.specs.Reads.{Reads};
 ghost use Rattle.pyc_parse.specs.Tree as tree;
-ghost use Rattle.pyc_parse.specs.View.{tree_of};
+ghost use Rattle.pyc_parse.specs.View.{tree_of, links_before};
 
-use crate::built::Built;
+use crate::built;
+use crate::built::{Built, BuiltLinks};
+use crate::chains::BuiltLink;
 use crate::error::ParseError;
 use crate::grammar::Grammar;
-use crate::kinds::same_kind;
+use crate::kinds::{is_comparison, same_kind};
 use crate::tokens::Tokens;
 use pyc_lex::{Keyword, Kind, Token};
 use std::alloc::Global;
@@ -38,14 +40,6 @@ fn second_word(tokens: &mut Tokens<'_>, first: Kind) -> Result<Option<Token>, Pa
     }
 }
 
-/// A comparison: its operator and the operand after it.
-#[derive(Drop)]
-struct BuiltLink {
-    first: Token,
-    second: Option<Token>,
-    right: Built,
-}
-
 impl<F: Fn(Global, &mut Tokens<'_>, usize, u8) -> Result<Built, ParseError>> Grammar<F> {
     /// A comparison.
     #[tactic(auto, using(crate::proofs::Steps::Reads_made), unfolding(crate::specs::Expressions::one_link))]
@@ -61,5 +55,31 @@ impl<F: Fn(Global, &mut Tokens<'_>, usize, u8) -> Result<Built, ParseError>> Gra
             second,
             right,
         })
+    }
+
+    /// Comparisons, as long as one comes next.
+    fn all_links(&self, tokens: &mut Tokens<'_>) -> Result<BuiltLinks, ParseError>
+        requires { Nests self.now.depth (F.pre self.now.expr) (F.post self.now.expr) }
+        ensures { Reads (λ b. links_before b.links.items tree.unlinked) (spec.all_links (spec.expr self.now.depth) tokens.old.rest.now) result tokens.new.rest.now }
+    {
+        let mut found = BuiltLinks::new(self.alloc);
+        for _turn in 0..tokens.rest.len() {
+            if !is_comparison(tokens.peek()) {
+                break;
+            }
+            let link = self.one_link(tokens)?;
+            found.push(link)?;
+        }
+        Ok(found)
+    }
+
+    /// A chain of comparisons after its first operand.
+    #[tactic(auto, using(crate::proofs::Steps::Reads_made), unfolding(crate::specs::Expressions::compared))]
+    pub fn compared(&self, tokens: &mut Tokens<'_>, left: Built) -> Result<Built, ParseError>
+        requires { Nests self.now.depth (F.pre self.now.expr) (F.post self.now.expr) }
+        ensures { Reads (λ b. tree_of b.expr.value) (spec.compared (spec.expr self.now.depth) (tree_of left.expr.value) tokens.old.rest.now) result tokens.new.rest.now }
+    {
+        let links = self.all_links(tokens)?;
+        built::compare(self.alloc, left, links)
     }
 }

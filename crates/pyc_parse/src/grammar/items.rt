@@ -11,8 +11,8 @@ ghost use Rattle.pyc_parse.specs.View.{tree_of, tail_of, perhaps_of};
 use crate::built;
 use crate::built::{Built, BuiltOption, BuiltTail};
 use crate::error::ParseError;
-use crate::grammar::Grammar;
 use crate::forms::fits;
+use crate::grammar::Grammar;
 use crate::kinds::{begins_expression, is_colon, is_double_star, is_star, same_kind};
 use crate::place::Place;
 use crate::tokens::Tokens;
@@ -261,12 +261,7 @@ impl<F: Fn(Global, &mut Tokens<'_>, usize, u8) -> Result<Built, ParseError>> Gra
 
     /// An item of the form that a place asks for.
     #[tactic(auto, using(crate::proofs::Steps::Reads_made))]
-    fn item_by(
-        &self,
-        tokens: &mut Tokens<'_>,
-        here: Place,
-        kind: Kind,
-    ) -> Result<Built, ParseError>
+    fn item_by(&self, tokens: &mut Tokens<'_>, here: Place, kind: Kind) -> Result<Built, ParseError>
         requires { Nests self.now.depth (F.pre self.now.expr) (F.post self.now.expr) }
         ensures { Reads (λ b. tree_of b.expr.value) (items.item_by (spec.expr self.now.depth) here kind tokens.old.rest.now) result tokens.new.rest.now }
     {

@@ -50,11 +50,7 @@ fn closed(
 }
 
 /// Items without brackets: one alone is itself, and is not starred.
-fn untupled(
-    alloc: Global,
-    tokens: &Tokens<'_>,
-    found: BuiltPieces,
-) -> Result<Built, ParseError>
+fn untupled(alloc: Global, tokens: &Tokens<'_>, found: BuiltPieces) -> Result<Built, ParseError>
     ensures { Reads (λ b. tree_of b.expr.value) (items.untupled (spec.expr 0) (pieces_of found.pieces) tokens.now.rest.now) result tokens.now.rest.now }
 {
     match parted(found) {
@@ -118,11 +114,7 @@ impl<F: Fn(Global, &mut Tokens<'_>, usize, u8) -> Result<Built, ParseError>> Gra
 
     /// An expression, or a tuple without brackets.
     #[tactic(auto, using(crate::proofs::Steps::Reads_made), unfolding(crate::specs::Items::expressions))]
-    pub fn expressions(
-        &self,
-        tokens: &mut Tokens<'_>,
-        here: Place,
-    ) -> Result<Built, ParseError>
+    pub fn expressions(&self, tokens: &mut Tokens<'_>, here: Place) -> Result<Built, ParseError>
         requires { Nests self.now.depth (F.pre self.now.expr) (F.post self.now.expr) }
         ensures { Reads (λ b. tree_of b.expr.value) (items.expressions (spec.expr self.now.depth) here tokens.old.rest.now) result tokens.new.rest.now }
     {

@@ -5,14 +5,16 @@ ghost use Rattle.std.specs.Prelude.{◌≡◌};
 ghost use Rattle.pyc_parse.specs.Expressions as spec;
 ghost use Rattle.pyc_parse.specs.Nests.{Nests};
 ghost use Rattle.pyc_parse.specs.Reads.{Reads};
+ghost use Rattle.pyc_lex.specs.declared.tokens.Kind.TheVariants as kind;
 ghost use Rattle.pyc_parse.specs.View.{tree_of};
 
 use crate::built;
 use crate::built::Built;
 use crate::error::ParseError;
 use crate::grammar::Grammar;
+use crate::kinds::{binds, right_level};
 use crate::tokens::Tokens;
-use pyc_lex::{Keyword, Kind};
+use pyc_lex::{Bracket, Delimiter, Keyword, Kind};
 use std::alloc::Global;
 
 impl<F: Fn(Global, &mut Tokens<'_>, usize, u8) -> Result<Built, ParseError>> Grammar<F> {
@@ -81,5 +83,102 @@ impl<F: Fn(Global, &mut Tokens<'_>, usize, u8) -> Result<Built, ParseError>> Gra
         let dot = tokens.take()?;
         let name = tokens.expect_name()?;
         built::attribute(self.alloc, object, dot, name)
+    }
+
+    /// What an expression goes on with, by the next token.
+    #[tactic(auto, using(crate::proofs::Steps::Reads_made), unfolding(crate::specs::Expressions::operation))]
+    fn operation(&self, tokens: &mut Tokens<'_>, left: Built) -> Result<Built, ParseError>
+        requires { Nests self.now.depth (F.pre self.now.expr) (F.post self.now.expr) }
+        ensures { Reads (λ b. tree_of b.expr.value) (spec.operation (spec.expr self.now.depth) (tree_of left.expr.value) tokens.old.rest.now) result tokens.new.rest.now }
+    {
+        match tokens.peek() {
+            Kind::Keyword(word) => self.word_operation(tokens, left, word),
+            Kind::Comparison(_) => self.compared(tokens, left),
+            Kind::Open(bracket) => self.bracket_operation(tokens, left, bracket),
+            Kind::Delimiter(mark) => self.mark_operation(tokens, left, mark),
+            kind => self.operated(tokens, left, right_level(kind)),
+        }
+    }
+
+    /// What a word goes on with.
+    #[tactic(auto, using(crate::proofs::Steps::Reads_made))]
+    fn word_operation(
+        &self,
+        tokens: &mut Tokens<'_>,
+        left: Built,
+        word: Keyword,
+    ) -> Result<Built, ParseError>
+        requires { Nests self.now.depth (F.pre self.now.expr) (F.post self.now.expr) }
+        ensures { Reads (λ b. tree_of b.expr.value) (spec.operation_by (spec.expr self.now.depth) (tree_of left.expr.value) (kind.Keyword word) tokens.old.rest.now) result tokens.new.rest.now }
+    {
+        match word {
+            Keyword::If => self.conditional(tokens, left),
+            Keyword::In | Keyword::Is | Keyword::Not => self.compared(tokens, left),
+            _ => self.operated(tokens, left, right_level(Kind::Keyword(word))),
+        }
+    }
+
+    /// What a bracket goes on with.
+    #[tactic(auto, using(crate::proofs::Steps::Reads_made))]
+    fn bracket_operation(
+        &self,
+        tokens: &mut Tokens<'_>,
+        left: Built,
+        bracket: Bracket,
+    ) -> Result<Built, ParseError>
+        requires { Nests self.now.depth (F.pre self.now.expr) (F.post self.now.expr) }
+        ensures { Reads (λ b. tree_of b.expr.value) (spec.operation_by (spec.expr self.now.depth) (tree_of left.expr.value) (kind.Open bracket) tokens.old.rest.now) result tokens.new.rest.now }
+    {
+        match bracket {
+            Bracket::Round => self.called(tokens, left),
+            Bracket::Square => self.subscripted(tokens, left),
+            Bracket::Curly => self.operated(tokens, left, 0),
+        }
+    }
+
+    /// What another sign goes on with.
+    #[tactic(auto, using(crate::proofs::Steps::Reads_made))]
+    fn mark_operation(
+        &self,
+        tokens: &mut Tokens<'_>,
+        left: Built,
+        mark: Delimiter,
+    ) -> Result<Built, ParseError>
+        requires { Nests self.now.depth (F.pre self.now.expr) (F.post self.now.expr) }
+        ensures { Reads (λ b. tree_of b.expr.value) (spec.operation_by (spec.expr self.now.depth) (tree_of left.expr.value) (kind.Delimiter mark) tokens.old.rest.now) result tokens.new.rest.now }
+    {
+        match mark {
+            Delimiter::Dot => self.attribute(tokens, left),
+            _ => self.operated(tokens, left, 0),
+        }
+    }
+
+    /// The operators of a level or tighter ones after an operand.
+    fn operations(
+        &self,
+        tokens: &mut Tokens<'_>,
+        least: u8,
+        mut left: Built,
+    ) -> Result<Built, ParseError>
+        requires { Nests self.now.depth (F.pre self.now.expr) (F.post self.now.expr) }
+        ensures { Reads (λ b. tree_of b.expr.value) (spec.operations (spec.expr self.now.depth) least (tree_of left.expr.value) tokens.old.rest.now) result tokens.new.rest.now }
+    {
+        for _turn in 0..tokens.rest.len() {
+            if binds(tokens.peek()) < least {
+                break;
+            }
+            left = self.operation(tokens, left)?;
+        }
+        Ok(left)
+    }
+
+    /// An operand and the operators after it.
+    #[tactic(auto, using(crate::proofs::Steps::Reads_made), unfolding(crate::specs::Expressions::whole))]
+    pub fn whole(&self, tokens: &mut Tokens<'_>, least: u8) -> Result<Built, ParseError>
+        requires { Nests self.now.depth (F.pre self.now.expr) (F.post self.now.expr) }
+        ensures { Reads (λ b. tree_of b.expr.value) (spec.whole (spec.expr self.now.depth) least tokens.old.rest.now) result tokens.new.rest.now }
+    {
+        let first = self.prefix(tokens, least)?;
+        self.operations(tokens, least, first)
     }
 }

@@ -1,4 +1,4 @@
-//! Parameters, and a `yield` from a value.
+//! Parameters.
 #![tactic(auto, using(crate::proofs::Steps::Reads_made))]
 
 ghost use Rattle.std.specs.Prelude.{◌≡◌};
@@ -85,16 +85,5 @@ impl<F: Fn(Global, &mut Tokens<'_>, usize, u8) -> Result<Built, ParseError>> Gra
         let annotation = self.annotation(tokens, is_annotated)?;
         let default = self.tail(tokens, Kind::Delimiter(Delimiter::Equal))?;
         built::parameter(self.alloc, name, annotation, default)
-    }
-
-    /// `yield`, `from` and a value, after the `yield`.
-    #[tactic(auto, using(crate::proofs::Steps::Reads_made), unfolding(crate::specs::Items::yield_from))]
-    pub fn yield_from(&self, tokens: &mut Tokens<'_>, word: Token) -> Result<Built, ParseError>
-        requires { Nests self.now.depth (F.pre self.now.expr) (F.post self.now.expr) }
-        ensures { Reads (λ b. tree_of b.expr.value) (items.yield_from (spec.expr self.now.depth) word tokens.old.rest.now) result tokens.new.rest.now }
-    {
-        let from = tokens.take()?;
-        let value = self.expr(tokens, 1)?;
-        built::yield_from(self.alloc, word, from, value)
     }
 }

@@ -70,13 +70,13 @@ returns g c =
     let place = c.next_place.ensures ∙ ap (λ (x : Expr). next_place c.loop-turn.place (tree_of x)) c.deref-2.ensures in
     let end = ap (λ (p : Place). checked (may_end p) (pieces_before c.loop-turn.front.each.items (tree.last (tree_of c.loop-turn.item.expr.value))) c.loop-turn.tokens.rest.now) place in
     let e : with_front c.loop-turn.front.each.items (items self (length c.args.tokens.now.rest.now - c.loop-turn._turn) c.loop-turn.place (tree_of c.loop-turn.item.expr.value) c.loop-turn.tokens.rest.now)
-        ≡ checked (may_end (next_place c.loop-turn.place (tree_of c.loop-turn.item.expr.value))) (pieces_before c.loop-turn.front.each.items (tree.last (tree_of c.loop-turn.item.expr.value))) c.loop-turn.tokens.rest.now
-        = elim c.loop-turn-test.branch [
-          | else-loop-turn-test w ↦
-            let none : length c.args.tokens.now.rest.now - c.loop-turn._turn ≡ 0 = omega (arith, w.loop-turn-test.false) in
-            rw none (items_over self c.loop-turn.place (tree_of c.loop-turn.item.expr.value) c.loop-turn.tokens.rest.now c.loop-turn.front.each.items)
-          | then-loop-turn-test+then-not-same_kind w ↦
-            items_closed self _ c.loop-turn.place (tree_of c.loop-turn.item.expr.value) c.loop-turn.tokens.rest.now c.loop-turn.front.each.items w.peek.result w.peek.ensures
-            (sym w.same_kind.ensures ∙ w.if-not-same_kind.true)
-        ] in
+    ≡ checked (may_end (next_place c.loop-turn.place (tree_of c.loop-turn.item.expr.value))) (pieces_before c.loop-turn.front.each.items (tree.last (tree_of c.loop-turn.item.expr.value))) c.loop-turn.tokens.rest.now
+    = elim c.loop-turn-test.branch [
+      | else-loop-turn-test w ↦
+          let none : length c.args.tokens.now.rest.now - c.loop-turn._turn ≡ 0 = omega (arith, w.loop-turn-test.false) in
+          rw none (items_over self c.loop-turn.place (tree_of c.loop-turn.item.expr.value) c.loop-turn.tokens.rest.now c.loop-turn.front.each.items)
+      | then-loop-turn-test+then-not-same_kind w ↦
+          items_closed self _ c.loop-turn.place (tree_of c.loop-turn.item.expr.value) c.loop-turn.tokens.rest.now c.loop-turn.front.each.items w.peek.result w.peek.ensures
+          (sym w.same_kind.ensures ∙ w.if-not-same_kind.true)
+    ] in
     subst so (end ∙ (sym e ∙ c.loop-turn.invariant)) c.closed.ensures

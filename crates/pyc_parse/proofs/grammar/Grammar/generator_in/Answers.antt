@@ -1,0 +1,37 @@
+use Rattle.std.proofs.Common.{◌≡◌, refl, Ok, Err}
+use Rattle.pyc_parse.specs.declared.built.Built.{Built}
+use Rattle.pyc_parse.specs.Parser.{made}
+use Rattle.pyc_parse.specs.Tree as tree
+use Rattle.pyc_parse.specs.View.{tree_of, clauses_before}
+use Rattle.pyc_parse.proofs.Steps.{Reads_made, Reads_err}
+use Rattle.pyc_parse.proofs.grammar.Grammar.generator_in.Goals as goal
+
+pub returns-in_err-generator : goal.returns-in_err-generator
+returns-in_err-generator g c =
+    let view = λ (b : Built). tree_of b.expr.value in
+    let ts = c.expect.new.self.rest.now in
+    let generator = tree.generator (tree_of c.args.element.value) (clauses_before c.in_ok-clauses.clauses.clauses.items tree.no_clause) in
+    Reads_err view view (made generator ts) _ c.in_err-generator.field-0.0 _ ts ts
+    (Reads_made Built view generator (made generator ts) (Err c.in_err-generator.field-0.0) ts c.in_err-generator.ensures refl) c.from_residual-in_err-generator.ensures.1
+    (λ none. rw (c.in_ok-clauses.ensures, c.in_ok-closing.ensures, none) refl)
+
+pub returns-in_err-only : goal.returns-in_err-only
+returns-in_err-only g c =
+    let view = λ (b : Built). tree_of b.expr.value in
+    let ts = c.expect.new.self.rest.now in
+    let generator = tree.generator (tree_of c.args.element.value) (clauses_before c.in_ok-clauses.clauses.clauses.items tree.no_clause) in
+    let one = Reads_made Built view generator (made generator ts) (Ok c.in_ok-generator.generator) ts c.in_ok-generator.ensures refl in
+    let only = tree.argument (tree_of c.in_ok-generator.generator.expr.value) in
+    Reads_err view view (made only ts) _ c.in_err-only.field-0.0 _ ts ts
+    (Reads_made Built view only (made only ts) (Err c.in_err-only.field-0.0) ts c.in_err-only.ensures refl) c.from_residual-in_err-only.ensures.1
+    (λ none. rw (c.in_ok-clauses.ensures, c.in_ok-closing.ensures, one, none) refl)
+
+pub returns : goal.returns
+returns g c =
+    let view = λ (b : Built). tree_of b.expr.value in
+    let ts = c.expect.new.self.rest.now in
+    let generator = tree.generator (tree_of c.args.element.value) (clauses_before c.in_ok-clauses.clauses.clauses.items tree.no_clause) in
+    let one = Reads_made Built view generator (made generator ts) (Ok c.in_ok-generator.generator) ts c.in_ok-generator.ensures refl in
+    let only = tree.argument (tree_of c.in_ok-generator.generator.expr.value) in
+    let two = Reads_made Built view only (made only ts) (Ok c.in_ok-only.only) ts c.in_ok-only.ensures refl in
+    Reads_made Built view _ _ c.call.result ts c.call.ensures (rw (c.in_ok-clauses.ensures, c.in_ok-closing.ensures, one, two, c.closed-arguments.ensures, c.new.ensures) refl)
