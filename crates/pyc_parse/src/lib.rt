@@ -5,9 +5,15 @@ mod built;
 mod error;
 mod grammar;
 mod kinds;
+mod line;
 mod place;
+mod statement;
 mod tokens;
 mod tree;
 
+pub use line::{Header, Line};
 pub use place::{Place, Sort};
+pub use statement::{
+    Alias, Assigned, Dotted, ImportedModule, ImportedName, Item, Part, Separated, Source, Statement,
+};
 pub use tree::{Clause, Expr, Link, Piece, Pieces, Tail};
