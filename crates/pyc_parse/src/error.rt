@@ -3,7 +3,7 @@
 ghost use Rattle.std.specs.Prelude.{◌≡◌};
 ghost use Rattle.pyc_parse.specs.declared.error.ParseError.TheVariants.{Memory};
 
-use std::alloc::AllocError;
+use std::alloc::{AllocError, AllocFailed};
 
 /// Why a rule of the grammar gives no tree.
 #[derive(Clone, Copy, Debug, PartialEq, Eq)]
@@ -18,6 +18,14 @@ impl From<AllocError> for ParseError {
     ghost from_gives = { λ _ error. error ≡ Memory };
 
     fn from(_error: AllocError) -> ParseError {
+        ParseError::Memory
+    }
+}
+
+impl<T: Drop> From<AllocFailed<T>> for ParseError {
+    ghost from_gives = { λ _ error. error ≡ Memory };
+
+    fn from(_refused: AllocFailed<T>) -> ParseError {
         ParseError::Memory
     }
 }

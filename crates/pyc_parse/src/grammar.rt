@@ -8,7 +8,9 @@ ghost use Rattle.pyc_parse.specs.Reads.{Reads};
 ghost use Rattle.pyc_parse.specs.View.{tree_of};
 
 mod comparisons;
+mod imports;
 mod items;
+mod names;
 mod operators;
 mod parameters;
 

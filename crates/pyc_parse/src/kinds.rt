@@ -5,6 +5,7 @@ ghost use Rattle.std.specs.Prelude.{◌≡◌};
 ghost use Rattle.pyc_parse.specs.Kinds as spec;
 ghost use Rattle.pyc_parse.specs.Levels as levels;
 ghost use Rattle.pyc_parse.specs.Places as places;
+ghost use Rattle.pyc_parse.specs.WellLines as well;
 
 use pyc_lex::{Arithmetic, Bracket, Delimiter, Keyword, Kind};
 
@@ -150,4 +151,21 @@ pub fn begins_expression(kind: Kind) -> bool
         }
         _ => false,
     }
+}
+
+/// Whether a token is a dot before a module, or three.
+pub fn is_dot(kind: Kind) -> bool
+    ensures { result ≡ well.is_dot kind }
+{
+    matches!(
+        kind,
+        Kind::Delimiter(Delimiter::Dot) | Kind::Delimiter(Delimiter::Ellipsis)
+    )
+}
+
+/// Whether a token is the operator of an augmented assignment.
+pub fn is_augmented(kind: Kind) -> bool
+    ensures { result ≡ well.is_augmented kind }
+{
+    matches!(kind, Kind::Augmented(_))
 }

@@ -2,6 +2,7 @@
 #![tactic(auto, using(crate::proofs::ViewLemmas::views, crate::proofs::HeightLemmas::heights, crate::proofs::TargetLemmas::target_forms))]
 
 mod built;
+mod built_statement;
 mod error;
 mod grammar;
 mod kinds;
