@@ -3,3 +3,5 @@ pub mod HeightLemmas
 pub mod TargetLemmas
 pub mod Steps
 pub mod NameSteps
+pub mod StatementSteps
+pub mod SingleTargets

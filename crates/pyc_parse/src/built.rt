@@ -90,7 +90,7 @@ fn boxed(alloc: Global, expr: Expr) -> Result<Box<Expr>, ParseError>
 }
 
 /// The larger of two heights.
-fn taller(a: usize, b: usize) -> usize
+pub fn taller(a: usize, b: usize) -> usize
     ensures { result ≡ max a b }
 {
     if a < b { b } else { a }

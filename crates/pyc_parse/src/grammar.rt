@@ -13,6 +13,8 @@ mod items;
 mod names;
 mod operators;
 mod parameters;
+mod statements;
+mod stubs;
 
 use crate::built::Built;
 use crate::error::ParseError;

@@ -9,6 +9,7 @@ mod kinds;
 mod line;
 mod place;
 mod statement;
+mod target;
 mod tokens;
 mod tree;
 
