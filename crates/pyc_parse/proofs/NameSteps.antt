@@ -48,13 +48,13 @@ abbrev comma_kind : Kind
 comma_kind = kind.Delimiter delimiter.Comma
 
 module _ {T A : Type 0} (view : T → A) where
-  separated_before-more : (front : List (Item T)) (x : Item T) (end : Separated A)
+  pub separated_before-more : (front : List (Item T)) (x : Item T) (end : Separated A)
       → separated_before view (front ++ x ∷ []) end ≡ separated_before view front (item (view x.value) x.separator end)
   separated_before-more [] x end = refl
   separated_before-more (y ∷ ys) x end = ap (item (view y.value) y.separator) (separated_before-more ys x end)
 
   -- an item more before others
-  with_items-more : (front : List (Item T)) (x : Item T) (o : Outcome (Separated A))
+  pub with_items-more : (front : List (Item T)) (x : Item T) (o : Outcome (Separated A))
       → with_items view (front ++ x ∷ []) o ≡ with_items view front (and_then o (λ rest. pure (item (view x.value) x.separator rest)))
   with_items-more front x (Some p) = ap {B = Outcome (Separated A)} (λ s. Some (s, p.1)) (separated_before-more front x p.0)
   with_items-more front x None = refl

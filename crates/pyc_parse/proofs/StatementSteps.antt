@@ -6,16 +6,19 @@ use Rattle.pyc_lex.specs.declared.tokens.Kind.{Kind}
 use Rattle.pyc_lex.specs.declared.tokens.Kind.TheVariants as kind
 use Rattle.pyc_lex.specs.declared.tokens.Token.{Token}
 use Rattle.pyc_parse.specs.declared.statement.Assigned.{Assigned as AssignedOf}
+use Rattle.pyc_parse.specs.declared.statement.Item.{Item}
+use Rattle.pyc_parse.specs.declared.statement.Statement.{Statement as StatementOf}
 use Rattle.pyc_parse.specs.Height.{height}
 use Rattle.pyc_parse.specs.Kinds.{kind_of, same_kind}
-use Rattle.pyc_parse.specs.Parser.{Outcome, Parser, and_then, pure, take_one}
-use Rattle.pyc_parse.specs.SimpleStatements.{chain, value}
-use Rattle.pyc_parse.specs.Statements.{Assigned, targets_height}
-use Rattle.pyc_parse.specs.StatementView.{assigned_of}
+use Rattle.pyc_parse.specs.Lines.{statements_height}
+use Rattle.pyc_parse.specs.Parser.{Outcome, Parser, and_then, pure, take_one, expect}
+use Rattle.pyc_parse.specs.SimpleStatements.{chain, value, simple, at_end, statements}
+use Rattle.pyc_parse.specs.Statements.{Statement, Separated, no_item, last_item, item, statement_height, Assigned, targets_height}
+use Rattle.pyc_parse.specs.StatementView.{assigned_of, statement_of, separated_before}
 use Rattle.pyc_parse.specs.Targets.{is_target}
 use Rattle.pyc_parse.specs.Tree.{Tree}
 use Rattle.pyc_parse.specs.View.{tree_of}
-use Rattle.pyc_parse.proofs.NameSteps.{one_more, no_more}
+use Rattle.pyc_parse.proofs.NameSteps.{one_more, no_more, with_items, with_items-more, separated_before-more}
 
 -- what a test that was negated was
 pub not_true : (b : Bool) → not b ≡ true → b ≡ false
@@ -98,3 +101,89 @@ module _ (S : ℕ → Parser Tree) where
             chain_on x same f ts2 is =
                 ap (λ front. with_targets front (chain S (n - (at + 1)) f ts2)) (map_push assigned_of found x ∙ ap (λ y. map assigned_of found ++ y ∷ []) same)
                 ∙ (with_targets-more (map assigned_of found) (record { target = e; equal = equal }) (chain S (n - (at + 1)) f ts2) ∙ rw (an_equal, a_target, took, is) at chain_turn)
+
+-- ---- statements joined by semicolons
+
+abbrev Statements : Type 0
+Statements = Separated Statement
+
+abbrev semicolon_kind : Kind
+semicolon_kind = kind.Delimiter delimiter.Semicolon
+
+-- statements before others are as high as the highest of both
+statements_height-before : (front : List (Item StatementOf)) (end : Statements)
+    → statements_height (separated_before statement_of front end) ≡ max (statements_height (separated_before statement_of front no_item)) (statements_height end)
+statements_height-before [] end = omega arith
+statements_height-before (x ∷ xs) end = let rest = statements_height-before xs end in omega (arith, rest)
+
+module _ (front : List (Item StatementOf)) (before own all : ℕ) (is : all ≡ max before own)
+    (of_front : before ≡ statements_height (separated_before statement_of front no_item)) where
+  pub statements_tall-last : (s : Statement) → own ≡ statement_height s → all ≡ statements_height (separated_before statement_of front (last_item s))
+  statements_tall-last s of_own =
+      let more : statements_height (separated_before statement_of front (last_item s))
+          ≡ max (statements_height (separated_before statement_of front no_item)) (statement_height s) = statements_height-before front (last_item s) in
+      cc
+
+  pub statements_tall-push : (x : Item StatementOf) (items : List (Item StatementOf)) → items ≡ front ++ x ∷ [] → own ≡ statement_height (statement_of x.value)
+      → all ≡ statements_height (separated_before statement_of items no_item)
+  statements_tall-push x items pushed of_own =
+      let more : statements_height (separated_before statement_of front (item (statement_of x.value) x.separator no_item))
+          ≡ max (statements_height (separated_before statement_of front no_item)) (max (statement_height (statement_of x.value)) 0) =
+          statements_height-before front (item (statement_of x.value) x.separator no_item) in
+      let one : max (statement_height (statement_of x.value)) 0 ≡ statement_height (statement_of x.value) = omega arith in
+      let whole : statements_height (separated_before statement_of items no_item)
+          ≡ statements_height (separated_before statement_of front (item (statement_of x.value) x.separator no_item)) =
+          ap (λ (found : List (Item StatementOf)). statements_height (separated_before statement_of found no_item)) pushed
+          ∙ ap statements_height (separated_before-more statement_of front x no_item) in
+      cc
+
+-- no statement before
+with_statements-first : (o : Outcome Statements) → with_items statement_of [] o ≡ o
+with_statements-first (Some p) = refl
+with_statements-first None = refl
+
+pub statements_start : (S : ℕ → Parser Tree) (n : ℕ) (ts : List Token) → with_items statement_of [] (statements S (n - 0) ts) ≡ statements S n ts
+statements_start S n ts = let all : n - 0 ≡ n = omega arith in with_statements-first (statements S (n - 0) ts) ∙ ap (λ n. statements S n ts) all
+
+module _ (S : ℕ → Parser Tree) (n at : ℕ) (all : Outcome Statements) (front : List (Item StatementOf)) (ts : List Token)
+    (read : with_items statement_of front (statements S (n - at) ts) ≡ all) where
+  -- where no turn is left, nothing is read
+  pub statements_over : n ≤ at → all ≡ None
+  unfolding statements
+  statements_over done = sym (no_more (λ n. with_items statement_of front (statements S n ts)) n at done read)
+
+  module _ (below : at < n) where
+    statements_turn : with_items statement_of front (statements S (suc (n - (at + 1))) ts) ≡ all
+    statements_turn = one_more (λ n. with_items statement_of front (statements S n ts)) n at below read
+
+    pub statements_refused : simple S ts ≡ None → all ≡ None
+    unfolding statements
+    statements_refused bad = sym (rw bad at statements_turn)
+
+    module _ (x : StatementOf) (ts1 : List Token) (is : simple S ts ≡ Some (statement_of x, ts1)) where
+      -- the last statement
+      pub statements_end : at_end ts1 ≡ Some (true, ts1) → all ≡ Some (separated_before statement_of front (last_item (statement_of x)), ts1)
+      unfolding statements
+      statements_end done = sym (rw (is, done) at statements_turn)
+
+      module _ (some : at_end ts1 ≡ Some (false, ts1)) where
+        pub statements_cut : expect semicolon_kind ts1 ≡ None → all ≡ None
+        unfolding statements
+        statements_cut bad = sym (rw (is, some, bad) at statements_turn)
+
+        module _ (semicolon : Token) (ts2 : List Token) (took : expect semicolon_kind ts1 ≡ Some (semicolon, ts2)) where
+          -- the last statement and a semicolon
+          pub statements_trail : at_end ts2 ≡ Some (true, ts2)
+              → all ≡ Some (separated_before statement_of (front ++ record { value = x; separator = semicolon } ∷ []) no_item, ts2)
+          unfolding statements
+          statements_trail done =
+              sym (ap {B = Outcome Statements} (λ found. Some (found, ts2)) (separated_before-more statement_of front (record { value = x; separator = semicolon }) no_item)
+              ∙ rw (is, some, took, done) at statements_turn)
+
+          -- a statement and a semicolon before others
+          pub statements_on : at_end ts2 ≡ Some (false, ts2)
+              → with_items statement_of (front ++ record { value = x; separator = semicolon } ∷ []) (statements S (n - (at + 1)) ts2) ≡ all
+          unfolding statements
+          statements_on more =
+              with_items-more statement_of front (record { value = x; separator = semicolon }) (statements S (n - (at + 1)) ts2)
+              ∙ rw (is, some, took, more) at statements_turn

@@ -15,6 +15,7 @@ use crate::built::{Built, BuiltOption, BuiltTail, taller};
 use crate::statement::{Assigned, ImportedModule, ImportedName, Separated, Source, Statement};
 use crate::tree::Expr;
 use pyc_lex::Token;
+use std::alloc::Global;
 
 /// A statement with its height.
 #[derive(Drop)]
@@ -42,6 +43,17 @@ pub struct BuiltChain {
     pub height: usize,
     pub ghost height_is: { height ≡ max (targets_height (map assigned_of targets.items)) (height_of (tree_of value.value)) },
     pub ghost low: { height ≤ 1000 },
+}
+
+/// No statement.
+pub fn none(alloc: Global) -> BuiltStatements
+    ensures { separated_of statement_of result.statements ≡ statement.no_item }
+{
+    let each = Vec::new(alloc);
+    BuiltStatements {
+        statements: Separated { each, last: None },
+        height: 0,
+    }
 }
 
 /// An expression, a tuple without brackets or a `yield`.

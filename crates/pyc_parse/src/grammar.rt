@@ -8,8 +8,10 @@ ghost use Rattle.pyc_parse.specs.Reads.{Reads};
 ghost use Rattle.pyc_parse.specs.View.{tree_of};
 
 mod comparisons;
+mod headers;
 mod imports;
 mod items;
+mod lines;
 mod names;
 mod operators;
 mod parameters;

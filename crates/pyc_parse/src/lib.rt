@@ -2,11 +2,13 @@
 #![tactic(auto, using(crate::proofs::ViewLemmas::views, crate::proofs::HeightLemmas::heights, crate::proofs::TargetLemmas::target_forms))]
 
 mod built;
+mod built_line;
 mod built_statement;
 mod error;
 mod grammar;
 mod kinds;
 mod line;
+mod pieces;
 mod place;
 mod statement;
 mod target;

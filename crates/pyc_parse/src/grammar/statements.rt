@@ -13,13 +13,13 @@ ghost use Rattle.pyc_parse.specs.View.{tree_of, tail_of};
 use crate::built;
 use crate::built::{Built, BuiltTail, taller};
 use crate::built_statement;
-use crate::built_statement::{BuiltChain, BuiltStatement};
+use crate::built_statement::{BuiltChain, BuiltStatement, BuiltStatements};
 use crate::error::ParseError;
 use crate::grammar::Grammar;
 use crate::grammar::imports::{declared, imported, imported_from, word_statement};
 use crate::kinds::{is_augmented, is_colon, same_kind};
 use crate::place::Place;
-use crate::statement::Assigned;
+use crate::statement::{Assigned, Item, Separated};
 use crate::target::is_single_target;
 use crate::tokens::Tokens;
 use pyc_lex::{Delimiter, Keyword, Kind};
@@ -235,6 +235,34 @@ impl<F: Fn(Global, &mut Tokens<'_>, usize, u8) -> Result<Built, ParseError>> Gra
             Kind::Keyword(Keyword::Yield) => self.of_yield(tokens),
             _ => self.of_expression(tokens),
         }
+    }
+
+    /// Statements to the end of the line, joined by semicolons, of which one may follow the last.
+    pub fn statements(&self, tokens: &mut Tokens<'_>) -> Result<BuiltStatements, ParseError>
+        requires { Nests self.now.depth (F.pre self.now.expr) (F.post self.now.expr) }
+        ensures { Reads (λ b. separated_of statement_of b.statements) (statements.all_statements (spec.expr self.now.depth) tokens.old.rest.now) result tokens.new.rest.now }
+    {
+        let mut each = Vec::new(self.alloc);
+        let mut height = 0;
+        for _turn in 0..tokens.rest.len() {
+            let next = self.simple(tokens)?;
+            height = taller(height, next.height);
+            let value = next.statement;
+            if tokens.at_end() {
+                let statements = Separated {
+                    each,
+                    last: Some(value),
+                };
+                return Ok(BuiltStatements { statements, height });
+            }
+            let separator = tokens.expect(Kind::Delimiter(Delimiter::Semicolon))?;
+            each.push(Item { value, separator })?;
+            if tokens.at_end() {
+                let statements = Separated { each, last: None };
+                return Ok(BuiltStatements { statements, height });
+            }
+        }
+        Err(ParseError::Refused)
     }
 }
 
