@@ -15,14 +15,7 @@ use Rattle.pyc_parse.specs.Reads.{Reads}
 use Rattle.pyc_parse.specs.SimpleStatements.{separated, parts}
 use Rattle.pyc_parse.specs.Statements.{Separated, no_item, last_item, item, Part}
 use Rattle.pyc_parse.specs.StatementView.{separated_before, part_of}
-
--- ---- turns counted down
-
-pub one_more : {X : Type 0} {x : X} (f : ℕ → X) (n at : ℕ) → at < n → f (n - at) ≡ x → f (suc (n - (at + 1))) ≡ x
-one_more f n at below e = let turn : suc (n - (at + 1)) ≡ n - at = omega arith in ap f turn ∙ e
-
-pub no_more : {X : Type 0} {x : X} (f : ℕ → X) (n at : ℕ) → n ≤ at → f (n - at) ≡ x → f 0 ≡ x
-no_more f n at done e = let none : 0 ≡ n - at = omega arith in ap f none ∙ e
+use Rattle.pyc_parse.proofs.Turns.{one_more, no_more}
 
 -- what a part of a rule does not read, the rule does not read
 pub read_err : {X Y A B : Type 0} (view : X → A) (part : Outcome A) (told : ParseError) (left : List Token) (whole_view : Y → B) (whole : Outcome B)

@@ -18,7 +18,8 @@ use Rattle.pyc_parse.specs.StatementView.{assigned_of, statement_of, separated_b
 use Rattle.pyc_parse.specs.Targets.{is_target}
 use Rattle.pyc_parse.specs.Tree.{Tree}
 use Rattle.pyc_parse.specs.View.{tree_of}
-use Rattle.pyc_parse.proofs.NameSteps.{one_more, no_more, with_items, with_items-more, separated_before-more}
+use Rattle.pyc_parse.proofs.Turns.{one_more, no_more}
+use Rattle.pyc_parse.proofs.NameSteps.{with_items, with_items-more, separated_before-more}
 
 -- what a test that was negated was
 pub not_true : (b : Bool) → not b ≡ true → b ≡ false

@@ -20,3 +20,4 @@ pub mod StatementView
 pub mod LineView
 pub mod Reads
 pub mod Nests
+pub mod Parted

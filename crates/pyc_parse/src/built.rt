@@ -1,4 +1,5 @@
 //! Trees with their heights, which are refused where they pass the profile's limit: so no higher tree is ever built.
+#![tactic(auto, using(crate::proofs::ViewLemmas::views, crate::proofs::HeightLemmas::heights, crate::proofs::TargetLemmas::target_forms))]
 
 ghost use Rattle.std.specs.Prelude.{◌≡◌, ◌≤◌, false, max, if◌then◌else◌, IfOk, IfErr};
 ghost use Rattle.pyc_parse.specs.declared.error.ParseError.TheVariants.{Memory};
@@ -18,15 +19,17 @@ use std::alloc::Global;
 /// How high a tree may be.
 pub const MAX_HEIGHT: usize = 1000;
 
-/// A tree with its height, and whether it may be assigned to.
+/// A tree with its height, and whether it may be assigned to, as a whole and as an item of a list.
 #[derive(Drop)]
 pub struct Built {
     pub expr: Box<Expr>,
     pub height: usize,
     pub is_target: bool,
+    pub is_item_target: bool,
     pub ghost height_is: { height ≡ height_of (tree_of expr.value) },
     pub ghost low: { height ≤ 1000 },
     pub ghost target_is: { is_target ≡ targets.is_target (tree_of expr.value) },
+    pub ghost item_target_is: { is_item_target ≡ targets.is_item_target (tree_of expr.value) },
 }
 
 /// Items with their height, whether they have a comma, and whether they may be assigned to.
@@ -100,6 +103,7 @@ pub fn taller(a: usize, b: usize) -> usize
 fn made(alloc: Global, expr: Expr, height: usize, is_target: bool) -> Result<Built, ParseError>
     requires height_is { height ≡ height_of (tree_of expr) }
     requires target_is { is_target ≡ targets.is_target (tree_of expr) }
+    requires item_target_is { is_target ≡ targets.is_item_target (tree_of expr) }
     ensures { Makes (λ b. tree_of b.expr.value) (tree_of expr) result }
 {
     if height > MAX_HEIGHT {
@@ -110,6 +114,7 @@ fn made(alloc: Global, expr: Expr, height: usize, is_target: bool) -> Result<Bui
         expr,
         height,
         is_target,
+        is_item_target: is_target,
     })
 }
 
@@ -391,7 +396,17 @@ pub fn starred(alloc: Global, star: Token, operand: Built) -> Result<Built, Pars
     ensures { Makes (λ b. tree_of b.expr.value) (tree.starred star (tree_of operand.expr.value)) result }
 {
     let height = operand.height + 1;
-    made(alloc, Expr::Starred(star, operand.expr), height, false)
+    if height > MAX_HEIGHT {
+        return Err(ParseError::Refused);
+    }
+    let is_item_target = operand.is_target;
+    let expr = boxed(alloc, Expr::Starred(star, operand.expr))?;
+    Ok(Built {
+        expr,
+        height,
+        is_target: false,
+        is_item_target,
+    })
 }
 
 /// `**` and a value, in a call.

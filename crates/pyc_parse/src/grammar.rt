@@ -12,6 +12,7 @@ mod headers;
 mod imports;
 mod items;
 mod lines;
+mod lists;
 mod names;
 mod operators;
 mod parameters;

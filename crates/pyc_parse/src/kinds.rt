@@ -7,6 +7,7 @@ ghost use Rattle.pyc_parse.specs.Levels as levels;
 ghost use Rattle.pyc_parse.specs.Places as places;
 ghost use Rattle.pyc_parse.specs.WellLines as well;
 
+use crate::place::Place;
 use pyc_lex::{Arithmetic, Bracket, Delimiter, Keyword, Kind};
 
 /// Whether two kinds are one.
@@ -150,6 +151,72 @@ pub fn begins_expression(kind: Kind) -> bool
             matches!(delimiter, Delimiter::Tilde | Delimiter::Ellipsis)
         }
         _ => false,
+    }
+}
+
+/// The level of what an operator makes before its operand, and of that operand at least; 0 where it is none.
+pub fn prefix_level(kind: Kind) -> u8
+    ensures { result ≡ levels.prefix_level kind }
+{
+    match kind {
+        Kind::Keyword(Keyword::Not) => 4,
+        Kind::Arithmetic(Arithmetic::Plus) | Kind::Arithmetic(Arithmetic::Minus) => 12,
+        Kind::Delimiter(Delimiter::Tilde) => 12,
+        _ => 0,
+    }
+}
+
+/// Whether a token compares what stands before it, perhaps as the first word of two.
+pub fn is_comparison(kind: Kind) -> bool
+    ensures { result ≡ spec.is_comparison kind }
+{
+    match kind {
+        Kind::Comparison(_) => true,
+        Kind::Keyword(word) => matches!(word, Keyword::In | Keyword::Is | Keyword::Not),
+        _ => false,
+    }
+}
+
+/// Whether a token is `*`.
+pub fn is_star(kind: Kind) -> bool
+    ensures { result ≡ places.is_star kind }
+{
+    matches!(kind, Kind::Arithmetic(Arithmetic::Star))
+}
+
+/// Whether a token is `**`.
+pub fn is_double_star(kind: Kind) -> bool
+    ensures { result ≡ places.is_double_star kind }
+{
+    matches!(kind, Kind::Arithmetic(Arithmetic::DoubleStar))
+}
+
+/// Whether a token is a string literal.
+pub fn is_string(kind: Kind) -> bool
+    ensures { result ≡ spec.is_string kind }
+{
+    matches!(kind, Kind::String(_))
+}
+
+/// Whether a token may begin an item at a place.
+pub fn begins(here: Place, kind: Kind) -> bool
+    ensures { result ≡ places.begins here kind }
+{
+    match here {
+        Place::Items | Place::Targets | Place::Set => begins_expression(kind) || is_star(kind),
+        Place::Subscript => begins_expression(kind) || is_colon(kind),
+        Place::WithItems => begins_expression(kind),
+        Place::Parameters(_) => is_name(kind) || is_star(kind) || is_double_star(kind),
+        Place::AfterStar(_) => is_name(kind),
+        Place::KeywordOnly(_) => is_name(kind) || is_double_star(kind),
+        Place::Ended => false,
+        Place::Braces
+        | Place::Entries
+        | Place::Arguments
+        | Place::KeywordArguments
+        | Place::LastArguments => {
+            begins_expression(kind) || is_star(kind) || is_double_star(kind)
+        }
     }
 }
 

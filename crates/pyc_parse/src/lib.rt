@@ -1,10 +1,12 @@
 //! The trees of the lines of a Python source, and its blocks.
-#![tactic(auto, using(crate::proofs::ViewLemmas::views, crate::proofs::HeightLemmas::heights, crate::proofs::TargetLemmas::target_forms))]
+#![tactic(auto)]
 
 mod built;
 mod built_line;
 mod built_statement;
 mod error;
+mod forms;
+mod front;
 mod grammar;
 mod kinds;
 mod line;

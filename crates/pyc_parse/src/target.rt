@@ -1,4 +1,5 @@
 //! What a statement may assign to.
+#![tactic(auto, using(crate::proofs::ViewLemmas::views, crate::proofs::HeightLemmas::heights))]
 
 ghost use Rattle.std.specs.Prelude.{◌≡◌};
 ghost use Rattle.pyc_parse.specs.Targets as targets;
