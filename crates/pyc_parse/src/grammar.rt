@@ -17,7 +17,7 @@ mod names;
 mod operators;
 mod parameters;
 mod statements;
-mod stubs;
+mod yields;
 
 use crate::built::Built;
 use crate::error::ParseError;
