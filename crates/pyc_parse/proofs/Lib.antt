@@ -16,3 +16,7 @@ pub mod SoundBrackets
 pub mod SoundExpressions
 pub mod ChainLemmas
 pub mod LoopLemmas
+pub mod PiecesEnds
+pub mod NameSteps
+pub mod StatementSteps
+pub mod SingleTargets

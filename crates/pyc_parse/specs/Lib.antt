@@ -16,6 +16,8 @@ pub mod SimpleStatements
 pub mod Headers
 pub mod LineFault
 pub mod View
+pub mod StatementView
+pub mod LineView
 pub mod Reads
 pub mod Nests
 pub mod Parted

@@ -18,3 +18,9 @@ abbrev pub Makes : {X : Type 0} → (X → Tree) → Tree → Result X ParseErro
 Makes view t (Ok x) = (view x ≡ t) × (nat_le (height t) max_height ≡ true)
 Makes view t (Err Memory) = Unit {0}
 Makes view t (Err Refused) = nat_le (height t) max_height ≡ false
+
+-- a line is read where the definition gives its tree, and refused where it gives none; a want of memory says nothing
+abbrev pub Answers : {X A : Type 0} → (X → A) → Option A → Result X ParseError → Type 0
+Answers view outcome (Ok x) = outcome ≡ Some (view x)
+Answers view outcome (Err Memory) = Unit {0}
+Answers view outcome (Err Refused) = outcome ≡ None

@@ -11,11 +11,16 @@ mod calls;
 mod comparisons;
 mod comprehensions;
 mod displays;
+mod headers;
+mod imports;
 mod items;
+mod lines;
 mod lists;
+mod names;
 mod operands;
 mod operators;
 mod parameters;
+mod statements;
 mod yields;
 
 use crate::built::Built;

@@ -7,6 +7,7 @@ ghost use Rattle.pyc_parse.specs.Levels as levels;
 ghost use Rattle.pyc_parse.specs.Places as places;
 ghost use Rattle.pyc_parse.specs.Turns as turns;
 ghost use Rattle.pyc_parse.specs.Well as well;
+ghost use Rattle.pyc_parse.specs.WellLines as well_lines;
 
 use crate::place::Place;
 use pyc_lex::{Arithmetic, Bracket, Delimiter, Keyword, Kind, Prefix};
@@ -239,4 +240,21 @@ pub fn is_bytes(kind: Kind) -> bool
         Kind::String(prefix) => matches!(prefix, Prefix::Bytes | Prefix::RawBytes),
         _ => false,
     }
+}
+
+/// Whether a token is a dot before a module, or three.
+pub fn is_dot(kind: Kind) -> bool
+    ensures { result ≡ well_lines.is_dot kind }
+{
+    matches!(
+        kind,
+        Kind::Delimiter(Delimiter::Dot) | Kind::Delimiter(Delimiter::Ellipsis)
+    )
+}
+
+/// Whether a token is the operator of an augmented assignment.
+pub fn is_augmented(kind: Kind) -> bool
+    ensures { result ≡ well_lines.is_augmented kind }
+{
+    matches!(kind, Kind::Augmented(_))
 }

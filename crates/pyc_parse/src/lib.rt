@@ -2,15 +2,25 @@
 #![tactic(auto)]
 
 mod built;
+mod built_line;
+mod built_statement;
 mod chains;
 mod error;
 mod forms;
 mod front;
 mod grammar;
 mod kinds;
+mod line;
+mod pieces;
 mod place;
+mod statement;
+mod target;
 mod tokens;
 mod tree;
 
+pub use line::{Header, Line};
 pub use place::{Place, Sort};
+pub use statement::{
+    Alias, Assigned, Dotted, ImportedModule, ImportedName, Item, Part, Separated, Source, Statement,
+};
 pub use tree::{Clause, Expr, Link, Piece, Pieces, Tail};

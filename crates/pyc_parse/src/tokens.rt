@@ -1,14 +1,17 @@
 //! A cursor over the tokens of a logical line.
 #![tactic(auto)]
 
-ghost use Rattle.std.specs.Prelude.{◌≡◌};
+ghost use Rattle.std.specs.Prelude.{◌≡◌, ◌≤◌, length};
+ghost use Rattle.std.specs.List.{take_while};
 ghost use Rattle.pyc_parse.specs.Kinds as kinds;
 ghost use Rattle.pyc_parse.specs.Parser as spec;
 ghost use Rattle.pyc_parse.specs.Reads.{Reads};
+ghost use Rattle.pyc_parse.specs.SimpleStatements as statements;
 
 use crate::error::ParseError;
-use crate::kinds::{is_name, same_kind};
+use crate::kinds::{is_dot, is_name, same_kind};
 use pyc_lex::{Delimiter, Kind, Token};
+use std::alloc::Global;
 
 /// The tokens that are left to read.
 #[derive(Drop)]
@@ -64,4 +67,30 @@ impl<'a> Tokens<'a> {
             Err(ParseError::Refused)
         }
     }
+
+    /// The dots that come next, which may be none.
+    #[tactic(auto, unfolding(crate::specs::SimpleStatements::dots))]
+    pub fn dots(&mut self, alloc: Global) -> Result<Vec<Token>, ParseError>
+        ensures { Reads (λ found. found.items) (statements.dots self.old.rest.now) result self.new.rest.now }
+    {
+        let (front, rest) = self.rest.split_at(dots_len(self.rest));
+        let found = Vec::from_slice(alloc, front)?;
+        self.rest = rest;
+        Ok(found)
+    }
+
+    /// Whether no token is left.
+    pub fn at_end(&self) -> bool
+        ensures { statements.at_end self.now.rest.now ≡ Some (result, self.now.rest.now) }
+    {
+        self.rest.is_empty()
+    }
+}
+
+/// How many dots tokens begin with.
+fn dots_len(tokens: &[Token]) -> usize
+    ensures value { result ≡ length (take_while statements.is_dot_token tokens.now) }
+    ensures within { result ≤ length tokens.now }
+{
+    tokens.iter().take_while(|token| is_dot(token.kind)).count()
 }

@@ -1,0 +1,214 @@
+//! Headers.
+#![tactic(auto, using(crate::proofs::Steps::Reads_made))]
+
+ghost use Rattle.std.specs.Prelude.{◌≡◌};
+ghost use Rattle.pyc_parse.specs.Expressions as spec;
+ghost use Rattle.pyc_parse.specs.Headers as headers;
+ghost use Rattle.pyc_parse.specs.LineView.{header_of};
+ghost use Rattle.pyc_parse.specs.Nests.{Nests};
+ghost use Rattle.pyc_parse.specs.Reads.{Reads};
+ghost use Rattle.pyc_parse.specs.View.{pieces_of};
+
+use crate::built::{Built, BuiltPieces};
+use crate::built_line;
+use crate::built_line::BuiltHeader;
+use crate::error::ParseError;
+use crate::grammar::Grammar;
+use crate::grammar::names::alias;
+use crate::kinds::{is_colon, same_kind};
+use crate::pieces::ends_without_comma;
+use crate::place::Place;
+use crate::tokens::Tokens;
+use pyc_lex::{Bracket, Delimiter, Keyword, Kind, Token};
+use std::alloc::Global;
+
+/// `else`, `try` or `finally`.
+#[tactic(auto, unfolding(crate::specs::Headers::word_header))]
+pub fn word_header(tokens: &mut Tokens<'_>) -> Result<BuiltHeader, ParseError>
+    ensures { Reads (λ b. header_of b.header) (headers.word_header tokens.old.rest.now) result tokens.new.rest.now }
+{
+    let word = tokens.take()?;
+    Ok(built_line::word(word))
+}
+
+impl<F: Fn(Global, &mut Tokens<'_>, usize, u8) -> Result<Built, ParseError>> Grammar<F> {
+    /// `if`, `elif` or `while`, and a condition.
+    #[tactic(auto, using(crate::proofs::Steps::Reads_made), unfolding(crate::specs::Headers::condition))]
+    pub fn condition(&self, tokens: &mut Tokens<'_>) -> Result<BuiltHeader, ParseError>
+        requires { Nests self.now.depth (F.pre self.now.expr) (F.post self.now.expr) }
+        ensures { Reads (λ b. header_of b.header) (headers.condition (spec.expr self.now.depth) tokens.old.rest.now) result tokens.new.rest.now }
+    {
+        let word = tokens.take()?;
+        let test = self.expr(tokens, 1)?;
+        Ok(built_line::condition(word, test))
+    }
+
+    /// `for`, targets, `in` and what is iterated, perhaps after `async`.
+    #[tactic(auto, using(crate::proofs::Steps::Reads_made), unfolding(crate::specs::Headers::for_each))]
+    pub fn for_each(
+        &self,
+        tokens: &mut Tokens<'_>,
+        word_async: Option<Token>,
+    ) -> Result<BuiltHeader, ParseError>
+        requires { Nests self.now.depth (F.pre self.now.expr) (F.post self.now.expr) }
+        ensures { Reads (λ b. header_of b.header) (headers.for_each (spec.expr self.now.depth) word_async tokens.old.rest.now) result tokens.new.rest.now }
+    {
+        let word = tokens.take()?;
+        let targets = self.targets(tokens)?;
+        let word_in = tokens.expect(Kind::Keyword(Keyword::In))?;
+        let iterated = self.expressions(tokens, Place::Items)?;
+        Ok(built_line::for_each(word_async, word, targets, word_in, iterated))
+    }
+
+    /// `except`, and perhaps what is caught.
+    #[tactic(auto, using(crate::proofs::Steps::Reads_made), unfolding(crate::specs::Headers::excepted))]
+    pub fn excepted(&self, tokens: &mut Tokens<'_>) -> Result<BuiltHeader, ParseError>
+        requires { Nests self.now.depth (F.pre self.now.expr) (F.post self.now.expr) }
+        ensures { Reads (λ b. header_of b.header) (headers.excepted (spec.expr self.now.depth) tokens.old.rest.now) result tokens.new.rest.now }
+    {
+        let word = tokens.take()?;
+        if is_colon(tokens.peek()) {
+            return Ok(built_line::except(word));
+        }
+        let caught = self.expr(tokens, 1)?;
+        let alias = alias(tokens)?;
+        Ok(built_line::except_of(word, caught, alias))
+    }
+
+    /// The items of a `with`.
+    #[tactic(auto, using(crate::proofs::Steps::Reads_made), unfolding(crate::specs::Headers::with_items))]
+    fn with_items(&self, tokens: &mut Tokens<'_>) -> Result<BuiltPieces, ParseError>
+        requires { Nests self.now.depth (F.pre self.now.expr) (F.post self.now.expr) }
+        ensures { Reads (λ b. pieces_of b.pieces) (headers.with_items (spec.expr self.now.depth) tokens.old.rest.now) result tokens.new.rest.now }
+    {
+        let first = self.item(tokens, Place::WithItems)?;
+        self.listed(tokens, Place::WithItems, first)
+    }
+
+    /// The items of a `with` in parentheses that a colon follows.
+    #[tactic(auto, using(crate::proofs::Steps::Reads_made), unfolding(crate::specs::Headers::with_enclosed))]
+    fn with_enclosed(
+        &self,
+        tokens: &mut Tokens<'_>,
+        word_async: Option<Token>,
+        word: Token,
+    ) -> Result<BuiltHeader, ParseError>
+        requires { Nests self.now.depth (F.pre self.now.expr) (F.post self.now.expr) }
+        ensures { Reads (λ b. header_of b.header) (headers.with_enclosed (spec.expr self.now.depth) word_async word tokens.old.rest.now) result tokens.new.rest.now }
+    {
+        let opening = tokens.expect(Kind::Open(Bracket::Round))?;
+        let items = self.with_items(tokens)?;
+        let closing = tokens.expect(Kind::Close(Bracket::Round))?;
+        if !is_colon(tokens.peek()) {
+            return Err(ParseError::Refused);
+        }
+        Ok(built_line::with_enclosed(word_async, word, opening, items, closing))
+    }
+
+    /// The items of a `with` without parentheses.
+    #[tactic(auto, using(crate::proofs::Steps::Reads_made), unfolding(crate::specs::Headers::with_open))]
+    fn with_open(
+        &self,
+        tokens: &mut Tokens<'_>,
+        word_async: Option<Token>,
+        word: Token,
+    ) -> Result<BuiltHeader, ParseError>
+        requires { Nests self.now.depth (F.pre self.now.expr) (F.post self.now.expr) }
+        ensures { Reads (λ b. header_of b.header) (headers.with_open (spec.expr self.now.depth) word_async word tokens.old.rest.now) result tokens.new.rest.now }
+    {
+        let items = self.with_items(tokens)?;
+        if !ends_without_comma(&items.pieces) {
+            return Err(ParseError::Refused);
+        }
+        Ok(built_line::with(word_async, word, items))
+    }
+
+    /// `with` and items, perhaps after `async`: parentheses belong to the header where they can.
+    #[tactic(auto, using(crate::proofs::Steps::Reads_made), unfolding(crate::specs::Headers::with))]
+    pub fn with(
+        &self,
+        tokens: &mut Tokens<'_>,
+        word_async: Option<Token>,
+    ) -> Result<BuiltHeader, ParseError>
+        requires { Nests self.now.depth (F.pre self.now.expr) (F.post self.now.expr) }
+        ensures { Reads (λ b. header_of b.header) (headers.with (spec.expr self.now.depth) word_async tokens.old.rest.now) result tokens.new.rest.now }
+    {
+        let word = tokens.take()?;
+        let start = tokens.rest;
+        match self.with_enclosed(tokens, word_async, word) {
+            Ok(header) => Ok(header),
+            Err(ParseError::Memory) => Err(ParseError::Memory),
+            Err(ParseError::Refused) => {
+                tokens.rest = start;
+                self.with_open(tokens, word_async, word)
+            }
+        }
+    }
+
+    /// `def`, a name, parameters, and perhaps what is returned, perhaps after `async`.
+    #[tactic(auto, using(crate::proofs::Steps::Reads_made), unfolding(crate::specs::Headers::function))]
+    pub fn function(
+        &self,
+        tokens: &mut Tokens<'_>,
+        word_async: Option<Token>,
+    ) -> Result<BuiltHeader, ParseError>
+        requires { Nests self.now.depth (F.pre self.now.expr) (F.post self.now.expr) }
+        ensures { Reads (λ b. header_of b.header) (headers.function (spec.expr self.now.depth) word_async tokens.old.rest.now) result tokens.new.rest.now }
+    {
+        let word = tokens.take()?;
+        let name = tokens.expect_name()?;
+        let opening = tokens.expect(Kind::Open(Bracket::Round))?;
+        let parameters = self.some_items(tokens, Place::Parameters(true))?;
+        let closing = tokens.expect(Kind::Close(Bracket::Round))?;
+        let returned = self.tail(tokens, Kind::Delimiter(Delimiter::Arrow))?;
+        Ok(built_line::def(
+            word_async, word, name, opening, parameters, closing, returned,
+        ))
+    }
+
+    /// The bases and keywords of a class in parentheses.
+    #[tactic(auto, using(crate::proofs::Steps::Reads_made), unfolding(crate::specs::Headers::class_of))]
+    fn class_of(
+        &self,
+        tokens: &mut Tokens<'_>,
+        word: Token,
+        name: Token,
+    ) -> Result<BuiltHeader, ParseError>
+        requires { Nests self.now.depth (F.pre self.now.expr) (F.post self.now.expr) }
+        ensures { Reads (λ b. header_of b.header) (headers.class_of (spec.expr self.now.depth) word name tokens.old.rest.now) result tokens.new.rest.now }
+    {
+        let opening = tokens.take()?;
+        let arguments = self.some_items(tokens, Place::Arguments)?;
+        let closing = tokens.expect(Kind::Close(Bracket::Round))?;
+        Ok(built_line::class_of(word, name, opening, arguments, closing))
+    }
+
+    /// `class`, a name, and perhaps bases and keywords.
+    #[tactic(auto, using(crate::proofs::Steps::Reads_made), unfolding(crate::specs::Headers::class))]
+    pub fn class(&self, tokens: &mut Tokens<'_>) -> Result<BuiltHeader, ParseError>
+        requires { Nests self.now.depth (F.pre self.now.expr) (F.post self.now.expr) }
+        ensures { Reads (λ b. header_of b.header) (headers.class (spec.expr self.now.depth) tokens.old.rest.now) result tokens.new.rest.now }
+    {
+        let word = tokens.take()?;
+        let name = tokens.expect_name()?;
+        if same_kind(tokens.peek(), Kind::Open(Bracket::Round)) {
+            self.class_of(tokens, word, name)
+        } else {
+            Ok(built_line::class(word, name))
+        }
+    }
+
+    /// A header after `async`.
+    pub fn coroutine(&self, tokens: &mut Tokens<'_>) -> Result<BuiltHeader, ParseError>
+        requires { Nests self.now.depth (F.pre self.now.expr) (F.post self.now.expr) }
+        ensures { Reads (λ b. header_of b.header) (headers.async (spec.expr self.now.depth) tokens.old.rest.now) result tokens.new.rest.now }
+    {
+        let word_async = tokens.take()?;
+        match tokens.peek() {
+            Kind::Keyword(Keyword::Def) => self.function(tokens, Some(word_async)),
+            Kind::Keyword(Keyword::For) => self.for_each(tokens, Some(word_async)),
+            Kind::Keyword(Keyword::With) => self.with(tokens, Some(word_async)),
+            _ => Err(ParseError::Refused),
+        }
+    }
+}

@@ -1,0 +1,121 @@
+//! Imports, and statements of words and names alone.
+#![tactic(auto)]
+
+ghost use Rattle.std.specs.Prelude.{◌≡◌, option_map};
+ghost use Rattle.pyc_parse.specs.Kinds as kinds;
+ghost use Rattle.pyc_parse.specs.Reads.{Reads};
+ghost use Rattle.pyc_parse.specs.SimpleStatements as spec;
+ghost use Rattle.pyc_parse.specs.StatementView.{dotted_of, source_of, statement_of};
+
+use crate::built_statement;
+use crate::built_statement::BuiltStatement;
+use crate::error::ParseError;
+use crate::grammar::names::{dotted, imported_names, modules, names};
+use crate::kinds::same_kind;
+use crate::statement::{Dotted, Source};
+use crate::tokens::Tokens;
+use pyc_lex::{Bracket, Keyword, Kind, Token};
+use std::alloc::Global;
+
+/// The module after its dots: behind a dot it may have no name.
+fn path_after(
+    alloc: Global,
+    tokens: &mut Tokens<'_>,
+    dots: &[Token],
+) -> Result<Option<Dotted>, ParseError>
+    ensures { Reads (option_map dotted_of) (spec.path_after dots.now (kinds.kind_of tokens.old.rest.now) tokens.old.rest.now) result tokens.new.rest.now }
+{
+    match (dots, tokens.peek()) {
+        ([_, ..], Kind::Keyword(Keyword::Import)) => Ok(None),
+        _ => {
+            let path = dotted(alloc, tokens)?;
+            Ok(Some(path))
+        }
+    }
+}
+
+/// The module of a from-import.
+#[tactic(auto, unfolding(crate::specs::SimpleStatements::source))]
+fn source(alloc: Global, tokens: &mut Tokens<'_>) -> Result<Source, ParseError>
+    ensures { Reads source_of (spec.source tokens.old.rest.now) result tokens.new.rest.now }
+{
+    let dots = tokens.dots(alloc)?;
+    let path = path_after(alloc, tokens, &dots)?;
+    Ok(Source { dots, path })
+}
+
+/// `import` and modules.
+#[tactic(auto, unfolding(crate::specs::SimpleStatements::imported))]
+pub fn imported(alloc: Global, tokens: &mut Tokens<'_>) -> Result<BuiltStatement, ParseError>
+    ensures { Reads (λ b. statement_of b.statement) (spec.imported tokens.old.rest.now) result tokens.new.rest.now }
+{
+    let word = tokens.take()?;
+    let modules = modules(alloc, tokens)?;
+    Ok(built_statement::import(word, modules))
+}
+
+/// Imported names in parentheses.
+#[tactic(auto, unfolding(crate::specs::SimpleStatements::enclosed_names))]
+fn enclosed_names(
+    alloc: Global,
+    tokens: &mut Tokens<'_>,
+    word: Token,
+    from: Source,
+    word_import: Token,
+) -> Result<BuiltStatement, ParseError>
+    ensures { Reads (λ b. statement_of b.statement) (spec.enclosed_names word (source_of from) word_import tokens.old.rest.now) result tokens.new.rest.now }
+{
+    let opening = tokens.take()?;
+    let names = imported_names(alloc, tokens, true)?;
+    let closing = tokens.expect(Kind::Close(Bracket::Round))?;
+    Ok(built_statement::import_from(word, from, word_import, Some(opening), names, Some(closing)))
+}
+
+/// Imported names without parentheses.
+#[tactic(auto, unfolding(crate::specs::SimpleStatements::open_names))]
+fn open_names(
+    alloc: Global,
+    tokens: &mut Tokens<'_>,
+    word: Token,
+    from: Source,
+    word_import: Token,
+) -> Result<BuiltStatement, ParseError>
+    ensures { Reads (λ b. statement_of b.statement) (spec.open_names word (source_of from) word_import tokens.old.rest.now) result tokens.new.rest.now }
+{
+    let names = imported_names(alloc, tokens, false)?;
+    Ok(built_statement::import_from(word, from, word_import, None, names, None))
+}
+
+/// `from`, a module, `import` and names.
+#[tactic(auto, unfolding(crate::specs::SimpleStatements::imported_from))]
+pub fn imported_from(alloc: Global, tokens: &mut Tokens<'_>) -> Result<BuiltStatement, ParseError>
+    ensures { Reads (λ b. statement_of b.statement) (spec.imported_from tokens.old.rest.now) result tokens.new.rest.now }
+{
+    let word = tokens.take()?;
+    let from = source(alloc, tokens)?;
+    let word_import = tokens.expect(Kind::Keyword(Keyword::Import))?;
+    if same_kind(tokens.peek(), Kind::Open(Bracket::Round)) {
+        enclosed_names(alloc, tokens, word, from, word_import)
+    } else {
+        open_names(alloc, tokens, word, from, word_import)
+    }
+}
+
+/// `pass`, `break` or `continue`.
+#[tactic(auto, unfolding(crate::specs::SimpleStatements::word_statement))]
+pub fn word_statement(tokens: &mut Tokens<'_>) -> Result<BuiltStatement, ParseError>
+    ensures { Reads (λ b. statement_of b.statement) (spec.word_statement tokens.old.rest.now) result tokens.new.rest.now }
+{
+    let word = tokens.take()?;
+    Ok(built_statement::word(word))
+}
+
+/// `global` or `nonlocal`, and names.
+#[tactic(auto, unfolding(crate::specs::SimpleStatements::declared))]
+pub fn declared(alloc: Global, tokens: &mut Tokens<'_>) -> Result<BuiltStatement, ParseError>
+    ensures { Reads (λ b. statement_of b.statement) (spec.declared tokens.old.rest.now) result tokens.new.rest.now }
+{
+    let word = tokens.take()?;
+    let names = names(alloc, tokens)?;
+    Ok(built_statement::declare(word, names))
+}

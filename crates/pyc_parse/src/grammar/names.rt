@@ -1,0 +1,150 @@
+//! Names that are imported or declared, and lists of them.
+#![tactic(auto)]
+
+ghost use Rattle.std.specs.Prelude.{◌≡◌, ◌&&◌, not, map, option_map, false};
+ghost use Rattle.pyc_parse.specs.Kinds as kinds;
+ghost use Rattle.pyc_parse.specs.Parser as parser;
+ghost use Rattle.pyc_parse.specs.Reads.{Reads};
+ghost use Rattle.pyc_parse.specs.SimpleStatements as spec;
+ghost use Rattle.pyc_parse.specs.StatementView.{alias_of, part_of, dotted_of, module_of, name_of, token_of, separated_of};
+
+use crate::error::ParseError;
+use crate::kinds::{is_name, same_kind};
+use crate::statement::{Alias, Dotted, ImportedModule, ImportedName, Item, Part, Separated};
+use crate::tokens::Tokens;
+use pyc_lex::{Delimiter, Keyword, Kind, Token};
+use std::alloc::Global;
+
+/// `as` and a name, if it comes next.
+#[tactic(auto, unfolding(crate::specs::SimpleStatements::alias))]
+pub fn alias(tokens: &mut Tokens<'_>) -> Result<Option<Alias>, ParseError>
+    ensures { Reads (option_map alias_of) (spec.alias tokens.old.rest.now) result tokens.new.rest.now }
+{
+    if same_kind(tokens.peek(), Kind::Keyword(Keyword::As)) {
+        let word = tokens.take()?;
+        let name = tokens.expect_name()?;
+        Ok(Some(Alias { word, name }))
+    } else {
+        Ok(None)
+    }
+}
+
+/// Dots, each with a name.
+fn parts(alloc: Global, tokens: &mut Tokens<'_>) -> Result<Vec<Part>, ParseError>
+    ensures { Reads (λ parts. map part_of parts.items) (spec.all_parts tokens.old.rest.now) result tokens.new.rest.now }
+{
+    let mut found = Vec::new(alloc);
+    for _turn in 0..tokens.rest.len() {
+        if !same_kind(tokens.peek(), Kind::Delimiter(Delimiter::Dot)) {
+            break;
+        }
+        let dot = tokens.take()?;
+        let name = tokens.expect_name()?;
+        found.push(Part { dot, name })?;
+    }
+    Ok(found)
+}
+
+/// A dotted name.
+#[tactic(auto, unfolding(crate::specs::SimpleStatements::dotted))]
+pub fn dotted(alloc: Global, tokens: &mut Tokens<'_>) -> Result<Dotted, ParseError>
+    ensures { Reads dotted_of (spec.dotted tokens.old.rest.now) result tokens.new.rest.now }
+{
+    let first = tokens.expect_name()?;
+    let parts = parts(alloc, tokens)?;
+    Ok(Dotted { first, parts })
+}
+
+/// A module that is imported.
+#[tactic(auto, unfolding(crate::specs::SimpleStatements::imported_module))]
+fn imported_module(alloc: Global, tokens: &mut Tokens<'_>) -> Result<ImportedModule, ParseError>
+    ensures { Reads module_of (spec.imported_module tokens.old.rest.now) result tokens.new.rest.now }
+{
+    let path = dotted(alloc, tokens)?;
+    let alias = alias(tokens)?;
+    Ok(ImportedModule { path, alias })
+}
+
+/// A name that is imported.
+#[tactic(auto, unfolding(crate::specs::SimpleStatements::imported_name))]
+fn imported_name(tokens: &mut Tokens<'_>) -> Result<ImportedName, ParseError>
+    ensures { Reads name_of (spec.imported_name tokens.old.rest.now) result tokens.new.rest.now }
+{
+    let name = tokens.expect_name()?;
+    let alias = alias(tokens)?;
+    Ok(ImportedName { name, alias })
+}
+
+/// Names with commas between them.
+pub fn names(alloc: Global, tokens: &mut Tokens<'_>) -> Result<Separated<Token>, ParseError>
+    ensures { Reads (separated_of token_of) (spec.all_separated parser.expect_name false tokens.old.rest.now) result tokens.new.rest.now }
+{
+    let mut each = Vec::new(alloc);
+    for _turn in 0..tokens.rest.len() {
+        let value = tokens.expect_name()?;
+        if !same_kind(tokens.peek(), Kind::Delimiter(Delimiter::Comma)) {
+            return Ok(Separated {
+                each,
+                last: Some(value),
+            });
+        }
+        let separator = tokens.take()?;
+        each.push(Item { value, separator })?;
+    }
+    Err(ParseError::Refused)
+}
+
+/// Imported modules with commas between them.
+pub fn modules(
+    alloc: Global,
+    tokens: &mut Tokens<'_>,
+) -> Result<Separated<ImportedModule>, ParseError>
+    ensures { Reads (separated_of module_of) (spec.all_separated spec.imported_module false tokens.old.rest.now) result tokens.new.rest.now }
+{
+    let mut each = Vec::new(alloc);
+    for _turn in 0..tokens.rest.len() {
+        let value = imported_module(alloc, tokens)?;
+        if !same_kind(tokens.peek(), Kind::Delimiter(Delimiter::Comma)) {
+            return Ok(Separated {
+                each,
+                last: Some(value),
+            });
+        }
+        let separator = tokens.take()?;
+        each.push(Item { value, separator })?;
+    }
+    Err(ParseError::Refused)
+}
+
+/// Whether items end with the comma before the next token.
+fn ends(tokens: &Tokens<'_>, may_trail: bool) -> bool
+    ensures { result ≡ (may_trail && not (kinds.is_name (kinds.kind_of tokens.now.rest.now))) }
+{
+    may_trail && !is_name(tokens.peek())
+}
+
+/// Imported names with commas between them; whether one may follow the last.
+pub fn imported_names(
+    alloc: Global,
+    tokens: &mut Tokens<'_>,
+    may_trail: bool,
+) -> Result<Separated<ImportedName>, ParseError>
+    ensures { Reads (separated_of name_of) (spec.all_separated spec.imported_name may_trail tokens.old.rest.now) result tokens.new.rest.now }
+{
+    let mut each = Vec::new(alloc);
+    for _turn in 0..tokens.rest.len() {
+        let value = imported_name(tokens)?;
+        if !same_kind(tokens.peek(), Kind::Delimiter(Delimiter::Comma)) {
+            return Ok(Separated {
+                each,
+                last: Some(value),
+            });
+        }
+        let separator = tokens.take()?;
+        each.push(Item { value, separator })?;
+        if ends(tokens, may_trail) {
+            return Ok(Separated { each, last: None });
+        }
+    }
+    Err(ParseError::Refused)
+}
