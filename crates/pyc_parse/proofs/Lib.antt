@@ -20,3 +20,4 @@ pub mod PiecesEnds
 pub mod NameSteps
 pub mod StatementSteps
 pub mod SingleTargets
+pub mod FaultLemmas

@@ -1,5 +1,5 @@
 -- What is wrong with a line that has no tree: a form of Python that the profile leaves out, or no form of it.
-use Rattle.std.specs.Prelude.{Bool, true, false, ◌&&◌, ◌||◌, if◌then◌else◌, List, [], ◌∷◌}
+use Rattle.std.specs.Prelude.{ℕ, Bool, true, false, ◌&&◌, ◌||◌, if◌then◌else◌, List, [], ◌∷◌}
 use Rattle.std.specs.List.{list_any}
 use Rattle.pyc_lex.specs.declared.tokens.Arithmetic.TheVariants as op
 use Rattle.pyc_lex.specs.declared.tokens.Delimiter.TheVariants as delimiter
@@ -9,6 +9,8 @@ use Rattle.pyc_lex.specs.declared.tokens.Kind.TheVariants as kind
 use Rattle.pyc_lex.specs.declared.tokens.Token.{Token}
 use Rattle.pyc_lex.specs.declared.tokens.Word.{Word}
 use Rattle.pyc_lex.specs.declared.tokens.Word.TheVariants as soft
+use Rattle.pyc_parse.specs.declared.fault.What.{What}
+use Rattle.pyc_parse.specs.declared.fault.What.TheVariants as what
 use Rattle.pyc_parse.specs.Kinds.{same_kind}
 
 -- whether a line begins with a token of this kind
@@ -55,3 +57,12 @@ is_outside_profile ts =
     || (begins_with (kind.Keyword word.From) ts && ends_with_star_import ts)
     || (begins_function ts && has (kind.Arithmetic op.Slash) ts)
     || begins_soft ts
+
+-- what is wrong with a line that has no tree
+abbrev pub fault_of : List Token → What
+fault_of ts = if is_outside_profile ts then what.OutsideProfile else what.Line
+
+-- the physical line of a line's first token
+abbrev pub number_of : List Token → ℕ
+number_of [] = 0
+number_of (t ∷ ts) = t.line

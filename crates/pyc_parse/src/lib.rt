@@ -6,11 +6,13 @@ mod built_line;
 mod built_statement;
 mod chains;
 mod error;
+mod fault;
 mod forms;
 mod front;
 mod grammar;
 mod kinds;
 mod line;
+mod parse;
 mod pieces;
 mod place;
 mod statement;
@@ -18,7 +20,9 @@ mod target;
 mod tokens;
 mod tree;
 
+pub use fault::{ParseFault, What};
 pub use line::{Header, Line};
+pub use parse::parse_line;
 pub use place::{Place, Sort};
 pub use statement::{
     Alias, Assigned, Dotted, ImportedModule, ImportedName, Item, Part, Separated, Source, Statement,

@@ -1,0 +1,52 @@
+//! The tree of a logical line.
+
+ghost use Rattle.std.specs.Prelude.{◌≡◌, ◌≢◌, None, Some, IfOk, IfErr};
+ghost use Rattle.pyc_parse.specs.Expressions.{expression};
+ghost use Rattle.pyc_parse.specs.Headers.{line_tree, complete, any_line};
+ghost use Rattle.pyc_parse.specs.LineFault.{fault_of, number_of};
+ghost use Rattle.pyc_parse.specs.LineView.{line_of};
+ghost use Rattle.pyc_parse.specs.Reads.{Answers};
+
+use crate::built::MAX_HEIGHT;
+use crate::error::ParseError;
+use crate::fault::{ParseFault, What, line_fault, line_number};
+use crate::grammar::{Grammar, expr};
+use crate::line::Line;
+use crate::tokens::Tokens;
+use pyc_lex::Token;
+use std::alloc::Global;
+
+/// The tree of a line, if it has one.
+#[tactic(auto, unfolding(crate::specs::Headers::line_tree))]
+fn line_in(alloc: Global, tokens: &[Token]) -> Result<Line, ParseError>
+    ensures { Answers line_of (line_tree tokens.now) result }
+{
+    let grammar = Grammar {
+        alloc,
+        depth: MAX_HEIGHT,
+        expr,
+    };
+    grammar.line(&mut Tokens { rest: tokens })
+}
+
+/// The tree of a logical line, or what is wrong with it, told on the line of its first token. It is told to be outside the
+/// profile where it has `:=`, begins with `from` and ends with `import *`, begins with `def` or `async def` and has `/`, or
+/// begins with the name `match`, `case` or `type`. `Memory` comes only from a growth that was refused.
+pub fn parse_line(alloc: Global, tokens: &[Token]) -> Result<Line, ParseFault>
+    ensures tree { IfOk result (λ line. line_tree tokens.now ≡ Some (line_of line)) }
+    ensures refused { IfErr result (λ fault. fault.what ≢ What.Memory → line_tree tokens.now ≡ None) }
+    ensures what { IfErr result (λ fault. fault.what ≢ What.Memory → fault.what ≡ fault_of tokens.now) }
+    ensures place { IfErr result (λ fault. fault.line ≡ number_of tokens.now) }
+{
+    match line_in(alloc, tokens) {
+        Ok(line) => Ok(line),
+        Err(ParseError::Refused) => Err(ParseFault {
+            line: line_number(tokens),
+            what: line_fault(tokens),
+        }),
+        Err(ParseError::Memory) => Err(ParseFault {
+            line: line_number(tokens),
+            what: What::Memory,
+        }),
+    }
+}
