@@ -17,6 +17,8 @@ mod pieces;
 mod place;
 mod statement;
 mod target;
+#[cfg(test)]
+mod tests;
 mod tokens;
 mod tree;
 
