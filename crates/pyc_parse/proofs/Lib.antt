@@ -9,3 +9,4 @@ pub mod SoundItems
 pub mod SoundLists
 pub mod SoundBrackets
 pub mod SoundExpressions
+pub mod SoundStatements
