@@ -1,5 +1,5 @@
 -- What the grammar reads as a simple statement is well-formed, and its tokens are those that were taken.
-use Rattle.std.proofs.Common.{◌≡◌, refl, ap, sym, ◌∙◌, ℕ, zero, suc, ◌≤◌, Bool, true, false, not, ◌&&◌, if◌then◌else◌, List, [], ◌∷◌, ◌++◌, length, take, drop, Option, None, Some, take_while, append_assoc, arith}
+use Rattle.std.proofs.Common.{◌≡◌, refl, ap, sym, ◌∙◌, subst, ℕ, zero, suc, ◌+◌, ◌≤◌, Bool, true, false, not, ◌&&◌, if◌then◌else◌, List, [], ◌∷◌, ◌++◌, length, take, drop, Option, None, Some, take_while, append_assoc, arith}
 use Rattle.std.specs.List.{prefix_len}
 use Rattle.pyc_lex.specs.declared.tokens.Bracket.TheVariants as bracket
 use Rattle.pyc_lex.specs.declared.tokens.Delimiter.TheVariants as delimiter
@@ -18,7 +18,7 @@ use Rattle.pyc_parse.specs.Well.{IsWell, MayFollow, is_yield, is_expression_list
 use Rattle.pyc_parse.specs.WellLines.{is_value, is_word_statement, is_declaration, is_augmented, is_dot, IsAlias, AreParts, IsDotted, AreDots, IsSourceOf, AreSeparated, IsImportedModule, IsImportedName, AreImportedNames, AreAssigned, IsStatement, AreStatements}
 use Rattle.pyc_parse.specs.Statements.{Statement, Separated, no_item, last_item, item, Alias, Part, Dotted, Source, Assigned, ImportedModule, ImportedName, alias_yield, parts_yield, dotted_yield, optional_path, module_yield, name_yield, targets_yield, separated_yield, statement_yield}
 use Rattle.pyc_parse.specs.Statements as statement
-use Rattle.pyc_parse.specs.Parser.{Parser, and_then}
+use Rattle.pyc_parse.specs.Parser.{Parser, and_then, expect_name}
 use Rattle.pyc_parse.specs.Items as rule
 use Rattle.pyc_parse.specs.SimpleStatements as grammar
 use Rattle.pyc_parse.proofs.Sound.{IsOf, IsTail, Good}
@@ -152,11 +152,15 @@ split (suc n) (x ∷ xs) = ap (x ∷◌) (split n xs)
 -- the dots at the front are dots
 are_dots : (ts : List Token) → AreDots (take_while grammar.is_dot_token ts)
 are_dots [] = tt
-are_dots (t ∷ ts) = by_test (is_dot t.kind) refl
+are_dots (t ∷ ts) = by_test (is_dot t.kind) refl (are_dots ts)
   where
-    by_test : (b : Bool) → is_dot t.kind ≡ b → AreDots (take (if b then suc (prefix_len grammar.is_dot_token ts) else 0) (t ∷ ts))
-    by_test true e = (e, are_dots ts)
-    by_test false e = tt
+    by_test : (b : Bool) → is_dot t.kind ≡ b → AreDots (take_while grammar.is_dot_token ts)
+        → AreDots (take (if b then 1 + prefix_len grammar.is_dot_token ts else 0) (t ∷ ts))
+    by_test true e are =
+        let n : ℕ = prefix_len grammar.is_dot_token ts in
+        let same : suc n ≡ 1 + n = omega arith in
+        subst (λ m. AreDots (take m (t ∷ ts))) same (e, are)
+    by_test false e are = tt
 
 -- a module after its dots
 path_sound : (dots : List Token) (k : Kind) (ts : List Token) (found : Option Dotted) (rest : List Token) → AreDots dots
@@ -167,3 +171,86 @@ path_sound dots k ts found rest are e =
     bind (grammar.dotted ts) _ (found, rest) e (λ path ts1 is_path e1.
     let named = dotted_sound ts path ts1 is_path in
     pure_as (Spells (IsSourceOf dots) optional_path ts) (Some path) found ts1 rest e1 (record { well = (are, named.well); text = named.text }))
+
+source_sound : (ts : List Token) (s : Source) (rest : List Token) → grammar.source ts ≡ Some (s, rest)
+    → Spells (λ from. IsSourceOf from.dots from.path) (λ from. from.dots ++ optional_path from.path) ts s rest
+unfolding grammar.source grammar.dots
+source_sound ts s rest e =
+    let found : List Token = take_while grammar.is_dot_token ts in
+    let left : List Token = drop (length found) ts in
+    bind (grammar.path_after found (kind_of left) left) _ (s, rest) e (λ path ts1 is_path e1.
+    let named = path_sound found (kind_of left) left path ts1 (are_dots ts) is_path in
+    pure_as (Spells (λ from. IsSourceOf from.dots from.path) (λ from. from.dots ++ optional_path from.path) ts)
+    (record { dots = found; path = path }) s ts1 rest e1
+    (record { well = named.well; text = split (prefix_len grammar.is_dot_token ts) ts ∙ (ap (found ++◌) named.text ∙ sym (append_assoc found _ _)) }))
+
+-- a module that is imported from, and what follows it
+record IsFrom (ts : List Token) (t : Token) (from : Source) (word_import : Token) (rest : List Token) : Type 0 where
+  sign : t.kind ≡ kind.Keyword word.From
+  well : IsSourceOf from.dots from.path
+  imports : word_import.kind ≡ kind.Keyword word.Import
+  text : ts ≡ t ∷ ((from.dots ++ optional_path from.path) ++ word_import ∷ rest)
+
+enclosed_sound : (t : Token) (from : Source) (word_import : Token) (ts0 ts : List Token) (s : Statement) (rest : List Token)
+    → IsFrom ts0 t from word_import ts → kind_of ts ≡ kind.Open bracket.Round → grammar.enclosed_names t from word_import ts ≡ Some (s, rest)
+    → Spells IsStatement statement_yield ts0 s rest
+unfolding grammar.enclosed_names IsStatement statement_yield
+enclosed_sound t from word_import ts0 ts s rest head is e =
+    after_one _ ts (s, rest) e (λ opening ts1 is_one same e1.
+    bind (grammar.all_separated grammar.imported_name true ts1) _ (s, rest) e1 (λ names ts2 is_names e2.
+    let found = separated_sound IsImportedName name_yield grammar.imported_name imported_name_sound true (length ts1) ts1 names ts2 is_names in
+    after_expected (kind.Close bracket.Round) _ ts2 (s, rest) e2 (λ closing ts3 is_closing shut e3.
+    pure_as (Spells IsStatement statement_yield ts0) (statement.import_from t from word_import (Some opening) names (Some closing)) s ts3 rest e3
+    (record {
+      well = (head.sign, head.well, head.imports, (same ∙ is, shut, found.well));
+      text = head.text ∙ rw (is_one, found.text, is_closing) (simp append_assoc refl);
+    }))))
+
+open_sound : (t : Token) (from : Source) (word_import : Token) (ts0 ts : List Token) (s : Statement) (rest : List Token)
+    → IsFrom ts0 t from word_import ts → grammar.open_names t from word_import ts ≡ Some (s, rest)
+    → Spells IsStatement statement_yield ts0 s rest
+unfolding grammar.open_names IsStatement statement_yield
+open_sound t from word_import ts0 ts s rest head e =
+    bind (grammar.all_separated grammar.imported_name false ts) _ (s, rest) e (λ names ts1 is_names e1.
+    let found = separated_sound IsImportedName name_yield grammar.imported_name imported_name_sound false (length ts) ts names ts1 is_names in
+    pure_as (Spells IsStatement statement_yield ts0) (statement.import_from t from word_import None names None) s ts1 rest e1
+    (record { well = (head.sign, head.well, head.imports, found.well); text = head.text ∙ rw found.text (simp append_assoc refl) }))
+
+imported_from_sound : (ts : List Token) (s : Statement) (rest : List Token) → kind_of ts ≡ kind.Keyword word.From
+    → grammar.imported_from ts ≡ Some (s, rest) → Spells IsStatement statement_yield ts s rest
+unfolding grammar.imported_from
+imported_from_sound ts s rest is e =
+    after_one _ ts (s, rest) e (λ t ts1 is_one same e1.
+    bind (grammar.source ts1) _ (s, rest) e1 (λ from ts2 is_from e2.
+    let found = source_sound ts1 from ts2 is_from in
+    after_expected (kind.Keyword word.Import) _ ts2 (s, rest) e2 (λ word_import ts3 is_import imports e3.
+    let head : IsFrom ts t from word_import ts3 = record { sign = same ∙ is; well = found.well; imports = imports; text = cc } in
+    choose _ _ (same_kind (kind_of ts3) (kind.Open bracket.Round)) ts3 (s, rest) e3
+    (λ opens e4. enclosed_sound t from word_import ts ts3 s rest head (same_kind_is (kind_of ts3) (kind.Open bracket.Round) opens) e4)
+    (λ other e4. open_sound t from word_import ts ts3 s rest head e4))))
+
+-- ---- statements of a word
+
+word_sound : (ts : List Token) (s : Statement) (rest : List Token) → is_word_statement (kind_of ts) ≡ true
+    → grammar.word_statement ts ≡ Some (s, rest) → Spells IsStatement statement_yield ts s rest
+unfolding grammar.word_statement IsStatement statement_yield
+word_sound ts s rest is e =
+    after_one _ ts (s, rest) e (λ t ts1 is_one same e1.
+    pure_as (Spells IsStatement statement_yield ts) (statement.word t) s ts1 rest e1
+    (record { well = ap is_word_statement same ∙ is; text = is_one }))
+
+expected_name : (ts : List Token) (name : Token) (rest : List Token) → expect_name ts ≡ Some (name, rest)
+    → Spells (λ t. is_name t.kind ≡ true) (λ t. t ∷ []) ts name rest
+expected_name ts name rest e =
+    after_name (λ t. λ us. Some (t, us)) ts (name, rest) (ap (λ o. and_then o (λ t. λ us. Some (t, us))) e) (λ t ts1 is_one named e1.
+    pure_as (Spells (λ t. is_name t.kind ≡ true) (λ t. t ∷ []) ts) t name ts1 rest e1 (record { well = named; text = is_one }))
+
+declared_sound : (ts : List Token) (s : Statement) (rest : List Token) → is_declaration (kind_of ts) ≡ true
+    → grammar.declared ts ≡ Some (s, rest) → Spells IsStatement statement_yield ts s rest
+unfolding grammar.declared IsStatement statement_yield
+declared_sound ts s rest is e =
+    after_one _ ts (s, rest) e (λ t ts1 is_one same e1.
+    bind (grammar.all_separated expect_name false ts1) _ (s, rest) e1 (λ names ts2 is_names e2.
+    let found = separated_sound (λ u. is_name u.kind ≡ true) (λ u. u ∷ []) expect_name expected_name false (length ts1) ts1 names ts2 is_names in
+    pure_as (Spells IsStatement statement_yield ts) (statement.declare t names) s ts2 rest e2
+    (record { well = (ap is_declaration same ∙ is, found.well); text = is_one ∙ ap (t ∷◌) found.text })))
