@@ -254,3 +254,247 @@ declared_sound ts s rest is e =
     let found = separated_sound (λ u. is_name u.kind ≡ true) (λ u. u ∷ []) expect_name expected_name false (length ts1) ts1 names ts2 is_names in
     pure_as (Spells IsStatement statement_yield ts) (statement.declare t names) s ts2 rest e2
     (record { well = (ap is_declaration same ∙ is, found.well); text = is_one ∙ ap (t ∷◌) found.text })))
+
+-- a chain of targets and its last value
+record IsChain (ts : List Token) (found : List Assigned × Tree) (rest : List Token) : Type 0 where
+  targets : AreAssigned found.0
+  passes : is_value found.1 ≡ true
+  well : IsWell found.1
+  text : ts ≡ targets_yield found.0 ++ (yield_of found.1 ++ rest)
+
+-- at the end of the tokens, or not
+pub after_end : {B G : Type 0} (f : Bool → Parser B) (ts : List Token) (r : B × List Token) → and_then (grammar.at_end ts) f ≡ Some r
+    → ((b : Bool) → f b ts ≡ Some r → G) → G
+after_end f [] r e go = go true e
+after_end f (t ∷ ts) r e go = go false e
+
+module _ (S : ℕ → Parser Tree) (good : Good S) where
+  -- ---- values and targets
+
+  listed_value : (ts : List Token) (e : Tree) (rest : List Token) → rule.expressions S place.Items ts ≡ Some (e, rest) → IsOf is_value ts e rest
+  listed_value ts x rest e =
+      let got = expressions_sound S good ts x rest e in
+      record { well = got.well; text = got.text; low = got.low; passes = either_second (is_yield x) (is_expression_list x) got.passes }
+
+  yielded_value : (ts : List Token) (e : Tree) (rest : List Token) → kind_of ts ≡ kind.Keyword word.Yield → rule.yielded S ts ≡ Some (e, rest)
+      → IsOf is_value ts e rest
+  yielded_value ts x rest is e =
+      let got = yielded_sound S good ts x rest is e in
+      record { well = got.well; text = got.text; low = got.low; passes = either_first (is_yield x) (is_expression_list x) got.passes }
+
+  value_by_sound : (k : Kind) (ts : List Token) (e : Tree) (rest : List Token) → kind_of ts ≡ k → grammar.value_by S k ts ≡ Some (e, rest)
+      → IsOf is_value ts e rest
+  value_by_sound (kind.Keyword word.Yield) ts x rest is e = yielded_value ts x rest is e
+  value_by_sound _ ts x rest is e = listed_value ts x rest e
+
+  value_sound : (ts : List Token) (e : Tree) (rest : List Token) → grammar.value S ts ≡ Some (e, rest) → IsOf is_value ts e rest
+  unfolding grammar.value
+  value_sound ts x rest e = value_by_sound (kind_of ts) ts x rest refl e
+
+  after_value : {B G : Type 0} (f : Tree → Parser B) (ts : List Token) (r : B × List Token) → and_then (grammar.value S ts) f ≡ Some r
+      → ((x : Tree) (later : List Token) → IsOf is_value ts x later → f x later ≡ Some r → G) → G
+  after_value f ts r e go = bind (grammar.value S ts) f r e (λ x later is next. go x later (value_sound ts x later is) next)
+
+  given_sound : (ts : List Token) (found : Tail) (rest : List Token) → grammar.given S ts ≡ Some (found, rest)
+      → Spells (MayFollow (kind.Delimiter delimiter.Equal) is_value) tail_yield ts found rest
+  unfolding grammar.given IsWell yield_of
+  given_sound ts found rest e =
+      choose _ _ (same_kind (kind_of ts) (kind.Delimiter delimiter.Equal)) ts (found, rest) e
+      (λ comes e0.
+      after_one _ ts (found, rest) e0 (λ t ts1 is_one same e1.
+      after_value _ ts1 (found, rest) e1 (λ x ts2 got e2.
+      pure_as (Spells (MayFollow (kind.Delimiter delimiter.Equal) is_value) tail_yield ts) (tree.after t x) found ts2 rest e2
+      (record { well = (same ∙ same_kind_is (kind_of ts) (kind.Delimiter delimiter.Equal) comes, got.passes, got.well); text = cc }))))
+      (λ other e0. pure_as (Spells (MayFollow (kind.Delimiter delimiter.Equal) is_value) tail_yield ts) tree.nothing found ts rest e0
+      (record { well = tt; text = refl }))
+
+  -- ---- assignments
+
+  chain_sound : (n : ℕ) (x : Tree) (ts0 ts : List Token) (found : List Assigned × Tree) (rest : List Token) → IsOf is_value ts0 x ts
+      → grammar.chain S n x ts ≡ Some (found, rest) → IsChain ts0 found rest
+  unfolding grammar.chain
+  chain_sound zero x ts0 ts found rest got e =
+      pure_as (IsChain ts0) ([], x) found ts rest e (record { targets = tt; passes = got.passes; well = got.well; text = got.text })
+  chain_sound (suc n) x ts0 ts found rest got e =
+      choose _ _ (same_kind (kind_of ts) (kind.Delimiter delimiter.Equal)) ts (found, rest) e
+      (λ comes e0.
+      only _ (is_target x) ts (found, rest) e0 (λ target e1.
+      after_one _ ts (found, rest) e1 (λ equal ts1 is_one same e2.
+      after_value _ ts1 (found, rest) e2 (λ y ts2 value e3.
+      bind (grammar.chain S n y ts2) _ (found, rest) e3 (λ more ts3 is_more e4.
+      let later = chain_sound n y ts1 ts2 more ts3 value is_more in
+      pure_as (IsChain ts0) (record { target = x; equal = equal } ∷ more.0, more.1) found ts3 rest e4
+      (record {
+        targets = (target, got.well, same ∙ same_kind_is (kind_of ts) (kind.Delimiter delimiter.Equal) comes, later.targets);
+        passes = later.passes;
+        well = later.well;
+        text = simp append_assoc (cc);
+      }))))))
+      (λ other e0. pure_as (IsChain ts0) ([], x) found ts rest e0
+      (record { targets = tt; passes = got.passes; well = got.well; text = got.text }))
+
+  chained_sound : (found : List Assigned × Tree) (ts rest : List Token) → IsChain ts found rest
+      → Spells IsStatement statement_yield ts (grammar.chained S found) rest
+  unfolding IsStatement statement_yield
+  chained_sound ([], x) ts rest chain = record { well = (chain.passes, chain.well); text = chain.text }
+  chained_sound (assigned ∷ more, x) ts rest chain =
+      record { well = (chain.targets, chain.passes, chain.well); text = chain.text ∙ sym (append_assoc (targets_yield (assigned ∷ more)) (yield_of x) rest) }
+
+  assigned_sound : (x : Tree) (ts0 ts : List Token) (s : Statement) (rest : List Token) → IsOf is_value ts0 x ts
+      → grammar.assigned S x ts ≡ Some (s, rest) → Spells IsStatement statement_yield ts0 s rest
+  unfolding grammar.assigned
+  assigned_sound x ts0 ts s rest got e =
+      bind (grammar.chain S (length ts) x ts) _ (s, rest) e (λ found ts1 is_found e1.
+      pure_as (Spells IsStatement statement_yield ts0) (grammar.chained S found) s ts1 rest e1
+      (chained_sound found ts0 ts1 (chain_sound (length ts) x ts0 ts found ts1 got is_found)))
+
+  annotated_sound : (x : Tree) (ts0 ts : List Token) (s : Statement) (rest : List Token) → IsOf is_value ts0 x ts → is_colon (kind_of ts) ≡ true
+      → grammar.annotated S x ts ≡ Some (s, rest) → Spells IsStatement statement_yield ts0 s rest
+  unfolding grammar.annotated IsStatement statement_yield
+  annotated_sound x ts0 ts s rest got is e =
+      only _ (is_single_target x) ts (s, rest) e (λ single e0.
+      after_one _ ts (s, rest) e0 (λ colon ts1 is_one same e1.
+      after_self S good 1 _ ts1 (s, rest) e1 (omega arith) (omega arith) (λ note ts2 noted e2.
+      bind (grammar.given S ts2) _ (s, rest) e2 (λ value ts3 is_value e3.
+      let later = given_sound ts2 value ts3 is_value in
+      pure_as (Spells IsStatement statement_yield ts0) (statement.annotate x colon note value) s ts3 rest e3
+      (record {
+        well = (single, got.well, same ∙ is_colon_is (kind_of ts) is, noted.high, noted.well, later.well);
+        text = simp append_assoc (cc);
+      })))))
+
+  augmented_sound : (x : Tree) (ts0 ts : List Token) (s : Statement) (rest : List Token) → IsOf is_value ts0 x ts
+      → is_augmented (kind_of ts) ≡ true → grammar.augmented S x ts ≡ Some (s, rest) → Spells IsStatement statement_yield ts0 s rest
+  unfolding grammar.augmented IsStatement statement_yield
+  augmented_sound x ts0 ts s rest got is e =
+      only _ (is_single_target x) ts (s, rest) e (λ single e0.
+      after_one _ ts (s, rest) e0 (λ sign ts1 is_one same e1.
+      after_value _ ts1 (s, rest) e1 (λ y ts2 value e2.
+      pure_as (Spells IsStatement statement_yield ts0) (statement.augment x sign y) s ts2 rest e2
+      (record { well = (single, got.well, ap is_augmented same ∙ is, value.passes, value.well); text = simp append_assoc (cc) }))))
+
+  of_expression_sound : (ts : List Token) (s : Statement) (rest : List Token) → grammar.of_expression S ts ≡ Some (s, rest)
+      → Spells IsStatement statement_yield ts s rest
+  unfolding grammar.of_expression
+  of_expression_sound ts s rest e =
+      bind (rule.expressions S place.Items ts) _ (s, rest) e (λ x ts1 is e1.
+      let got = listed_value ts x ts1 is in
+      choose _ _ (is_colon (kind_of ts1)) ts1 (s, rest) e1
+      (λ colon e2. annotated_sound x ts ts1 s rest got colon e2)
+      (λ other e2. choose _ _ (is_augmented (kind_of ts1)) ts1 (s, rest) e2
+      (λ augments e3. augmented_sound x ts ts1 s rest got augments e3)
+      (λ none e3. assigned_sound x ts ts1 s rest got e3)))
+
+  of_yield_sound : (ts : List Token) (s : Statement) (rest : List Token) → kind_of ts ≡ kind.Keyword word.Yield
+      → grammar.of_yield S ts ≡ Some (s, rest) → Spells IsStatement statement_yield ts s rest
+  unfolding grammar.of_yield IsStatement statement_yield
+  of_yield_sound ts s rest is e =
+      bind (rule.yielded S ts) _ (s, rest) e (λ x ts1 is_yielded e1.
+      let got = yielded_value ts x ts1 is is_yielded in
+      pure_as (Spells IsStatement statement_yield ts) (statement.expression x) s ts1 rest e1 (record { well = (got.passes, got.well); text = got.text }))
+
+  -- ---- statements of a keyword
+
+  returned_sound : (ts : List Token) (s : Statement) (rest : List Token) → kind_of ts ≡ kind.Keyword word.Return
+      → grammar.returned S ts ≡ Some (s, rest) → Spells IsStatement statement_yield ts s rest
+  unfolding grammar.returned IsStatement statement_yield IsWell yield_of
+  returned_sound ts s rest is e =
+      after_one _ ts (s, rest) e (λ t ts1 is_one same e1.
+      choose _ _ (same_kind (kind_of ts1) end_of_line) ts1 (s, rest) e1
+      (λ ends e2. pure_as (Spells IsStatement statement_yield ts) (statement.return t tree.absent) s ts1 rest e2
+      (record { well = (same ∙ is, tt); text = is_one }))
+      (λ other e2.
+      bind (rule.expressions S place.Items ts1) _ (s, rest) e2 (λ x ts2 is_list e3.
+      let got = expressions_sound S good ts1 x ts2 is_list in
+      pure_as (Spells IsStatement statement_yield ts) (statement.return t (tree.present x)) s ts2 rest e3
+      (record { well = (same ∙ is, (got.passes, got.well)); text = cc }))))
+
+  raised_sound : (ts : List Token) (s : Statement) (rest : List Token) → kind_of ts ≡ kind.Keyword word.Raise
+      → grammar.raised S ts ≡ Some (s, rest) → Spells IsStatement statement_yield ts s rest
+  unfolding grammar.raised IsStatement statement_yield yield_of
+  raised_sound ts s rest is e =
+      after_one _ ts (s, rest) e (λ t ts1 is_one same e1.
+      choose _ _ (same_kind (kind_of ts1) end_of_line) ts1 (s, rest) e1
+      (λ ends e2. pure_as (Spells IsStatement statement_yield ts) (statement.raise t tree.absent tree.nothing) s ts1 rest e2
+      (record { well = (same ∙ is, tt); text = is_one }))
+      (λ other e2.
+      after_self S good 1 _ ts1 (s, rest) e2 (omega arith) (omega arith) (λ x ts2 got e3.
+      bind (rule.tail S (kind.Keyword word.From) ts2) _ (s, rest) e3 (λ cause ts3 is_cause e4.
+      let later = tail_sound S good (kind.Keyword word.From) ts2 cause ts3 is_cause in
+      pure_as (Spells IsStatement statement_yield ts) (statement.raise t (tree.present x) cause) s ts3 rest e4
+      (record { well = (same ∙ is, (got.high, got.well, later.follows)); text = simp append_assoc (cc) })))))
+
+  asserted_sound : (ts : List Token) (s : Statement) (rest : List Token) → kind_of ts ≡ kind.Keyword word.Assert
+      → grammar.asserted S ts ≡ Some (s, rest) → Spells IsStatement statement_yield ts s rest
+  unfolding grammar.asserted IsStatement statement_yield
+  asserted_sound ts s rest is e =
+      after_one _ ts (s, rest) e (λ t ts1 is_one same e1.
+      after_self S good 1 _ ts1 (s, rest) e1 (omega arith) (omega arith) (λ x ts2 got e2.
+      bind (rule.tail S (kind.Delimiter delimiter.Comma) ts2) _ (s, rest) e2 (λ message ts3 is_message e3.
+      let later = tail_sound S good (kind.Delimiter delimiter.Comma) ts2 message ts3 is_message in
+      pure_as (Spells IsStatement statement_yield ts) (statement.assert t x message) s ts3 rest e3
+      (record { well = (same ∙ is, got.high, got.well, later.follows); text = simp append_assoc (cc) }))))
+
+  deleted_sound : (ts : List Token) (s : Statement) (rest : List Token) → kind_of ts ≡ kind.Keyword word.Del
+      → grammar.deleted S ts ≡ Some (s, rest) → Spells IsStatement statement_yield ts s rest
+  unfolding grammar.deleted IsStatement statement_yield
+  deleted_sound ts s rest is e =
+      after_one _ ts (s, rest) e (λ t ts1 is_one same e1.
+      bind (rule.targets S ts1) _ (s, rest) e1 (λ to ts2 is_to e2.
+      let got = targets_sound S good ts1 to ts2 is_to in
+      pure_as (Spells IsStatement statement_yield ts) (statement.delete t to) s ts2 rest e2
+      (record { well = (same ∙ is, got.passes, got.well); text = cc })))
+
+  statement_by_sound : (k : Kind) (ts : List Token) (s : Statement) (rest : List Token) → kind_of ts ≡ k
+      → grammar.statement_by S k ts ≡ Some (s, rest) → Spells IsStatement statement_yield ts s rest
+  statement_by_sound (kind.Keyword word.Pass) ts s rest is e = word_sound ts s rest (ap is_word_statement is) e
+  statement_by_sound (kind.Keyword word.Break) ts s rest is e = word_sound ts s rest (ap is_word_statement is) e
+  statement_by_sound (kind.Keyword word.Continue) ts s rest is e = word_sound ts s rest (ap is_word_statement is) e
+  statement_by_sound (kind.Keyword word.Return) ts s rest is e = returned_sound ts s rest is e
+  statement_by_sound (kind.Keyword word.Raise) ts s rest is e = raised_sound ts s rest is e
+  statement_by_sound (kind.Keyword word.Assert) ts s rest is e = asserted_sound ts s rest is e
+  statement_by_sound (kind.Keyword word.Del) ts s rest is e = deleted_sound ts s rest is e
+  statement_by_sound (kind.Keyword word.Global) ts s rest is e = declared_sound ts s rest (ap is_declaration is) e
+  statement_by_sound (kind.Keyword word.Nonlocal) ts s rest is e = declared_sound ts s rest (ap is_declaration is) e
+  statement_by_sound (kind.Keyword word.Import) ts s rest is e = imported_sound ts s rest is e
+  statement_by_sound (kind.Keyword word.From) ts s rest is e = imported_from_sound ts s rest is e
+  statement_by_sound (kind.Keyword word.Yield) ts s rest is e = of_yield_sound ts s rest is e
+  statement_by_sound _ ts s rest is e = of_expression_sound ts s rest e
+
+  -- a simple statement
+  pub simple_sound : (ts : List Token) (s : Statement) (rest : List Token) → grammar.simple S ts ≡ Some (s, rest)
+      → Spells IsStatement statement_yield ts s rest
+  unfolding grammar.simple
+  simple_sound ts s rest e = statement_by_sound (kind_of ts) ts s rest refl e
+
+  statements_sound : (n : ℕ) (ts : List Token) (found : Separated Statement) (rest : List Token) → grammar.statements S n ts ≡ Some (found, rest)
+      → Spells AreStatements (separated_yield statement_yield) ts found rest
+  unfolding grammar.statements
+  statements_sound zero ts found rest e = refused _ e
+  statements_sound (suc n) ts found rest e =
+      bind (grammar.simple S ts) _ (found, rest) e (λ s ts1 is e1.
+      let first = simple_sound ts s ts1 is in
+      after_end _ ts1 (found, rest) e1 (λ is_last e2.
+      choose _ _ is_last ts1 (found, rest) e2
+      (λ last e3. pure_as (Spells AreStatements (separated_yield statement_yield) ts) (last_item s) found ts1 rest e3
+      (record { well = first.well; text = first.text }))
+      (λ goes_on e3.
+      after_expected (kind.Delimiter delimiter.Semicolon) _ ts1 (found, rest) e3 (λ semicolon ts2 is_one same e4.
+      after_end _ ts2 (found, rest) e4 (λ is_done e5.
+      choose _ _ is_done ts2 (found, rest) e5
+      (λ done e6. pure_as (Spells AreStatements (separated_yield statement_yield) ts) (item s semicolon no_item) found ts2 rest e6
+      (record { well = (refl, first.well, same); text = simp append_assoc (cc) }))
+      (λ more_come e6.
+      bind (grammar.statements S n ts2) _ (found, rest) e6 (λ more ts3 is_more e7.
+      let later = statements_sound n ts2 more ts3 is_more in
+      pure_as (Spells AreStatements (separated_yield statement_yield) ts) (item s semicolon more) found ts3 rest e7
+      (record {
+        well = one_before IsStatement (kind.Delimiter delimiter.Semicolon) true s semicolon more first.well same later.well;
+        text = simp append_assoc (cc);
+      }))))))))
+
+  -- statements joined by semicolons
+  pub all_statements_sound : (ts : List Token) (found : Separated Statement) (rest : List Token) → grammar.all_statements S ts ≡ Some (found, rest)
+      → Spells AreStatements (separated_yield statement_yield) ts found rest
+  unfolding grammar.all_statements
+  all_statements_sound ts found rest e = statements_sound (length ts) ts found rest e
