@@ -10,3 +10,5 @@ pub mod SoundLists
 pub mod SoundBrackets
 pub mod SoundExpressions
 pub mod SoundStatements
+pub mod SoundHeaders
+pub mod SoundLines

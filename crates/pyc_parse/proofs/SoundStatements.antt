@@ -74,7 +74,7 @@ separated_sound Is yield one each may_trail (suc n) ts found rest e =
     })))))
     (λ other e2. pure_as (Spells All (separated_yield yield) ts) (last_item x) found ts1 rest e2 (record { well = first.well; text = first.text })))
 
-alias_sound : (ts : List Token) (found : Option Alias) (rest : List Token) → grammar.alias ts ≡ Some (found, rest)
+pub alias_sound : (ts : List Token) (found : Option Alias) (rest : List Token) → grammar.alias ts ≡ Some (found, rest)
     → Spells IsAlias alias_yield ts found rest
 unfolding grammar.alias
 alias_sound ts found rest e =
