@@ -12,3 +12,6 @@ pub mod SoundExpressions
 pub mod SoundStatements
 pub mod SoundHeaders
 pub mod SoundLines
+pub mod CompleteTools
+pub mod CompleteTables
+pub mod Complete
