@@ -15,3 +15,4 @@ pub mod SoundLines
 pub mod CompleteTools
 pub mod CompleteTables
 pub mod Complete
+pub mod CompleteItems
