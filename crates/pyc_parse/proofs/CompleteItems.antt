@@ -17,7 +17,7 @@ use Rattle.pyc_parse.specs.Height.{height, perhaps_height, tail_height, max_heig
 use Rattle.pyc_parse.specs.Targets.{is_target}
 use Rattle.pyc_parse.specs.Places.{is_at, fits, is_star, is_double_star, is_colon, is_annotation, is_item, is_target_item, is_entry, is_index, is_with_item, is_argument, is_parameter}
 use Rattle.pyc_parse.specs.Well.{IsWell, MayBe, MayFollow}
-use Rattle.pyc_parse.specs.Parser.{Outcome, Parser, and_then, take_one}
+use Rattle.pyc_parse.specs.Parser.{Outcome, Parser, and_then, take_one, expect_name}
 use Rattle.pyc_parse.specs.Items as rule
 use Rattle.pyc_parse.proofs.SoundTables.{never}
 use Rattle.pyc_parse.proofs.SoundTools.{level_at, or_first, either_first, either_second}
@@ -192,3 +192,206 @@ module _ (S : ℕ → Parser Tree) (d : ℕ) (full : Full S d) (low : d ≤ max_
       (no _ _ (same_kind (kind_of rest) (kind.Delimiter delimiter.Equal)) rest _ p.equal
       (made_low (tree.argument x) rest (omega (arith, small, low))))))
   argument_full _ rest fit well small p = never fit
+
+  -- ---- indices
+
+  sliced_full : (lower : Perhaps) (colon : Token) (upper : Perhaps) (rest : List Token) → IsWell (tree.slice lower colon upper)
+      → height (tree.slice lower colon upper) ≤ d → Plain (kind_of rest)
+      → rule.sliced S lower (colon ∷ (perhaps_yield upper ++ rest)) ≡ Some (tree.slice lower colon upper, rest)
+  unfolding rule.sliced take_one IsWell height
+  sliced_full lower colon upper rest well small p =
+      step (rule.bound S (perhaps_yield upper ++ rest)) _ upper rest _
+      (bound_full upper rest well.2 (omega (arith, small)) (halts_plain p) p.begins)
+      (no _ _ (is_colon (kind_of rest)) rest _ p.colon (made_low (tree.slice lower colon upper) rest (omega (arith, small, low))))
+
+  stride_full : (lower : Perhaps) (colon : Token) (upper : Perhaps) (second : Token) (by : Perhaps) (rest : List Token)
+      → IsWell (tree.stride lower colon upper second by)
+      → height (tree.stride lower colon upper second by) ≤ d → Plain (kind_of rest)
+      → rule.sliced S lower (colon ∷ (perhaps_yield upper ++ (second ∷ (perhaps_yield by ++ rest)))) ≡ Some (tree.stride lower colon upper second by, rest)
+  unfolding rule.sliced take_one IsWell height
+  stride_full lower colon upper second by rest well small p =
+      step (rule.bound S (perhaps_yield upper ++ (second ∷ (perhaps_yield by ++ rest)))) _ upper (second ∷ (perhaps_yield by ++ rest)) _
+      (bound_full upper (second ∷ (perhaps_yield by ++ rest)) well.2 (omega (arith, small))
+      (halts_as second.kind (kind.Delimiter delimiter.Colon) well.3 refl refl) (ap begins_expression well.3))
+      (yes _ _ (is_colon second.kind) (second ∷ (perhaps_yield by ++ rest)) _ (ap is_colon well.3)
+      (step (rule.bound S (perhaps_yield by ++ rest)) _ by rest _
+      (bound_full by rest well.4 (omega (arith, small)) (halts_plain p) p.begins)
+      (made_low (tree.stride lower colon upper second by) rest (omega (arith, small, low)))))
+
+  -- a slice after its lower bound, which is read
+  bounded_full : (lower : Perhaps) (colon : Token) (later : List Token) (r : Outcome Tree) → MayBe (is_at 1) lower → perhaps_height lower ≤ d
+      → colon.kind ≡ kind.Delimiter delimiter.Colon → rule.sliced S lower (colon ∷ later) ≡ r
+      → rule.index S (perhaps_yield lower ++ (colon ∷ later)) ≡ r
+  unfolding rule.index IsWell yield_of height
+  bounded_full tree.absent colon later r well small is next = yes _ _ (is_colon colon.kind) (colon ∷ later) r (ap is_colon is) next
+  bounded_full (tree.present x) colon later r well small is next =
+      no _ _ (is_colon (kind_of (yield_of x ++ (colon ∷ later)))) (yield_of x ++ (colon ∷ later)) r
+      (no_colon _ (opens x (colon ∷ later) well.1 (level_at 1 x well.0)))
+      (after 1 x (colon ∷ later) _ r well.1 small (omega arith) (level_at 1 x well.0) (halts_as colon.kind (kind.Delimiter delimiter.Colon) is refl refl)
+      (yes _ _ (is_colon colon.kind) (colon ∷ later) r (ap is_colon is) next))
+
+  plain_index_full : (e : Tree) (rest : List Token) → IsWell e → height e ≤ d → 1 ≤ level e → Plain (kind_of rest)
+      → rule.index S (yield_of e ++ rest) ≡ Some (e, rest)
+  unfolding rule.index
+  plain_index_full e rest well small high p =
+      no _ _ (is_colon (kind_of (yield_of e ++ rest))) (yield_of e ++ rest) _ (no_colon _ (opens e rest well high))
+      (after 1 e rest _ _ well small (omega arith) high (halts_plain p)
+      (no _ _ (is_colon (kind_of rest)) rest _ p.colon refl))
+
+  index_full : (e : Tree) (rest : List Token) → is_index e ≡ true → IsWell e → height e ≤ d → Plain (kind_of rest)
+      → rule.index S (yield_of e ++ rest) ≡ Some (e, rest)
+  unfolding IsWell yield_of height
+  index_full (tree.slice lower colon upper) rest fit well small p =
+      rw (append_assoc (perhaps_yield lower) (colon ∷ perhaps_yield upper) rest)
+      (bounded_full lower colon (perhaps_yield upper ++ rest) _ well.0 (omega (arith, small)) well.1 (sliced_full lower colon upper rest well small p))
+  index_full (tree.stride lower colon upper second by) rest fit well small p =
+      rw (append_assoc (perhaps_yield lower) (colon ∷ (perhaps_yield upper ++ second ∷ perhaps_yield by)) rest)
+      (rw (append_assoc (perhaps_yield upper) (second ∷ perhaps_yield by) rest)
+      (bounded_full lower colon (perhaps_yield upper ++ (second ∷ (perhaps_yield by ++ rest))) _ well.0 (omega (arith, small)) well.1
+      (stride_full lower colon upper second by rest well small p)))
+  index_full e rest fit well small p = plain_index_full e rest well small (level_at 1 e fit) p
+
+  -- ---- parameters
+
+  annotation_full : (b : Bool) (found : Tail) (rest : List Token) → is_annotation b found ≡ true
+      → MayFollow (kind.Delimiter delimiter.Colon) (is_at 1) found
+      → tail_height found ≤ d → Halts (kind_of rest) → (b ≡ true → is_colon (kind_of rest) ≡ false)
+      → rule.annotation S b (tail_yield found ++ rest) ≡ Some (found, rest)
+  unfolding yield_of
+  annotation_full true found rest fit well small halts colon =
+      tail_full (kind.Delimiter delimiter.Colon) found rest well small halts (no_such_colon (kind_of rest) (colon refl))
+  annotation_full false tree.nothing rest fit well small halts colon = refl
+  annotation_full false (tree.after t e) rest fit well small halts colon = never fit
+
+  -- what stands behind an annotation: a default, or what follows the parameter
+  after_note : (b : Bool) (default : Tail) (rest : List Token) → MayFollow (kind.Delimiter delimiter.Equal) (is_at 1) default → Bare b (kind_of rest)
+      → Halts (kind_of (tail_yield default ++ rest)) × (b ≡ true → is_colon (kind_of (tail_yield default ++ rest)) ≡ false)
+  unfolding IsWell yield_of
+  after_note b tree.nothing rest well p = (halts_bare p, p.colon)
+  after_note b (tree.after t e) rest well p = (halts_as t.kind (kind.Delimiter delimiter.Equal) well.0 refl refl, λ h. ap is_colon well.0)
+
+  plain_parameter_full : (b : Bool) (name : Token) (note default : Tail) (rest : List Token) → is_annotation b note ≡ true
+      → IsWell (tree.parameter name note default)
+      → height (tree.parameter name note default) ≤ d → Bare b (kind_of rest)
+      → rule.plain_parameter S b (name ∷ (tail_yield note ++ (tail_yield default ++ rest))) ≡ Some (tree.parameter name note default, rest)
+  unfolding rule.plain_parameter IsWell height
+  plain_parameter_full b name note default rest fit well small p =
+      let behind = after_note b default rest well.2 p in
+      step (expect_name (name ∷ (tail_yield note ++ (tail_yield default ++ rest)))) _ name (tail_yield note ++ (tail_yield default ++ rest)) _
+      (name_expected name _ well.0)
+      (step (rule.annotation S b (tail_yield note ++ (tail_yield default ++ rest))) _ note (tail_yield default ++ rest) _
+      (annotation_full b note (tail_yield default ++ rest) fit well.1 (omega (arith, small)) behind.0 behind.1)
+      (step (rule.tail S (kind.Delimiter delimiter.Equal) (tail_yield default ++ rest)) _ default rest _
+      (tail_full (kind.Delimiter delimiter.Equal) default rest well.2 (omega (arith, small)) (halts_bare p) p.equal)
+      (made_low (tree.parameter name note default) rest (omega (arith, small, low)))))
+
+  star_parameter_full : (b : Bool) (star name : Token) (note : Tail) (rest : List Token) → is_annotation b note ≡ true
+      → IsWell (tree.star_parameter star name note)
+      → height (tree.star_parameter star name note) ≤ d → Bare b (kind_of rest)
+      → rule.star_parameter S b (star ∷ name ∷ (tail_yield note ++ rest)) ≡ Some (tree.star_parameter star name note, rest)
+  unfolding rule.star_parameter take_one IsWell height
+  star_parameter_full b star name note rest fit well small p =
+      yes _ _ (is_name name.kind) (name ∷ (tail_yield note ++ rest)) _ well.1
+      (step (rule.annotation S b (tail_yield note ++ rest)) _ note rest _
+      (annotation_full b note rest fit well.2 (omega (arith, small)) (halts_bare p) p.colon)
+      (made_low (tree.star_parameter star name note) rest (omega (arith, small, low))))
+
+  bare_star_full : (b : Bool) (star : Token) (rest : List Token) → height (tree.bare_star star) ≤ d → Bare b (kind_of rest)
+      → rule.star_parameter S b (star ∷ rest) ≡ Some (tree.bare_star star, rest)
+  unfolding rule.star_parameter take_one
+  bare_star_full b star rest small p =
+      no _ _ (is_name (kind_of rest)) rest _ p.name (made_low (tree.bare_star star) rest (omega (arith, small, low)))
+
+  double_parameter_full : (b : Bool) (stars name : Token) (note : Tail) (rest : List Token) → is_annotation b note ≡ true
+      → IsWell (tree.double_parameter stars name note)
+      → height (tree.double_parameter stars name note) ≤ d → Bare b (kind_of rest)
+      → rule.double_parameter S b (stars ∷ name ∷ (tail_yield note ++ rest)) ≡ Some (tree.double_parameter stars name note, rest)
+  unfolding rule.double_parameter take_one IsWell height
+  double_parameter_full b stars name note rest fit well small p =
+      step (expect_name (name ∷ (tail_yield note ++ rest))) _ name (tail_yield note ++ rest) _ (name_expected name _ well.1)
+      (step (rule.annotation S b (tail_yield note ++ rest)) _ note rest _
+      (annotation_full b note rest fit well.2 (omega (arith, small)) (halts_bare p) p.colon)
+      (made_low (tree.double_parameter stars name note) rest (omega (arith, small, low))))
+
+  parameter_full : (b : Bool) (e : Tree) (rest : List Token) → is_parameter b e ≡ true → IsWell e → height e ≤ d → Bare b (kind_of rest)
+      → rule.parameter_by S b (kind_of (yield_of e ++ rest)) (yield_of e ++ rest) ≡ Some (e, rest)
+  unfolding IsWell yield_of
+  parameter_full b (tree.star_parameter star name note) rest fit well small p =
+      yes _ _ (is_star star.kind) (star ∷ name ∷ (tail_yield note ++ rest)) _ (ap is_star well.0)
+      (star_parameter_full b star name note rest fit well small p)
+  parameter_full b (tree.bare_star star) rest fit well small p =
+      yes _ _ (is_star star.kind) (star ∷ rest) _ (ap is_star well) (bare_star_full b star rest small p)
+  parameter_full b (tree.double_parameter stars name note) rest fit well small p =
+      no _ _ (is_star stars.kind) (stars ∷ name ∷ (tail_yield note ++ rest)) _ (ap is_star well.0)
+      (yes _ _ (is_double_star stars.kind) (stars ∷ name ∷ (tail_yield note ++ rest)) _ (ap is_double_star well.0)
+      (double_parameter_full b stars name note rest fit well small p))
+  parameter_full b (tree.parameter name note default) rest fit well small p =
+      let begun : begins_expression name.kind ≡ true = tight_begins name.kind (name_begins name.kind well.0) in
+      rw (append_assoc (tail_yield note) (tail_yield default) rest)
+      (no _ _ (is_star name.kind) (name ∷ (tail_yield note ++ (tail_yield default ++ rest))) _ (no_star name.kind begun)
+      (no _ _ (is_double_star name.kind) (name ∷ (tail_yield note ++ (tail_yield default ++ rest))) _ (no_double_star name.kind begun)
+      (plain_parameter_full b name note default rest fit well small p)))
+  parameter_full b _ rest fit well small p = never fit
+
+  -- ---- context managers
+
+  managed_full : (e : Tree) (rest : List Token) → is_with_item e ≡ true → IsWell e → height e ≤ d → Plain (kind_of rest)
+      → rule.with_item S (yield_of e ++ rest) ≡ Some (e, rest)
+  unfolding rule.with_item rule.with_target take_one IsWell yield_of height
+  managed_full (tree.with_item x tree.nothing) rest fit well small p =
+      rw (append-nil (yield_of x))
+      (after 1 x rest _ _ well.1 (omega (arith, small)) (omega arith) well.0 (halts_plain p)
+      (no _ _ (same_kind (kind_of rest) (kind.Keyword word.As)) rest _ p.as_word
+      (made_low (tree.with_item x tree.nothing) rest (omega (arith, small, low)))))
+  managed_full (tree.with_item x (tree.after t to)) rest fit well small p =
+      rw (append_assoc (yield_of x) (t ∷ yield_of to) rest)
+      (after 1 x (t ∷ (yield_of to ++ rest)) _ _ well.1 (omega (arith, small)) (omega arith) well.0 (halts_as t.kind (kind.Keyword word.As) well.2.0 refl refl)
+      (yes _ _ (same_kind t.kind (kind.Keyword word.As)) (t ∷ (yield_of to ++ rest)) _ (same_as t.kind (kind.Keyword word.As) well.2.0)
+      (after 6 to rest _ _ well.2.2 (omega (arith, small)) (omega arith) (level_at 6 to (both_first (is_at 6 to) (is_target to) well.2.1)) (halts_plain p)
+      (yes _ _ (is_target to) rest _ (both_second (is_at 6 to) (is_target to) well.2.1)
+      (made_low (tree.with_item x (tree.after t to)) rest (omega (arith, small, low)))))))
+  managed_full _ rest fit well small p = never fit
+
+  -- ---- by place
+
+  item_by_full : (here : Place) (e : Tree) (rest : List Token) → fits here e ≡ true → IsWell e → height e ≤ d → follows here (kind_of rest) ≡ true
+      → rule.item_by S here (kind_of (yield_of e ++ rest)) (yield_of e ++ rest) ≡ Some (e, rest)
+  item_by_full place.Items e rest fit well small behind =
+      let p = plain (kind_of rest) (or_first (is_common (kind_of rest)) false behind refl) in
+      starred_or_full 1 e rest well small (omega arith) (omega arith) (item_stands e fit) (omega (arith, p.loose)) p.string
+  item_by_full place.Targets e rest fit well small behind =
+      let p = after_targets (kind_of rest) behind in
+      starred_or_full 6 e rest well small (omega arith) (omega arith) (target_stands e fit) p.0 p.1
+  item_by_full place.Subscript e rest fit well small behind =
+      index_full e rest fit well small (plain (kind_of rest) (or_first (is_common (kind_of rest)) false behind refl))
+  item_by_full place.WithItems e rest fit well small behind =
+      managed_full e rest fit well small (plain (kind_of rest) (or_first (is_common (kind_of rest)) false behind refl))
+  item_by_full place.Braces e rest fit well small behind =
+      brace_full e rest fit well small (plain (kind_of rest) (or_first (is_common (kind_of rest)) false behind refl))
+  item_by_full place.Set e rest fit well small behind =
+      brace_full e rest (either_first (is_item e) (is_entry e) fit) well small
+      (plain (kind_of rest) (or_first (is_common (kind_of rest)) false behind refl))
+  item_by_full place.Entries e rest fit well small behind =
+      brace_full e rest (either_second (is_item e) (is_entry e) fit) well small
+      (plain (kind_of rest) (or_first (is_common (kind_of rest)) false behind refl))
+  item_by_full place.Arguments e rest fit well small behind =
+      argument_full e rest fit well small (plain (kind_of rest) (or_first (is_common (kind_of rest)) false behind refl))
+  item_by_full place.KeywordArguments e rest fit well small behind =
+      argument_full e rest (keyword_any e fit) well small (plain (kind_of rest) (or_first (is_common (kind_of rest)) false behind refl))
+  item_by_full place.LastArguments e rest fit well small behind =
+      argument_full e rest (keyword_any e (last_keyword e fit)) well small
+      (plain (kind_of rest) (or_first (is_common (kind_of rest)) false behind refl))
+  item_by_full (place.Parameters b) e rest fit well small behind = parameter_full b e rest fit well small (bare_parameters b (kind_of rest) behind)
+  item_by_full (place.AfterStar b) e rest fit well small behind =
+      parameter_full b e rest (late_any b e (plain_late b e fit)) well small (bare_after_star b (kind_of rest) behind)
+  item_by_full (place.KeywordOnly b) e rest fit well small behind =
+      parameter_full b e rest (late_any b e fit) well small (bare_keyword_only b (kind_of rest) behind)
+  item_by_full place.Ended e rest fit well small behind = never fit
+
+  -- an item that fits its place
+  pub item_full : (here : Place) (e : Tree) (rest : List Token) → fits here e ≡ true → IsWell e → height e ≤ d → follows here (kind_of rest) ≡ true
+      → rule.item S here (yield_of e ++ rest) ≡ Some (e, rest)
+  unfolding rule.item
+  item_full here e rest fit well small behind =
+      step (rule.item_by S here (kind_of (yield_of e ++ rest)) (yield_of e ++ rest)) _ e rest _ (item_by_full here e rest fit well small behind)
+      (checked_holds (fits here e) e rest fit)
