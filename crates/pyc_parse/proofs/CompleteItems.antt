@@ -44,11 +44,11 @@ halts_as k q is loose string = record { loose = ap binds is ∙ loose; string = 
 no_such_colon : (k : Kind) → is_colon k ≡ false → same_kind k (kind.Delimiter delimiter.Colon) ≡ false
 no_such_colon k none = apart (λ z. not (is_colon z)) k (kind.Delimiter delimiter.Colon) (ap not none) refl
 
-both_first : (a b : Bool) → (a && b) ≡ true → a ≡ true
+pub both_first : (a b : Bool) → (a && b) ≡ true → a ≡ true
 both_first true b h = refl
 both_first false b h = never h
 
-both_second : (a b : Bool) → (a && b) ≡ true → b ≡ true
+pub both_second : (a b : Bool) → (a && b) ≡ true → b ≡ true
 both_second true b h = h
 both_second false b h = never h
 

@@ -16,3 +16,4 @@ pub mod CompleteTools
 pub mod CompleteTables
 pub mod Complete
 pub mod CompleteItems
+pub mod CompleteLists
