@@ -22,7 +22,7 @@ use Rattle.pyc_parse.specs.Items as rule
 use Rattle.pyc_parse.proofs.SoundTables.{never}
 use Rattle.pyc_parse.proofs.SoundTools.{level_at, or_first, either_first, either_second}
 use Rattle.pyc_parse.proofs.CompleteTools.{step, yes, no, same_as, apart, name_expected, made_low, checked_holds}
-use Rattle.pyc_parse.proofs.CompleteTables.{name_begins, tight_begins, no_star, no_double_star, no_colon, follows, is_common, Plain, plain, Bare, bare_parameters, bare_after_star, bare_keyword_only, after_targets, either}
+use Rattle.pyc_parse.proofs.CompleteTables.{name_begins, tight_begins, no_star, no_double_star, no_colon, follows, is_common, is_close, Plain, plain, Bare, bare_parameters, bare_after_star, bare_keyword_only, after_targets, either}
 use Rattle.pyc_parse.proofs.Complete.{Full, opens, last_keyword, keyword_any, plain_late, late_any}
 
 -- ---- tokens that go on with nothing
@@ -39,6 +39,10 @@ halts_bare p = record { loose = p.loose; string = p.string }
 
 pub halts_as : (k q : Kind) → k ≡ q → binds q ≡ 0 → is_string q ≡ false → Halts k
 halts_as k q is loose string = record { loose = ap binds is ∙ loose; string = ap is_string is ∙ string }
+
+pub close_halts : (k : Kind) → is_close k ≡ true → Halts k
+close_halts (kind.Close b) is = record { loose = refl; string = refl }
+close_halts _ is = never is
 
 -- no colon is none
 no_such_colon : (k : Kind) → is_colon k ≡ false → same_kind k (kind.Delimiter delimiter.Colon) ≡ false

@@ -59,7 +59,7 @@ few_turns (tree.if_clause word_if e more) = omega (arith, few_turns more, length
 
 -- ---- items that make targets
 
-one_item : (e : Tree) → is_at 1 e ≡ true → is_item e ≡ true
+pub one_item : (e : Tree) → is_at 1 e ≡ true → is_item e ≡ true
 one_item (tree.starred star x) fit = never fit
 one_item _ fit = fit
 

@@ -17,3 +17,4 @@ pub mod CompleteTables
 pub mod Complete
 pub mod CompleteItems
 pub mod CompleteLists
+pub mod CompleteBrackets
