@@ -350,20 +350,26 @@ module _ (S : ℕ → Parser Tree) (d : ℕ) (full : Full S d) (low : suc d ≤ 
 
   -- ---- calls and subscripts
 
-  call_listed : (callee : Tree) (opening : Token) (found : Pieces) (closing : Token) (rest : List Token) → has_item found ≡ true
-      → ArePieces place.Arguments found → closing.kind ≡ kind.Close bracket.Round → height (tree.call callee opening found closing) ≤ suc d
-      → rule.called S callee (opening ∷ (pieces_yield found ++ (closing ∷ rest))) ≡ Some (tree.call callee opening found closing, rest)
-  unfolding rule.called rule.call_filled rule.called_with take_one height
-  call_listed callee opening found closing rest some well is small =
-      let all = listed_full S d full low_items place.Arguments found (closing ∷ rest) some well (omega (arith, small))
-          (close_ends place.Arguments bracket.Round closing.kind is) in
-      no _ _ (same_kind (kind_of (pieces_yield found ++ (closing ∷ rest))) (kind.Close bracket.Round)) (pieces_yield found ++ (closing ∷ rest)) _
-      (apart (begins place.Arguments) _ (kind.Close bracket.Round) all.begun refl)
-      (step (rule.item S place.Arguments (pieces_yield found ++ (closing ∷ rest))) _ all.first all.later _ all.starts
+  call_items : (callee : Tree) (opening : Token) (found : Pieces) (closing : Token) (ts rest : List Token)
+      → Listed S place.Arguments ts found (closing ∷ rest) → closing.kind ≡ kind.Close bracket.Round → height (tree.call callee opening found closing) ≤ suc d
+      → rule.called S callee (opening ∷ ts) ≡ Some (tree.call callee opening found closing, rest)
+  unfolding rule.called rule.call_filled rule.called_with take_one
+  call_items callee opening found closing ts rest all is small =
+      no _ _ (same_kind (kind_of ts) (kind.Close bracket.Round)) ts _ (apart (begins place.Arguments) (kind_of ts) (kind.Close bracket.Round) all.begun refl)
+      (step (rule.item S place.Arguments ts) _ all.first all.later _ all.starts
       (no _ _ (begins_clause (kind_of all.later)) all.later _ all.no_clause
       (step (rule.listed S place.Arguments all.first all.later) _ found (closing ∷ rest) _ all.lists
       (step (expect (kind.Close bracket.Round) (closing ∷ rest)) _ closing rest _ (expected (kind.Close bracket.Round) closing rest is)
       (made_low (tree.call callee opening found closing) rest (omega (arith, small, low)))))))
+
+  call_listed : (callee : Tree) (opening : Token) (found : Pieces) (closing : Token) (rest : List Token) → has_item found ≡ true
+      → ArePieces place.Arguments found → closing.kind ≡ kind.Close bracket.Round → height (tree.call callee opening found closing) ≤ suc d
+      → rule.called S callee (opening ∷ (pieces_yield found ++ (closing ∷ rest))) ≡ Some (tree.call callee opening found closing, rest)
+  unfolding height
+  call_listed callee opening found closing rest some well is small =
+      call_items callee opening found closing (pieces_yield found ++ (closing ∷ rest)) rest
+      (listed_full S d full low_items place.Arguments found (closing ∷ rest) some well (omega (arith, small))
+      (close_ends place.Arguments bracket.Round closing.kind is)) is small
 
   call_generator : (callee : Tree) (opening : Token) (e : Tree) (found : Clauses) (closing : Token) (rest : List Token)
       → 1 ≤ level e → IsWell e → has_for found ≡ true → AreClauses found → closing.kind ≡ kind.Close bracket.Round
@@ -407,14 +413,21 @@ module _ (S : ℕ → Parser Tree) (d : ℕ) (full : Full S d) (low : suc d ≤ 
   called_full callee opening found closing rest are is small =
       call_listed callee opening found closing rest refl (argument_pieces found are refl) is small
 
-  pub subscripted_full : (e : Tree) (opening : Token) (found : Pieces) (closing : Token) (rest : List Token) → has_item found ≡ true
-      → ArePieces place.Subscript found → closing.kind ≡ kind.Close bracket.Square → height (tree.subscript e opening found closing) ≤ suc d
-      → rule.subscripted S e (opening ∷ (pieces_yield found ++ (closing ∷ rest))) ≡ Some (tree.subscript e opening found closing, rest)
-  unfolding rule.subscripted take_one height
-  subscripted_full e opening found closing rest some well is small =
-      let all = listed_full S d full low_items place.Subscript found (closing ∷ rest) some well (omega (arith, small))
-          (close_ends place.Subscript bracket.Square closing.kind is) in
-      step (rule.item S place.Subscript (pieces_yield found ++ (closing ∷ rest))) _ all.first all.later _ all.starts
+  subscript_items : (e : Tree) (opening : Token) (found : Pieces) (closing : Token) (ts rest : List Token)
+      → Listed S place.Subscript ts found (closing ∷ rest) → closing.kind ≡ kind.Close bracket.Square → height (tree.subscript e opening found closing) ≤ suc d
+      → rule.subscripted S e (opening ∷ ts) ≡ Some (tree.subscript e opening found closing, rest)
+  unfolding rule.subscripted take_one
+  subscript_items e opening found closing ts rest all is small =
+      step (rule.item S place.Subscript ts) _ all.first all.later _ all.starts
       (step (rule.listed S place.Subscript all.first all.later) _ found (closing ∷ rest) _ all.lists
       (step (expect (kind.Close bracket.Square) (closing ∷ rest)) _ closing rest _ (expected (kind.Close bracket.Square) closing rest is)
       (made_low (tree.subscript e opening found closing) rest (omega (arith, small, low)))))
+
+  pub subscripted_full : (e : Tree) (opening : Token) (found : Pieces) (closing : Token) (rest : List Token) → has_item found ≡ true
+      → ArePieces place.Subscript found → closing.kind ≡ kind.Close bracket.Square → height (tree.subscript e opening found closing) ≤ suc d
+      → rule.subscripted S e (opening ∷ (pieces_yield found ++ (closing ∷ rest))) ≡ Some (tree.subscript e opening found closing, rest)
+  unfolding height
+  subscripted_full e opening found closing rest some well is small =
+      subscript_items e opening found closing (pieces_yield found ++ (closing ∷ rest)) rest
+      (listed_full S d full low_items place.Subscript found (closing ∷ rest) some well (omega (arith, small))
+      (close_ends place.Subscript bracket.Square closing.kind is)) is small
