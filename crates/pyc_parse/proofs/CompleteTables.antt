@@ -281,3 +281,85 @@ close_clause _ is = never is
 -- where a list ends no clause begins
 pub ends_clause : (here : Place) (k : Kind) → ends here k ≡ true → begins_clause k ≡ false
 ends_clause here k is = either (is_close k) (is_special here k) is (close_clause k) (special_clause here k)
+
+-- ---- what stands behind an operand
+
+-- a token that a tree of a level may stand before does not go on with its last operand
+pub sign_stop : (sign k : Kind) → 1 ≤ prefix_level sign → left_level k ≤ prefix_level sign → binds k < prefix_level sign
+sign_stop sign k some below = omega (arith, left_near k, sign_near sign some, gaps k)
+  where
+    sign_near : (s : Kind) → 1 ≤ prefix_level s → (prefix_level s ≡ 4) ⊎ (prefix_level s ≡ 12)
+    sign_near (kind.Keyword word.Not) some = inl refl
+    sign_near (kind.Arithmetic op.Plus) some = inr refl
+    sign_near (kind.Arithmetic op.Minus) some = inr refl
+    sign_near (kind.Delimiter delimiter.Tilde) some = inr refl
+    sign_near _ some = absurd (omega arith)
+
+    gaps : (q : Kind) → (binds q ≡ 4 → ⊥) × (binds q ≡ 12 → ⊥)
+    gaps (kind.Keyword word.If) = omega arith
+    gaps (kind.Arithmetic op.Bar) = omega arith
+    gaps (kind.Open bracket.Round) = omega arith
+    gaps (kind.Delimiter delimiter.Dot) = omega arith
+    gaps _ = omega arith
+
+pub loose_stop : (k : Kind) → left_level k ≤ 1 → binds k < 1
+loose_stop (kind.Keyword word.If) below = absurd (omega arith)
+loose_stop (kind.Arithmetic op.Bar) below = absurd (omega arith)
+loose_stop (kind.Open bracket.Round) below = absurd (omega arith)
+loose_stop (kind.Delimiter delimiter.Dot) below = absurd (omega arith)
+loose_stop (kind.Keyword word.Or) below = absurd (omega arith)
+loose_stop (kind.Keyword word.And) below = absurd (omega arith)
+loose_stop (kind.Keyword word.In) below = absurd (omega arith)
+loose_stop (kind.Keyword word.Is) below = absurd (omega arith)
+loose_stop (kind.Keyword word.Not) below = absurd (omega arith)
+loose_stop _ below = omega arith
+
+right_form : (sign : Kind) → 1 ≤ right_level sign → (right_level sign ≡ binds sign + 1) ⊎ ((binds sign ≡ 13) × (right_level sign ≡ 12))
+right_form (kind.Keyword word.Or) some = inl refl
+right_form (kind.Keyword word.And) some = inl refl
+right_form (kind.Arithmetic op.DoubleStar) some = inr (refl, refl)
+right_form (kind.Arithmetic op.Bar) some = inl refl
+right_form (kind.Arithmetic _) some = inl refl
+right_form _ some = absurd (omega arith)
+
+power_stop : (k : Kind) → left_level k ≤ 13 → binds k < 12
+power_stop (kind.Keyword word.If) below = omega arith
+power_stop (kind.Arithmetic op.DoubleStar) below = absurd (omega arith)
+power_stop (kind.Arithmetic op.Bar) below = omega arith
+power_stop (kind.Open bracket.Round) below = absurd (omega arith)
+power_stop (kind.Open bracket.Square) below = absurd (omega arith)
+power_stop (kind.Delimiter delimiter.Dot) below = absurd (omega arith)
+power_stop _ below = omega arith
+
+pub right_stop : (sign k : Kind) → 1 ≤ right_level sign → left_level k ≤ binds sign → binds k < right_level sign
+right_stop sign k some below =
+    two (right_form sign some)
+    (λ near. omega (arith, near, left_near k))
+    (λ power. omega (arith, power.1, power_stop k (omega (arith, power.0))))
+  where
+    two : {A B G : Type 0} → A ⊎ B → (A → G) → (B → G) → G
+    two (inl a) f g = f a
+    two (inr b) f g = g b
+
+pub compare_stop : (k : Kind) → left_level k ≤ 5 → is_comparison k ≡ false
+compare_stop (kind.Comparison _) below = absurd (omega arith)
+compare_stop (kind.Keyword word.In) below = absurd (omega arith)
+compare_stop (kind.Keyword word.Is) below = absurd (omega arith)
+compare_stop (kind.Keyword word.Not) below = absurd (omega arith)
+compare_stop _ below = refl
+
+-- what goes on with an expression is no string
+pub left_string : (k : Kind) → 1 ≤ left_level k → is_string k ≡ false
+left_string (kind.String p) some = absurd (omega arith)
+left_string _ some = refl
+
+pub comparison_string : (k : Kind) → is_comparison k ≡ true → is_string k ≡ false
+comparison_string (kind.String p) is = never is
+comparison_string _ is = refl
+
+pub comparison_left : (k : Kind) → is_comparison k ≡ true → left_level k ≡ 6
+comparison_left (kind.Comparison _) is = refl
+comparison_left (kind.Keyword word.In) is = refl
+comparison_left (kind.Keyword word.Is) is = refl
+comparison_left (kind.Keyword word.Not) is = refl
+comparison_left _ is = never is

@@ -18,3 +18,4 @@ pub mod Complete
 pub mod CompleteItems
 pub mod CompleteLists
 pub mod CompleteBrackets
+pub mod CompleteExpressions
