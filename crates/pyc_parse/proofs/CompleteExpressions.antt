@@ -200,6 +200,12 @@ module _ (S : ℕ → Parser Tree) (d : ℕ) (full : Full S d) (low : suc d ≤ 
       (full.reads 1 body rest well.4 (omega (arith, small)) (omega arith) well.3 (loose_stop (kind_of rest) fits) string)
       (made_low (tree.lambda t found colon body) rest (omega (arith, small, low)))))))
 
+  string_operand : (m : ℕ) (t : Token) (more rest : List Token) → is_string t.kind ≡ true
+      → grammar.strings (t ∷ (more ++ rest)) ≡ Some (tree.strings t more, rest)
+      → grammar.prefix S m (t ∷ (more ++ rest)) ≡ Some (tree.strings t more, rest)
+  unfolding grammar.prefix
+  string_operand m t more rest is next = ap (λ (p : Parser Tree). p (t ∷ (more ++ rest))) (by_string m t.kind is) ∙ next
+
   -- ---- operators
 
   operates : (left : Tree) (t : Token) (later : List Token) (q : Kind) (r : Outcome Tree) → t.kind ≡ q → grammar.operation_by S left q (t ∷ later) ≡ r
@@ -297,3 +303,151 @@ module _ (S : ℕ → Parser Tree) (d : ℕ) (full : Full S d) (low : suc d ≤ 
       (omega (arith, few_links found, length-append (links_yield found) rest)) (compare_stop (kind_of rest) fits)
       (omega (arith, left_near (kind_of rest))) string)
       (made_low (tree.compare a found) rest (omega (arith, small, low)))
+
+  -- ---- the operators of an expression, one after another
+
+  climb_more : (m j : ℕ) (a t : Tree) (us rest : List Token) → m ≤ binds (kind_of us) → grammar.operation S a us ≡ Some (t, rest)
+      → grammar.climb S m (suc j) a us ≡ grammar.climb S m j t rest
+  unfolding grammar.climb
+  climb_more m j a t us rest tight is =
+      no _ _ (nat_lt (binds (kind_of us)) m) us _ (le-ltb (binds (kind_of us)) m tight) (step (grammar.operation S a us) _ t rest _ is refl)
+
+  climb_stop : (m j : ℕ) (t : Tree) (rest : List Token) → binds (kind_of rest) < m → grammar.climb S m j t rest ≡ Some (t, rest)
+  unfolding grammar.climb
+  climb_stop m zero t rest stop = refl
+  climb_stop m (suc j) t rest stop = yes _ _ (nat_lt (binds (kind_of rest)) m) rest _ (lt-ltb (binds (kind_of rest)) m stop) refl
+
+  -- an operand alone
+  at_once : (m : ℕ) (t : Tree) (ts rest : List Token) → grammar.prefix S m ts ≡ Some (t, rest) → spine t ≡ 0 → Front S m t ts rest
+  at_once m t ts rest is none =
+      record {
+        first = t;
+        later = rest;
+        reads = is;
+        climbs = λ j n all. ap (λ i. grammar.climb S m i t rest) (omega (arith, all, none));
+        enough = omega (arith, none);
+      }
+
+  -- one operator more
+  longer : (m : ℕ) (a t : Tree) (front more us rest : List Token) → Front S m a (front ++ us) us → us ≡ more ++ rest
+      → grammar.operation S a us ≡ Some (t, rest) → m ≤ binds (kind_of us)
+      → spine t ≡ suc (spine a) → length rest < length us → Front S m t ((front ++ more) ++ rest) rest
+  longer m a t front more us rest before text is tight one_more less =
+      record {
+        first = before.first;
+        later = before.later;
+        reads = ap (grammar.prefix S m) (append_assoc front more rest ∙ ap (front ++◌) (sym text)) ∙ before.reads;
+        climbs = λ j n all. before.climbs (suc j) n (omega (arith, all, one_more)) ∙ climb_more m j a t us rest tight is;
+        enough = omega (arith, before.enough, one_more, less);
+      }
+
+  front : (t : Tree) (m : ℕ) (rest : List Token) → IsWell t → height t ≤ suc d → m ≤ level t → 1 ≤ level t → left_level (kind_of rest) ≤ level t
+      → is_string (kind_of rest) ≡ false → Front S m t (yield_of t ++ rest) rest
+  unfolding IsWell yield_of height spine
+  front (tree.name t) m rest well small high some fits string =
+      at_once m (tree.name t) (t ∷ rest) rest (atom_full m t rest tree.name (by_name m t.kind well)) refl
+  front (tree.number t) m rest well small high some fits string =
+      at_once m (tree.number t) (t ∷ rest) rest (atom_full m t rest tree.number (by_number m t.kind well)) refl
+  front (tree.constant t) m rest well small high some fits string =
+      at_once m (tree.constant t) (t ∷ rest) rest (atom_full m t rest tree.constant (by_constant m t.kind well)) refl
+  front (tree.strings t more) m rest well small high some fits string =
+      at_once m (tree.strings t more) (t ∷ (more ++ rest)) rest (string_operand m t more rest well.0 (strings_full t more rest well.1 string)) refl
+  front (tree.parenthesized opening e closing) m rest well small high some fits string =
+      at_once m (tree.parenthesized opening e closing) (opening ∷ ((yield_of e ++ closing ∷ []) ++ rest)) rest
+      (ap (λ z. grammar.prefix S m (opening ∷ z)) (append_assoc (yield_of e) (closing ∷ []) rest)
+      ∙ in_brackets m opening (yield_of e ++ (closing ∷ rest)) bracket.Round _ well.0 (parenthesized_full S d full low opening e closing rest well small)) refl
+  front (tree.display shown opening found closing) m rest well small high some fits string =
+      at_once m (tree.display shown opening found closing) (opening ∷ ((pieces_yield found ++ closing ∷ []) ++ rest)) rest
+      (ap (λ z. grammar.prefix S m (opening ∷ z)) (append_assoc (pieces_yield found) (closing ∷ []) rest)
+      ∙ in_brackets m opening (pieces_yield found ++ (closing ∷ rest)) (bracket_of shown) _ well.0
+      (display_full S d full low shown opening found closing rest well small)) refl
+  front (tree.comprehension shown opening e found closing) m rest well small high some fits string =
+      at_once m (tree.comprehension shown opening e found closing) (opening ∷ ((yield_of e ++ (clauses_yield found ++ closing ∷ [])) ++ rest)) rest
+      (ap (λ z. grammar.prefix S m (opening ∷ z))
+      (append_assoc (yield_of e) (clauses_yield found ++ closing ∷ []) rest ∙ ap (yield_of e ++◌) (append_assoc (clauses_yield found) (closing ∷ []) rest))
+      ∙ in_brackets m opening (yield_of e ++ (clauses_yield found ++ (closing ∷ rest))) (bracket_of shown) _ well.0
+      (comprehension_full S d full low shown opening e found closing rest well small)) refl
+  front (tree.await t e) m rest well small high some fits string =
+      at_once m (tree.await t e) (t ∷ (yield_of e ++ rest)) rest (await_full m t e rest well small high fits string) refl
+  front (tree.unary sign e) m rest well small high some fits string =
+      at_once m (tree.unary sign e) (sign ∷ (yield_of e ++ rest)) rest (unary_full m sign e rest well small high fits string) refl
+  front (tree.lambda t found colon body) m rest well small high some fits string =
+      at_once m (tree.lambda t found colon body) (t ∷ ((pieces_yield found ++ colon ∷ yield_of body) ++ rest)) rest
+      (ap (λ z. grammar.prefix S m (t ∷ z)) (append_assoc (pieces_yield found) (colon ∷ yield_of body) rest)
+      ∙ lambda_full m t found colon body rest well small high fits string) refl
+  front (tree.attribute e dot name) m rest well small high some fits string =
+      let us : List Token = dot ∷ name ∷ rest in
+      longer m e (tree.attribute e dot name) (yield_of e) (dot ∷ name ∷ []) us rest
+      (front e m us well.1 (omega (arith, small)) (omega (arith, high, well.0)) (omega (arith, well.0)) (omega (arith, well.0, ap left_level well.2))
+      (ap is_string well.2)) refl
+      (attribute_full e dot name rest well small) (omega (arith, high, ap binds well.2)) refl (omega arith)
+  front (tree.call e opening found closing) m rest well small high some fits string =
+      let us : List Token = opening ∷ (pieces_yield found ++ (closing ∷ rest)) in
+      longer m e (tree.call e opening found closing) (yield_of e) (opening ∷ (pieces_yield found ++ closing ∷ [])) us rest
+      (front e m us well.1 (omega (arith, small)) (omega (arith, high, well.0)) (omega (arith, well.0)) (omega (arith, well.0, ap left_level well.2))
+      (ap is_string well.2)) (ap (opening ∷◌) (sym (append_assoc (pieces_yield found) (closing ∷ []) rest)))
+      (operates e opening (pieces_yield found ++ (closing ∷ rest)) (kind.Open bracket.Round) _ well.2
+      (called_full S d full low e opening found closing rest well.4 well.3 small))
+      (omega (arith, high, ap binds well.2)) refl (omega (arith, length-append (pieces_yield found) (closing ∷ rest)))
+  front (tree.subscript e opening found closing) m rest well small high some fits string =
+      let us : List Token = opening ∷ (pieces_yield found ++ (closing ∷ rest)) in
+      longer m e (tree.subscript e opening found closing) (yield_of e) (opening ∷ (pieces_yield found ++ closing ∷ [])) us rest
+      (front e m us well.1 (omega (arith, small)) (omega (arith, high, well.0)) (omega (arith, well.0)) (omega (arith, well.0, ap left_level well.2))
+      (ap is_string well.2)) (ap (opening ∷◌) (sym (append_assoc (pieces_yield found) (closing ∷ []) rest)))
+      (operates e opening (pieces_yield found ++ (closing ∷ rest)) (kind.Open bracket.Square) _ well.2
+      (subscripted_full S d full low e opening found closing rest well.4 well.5 well.3 small))
+      (omega (arith, high, ap binds well.2)) refl (omega (arith, length-append (pieces_yield found) (closing ∷ rest)))
+  front (tree.binary a sign b) m rest well small high some fits string =
+      let us : List Token = sign ∷ (yield_of b ++ rest) in
+      longer m a (tree.binary a sign b) (yield_of a) (sign ∷ yield_of b) us rest
+      (front a m us well.3 (omega (arith, small)) (omega (arith, high, well.1, left_near sign.kind)) (omega (arith, some, well.1, left_near sign.kind))
+      well.1 (left_string sign.kind (omega (arith, some, left_near sign.kind)))) refl
+      (binary_full a sign b rest well small fits string) high refl (omega (arith, length-append (yield_of b) rest))
+  front (tree.compare a tree.unlinked) m rest well small high some fits string = absurd well
+  front (tree.compare a (tree.link first second e more)) m rest well small high some fits string =
+      let found : Links = tree.link first second e more in
+      let us : List Token = links_yield found ++ rest in
+      longer m a (tree.compare a found) (yield_of a) (links_yield found) us rest
+      (front a m us well.1 (omega (arith, small)) (omega (arith, high, well.0)) (omega (arith, well.0))
+      (omega (arith, well.0, comparison_left first.kind well.2.0)) (comparison_string first.kind well.2.0)) refl
+      (compare_full a first second e more rest well small fits string) (omega (arith, high, binds_comparison first.kind well.2.0)) refl
+      (omega (arith, length-append (optional_token second ++ (yield_of e ++ links_yield more)) rest))
+  front (tree.conditional a word_if test word_else b) m rest well small high some fits string =
+      let us : List Token = word_if ∷ (yield_of test ++ (word_else ∷ (yield_of b ++ rest))) in
+      longer m a (tree.conditional a word_if test word_else b) (yield_of a) (word_if ∷ (yield_of test ++ word_else ∷ yield_of b)) us rest
+      (front a m us well.1 (omega (arith, small)) (omega (arith, high, well.0)) (omega (arith, well.0)) (omega (arith, well.0, ap left_level well.2))
+      (ap is_string well.2)) (ap (word_if ∷◌) (sym (append_assoc (yield_of test) (word_else ∷ yield_of b) rest)))
+      (conditional_full a word_if test word_else b rest well small fits string) (omega (arith, high, ap binds well.2)) refl
+      (omega (arith, length-append (yield_of test) (word_else ∷ (yield_of b ++ rest)), length-append (yield_of b) rest))
+  front _ m rest well small high some fits string = absurd (omega arith)
+
+  whole_full : (m : ℕ) (t : Tree) (rest : List Token) → IsWell t → height t ≤ suc d → 1 ≤ m → m ≤ level t → binds (kind_of rest) < m
+      → is_string (kind_of rest) ≡ false → grammar.whole S m (yield_of t ++ rest) ≡ Some (t, rest)
+  unfolding grammar.whole grammar.operations
+  whole_full m t rest well small some high stop string =
+      let begun = front t m rest well small high (omega (arith, some, high)) (omega (arith, left_below (kind_of rest) m stop, high)) string in
+      step (grammar.prefix S m (yield_of t ++ rest)) _ begun.first begun.later _ begun.reads
+      (begun.climbs (length begun.later - spine t) (length begun.later) (omega (arith, begun.enough))
+      ∙ climb_stop m (length begun.later - spine t) t rest stop)
+
+-- a tree of a level has a node
+height_some : (t : Tree) → 1 ≤ level t → 1 ≤ height t
+unfolding height
+height_some (tree.entry _ _ _) some = absurd (omega arith)
+height_some (tree.mapping _ _) some = absurd (omega arith)
+height_some _ some = omega arith
+
+-- expressions no higher than the depth are read back
+pub expr_full : (depth : ℕ) → depth ≤ max_height → Full (grammar.expr depth) depth
+unfolding grammar.expr
+expr_full zero low =
+    record { reads = λ least t rest well small some high stop string. absurd (omega (arith, small, height_some t (omega (arith, some, high)))) }
+expr_full (suc depth) low =
+    record {
+      reads = λ least t rest well small some high stop string.
+          whole_full (grammar.expr depth) depth (expr_full depth (omega (arith, low))) low least t rest well small some high stop string;
+    }
+
+-- and so are those of the profile
+pub expression_full : Full grammar.expression max_height
+expression_full = expr_full max_height (omega arith)
