@@ -19,3 +19,4 @@ pub mod CompleteItems
 pub mod CompleteLists
 pub mod CompleteBrackets
 pub mod CompleteExpressions
+pub mod CompleteWith

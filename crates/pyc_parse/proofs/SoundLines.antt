@@ -25,6 +25,7 @@ use Rattle.pyc_parse.proofs.SoundTools.{refused, bind, choose, after_one, after_
 use Rattle.pyc_parse.proofs.SoundItems.{after_self}
 use Rattle.pyc_parse.proofs.SoundExpressions.{expression_sound}
 use Rattle.pyc_parse.proofs.SoundStatements.{Spells, after_end, all_statements_sound}
+use Rattle.pyc_parse.proofs.CompleteWith.{with_opens}
 use Rattle.pyc_parse.proofs.SoundHeaders.{IsHead, Opens, word_header_sound, condition_sound, for_each_sound, excepted_sound, with_sound, function_sound, class_sound, async_sound}
 
 -- statements after a colon may be there
@@ -120,15 +121,10 @@ completed {G = G} (Some (m, [])) l e go = low_one (nat_le (line_height m) max_he
         go (ap (λ x. Some (x, [])) same) (leb-true (line_height l) max_height (ap (λ x. nat_le (line_height x) max_height) (sym same) ∙ low))
     low_one false low e = refused l e
 
--- the tree of a line is well-formed, its tokens are those of the line, and it is no higher than the profile allows
-pub record IsTree (ts : List Token) (l : Line) : Type 0 where
-  pub well : IsWellLine l
-  pub text : line_yield l ≡ ts
-  pub low : line_height l ≤ max_height
-
-pub line_sound_if : Opens expression → (ts : List Token) (l : Line) → line_tree ts ≡ Some l → IsTree ts l
+-- the tree of a line is a well-formed line, its tokens are those of the line, and it is no higher than the profile allows
+pub line_sound : (ts : List Token) (l : Line) → line_tree ts ≡ Some l → IsWellLine l × (line_yield l ≡ ts) × (line_height l ≤ max_height)
 unfolding line_tree
-line_sound_if rule_of_with ts l e =
+line_sound ts l e =
     completed (grammar.any_line expression ts) l e (λ is low.
-    let got = any_line_sound expression expression_sound rule_of_with ts l [] is in
-    record { well = record { parts = got.well; low = low }; text = sym (got.text ∙ append-nil (line_yield l)); low = low })
+    let got = any_line_sound expression expression_sound with_opens ts l [] is in
+    (record { parts = got.well; low = low }, sym (got.text ∙ append-nil (line_yield l)), low))
