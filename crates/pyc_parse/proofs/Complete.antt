@@ -1,25 +1,19 @@
 -- Each well-formed tree is read back from its tokens: what that says of expressions of a level, and how trees begin.
-use Rattle.std.proofs.Common.{◌≡◌, refl, ap, sym, ◌∙◌, ℕ, ◌+◌, ◌≤◌, ◌<◌, Bool, true, false, ◌||◌, List, [], ◌∷◌, ◌++◌, Option, None, Some, append_assoc, arith}
-use Rattle.pyc_lex.specs.declared.tokens.Arithmetic.TheVariants as op
-use Rattle.pyc_lex.specs.declared.tokens.Bracket.{Bracket}
-use Rattle.pyc_lex.specs.declared.tokens.Bracket.TheVariants as bracket
-use Rattle.pyc_lex.specs.declared.tokens.Delimiter.TheVariants as delimiter
-use Rattle.pyc_lex.specs.declared.tokens.Keyword.TheVariants as word
+use Rattle.std.proofs.Common.{◌≡◌, refl, ap, ◌∙◌, ℕ, ◌≤◌, ◌<◌, Bool, true, false, ◌||◌, List, [], ◌∷◌, ◌++◌, Some, append_assoc, arith}
 use Rattle.pyc_lex.specs.declared.tokens.Kind.{Kind}
-use Rattle.pyc_lex.specs.declared.tokens.Kind.TheVariants as kind
 use Rattle.pyc_lex.specs.declared.tokens.Token.{Token}
 use Rattle.pyc_parse.specs.declared.place.Place.{Place}
 use Rattle.pyc_parse.specs.declared.place.Place.TheVariants as place
 use Rattle.pyc_parse.specs.Tree.{Tree, Pieces, Links, Clauses, Perhaps, Tail}
 use Rattle.pyc_parse.specs.Tree as tree
-use Rattle.pyc_parse.specs.Kinds.{kind_of, is_string, begins_expression, begins_clause, is_name}
-use Rattle.pyc_parse.specs.Levels.{binds, left_level, right_level, prefix_level, level}
-use Rattle.pyc_parse.specs.Yield.{yield_of, pieces_yield, clauses_yield}
-use Rattle.pyc_parse.specs.Height.{height, max_height}
-use Rattle.pyc_parse.specs.Places.{fits, begins, is_star, is_double_star, is_colon, is_at, is_item, is_target_item, is_entry, is_index, is_with_item, is_argument, is_keyword_argument, is_last_argument, is_plain_parameter, is_late_parameter, is_parameter}
-use Rattle.pyc_parse.specs.Well.{IsWell, AreClauses, has_for}
+use Rattle.pyc_parse.specs.Kinds.{kind_of, is_string, begins_expression, is_name}
+use Rattle.pyc_parse.specs.Levels.{binds, level}
+use Rattle.pyc_parse.specs.Yield.{yield_of, pieces_yield}
+use Rattle.pyc_parse.specs.Height.{height}
+use Rattle.pyc_parse.specs.Places.{fits, begins, is_star, is_double_star, is_colon, is_item, is_target_item, is_entry, is_index, is_with_item, is_argument, is_keyword_argument, is_last_argument, is_plain_parameter, is_late_parameter, is_parameter}
+use Rattle.pyc_parse.specs.Well.{IsWell}
 use Rattle.pyc_parse.specs.Parser.{Parser}
-use Rattle.pyc_parse.proofs.SoundTables.{never, left_near, right_near}
+use Rattle.pyc_parse.proofs.SoundTables.{never, left_near}
 use Rattle.pyc_parse.proofs.SoundTools.{level_at, either_first, either_second}
 use Rattle.pyc_parse.proofs.CompleteTables.{begins_tight, name_begins, number_begins, string_begins, constant_begins, sign_begins, sign_begins_tight, tight_begins, either}
 

@@ -1,5 +1,5 @@
 -- Displays, comprehensions, parentheses, yields, calls and subscripts are read back.
-use Rattle.std.proofs.Common.{◌≡◌, refl, ap, sym, ◌∙◌, subst, ℕ, zero, suc, ◌+◌, ◌≤◌, ◌<◌, Bool, true, false, not, ◌||◌, ◌&&◌, if◌then◌else◌, List, [], ◌∷◌, ◌++◌, Option, None, Some, append_assoc, append-nil, arith}
+use Rattle.std.proofs.Common.{◌≡◌, refl, ap, sym, ◌∙◌, subst, ℕ, suc, ◌≤◌, Bool, true, false, if◌then◌else◌, List, ◌∷◌, ◌++◌, Option, Some, append_assoc, arith}
 use Rattle.pyc_lex.specs.declared.tokens.Bracket.{Bracket}
 use Rattle.pyc_lex.specs.declared.tokens.Bracket.TheVariants as bracket
 use Rattle.pyc_lex.specs.declared.tokens.Keyword.TheVariants as word
@@ -14,20 +14,20 @@ use Rattle.pyc_parse.specs.Tree.{Tree, Pieces, Clauses}
 use Rattle.pyc_parse.specs.Tree as tree
 use Rattle.pyc_parse.specs.Kinds.{kind_of, same_kind, begins_clause, begins_expression}
 use Rattle.pyc_parse.specs.Levels.{level}
-use Rattle.pyc_parse.specs.Yield.{yield_of, pieces_yield, clauses_yield, perhaps_yield}
-use Rattle.pyc_parse.specs.Height.{height, pieces_height, clauses_height, max_height}
+use Rattle.pyc_parse.specs.Yield.{yield_of, pieces_yield, clauses_yield}
+use Rattle.pyc_parse.specs.Height.{height, max_height}
 use Rattle.pyc_parse.specs.Places.{is_at, fits, begins, next_place, may_end, has_comma, is_item, is_entry, place_in, sort_of, empty_sort}
 use Rattle.pyc_parse.specs.Well.{IsWell, ArePieces, AreArguments, AreClauses, has_item, has_for, is_yield, is_expression_list, is_element, bracket_of}
-use Rattle.pyc_parse.specs.Parser.{Outcome, Parser, and_then, take_one, expect, made}
+use Rattle.pyc_parse.specs.Parser.{Outcome, Parser, take_one, expect, made}
 use Rattle.pyc_parse.specs.Items as rule
 use Rattle.pyc_parse.specs.Expressions as grammar
 use Rattle.pyc_parse.proofs.Sound.{first_of}
 use Rattle.pyc_parse.proofs.SoundTables.{never}
-use Rattle.pyc_parse.proofs.SoundTools.{refused, level_at, at_level, or_first, either_first, either_second}
+use Rattle.pyc_parse.proofs.SoundTools.{refused, level_at, either_first, either_second}
 use Rattle.pyc_parse.proofs.CompleteTools.{step, yes, no, same_as, apart, expected, made_low}
 use Rattle.pyc_parse.proofs.CompleteTables.{ends, is_close, clause_follows, either}
 use Rattle.pyc_parse.proofs.Complete.{Full, opens, begins_item}
-use Rattle.pyc_parse.proofs.CompleteItems.{halts_as, close_halts, after, item_full}
+use Rattle.pyc_parse.proofs.CompleteItems.{close_halts, after, item_full}
 use Rattle.pyc_parse.proofs.CompleteLists.{Listed, listed_full, expressions_full, clauses_full, clauses_begin, one_item}
 
 -- ---- a list begins as its place says

@@ -1,5 +1,5 @@
 -- Each well-formed expression is read back from its tokens, where what follows does not go on with it.
-use Rattle.std.proofs.Common.{◌≡◌, refl, ap, sym, ◌∙◌, subst, ℕ, zero, suc, ◌+◌, ◌-◌, ◌≤◌, ◌<◌, Bool, true, false, not, ◌&&◌, ◌||◌, nat_lt, if◌then◌else◌, List, [], ◌∷◌, ◌++◌, length, length-append, take, drop, Option, None, Some, take_while, append_assoc, arith}
+use Rattle.std.proofs.Common.{◌≡◌, refl, ap, sym, ◌∙◌, ℕ, zero, suc, ◌+◌, ◌-◌, ◌≤◌, ◌<◌, Bool, true, false, not, ◌&&◌, nat_lt, if◌then◌else◌, List, [], ◌∷◌, ◌++◌, length, length-append, take, drop, Option, None, Some, take_while, append_assoc, arith}
 use Rattle.std.proofs.lemmas.Bool.{lt-ltb, le-ltb}
 use Rattle.std.proofs.Math.Seq.{take-append_seam, drop-append_seam}
 use Rattle.std.specs.List.{prefix_len}
@@ -17,12 +17,12 @@ use Rattle.pyc_parse.specs.Tree as tree
 use Rattle.pyc_parse.specs.Kinds.{kind_of, same_kind, is_name, is_number, is_string, is_constant, is_comparison}
 use Rattle.pyc_parse.specs.Levels.{binds, left_level, right_level, prefix_level, level}
 use Rattle.pyc_parse.specs.Yield.{yield_of, pieces_yield, clauses_yield, links_yield, optional_token}
-use Rattle.pyc_parse.specs.Height.{height, links_height, pieces_height, max_height}
-use Rattle.pyc_parse.specs.Well.{IsWell, ArePieces, AreLinks, IsSecondWord, is_bytes, are_joined, bracket_of}
+use Rattle.pyc_parse.specs.Height.{height, links_height, max_height}
+use Rattle.pyc_parse.specs.Well.{IsWell, AreLinks, IsSecondWord, is_bytes, are_joined, bracket_of}
 use Rattle.pyc_parse.specs.Parser.{Outcome, Parser, take_one, expect, expect_name}
 use Rattle.pyc_parse.specs.Items as rule
 use Rattle.pyc_parse.specs.Expressions as grammar
-use Rattle.pyc_parse.proofs.SoundTables.{never, left_near, left_below, right_near, binds_comparison}
+use Rattle.pyc_parse.proofs.SoundTables.{never, left_near, left_below, binds_comparison}
 use Rattle.pyc_parse.proofs.CompleteTools.{step, yes, no, same_as, apart, expected, name_expected, made_low, checked_holds}
 use Rattle.pyc_parse.proofs.CompleteTables.{begins_tight, ends, sign_stop, loose_stop, right_stop, compare_stop, left_string, comparison_string, comparison_left}
 use Rattle.pyc_parse.proofs.Complete.{Full, opens_tight}

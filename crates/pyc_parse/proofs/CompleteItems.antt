@@ -1,6 +1,5 @@
 -- Each item of a list is read back where it stands.
-use Rattle.std.proofs.Common.{◌≡◌, refl, ap, sym, ◌∙◌, ℕ, ◌≤◌, ◌<◌, Bool, true, false, not, ◌||◌, ◌&&◌, List, [], ◌∷◌, ◌++◌, Option, None, Some, append_assoc, append-nil, arith}
-use Rattle.pyc_lex.specs.declared.tokens.Arithmetic.TheVariants as op
+use Rattle.std.proofs.Common.{◌≡◌, refl, ap, ◌∙◌, ℕ, ◌≤◌, ◌<◌, Bool, true, false, not, ◌||◌, ◌&&◌, List, ◌∷◌, ◌++◌, Some, append_assoc, append-nil, arith}
 use Rattle.pyc_lex.specs.declared.tokens.Delimiter.TheVariants as delimiter
 use Rattle.pyc_lex.specs.declared.tokens.Keyword.TheVariants as word
 use Rattle.pyc_lex.specs.declared.tokens.Kind.{Kind}
@@ -22,7 +21,7 @@ use Rattle.pyc_parse.specs.Items as rule
 use Rattle.pyc_parse.proofs.SoundTables.{never}
 use Rattle.pyc_parse.proofs.SoundTools.{level_at, or_first, either_first, either_second}
 use Rattle.pyc_parse.proofs.CompleteTools.{step, yes, no, same_as, apart, name_expected, made_low, checked_holds}
-use Rattle.pyc_parse.proofs.CompleteTables.{name_begins, tight_begins, no_star, no_double_star, no_colon, follows, is_common, is_close, Plain, plain, Bare, bare_parameters, bare_after_star, bare_keyword_only, after_targets, either}
+use Rattle.pyc_parse.proofs.CompleteTables.{name_begins, tight_begins, no_star, no_double_star, no_colon, follows, is_common, is_close, Plain, plain, Bare, bare_parameters, bare_after_star, bare_keyword_only, after_targets}
 use Rattle.pyc_parse.proofs.Complete.{Full, opens, last_keyword, keyword_any, plain_late, late_any}
 
 -- ---- tokens that go on with nothing

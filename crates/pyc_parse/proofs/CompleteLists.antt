@@ -1,5 +1,5 @@
 -- Lists with commas, targets and clauses of comprehensions are read back.
-use Rattle.std.proofs.Common.{◌≡◌, refl, ap, sym, ◌∙◌, subst, ℕ, zero, suc, ◌+◌, ◌≤◌, ◌<◌, Bool, true, false, not, ◌||◌, ◌&&◌, List, [], ◌∷◌, ◌++◌, length, length-append, Option, None, Some, append_assoc, append-nil, arith}
+use Rattle.std.proofs.Common.{◌≡◌, refl, ap, sym, ◌∙◌, ℕ, zero, suc, ◌+◌, ◌≤◌, ◌<◌, Bool, true, false, not, ◌||◌, ◌&&◌, List, ◌∷◌, ◌++◌, length, length-append, Option, None, Some, append_assoc, arith}
 use Rattle.pyc_lex.specs.declared.tokens.Delimiter.TheVariants as delimiter
 use Rattle.pyc_lex.specs.declared.tokens.Keyword.TheVariants as word
 use Rattle.pyc_lex.specs.declared.tokens.Kind.{Kind}
@@ -15,12 +15,12 @@ use Rattle.pyc_parse.specs.Yield.{yield_of, pieces_yield, clauses_yield, optiona
 use Rattle.pyc_parse.specs.Height.{height, pieces_height, clauses_height, max_height}
 use Rattle.pyc_parse.specs.Targets.{is_target, are_targets, is_item_target, is_starred}
 use Rattle.pyc_parse.specs.Places.{is_at, fits, begins, next_place, may_end, has_comma, is_item, is_target_item}
-use Rattle.pyc_parse.specs.Well.{IsWell, ArePieces, AreClauses, IsAsync, has_item, has_for, is_expression_list}
-use Rattle.pyc_parse.specs.Parser.{Outcome, Parser, and_then, take_one, expect}
+use Rattle.pyc_parse.specs.Well.{IsWell, ArePieces, AreClauses, has_item, has_for, is_expression_list}
+use Rattle.pyc_parse.specs.Parser.{Parser, take_one, expect}
 use Rattle.pyc_parse.specs.Items as rule
 use Rattle.pyc_parse.proofs.Sound.{first_of}
 use Rattle.pyc_parse.proofs.SoundTables.{never}
-use Rattle.pyc_parse.proofs.SoundTools.{level_at, at_level}
+use Rattle.pyc_parse.proofs.SoundTools.{at_level}
 use Rattle.pyc_parse.proofs.CompleteTools.{step, yes, no, same_as, expected, made_low, checked_holds}
 use Rattle.pyc_parse.proofs.CompleteTables.{ends, is_close, ends_follows, ends_comma, ends_begins, ends_next, ends_clause, comma_follows}
 use Rattle.pyc_parse.proofs.Complete.{Full, begins_item}

@@ -1,7 +1,6 @@
 -- What the tables say of the tokens that stand before, between and behind the items of a list.
-use Rattle.std.proofs.Common.{◌≡◌, refl, ap, sym, ◌∙◌, ℕ, ◌+◌, ◌≤◌, ◌<◌, ◌⊎◌, inl, inr, Bool, true, false, ◌||◌, if◌then◌else◌, arith}
+use Rattle.std.proofs.Common.{◌≡◌, refl, ap, ◌+◌, ◌≤◌, ◌<◌, ◌⊎◌, inl, inr, Bool, true, false, ◌||◌, arith}
 use Rattle.pyc_lex.specs.declared.tokens.Arithmetic.TheVariants as op
-use Rattle.pyc_lex.specs.declared.tokens.Bracket.{Bracket}
 use Rattle.pyc_lex.specs.declared.tokens.Bracket.TheVariants as bracket
 use Rattle.pyc_lex.specs.declared.tokens.Delimiter.TheVariants as delimiter
 use Rattle.pyc_lex.specs.declared.tokens.Keyword.TheVariants as word
@@ -12,9 +11,9 @@ use Rattle.pyc_parse.specs.declared.place.Place.TheVariants as place
 use Rattle.pyc_parse.specs.Tree.{Tree}
 use Rattle.pyc_parse.specs.Tree as tree
 use Rattle.pyc_parse.specs.Kinds.{same_kind, is_name, is_number, is_string, is_constant, is_comparison, begins_expression, begins_clause}
-use Rattle.pyc_parse.specs.Places.{is_star, is_double_star, is_colon, begins, next_place, is_entry}
+use Rattle.pyc_parse.specs.Places.{is_star, is_double_star, is_colon, begins, next_place}
 use Rattle.pyc_parse.specs.Levels.{binds, left_level, right_level, prefix_level}
-use Rattle.pyc_parse.proofs.SoundTables.{never, left_near, right_near, is_star_is, is_double_star_is, is_colon_is}
+use Rattle.pyc_parse.proofs.SoundTables.{never, left_near, is_star_is, is_double_star_is, is_colon_is}
 use Rattle.pyc_parse.proofs.CompleteTools.{apart_by, apart}
 
 -- ---- what begins an expression

@@ -1,6 +1,6 @@
 -- Steps of a rule on tokens that are known.
-use Rattle.std.proofs.Common.{◌≡◌, refl, ap, sym, ◌∙◌, ℕ, ◌≤◌, ◌<◌, Bool, true, false, nat_le, nat_lt, if◌then◌else◌, List, [], ◌∷◌, ◌++◌, Option, None, Some, arith}
-use Rattle.std.proofs.lemmas.Bool.{le-leb, lt-ltb, le-ltb}
+use Rattle.std.proofs.Common.{◌≡◌, refl, ap, sym, ◌∙◌, ◌≤◌, Bool, true, false, if◌then◌else◌, List, ◌∷◌, None, Some}
+use Rattle.std.proofs.lemmas.Bool.{le-leb}
 use denote.Enum.Bare.{true_same}
 use Rattle.pyc_lex.specs.declared.tokens.Kind.{Kind}
 use Rattle.pyc_lex.specs.declared.tokens.Kind.TheVariants as kind
@@ -14,7 +14,7 @@ use Rattle.pyc_lex.specs.contracts.tokens.Comparison.{the_type as comparison_typ
 use Rattle.pyc_lex.specs.contracts.tokens.Bracket.{the_type as bracket_type}
 use Rattle.pyc_lex.specs.contracts.tokens.Delimiter.{the_type as delimiter_type}
 use Rattle.pyc_parse.specs.Tree.{Tree}
-use Rattle.pyc_parse.specs.Kinds.{kind_of, same_kind, is_name}
+use Rattle.pyc_parse.specs.Kinds.{same_kind, is_name}
 use Rattle.pyc_parse.specs.Height.{height, max_height}
 use Rattle.pyc_parse.specs.Parser.{Outcome, Parser, and_then, take_one, expect, expect_name, made}
 use Rattle.pyc_parse.specs.Items.{checked}

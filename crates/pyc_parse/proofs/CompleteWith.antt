@@ -1,5 +1,5 @@
 -- Parentheses round the only item of a `with` belong to its header, where they can: the grammar reads them so.
-use Rattle.std.proofs.Common.{◌≡◌, refl, ap, sym, ◌∙◌, ℕ, ◌+◌, ◌≤◌, Bool, true, false, not, ◌&&◌, ◌||◌, List, [], ◌∷◌, ◌++◌, Option, None, Some, append_assoc, append-nil, arith}
+use Rattle.std.proofs.Common.{◌≡◌, refl, ap, sym, ◌∙◌, ℕ, ◌+◌, ◌≤◌, Bool, true, false, not, ◌||◌, List, [], ◌∷◌, ◌++◌, Option, None, Some, append_assoc, append-nil, arith}
 use Rattle.pyc_lex.specs.declared.tokens.Bracket.TheVariants as bracket
 use Rattle.pyc_lex.specs.declared.tokens.Kind.TheVariants as kind
 use Rattle.pyc_lex.specs.declared.tokens.Token.{Token}
@@ -8,7 +8,6 @@ use Rattle.pyc_parse.specs.declared.place.Sort.TheVariants as sort
 use Rattle.pyc_parse.specs.Tree.{Tree, Pieces, Tail}
 use Rattle.pyc_parse.specs.Tree as tree
 use Rattle.pyc_parse.specs.Kinds.{kind_of}
-use Rattle.pyc_parse.specs.Levels.{level}
 use Rattle.pyc_parse.specs.Yield.{yield_of, pieces_yield}
 use Rattle.pyc_parse.specs.Height.{height, pieces_height, max_height}
 use Rattle.pyc_parse.specs.Targets.{is_starred}
@@ -21,9 +20,9 @@ use Rattle.pyc_parse.specs.Parser.{Outcome, Parser, expect}
 use Rattle.pyc_parse.specs.Items as rule
 use Rattle.pyc_parse.specs.Expressions.{expression}
 use Rattle.pyc_parse.specs.Headers as grammar
-use Rattle.pyc_parse.proofs.Sound.{ArePart, Good}
+use Rattle.pyc_parse.proofs.Sound.{ArePart}
 use Rattle.pyc_parse.proofs.SoundTables.{never}
-use Rattle.pyc_parse.proofs.SoundTools.{refused, level_at, or_first}
+use Rattle.pyc_parse.proofs.SoundTools.{refused, level_at}
 use Rattle.pyc_parse.proofs.SoundItems.{after_item}
 use Rattle.pyc_parse.proofs.SoundLists.{listed_sound}
 use Rattle.pyc_parse.proofs.SoundExpressions.{expression_sound}

@@ -1,5 +1,5 @@
 -- What the grammar reads as a header is well-formed, and its tokens are those that were taken.
-use Rattle.std.proofs.Common.{◌≡◌, refl, ap, sym, ◌∙◌, ℕ, ◌≤◌, Bool, true, false, List, [], ◌∷◌, ◌++◌, Option, None, Some, append_assoc, append-nil, arith}
+use Rattle.std.proofs.Common.{◌≡◌, refl, ap, ◌∙◌, ℕ, true, List, ◌∷◌, ◌++◌, Option, None, Some, append_assoc, arith}
 use Rattle.pyc_lex.specs.declared.tokens.Bracket.TheVariants as bracket
 use Rattle.pyc_lex.specs.declared.tokens.Delimiter.TheVariants as delimiter
 use Rattle.pyc_lex.specs.declared.tokens.Keyword.TheVariants as word
@@ -7,8 +7,7 @@ use Rattle.pyc_lex.specs.declared.tokens.Kind.{Kind}
 use Rattle.pyc_lex.specs.declared.tokens.Kind.TheVariants as kind
 use Rattle.pyc_lex.specs.declared.tokens.Token.{Token}
 use Rattle.pyc_parse.specs.declared.place.Place.TheVariants as place
-use Rattle.pyc_parse.specs.Tree.{Tree, Pieces, Tail}
-use Rattle.pyc_parse.specs.Tree as tree
+use Rattle.pyc_parse.specs.Tree.{Tree, Pieces}
 use Rattle.pyc_parse.specs.Kinds.{kind_of, same_kind, is_name}
 use Rattle.pyc_parse.specs.Yield.{pieces_yield, optional_token}
 use Rattle.pyc_parse.specs.Places.{is_colon}
@@ -16,16 +15,16 @@ use Rattle.pyc_parse.specs.Well.{IsAsync, ArePieces, has_item}
 use Rattle.pyc_parse.specs.WellLines.{is_condition, is_word_header, ends_without_comma, is_open_with, IsHeader}
 use Rattle.pyc_parse.specs.Lines as line
 use Rattle.pyc_parse.specs.Lines.{Header, header_yield}
-use Rattle.pyc_parse.specs.Parser.{Outcome, Parser, and_then}
+use Rattle.pyc_parse.specs.Parser.{Outcome, Parser}
 use Rattle.pyc_parse.specs.Items as rule
 use Rattle.pyc_parse.specs.SimpleStatements.{alias}
 use Rattle.pyc_parse.specs.Headers as grammar
-use Rattle.pyc_parse.proofs.Sound.{ArePart, Good}
+use Rattle.pyc_parse.proofs.Sound.{Good}
 use Rattle.pyc_parse.proofs.SoundTables.{same_kind_is}
 use Rattle.pyc_parse.proofs.SoundTools.{refused, bind, choose, after_one, after_expected, after_name, pure_as, checked_as}
 use Rattle.pyc_parse.proofs.SoundItems.{after_self, after_item, tail_sound}
 use Rattle.pyc_parse.proofs.SoundLists.{is_first, listed_sound, expressions_sound, targets_sound, some_items_sound}
-use Rattle.pyc_parse.proofs.SoundStatements.{Spells, alias_sound}
+use Rattle.pyc_parse.proofs.SoundStatements.{alias_sound}
 
 -- a header; whether parentheses belong to that of a `with` is seen by the colon behind it
 pub record IsHead (ts : List Token) (h : Header) (rest : List Token) : Type 0 where

@@ -1,5 +1,5 @@
 -- What the grammar reads as a line is a well-formed line, whose tokens are those that were given.
-use Rattle.std.proofs.Common.{◌≡◌, refl, ap, sym, ◌∙◌, ℕ, ◌≤◌, Bool, true, false, nat_le, if◌then◌else◌, List, [], ◌∷◌, ◌++◌, Option, None, Some, append_assoc, append-nil, arith}
+use Rattle.std.proofs.Common.{◌≡◌, refl, ap, sym, ◌∙◌, ℕ, ◌≤◌, Bool, true, false, nat_le, if◌then◌else◌, List, [], ◌∷◌, Option, None, Some, append_assoc, append-nil, arith}
 use Rattle.std.proofs.lemmas.Bool.{leb-true}
 use Rattle.pyc_lex.specs.declared.tokens.Arithmetic.TheVariants as op
 use Rattle.pyc_lex.specs.declared.tokens.Delimiter.TheVariants as delimiter
@@ -12,7 +12,7 @@ use Rattle.pyc_parse.specs.Kinds.{kind_of}
 use Rattle.pyc_parse.specs.Height.{max_height}
 use Rattle.pyc_parse.specs.Places.{is_colon}
 use Rattle.pyc_parse.specs.WellLines.{is_condition, is_word_header, AreStatements, MayBeStatements, IsLine, IsWellLine}
-use Rattle.pyc_parse.specs.Statements.{Statement, Separated, no_item, last_item, item, separated_yield, statement_yield}
+use Rattle.pyc_parse.specs.Statements.{Statement, Separated, no_item, last_item, item}
 use Rattle.pyc_parse.specs.Lines as line
 use Rattle.pyc_parse.specs.Lines.{Header, Line, line_yield, line_height}
 use Rattle.pyc_parse.specs.Parser.{Outcome, Parser}

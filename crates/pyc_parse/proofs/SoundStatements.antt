@@ -1,5 +1,5 @@
 -- What the grammar reads as a simple statement is well-formed, and its tokens are those that were taken.
-use Rattle.std.proofs.Common.{◌≡◌, refl, ap, sym, ◌∙◌, subst, ℕ, zero, suc, ◌+◌, ◌≤◌, Bool, true, false, not, ◌&&◌, if◌then◌else◌, List, [], ◌∷◌, ◌++◌, length, take, drop, Option, None, Some, take_while, append_assoc, arith}
+use Rattle.std.proofs.Common.{◌≡◌, refl, ap, sym, ◌∙◌, subst, ℕ, zero, suc, ◌+◌, Bool, true, false, not, ◌&&◌, if◌then◌else◌, List, [], ◌∷◌, ◌++◌, length, take, drop, Option, None, Some, take_while, append_assoc, arith}
 use Rattle.std.specs.List.{prefix_len}
 use Rattle.pyc_lex.specs.declared.tokens.Bracket.TheVariants as bracket
 use Rattle.pyc_lex.specs.declared.tokens.Delimiter.TheVariants as delimiter
@@ -12,16 +12,16 @@ use Rattle.pyc_parse.specs.Tree.{Tree, Perhaps, Tail}
 use Rattle.pyc_parse.specs.Tree as tree
 use Rattle.pyc_parse.specs.Kinds.{kind_of, same_kind, is_name, end_of_line}
 use Rattle.pyc_parse.specs.Yield.{yield_of, tail_yield}
-use Rattle.pyc_parse.specs.Places.{is_colon, is_at}
+use Rattle.pyc_parse.specs.Places.{is_colon}
 use Rattle.pyc_parse.specs.Targets.{is_target, is_single_target}
 use Rattle.pyc_parse.specs.Well.{IsWell, MayFollow, is_yield, is_expression_list}
-use Rattle.pyc_parse.specs.WellLines.{is_value, is_word_statement, is_declaration, is_augmented, is_dot, IsAlias, AreParts, IsDotted, AreDots, IsSourceOf, AreSeparated, IsImportedModule, IsImportedName, AreImportedNames, AreAssigned, IsStatement, AreStatements}
+use Rattle.pyc_parse.specs.WellLines.{is_value, is_word_statement, is_declaration, is_augmented, is_dot, IsAlias, AreParts, IsDotted, AreDots, IsSourceOf, AreSeparated, IsImportedModule, IsImportedName, AreAssigned, IsStatement, AreStatements}
 use Rattle.pyc_parse.specs.Statements.{Statement, Separated, no_item, last_item, item, Alias, Part, Dotted, Source, Assigned, ImportedModule, ImportedName, alias_yield, parts_yield, dotted_yield, optional_path, module_yield, name_yield, targets_yield, separated_yield, statement_yield}
 use Rattle.pyc_parse.specs.Statements as statement
 use Rattle.pyc_parse.specs.Parser.{Parser, and_then, expect_name}
 use Rattle.pyc_parse.specs.Items as rule
 use Rattle.pyc_parse.specs.SimpleStatements as grammar
-use Rattle.pyc_parse.proofs.Sound.{IsOf, IsTail, Good}
+use Rattle.pyc_parse.proofs.Sound.{IsOf, Good}
 use Rattle.pyc_parse.proofs.SoundTables.{never, same_kind_is, is_colon_is}
 use Rattle.pyc_parse.proofs.SoundTools.{refused, bind, choose, only, after_one, after_expected, after_name, pure_as, either_first, either_second}
 use Rattle.pyc_parse.proofs.SoundItems.{after_self, tail_sound}
