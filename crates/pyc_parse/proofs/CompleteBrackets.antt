@@ -59,32 +59,29 @@ item_no_entry _ fit = refl
 braces_set : (found : Pieces) → ArePieces place.Set found → ArePieces place.Braces found
 unfolding IsWell
 braces_set tree.none h = refl
-braces_set (tree.last x) h =
-    (
-      either_first (is_item x) (is_entry x) h.0,
-      h.1,
-      ap (λ (b : Bool). may_end (if b then place.Entries else place.Set)) (item_no_entry x h.0),
-    )
-braces_set (tree.piece x comma more) h =
-    (
-      either_first (is_item x) (is_entry x) h.0,
-      h.1,
-      h.2,
-      subst (λ (b : Bool). ArePieces (if b then place.Entries else place.Set) more) (sym (item_no_entry x h.0)) h.3,
-    )
+braces_set (tree.last x) h = (
+  either_first (is_item x) (is_entry x) h.0,
+  h.1,
+  ap (λ (b : Bool). may_end (if b then place.Entries else place.Set)) (item_no_entry x h.0),
+)
+braces_set (tree.piece x comma more) h = (
+  either_first (is_item x) (is_entry x) h.0,
+  h.1,
+  h.2,
+  subst (λ (b : Bool). ArePieces (if b then place.Entries else place.Set) more) (sym (item_no_entry x h.0)) h.3,
+)
 
 braces_dict : (found : Pieces) → ArePieces place.Entries found → ArePieces place.Braces found
 unfolding IsWell
 braces_dict tree.none h = refl
 braces_dict (tree.last x) h =
     (either_second (is_item x) (is_entry x) h.0, h.1, ap (λ (b : Bool). may_end (if b then place.Entries else place.Set)) h.0)
-braces_dict (tree.piece x comma more) h =
-    (
-      either_second (is_item x) (is_entry x) h.0,
-      h.1,
-      h.2,
-      subst (λ (b : Bool). ArePieces (if b then place.Entries else place.Set) more) (sym h.0) h.3,
-    )
+braces_dict (tree.piece x comma more) h = (
+  either_second (is_item x) (is_entry x) h.0,
+  h.1,
+  h.2,
+  subst (λ (b : Bool). ArePieces (if b then place.Entries else place.Set) more) (sym h.0) h.3,
+)
 
 same_tree : (x e : Tree) → ◌≡◌ {A = Option Tree} (Some x) (Some e) → x ≡ e
 same_tree x e h = cc
@@ -286,7 +283,7 @@ module _ (S : ℕ → Parser Tree) (d : ℕ) (full : Full S d) (low : suc d ≤ 
       (made_low (tree.parenthesized opening e closing) rest (omega (arith, small, low)))))))
       (λ high.
       let all = listed_full S d full low_items place.Items (tree.last e) (closing ∷ rest) refl (one_item e high, well.3, refl) (omega (arith, small))
-          (close_ends place.Items bracket.Round closing.kind well.1) in
+      (close_ends place.Items bracket.Round closing.kind well.1) in
       parentheses_filled opening (yield_of e ++ (closing ∷ rest)) _ all.begun
       (filled_listed bracket.Round opening (tree.last e) closing (yield_of e ++ (closing ∷ rest)) rest _ all well.1
       (yes _ _ (is_at 1 e) rest _ high (made_low (tree.parenthesized opening e closing) rest (omega (arith, small, low))))))

@@ -40,9 +40,9 @@ literals_length of_bytes [] (t ∷ rest) joined stop = ap (λ (b : Bool). if b t
 literals_length of_bytes (t ∷ more) rest joined stop =
     let test : Bool = if of_bytes then is_bytes t.kind else not (is_bytes t.kind) in
     let here : is_string t.kind ≡ true =
-        both_first (is_string t.kind) test (both_first (is_string t.kind && test) (are_joined of_bytes more) joined) in
+    both_first (is_string t.kind) test (both_first (is_string t.kind && test) (are_joined of_bytes more) joined) in
     let later : prefix_len grammar.is_literal (more ++ rest) ≡ length more =
-        literals_length of_bytes more rest (both_second (is_string t.kind && test) (are_joined of_bytes more) joined) stop in
+    literals_length of_bytes more rest (both_second (is_string t.kind && test) (are_joined of_bytes more) joined) stop in
     ap (λ (b : Bool). if b then 1 + prefix_len grammar.is_literal (more ++ rest) else 0) here ∙ omega (arith, later)
 
 literals_full : (of_bytes : Bool) (more rest : List Token) → are_joined of_bytes more ≡ true → is_string (kind_of rest) ≡ false
@@ -50,7 +50,7 @@ literals_full : (of_bytes : Bool) (more rest : List Token) → are_joined of_byt
 unfolding grammar.literals
 literals_full of_bytes more rest joined stop =
     let front : take_while grammar.is_literal (more ++ rest) ≡ more =
-        ap (λ n. take n (more ++ rest)) (literals_length of_bytes more rest joined stop) ∙ take-append_seam more rest in
+    ap (λ n. take n (more ++ rest)) (literals_length of_bytes more rest joined stop) ∙ take-append_seam more rest in
     ap {B = Outcome (List Token)} (λ z. Some (z, drop (length z) (more ++ rest))) front
     ∙ ap {B = Outcome (List Token)} (λ z. Some (more, z)) (drop-append_seam more rest)
 

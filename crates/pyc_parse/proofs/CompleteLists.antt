@@ -80,8 +80,7 @@ target_pieces was tree.none h are = refl
 target_pieces was (tree.last e) h are = (target_fits e h.0 (both_first (is_item_target e) (not (was && is_starred e)) are), h.1, refl)
 target_pieces was (tree.piece e comma more) h are =
     let here : (is_item_target e && not (was && is_starred e)) ≡ true =
-        both_first (is_item_target e && not (was && is_starred e)) (are_targets (was || is_starred e) more) are in
-    (
+    both_first (is_item_target e && not (was && is_starred e)) (are_targets (was || is_starred e) more) are in (
       target_fits e h.0 (both_first (is_item_target e) (not (was && is_starred e)) here),
       h.1,
       h.2,

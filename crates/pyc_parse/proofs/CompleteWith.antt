@@ -69,13 +69,12 @@ managers_well : (found : Pieces) → ArePieces place.Items found → has_no_star
 unfolding managers IsWell
 managers_well tree.none well plain = refl
 managers_well (tree.last e) well plain = (refl, (level_at 1 e (unstarred e well.0 plain), well.1, tt), refl)
-managers_well (tree.piece e comma more) well plain =
-    (
-      refl,
-      (level_at 1 e (unstarred e well.0 (both_first (not (is_starred e)) (has_no_star more) plain)), well.1, tt),
-      well.2,
-      managers_well more well.3 (both_second (not (is_starred e)) (has_no_star more) plain),
-    )
+managers_well (tree.piece e comma more) well plain = (
+  refl,
+  (level_at 1 e (unstarred e well.0 (both_first (not (is_starred e)) (has_no_star more) plain)), well.1, tt),
+  well.2,
+  managers_well more well.3 (both_second (not (is_starred e)) (has_no_star more) plain),
+)
 
 -- an expression has no star
 plain_star : (e : Tree) → is_at 1 e ≡ true → not (is_starred e) ≡ true
