@@ -27,27 +27,8 @@ use Rattle.pyc_parse.proofs.SoundTools.{refused, level_at, either_first, either_
 use Rattle.pyc_parse.proofs.CompleteTools.{step, yes, no, same_as, apart, expected, made_low}
 use Rattle.pyc_parse.proofs.CompleteTables.{ends, is_close, clause_follows, either}
 use Rattle.pyc_parse.proofs.Complete.{Full, opens, begins_item}
-use Rattle.pyc_parse.proofs.CompleteItems.{close_halts, after, item_full}
-use Rattle.pyc_parse.proofs.CompleteLists.{Listed, listed_full, expressions_full, clauses_full, clauses_begin, one_item}
-
--- ---- a list begins as its place says
-
-pieces_begin : (here : Place) (found : Pieces) (rest : List Token) → has_item found ≡ true → ArePieces here found
-    → begins here (kind_of (pieces_yield found ++ rest)) ≡ true
-unfolding IsWell yield_of
-pieces_begin here tree.none rest some well = never some
-pieces_begin here (tree.last x) rest some well = begins_item here x rest well.0 well.1
-pieces_begin here (tree.piece x comma more) rest some well =
-    rw (append_assoc (yield_of x) (comma ∷ pieces_yield more) rest) (begins_item here x (comma ∷ (pieces_yield more ++ rest)) well.0 well.1)
-
-comma_item : (found : Pieces) → has_comma found ≡ true → has_item found ≡ true
-comma_item (tree.piece _ _ _) h = refl
-comma_item _ h = never h
-
-list_begins : (e : Tree) (rest : List Token) → is_expression_list e ≡ true → IsWell e → begins place.Items (kind_of (yield_of e ++ rest)) ≡ true
-unfolding IsWell yield_of
-list_begins (tree.bare found) rest fit well = pieces_begin place.Items found rest (comma_item found well.0) well.1
-list_begins e rest fit well = either_first _ _ (opens e rest well (level_at 1 e fit))
+use Rattle.pyc_parse.proofs.CompleteItems.{item_full}
+use Rattle.pyc_parse.proofs.CompleteLists.{Listed, listed_full, yielded_full, clauses_full, clauses_begin, one_item}
 
 -- ---- between curly brackets
 
@@ -123,33 +104,6 @@ argument_pieces (tree.piece x comma more) h other = h
 module _ (S : ℕ → Parser Tree) (d : ℕ) (full : Full S d) (low : suc d ≤ max_height) where
   low_items : d ≤ max_height
   low_items = omega (arith, low)
-
-  -- ---- `yield`
-
-  yielded_full : (e : Tree) (closing : Token) (rest : List Token) → is_yield e ≡ true → IsWell e → height e ≤ d → is_close closing.kind ≡ true
-      → rule.yielded S (yield_of e ++ (closing ∷ rest)) ≡ Some (e, closing ∷ rest)
-  unfolding rule.yielded rule.yield_from rule.yield_value take_one IsWell yield_of height
-  yielded_full (tree.yield t tree.absent) closing rest is well small close =
-      no _ _ (same_kind closing.kind (kind.Keyword word.From)) (closing ∷ rest) _ (apart is_close closing.kind (kind.Keyword word.From) close refl)
-      (no _ _ (begins place.Items closing.kind) (closing ∷ rest) _ (close_begins closing.kind close)
-      (made_low (tree.yield t tree.absent) (closing ∷ rest) (omega (arith, small, low))))
-    where
-      close_begins : (k : Kind) → is_close k ≡ true → begins place.Items k ≡ false
-      close_begins (kind.Close b) is = refl
-      close_begins _ is = never is
-  yielded_full (tree.yield t (tree.present x)) closing rest is well small close =
-      let begun : begins place.Items (kind_of (yield_of x ++ (closing ∷ rest))) ≡ true = list_begins x (closing ∷ rest) well.1.0 well.1.1 in
-      no _ _ (same_kind (kind_of (yield_of x ++ (closing ∷ rest))) (kind.Keyword word.From)) (yield_of x ++ (closing ∷ rest)) _
-      (apart (begins place.Items) _ (kind.Keyword word.From) begun refl)
-      (yes _ _ (begins place.Items (kind_of (yield_of x ++ (closing ∷ rest)))) (yield_of x ++ (closing ∷ rest)) _ begun
-      (step (rule.expressions S place.Items (yield_of x ++ (closing ∷ rest))) _ x (closing ∷ rest) _
-      (expressions_full S d full low_items x (closing ∷ rest) well.1.0 well.1.1 (omega (arith, small)) (either_first (is_close closing.kind) _ close))
-      (made_low (tree.yield t (tree.present x)) (closing ∷ rest) (omega (arith, small, low)))))
-  yielded_full (tree.yield_from t from x) closing rest is well small close =
-      yes _ _ (same_kind from.kind (kind.Keyword word.From)) (from ∷ (yield_of x ++ (closing ∷ rest))) _ (same_as from.kind (kind.Keyword word.From) well.1)
-      (after S d full low_items 1 x (closing ∷ rest) _ _ well.3 (omega (arith, small)) (omega arith) well.2 (close_halts closing.kind close)
-      (made_low (tree.yield_from t from x) (closing ∷ rest) (omega (arith, small, low))))
-  yielded_full _ closing rest is well small close = never is
 
   -- ---- parentheses and brackets
 
@@ -278,7 +232,7 @@ module _ (S : ℕ → Parser Tree) (d : ℕ) (full : Full S d) (low : suc d ≤ 
       (yes _ _ (same_kind (kind_of (yield_of e ++ (closing ∷ rest))) (kind.Keyword word.Yield)) (yield_of e ++ (closing ∷ rest)) _
       (same_as _ (kind.Keyword word.Yield) begun)
       (step (rule.yielded S (yield_of e ++ (closing ∷ rest))) _ e (closing ∷ rest) _
-      (yielded_full e closing rest yields well.3 (omega (arith, small)) (ap is_close well.1))
+      (yielded_full S d full low_items e (closing ∷ rest) yields well.3 (omega (arith, small)) (close_ends place.Items bracket.Round closing.kind well.1))
       (step (expect (kind.Close bracket.Round) (closing ∷ rest)) _ closing rest _ (expected (kind.Close bracket.Round) closing rest well.1)
       (made_low (tree.parenthesized opening e closing) rest (omega (arith, small, low)))))))
       (λ high.

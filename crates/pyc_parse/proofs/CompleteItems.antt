@@ -21,7 +21,7 @@ use Rattle.pyc_parse.specs.Items as rule
 use Rattle.pyc_parse.proofs.SoundTables.{never}
 use Rattle.pyc_parse.proofs.SoundTools.{level_at, or_first, either_first, either_second}
 use Rattle.pyc_parse.proofs.CompleteTools.{step, yes, no, same_as, apart, name_expected, made_low, checked_holds}
-use Rattle.pyc_parse.proofs.CompleteTables.{name_begins, tight_begins, no_star, no_double_star, no_colon, follows, is_common, is_close, Plain, plain, Bare, bare_parameters, bare_after_star, bare_keyword_only, after_targets}
+use Rattle.pyc_parse.proofs.CompleteTables.{name_begins, tight_begins, no_star, no_double_star, no_colon, follows, is_common, Plain, plain, Bare, bare_parameters, bare_after_star, bare_keyword_only, after_targets, after_items, after_managers}
 use Rattle.pyc_parse.proofs.Complete.{Full, opens, last_keyword, keyword_any, plain_late, late_any}
 
 -- ---- tokens that go on with nothing
@@ -38,10 +38,6 @@ halts_bare p = record { loose = p.loose; string = p.string }
 
 pub halts_as : (k q : Kind) → k ≡ q → binds q ≡ 0 → is_string q ≡ false → Halts k
 halts_as k q is loose string = record { loose = ap binds is ∙ loose; string = ap is_string is ∙ string }
-
-pub close_halts : (k : Kind) → is_close k ≡ true → Halts k
-close_halts (kind.Close b) is = record { loose = refl; string = refl }
-close_halts _ is = never is
 
 -- no colon is none
 no_such_colon : (k : Kind) → is_colon k ≡ false → same_kind k (kind.Delimiter delimiter.Colon) ≡ false
@@ -338,37 +334,38 @@ module _ (S : ℕ → Parser Tree) (d : ℕ) (full : Full S d) (low : d ≤ max_
 
   -- ---- context managers
 
-  managed_full : (e : Tree) (rest : List Token) → is_with_item e ≡ true → IsWell e → height e ≤ d → Plain (kind_of rest)
-      → rule.with_item S (yield_of e ++ rest) ≡ Some (e, rest)
+  managed_full : (e : Tree) (rest : List Token) → is_with_item e ≡ true → IsWell e → height e ≤ d → Halts (kind_of rest)
+      → same_kind (kind_of rest) (kind.Keyword word.As) ≡ false → rule.with_item S (yield_of e ++ rest) ≡ Some (e, rest)
   unfolding rule.with_item rule.with_target take_one IsWell yield_of height
-  managed_full (tree.with_item x tree.nothing) rest fit well small p =
+  managed_full (tree.with_item x tree.nothing) rest fit well small halts other =
       rw (append-nil (yield_of x))
-      (after 1 x rest _ _ well.1 (omega (arith, small)) (omega arith) well.0 (halts_plain p)
-      (no _ _ (same_kind (kind_of rest) (kind.Keyword word.As)) rest _ p.as_word
+      (after 1 x rest _ _ well.1 (omega (arith, small)) (omega arith) well.0 halts
+      (no _ _ (same_kind (kind_of rest) (kind.Keyword word.As)) rest _ other
       (made_low (tree.with_item x tree.nothing) rest (omega (arith, small, low)))))
-  managed_full (tree.with_item x (tree.after t to)) rest fit well small p =
+  managed_full (tree.with_item x (tree.after t to)) rest fit well small halts other =
       rw (append_assoc (yield_of x) (t ∷ yield_of to) rest)
       (after 1 x (t ∷ (yield_of to ++ rest)) _ _ well.1 (omega (arith, small)) (omega arith) well.0 (halts_as t.kind (kind.Keyword word.As) well.2.0 refl refl)
       (yes _ _ (same_kind t.kind (kind.Keyword word.As)) (t ∷ (yield_of to ++ rest)) _ (same_as t.kind (kind.Keyword word.As) well.2.0)
-      (after 6 to rest _ _ well.2.2 (omega (arith, small)) (omega arith) (level_at 6 to (both_first (is_at 6 to) (is_target to) well.2.1)) (halts_plain p)
+      (after 6 to rest _ _ well.2.2 (omega (arith, small)) (omega arith) (level_at 6 to (both_first (is_at 6 to) (is_target to) well.2.1)) halts
       (yes _ _ (is_target to) rest _ (both_second (is_at 6 to) (is_target to) well.2.1)
       (made_low (tree.with_item x (tree.after t to)) rest (omega (arith, small, low)))))))
-  managed_full _ rest fit well small p = never fit
+  managed_full _ rest fit well small halts other = never fit
 
   -- ---- by place
 
   item_by_full : (here : Place) (e : Tree) (rest : List Token) → fits here e ≡ true → IsWell e → height e ≤ d → follows here (kind_of rest) ≡ true
       → rule.item_by S here (kind_of (yield_of e ++ rest)) (yield_of e ++ rest) ≡ Some (e, rest)
   item_by_full place.Items e rest fit well small behind =
-      let p = plain (kind_of rest) (or_first (is_common (kind_of rest)) false behind refl) in
-      starred_or_full 1 e rest well small (omega arith) (omega arith) (item_stands e fit) (omega (arith, p.loose)) p.string
+      let p = after_items (kind_of rest) behind in
+      starred_or_full 1 e rest well small (omega arith) (omega arith) (item_stands e fit) (omega (arith, p.0)) p.1
   item_by_full place.Targets e rest fit well small behind =
       let p = after_targets (kind_of rest) behind in
       starred_or_full 6 e rest well small (omega arith) (omega arith) (target_stands e fit) p.0 p.1
   item_by_full place.Subscript e rest fit well small behind =
       index_full e rest fit well small (plain (kind_of rest) (or_first (is_common (kind_of rest)) false behind refl))
   item_by_full place.WithItems e rest fit well small behind =
-      managed_full e rest fit well small (plain (kind_of rest) (or_first (is_common (kind_of rest)) false behind refl))
+      let p = after_managers (kind_of rest) behind in
+      managed_full e rest fit well small (record { loose = p.0; string = p.1 }) p.2
   item_by_full place.Braces e rest fit well small behind =
       brace_full e rest fit well small (plain (kind_of rest) (or_first (is_common (kind_of rest)) false behind refl))
   item_by_full place.Set e rest fit well small behind =

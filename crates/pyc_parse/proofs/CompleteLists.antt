@@ -15,16 +15,16 @@ use Rattle.pyc_parse.specs.Yield.{yield_of, pieces_yield, clauses_yield, optiona
 use Rattle.pyc_parse.specs.Height.{height, pieces_height, clauses_height, max_height}
 use Rattle.pyc_parse.specs.Targets.{is_target, are_targets, is_item_target, is_starred}
 use Rattle.pyc_parse.specs.Places.{is_at, fits, begins, next_place, may_end, has_comma, is_item, is_target_item}
-use Rattle.pyc_parse.specs.Well.{IsWell, ArePieces, AreClauses, has_item, has_for, is_expression_list}
+use Rattle.pyc_parse.specs.Well.{IsWell, ArePieces, AreClauses, has_item, has_for, is_expression_list, is_yield}
 use Rattle.pyc_parse.specs.Parser.{Parser, take_one, expect}
 use Rattle.pyc_parse.specs.Items as rule
 use Rattle.pyc_parse.proofs.Sound.{first_of}
 use Rattle.pyc_parse.proofs.SoundTables.{never}
-use Rattle.pyc_parse.proofs.SoundTools.{at_level}
-use Rattle.pyc_parse.proofs.CompleteTools.{step, yes, no, same_as, expected, made_low, checked_holds}
-use Rattle.pyc_parse.proofs.CompleteTables.{ends, is_close, ends_follows, ends_comma, ends_begins, ends_next, ends_clause, comma_follows}
-use Rattle.pyc_parse.proofs.Complete.{Full, begins_item}
-use Rattle.pyc_parse.proofs.CompleteItems.{both_first, both_second, item_full}
+use Rattle.pyc_parse.proofs.SoundTools.{at_level, level_at, either_first}
+use Rattle.pyc_parse.proofs.CompleteTools.{step, yes, no, same_as, apart, expected, made_low, checked_holds}
+use Rattle.pyc_parse.proofs.CompleteTables.{ends, is_close, ends_follows, ends_comma, ends_begins, ends_next, ends_clause, comma_follows, after_items}
+use Rattle.pyc_parse.proofs.Complete.{Full, opens, begins_item}
+use Rattle.pyc_parse.proofs.CompleteItems.{both_first, both_second, Halts, after, item_full}
 
 -- ---- how many turns a list takes
 
@@ -104,6 +104,29 @@ target_level _ is other = never is
 single_target : (e : Tree) → 6 ≤ level e → is_target_item e ≡ true
 single_target (tree.starred star x) high = absurd (omega arith)
 single_target e high = at_level 6 e high
+
+-- ---- a list begins as its place says
+
+pieces_begin : (here : Place) (found : Pieces) (rest : List Token) → has_item found ≡ true → ArePieces here found
+    → begins here (kind_of (pieces_yield found ++ rest)) ≡ true
+unfolding IsWell yield_of
+pieces_begin here tree.none rest some well = never some
+pieces_begin here (tree.last x) rest some well = begins_item here x rest well.0 well.1
+pieces_begin here (tree.piece x comma more) rest some well =
+    rw (append_assoc (yield_of x) (comma ∷ pieces_yield more) rest) (begins_item here x (comma ∷ (pieces_yield more ++ rest)) well.0 well.1)
+
+comma_item : (found : Pieces) → has_comma found ≡ true → has_item found ≡ true
+comma_item (tree.piece _ _ _) h = refl
+comma_item _ h = never h
+
+pub list_begins : (e : Tree) (rest : List Token) → is_expression_list e ≡ true → IsWell e → begins place.Items (kind_of (yield_of e ++ rest)) ≡ true
+unfolding IsWell yield_of
+list_begins (tree.bare found) rest fit well = pieces_begin place.Items found rest (comma_item found well.0) well.1
+list_begins e rest fit well = either_first _ _ (opens e rest well (level_at 1 e fit))
+
+-- what ends items goes on with nothing
+items_halt : (k : Kind) → ends place.Items k ≡ true → Halts k
+items_halt k stop = let p = after_items k (ends_follows place.Items k stop) in record { loose = p.0; string = p.1 }
 
 -- items are read with what follows them
 pub record Listed (S : ℕ → Parser Tree) (here : Place) (ts : List Token) (found : Pieces) (rest : List Token) : Type 0 where
@@ -239,6 +262,29 @@ module _ (S : ℕ → Parser Tree) (d : ℕ) (full : Full S d) (low : d ≤ max_
       step (rule.expressions S place.Targets (yield_of e ++ rest)) _ e rest _
       (single_full place.Targets e rest (single_target e high) well refl small (at_level 1 e (omega (arith, high))) stop)
       (checked_holds (is_target e) e rest is)
+
+  -- ---- `yield`
+
+  pub yielded_full : (e : Tree) (rest : List Token) → is_yield e ≡ true → IsWell e → height e ≤ d → ends place.Items (kind_of rest) ≡ true
+      → rule.yielded S (yield_of e ++ rest) ≡ Some (e, rest)
+  unfolding rule.yielded rule.yield_from rule.yield_value take_one IsWell yield_of height
+  yielded_full (tree.yield t tree.absent) rest is well small stop =
+      no _ _ (same_kind (kind_of rest) (kind.Keyword word.From)) rest _ (apart (ends place.Items) (kind_of rest) (kind.Keyword word.From) stop refl)
+      (no _ _ (begins place.Items (kind_of rest)) rest _ (ends_begins place.Items (kind_of rest) stop)
+      (made_low (tree.yield t tree.absent) rest (omega (arith, small, low))))
+  yielded_full (tree.yield t (tree.present x)) rest is well small stop =
+      let begun : begins place.Items (kind_of (yield_of x ++ rest)) ≡ true = list_begins x rest well.1.0 well.1.1 in
+      no _ _ (same_kind (kind_of (yield_of x ++ rest)) (kind.Keyword word.From)) (yield_of x ++ rest) _
+      (apart (begins place.Items) _ (kind.Keyword word.From) begun refl)
+      (yes _ _ (begins place.Items (kind_of (yield_of x ++ rest))) (yield_of x ++ rest) _ begun
+      (step (rule.expressions S place.Items (yield_of x ++ rest)) _ x rest _
+      (expressions_full x rest well.1.0 well.1.1 (omega (arith, small)) stop)
+      (made_low (tree.yield t (tree.present x)) rest (omega (arith, small, low)))))
+  yielded_full (tree.yield_from t from x) rest is well small stop =
+      yes _ _ (same_kind from.kind (kind.Keyword word.From)) (from ∷ (yield_of x ++ rest)) _ (same_as from.kind (kind.Keyword word.From) well.1)
+      (after S d full low 1 x rest _ _ well.3 (omega (arith, small)) (omega arith) well.2 (items_halt (kind_of rest) stop)
+      (made_low (tree.yield_from t from x) rest (omega (arith, small, low))))
+  yielded_full _ rest is well small stop = never is
 
   -- ---- clauses of comprehensions
 

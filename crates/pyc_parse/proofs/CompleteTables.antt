@@ -82,9 +82,16 @@ is_common (kind.Keyword word.For) = true
 is_common (kind.Keyword word.Async) = true
 is_common _ = false
 
--- whether a token may follow an item at some places alone: `in` targets, and a colon the parameters of a lambda
+-- whether a token may follow an item at some places alone: what a statement goes on with or ends by an expression, `in` or
+-- the end of a statement targets, and a colon the items of a `with` and the parameters of a lambda
 abbrev pub is_special : Place → Kind → Bool
+is_special place.Items (kind.Delimiter delimiter.Semicolon) = true
+is_special place.Items (kind.Delimiter delimiter.Colon) = true
+is_special place.Items (kind.Delimiter delimiter.Equal) = true
+is_special place.Items (kind.Augmented _) = true
 is_special place.Targets (kind.Keyword word.In) = true
+is_special place.Targets (kind.Delimiter delimiter.Semicolon) = true
+is_special place.WithItems (kind.Delimiter delimiter.Colon) = true
 is_special (place.Parameters false) (kind.Delimiter delimiter.Colon) = true
 is_special (place.AfterStar false) (kind.Delimiter delimiter.Colon) = true
 is_special (place.KeywordOnly false) (kind.Delimiter delimiter.Colon) = true
@@ -174,6 +181,33 @@ after_targets k is =
   where
     special : (q : Kind) → is_special place.Targets q ≡ true → (binds q < 6) × (is_string q ≡ false)
     special (kind.Keyword word.In) is = (omega arith, refl)
+    special (kind.Delimiter delimiter.Semicolon) is = (omega arith, refl)
+    special _ is = never is
+
+-- what follows an item of a tuple goes on with nothing
+pub after_items : (k : Kind) → follows place.Items k ≡ true → (binds k ≡ 0) × (is_string k ≡ false)
+after_items k is =
+    either (is_common k) (is_special place.Items k) is
+    (λ common. let p = plain k common in (p.loose, p.string))
+    (special k)
+  where
+    special : (q : Kind) → is_special place.Items q ≡ true → (binds q ≡ 0) × (is_string q ≡ false)
+    special (kind.Delimiter delimiter.Semicolon) is = (refl, refl)
+    special (kind.Delimiter delimiter.Colon) is = (refl, refl)
+    special (kind.Delimiter delimiter.Equal) is = (refl, refl)
+    special (kind.Augmented o) is = (refl, refl)
+    special _ is = never is
+
+-- what follows a context manager goes on with nothing, and is no `as`
+pub after_managers : (k : Kind) → follows place.WithItems k ≡ true → (binds k ≡ 0) × (is_string k ≡ false) × (same_kind k (kind.Keyword word.As) ≡ false)
+unfolding same_kind
+after_managers k is =
+    either (is_common k) (is_special place.WithItems k) is
+    (λ common. let p = plain k common in (p.loose, p.string, p.as_word))
+    (special k)
+  where
+    special : (q : Kind) → is_special place.WithItems q ≡ true → (binds q ≡ 0) × (is_string q ≡ false) × (same_kind q (kind.Keyword word.As) ≡ false)
+    special (kind.Delimiter delimiter.Colon) is = (refl, refl, refl)
     special _ is = never is
 
 -- ---- the end of a list
@@ -194,7 +228,13 @@ ends_follows here k is =
 
 special_comma : (here : Place) (k : Kind) → is_special here k ≡ true → same_kind k (kind.Delimiter delimiter.Comma) ≡ false
 unfolding same_kind
+special_comma place.Items (kind.Delimiter delimiter.Semicolon) is = refl
+special_comma place.Items (kind.Delimiter delimiter.Colon) is = refl
+special_comma place.Items (kind.Delimiter delimiter.Equal) is = refl
+special_comma place.Items (kind.Augmented o) is = refl
 special_comma place.Targets (kind.Keyword word.In) is = refl
+special_comma place.Targets (kind.Delimiter delimiter.Semicolon) is = refl
+special_comma place.WithItems (kind.Delimiter delimiter.Colon) is = refl
 special_comma (place.Parameters false) (kind.Delimiter delimiter.Colon) is = refl
 special_comma (place.AfterStar false) (kind.Delimiter delimiter.Colon) is = refl
 special_comma (place.KeywordOnly false) (kind.Delimiter delimiter.Colon) is = refl
@@ -215,7 +255,13 @@ close_begins _ (kind.Close b) is = refl
 close_begins here _ is = never is
 
 special_begins : (here : Place) (k : Kind) → is_special here k ≡ true → begins here k ≡ false
+special_begins place.Items (kind.Delimiter delimiter.Semicolon) is = refl
+special_begins place.Items (kind.Delimiter delimiter.Colon) is = refl
+special_begins place.Items (kind.Delimiter delimiter.Equal) is = refl
+special_begins place.Items (kind.Augmented o) is = refl
 special_begins place.Targets (kind.Keyword word.In) is = refl
+special_begins place.Targets (kind.Delimiter delimiter.Semicolon) is = refl
+special_begins place.WithItems (kind.Delimiter delimiter.Colon) is = refl
 special_begins (place.Parameters false) (kind.Delimiter delimiter.Colon) is = refl
 special_begins (place.AfterStar false) (kind.Delimiter delimiter.Colon) is = refl
 special_begins (place.KeywordOnly false) (kind.Delimiter delimiter.Colon) is = refl
@@ -229,7 +275,9 @@ close_ends : (here : Place) (k : Kind) → is_close k ≡ true → ends here k �
 close_ends here k is = ap (λ (b : Bool). b || is_special here k) is
 
 special_next : (here : Place) (e : Tree) (k : Kind) → is_special here k ≡ true → is_special (next_place here e) k ≡ true
+special_next place.Items e k is = is
 special_next place.Targets e k is = is
+special_next place.WithItems e k is = is
 special_next (place.Parameters false) (tree.star_parameter _ _ _) (kind.Delimiter delimiter.Colon) is = refl
 special_next (place.Parameters false) (tree.bare_star _) (kind.Delimiter delimiter.Colon) is = refl
 special_next (place.Parameters false) (tree.double_parameter _ _ _) (kind.Delimiter delimiter.Colon) is = refl
@@ -266,7 +314,13 @@ pub clause_follows : (here : Place) (k : Kind) → begins_clause k ≡ true → 
 clause_follows here k is = ap (λ (b : Bool). b || is_special here k) (clause_common k is)
 
 special_clause : (here : Place) (k : Kind) → is_special here k ≡ true → begins_clause k ≡ false
+special_clause place.Items (kind.Delimiter delimiter.Semicolon) is = refl
+special_clause place.Items (kind.Delimiter delimiter.Colon) is = refl
+special_clause place.Items (kind.Delimiter delimiter.Equal) is = refl
+special_clause place.Items (kind.Augmented o) is = refl
 special_clause place.Targets (kind.Keyword word.In) is = refl
+special_clause place.Targets (kind.Delimiter delimiter.Semicolon) is = refl
+special_clause place.WithItems (kind.Delimiter delimiter.Colon) is = refl
 special_clause (place.Parameters false) (kind.Delimiter delimiter.Colon) is = refl
 special_clause (place.AfterStar false) (kind.Delimiter delimiter.Colon) is = refl
 special_clause (place.KeywordOnly false) (kind.Delimiter delimiter.Colon) is = refl
