@@ -20,3 +20,5 @@ pub mod CompleteLists
 pub mod CompleteBrackets
 pub mod CompleteExpressions
 pub mod CompleteWith
+pub mod CompleteNames
+pub mod CompleteStatements
