@@ -28,7 +28,7 @@ pub record Full (S : ℕ → Parser Tree) (d : ℕ) : Type 0 where
 abbrev Begins : (Kind → Bool) → List Token → Type 0
 Begins test ts = test (kind_of ts) ≡ true
 
-in_front : (test : Kind → Bool) (front more rest : List Token) → Begins test (front ++ (more ++ rest)) → Begins test ((front ++ more) ++ rest)
+pub in_front : (test : Kind → Bool) (front more rest : List Token) → Begins test (front ++ (more ++ rest)) → Begins test ((front ++ more) ++ rest)
 in_front test front more rest h = ap (λ ts. test (kind_of ts)) (append_assoc front more rest) ∙ h
 
 pub opens_tight : (t : Tree) (rest : List Token) → IsWell t → 6 ≤ level t → begins_tight (kind_of (yield_of t ++ rest)) ≡ true

@@ -33,7 +33,7 @@ use Rattle.pyc_parse.proofs.CompleteNames.{ends_names, names_full, names_begin, 
 
 -- ---- what a statement begins with
 
-yield_kind : (e : Tree) (rest : List Token) → is_yield e ≡ true → IsWell e → kind_of (yield_of e ++ rest) ≡ kind.Keyword word.Yield
+pub yield_kind : (e : Tree) (rest : List Token) → is_yield e ≡ true → IsWell e → kind_of (yield_of e ++ rest) ≡ kind.Keyword word.Yield
 unfolding IsWell yield_of
 yield_kind (tree.yield t value) rest is well = well.0
 yield_kind (tree.yield_from t from x) rest is well = well.0

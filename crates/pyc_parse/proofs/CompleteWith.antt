@@ -90,7 +90,7 @@ clash : {A G : Type 0} {o : Outcome A} {p : A × List Token} → o ≡ Some p �
 clash {p = p} is none = refused p (sym none ∙ is)
 
 module _ (S : ℕ → Parser Tree) (full : Full S max_height) where
-  listed_managers : (word_async : Option Token) (t opening : Token) (items : Pieces) (closing : Token) (ts rest : List Token)
+  pub listed_managers : (word_async : Option Token) (t opening : Token) (items : Pieces) (closing : Token) (ts rest : List Token)
       → Listed S place.WithItems ts items (closing ∷ rest) → opening.kind ≡ kind.Open bracket.Round → closing.kind ≡ kind.Close bracket.Round
       → is_colon (kind_of rest) ≡ true
       → grammar.with_enclosed S word_async t (opening ∷ ts) ≡ Some (line.with_enclosed word_async t opening items closing, rest)

@@ -22,3 +22,4 @@ pub mod CompleteExpressions
 pub mod CompleteWith
 pub mod CompleteNames
 pub mod CompleteStatements
+pub mod CompleteHeaders
