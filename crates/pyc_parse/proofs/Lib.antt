@@ -21,3 +21,17 @@ pub mod NameSteps
 pub mod StatementSteps
 pub mod SingleTargets
 pub mod FaultLemmas
+pub mod SoundStatements
+pub mod SoundHeaders
+pub mod SoundLines
+pub mod CompleteTools
+pub mod CompleteTables
+pub mod Complete
+pub mod CompleteItems
+pub mod CompleteLists
+pub mod CompleteBrackets
+pub mod CompleteExpressions
+pub mod CompleteWith
+pub mod CompleteNames
+pub mod CompleteStatements
+pub mod CompleteHeaders
