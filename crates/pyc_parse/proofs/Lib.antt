@@ -23,3 +23,4 @@ pub mod CompleteWith
 pub mod CompleteNames
 pub mod CompleteStatements
 pub mod CompleteHeaders
+pub mod CompleteLines
