@@ -24,3 +24,4 @@ pub mod CompleteNames
 pub mod CompleteStatements
 pub mod CompleteHeaders
 pub mod CompleteLines
+pub mod CompleteRefused
