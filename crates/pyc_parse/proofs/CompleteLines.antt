@@ -32,6 +32,9 @@ use Rattle.pyc_parse.proofs.CompleteLists.{list_begins}
 use Rattle.pyc_parse.proofs.CompleteNames.{how_many}
 use Rattle.pyc_parse.proofs.CompleteStatements.{yield_kind, target_list, single_list, simple_full}
 use Rattle.pyc_parse.proofs.CompleteHeaders.{Refuses, header_full}
+use Rattle.pyc_parse.proofs.CompleteExpressions.{expression_full}
+use Rattle.pyc_parse.proofs.CompleteRefused.{with_refuses}
+use Rattle.pyc_parse.specs.Expressions.{expression}
 
 -- ---- what a statement begins with
 
@@ -236,3 +239,11 @@ module _ (S : ℕ → Parser Tree) (full : Full S max_height) (rule_of_with : Re
       header_full S full rule_of_with h (colon ∷ StatementYield found) _ well.0 (omega (arith, small)) well.1
       (suite_full h colon found well.1 well.2 (omega (arith, small)))
   line_full (line.decorator t e) well small = decorator_full t e well (omega (arith, small))
+
+-- a well-formed line is read back from its tokens
+pub line_complete : (ts : List Token) (l : Line) → IsWellLine l → line_yield l ≡ ts → grammar.line_tree ts ≡ Some l
+unfolding grammar.line_tree
+line_complete ts l well text =
+    ap grammar.complete
+    (ap (grammar.any_line expression) (sym text) ∙ line_full expression expression_full with_refuses l well.parts well.low)
+    ∙ ap (λ (b : Bool). if◌then◌else◌ {A = Option Line} b (Some l) None) (le-leb (line_height l) max_height well.low)
