@@ -128,7 +128,7 @@ module _ (S : ℕ → Parser Tree) (d : ℕ) (full : Full S d) (low : suc d ≤ 
       yes _ _ (same_kind closing.kind (kind.Close sign)) (closing ∷ rest) _ (same_as closing.kind (kind.Close sign) is)
       (made_low (tree.display (empty_sort sign) opening tree.none closing) rest (omega (arith, small, low)))
 
-  parentheses_filled : (opening : Token) (ts : List Token) (r : Outcome Tree) → begins place.Items (kind_of ts) ≡ true
+  pub parentheses_filled : (opening : Token) (ts : List Token) (r : Outcome Tree) → begins place.Items (kind_of ts) ≡ true
       → rule.filled S bracket.Round opening ts ≡ r → grammar.parentheses S (opening ∷ ts) ≡ r
   unfolding grammar.parentheses take_one
   parentheses_filled opening ts r begun next =

@@ -114,7 +114,7 @@ module _ (S : ℕ → Parser Tree) (d : ℕ) (full : Full S d) (low : suc d ≤ 
 
   -- ---- operands
 
-  operand : (m : ℕ) (t : Token) (later : List Token) (q : Kind) (r : Outcome Tree) → t.kind ≡ q → grammar.prefix_by S m q (t ∷ later) ≡ r
+  pub operand : (m : ℕ) (t : Token) (later : List Token) (q : Kind) (r : Outcome Tree) → t.kind ≡ q → grammar.prefix_by S m q (t ∷ later) ≡ r
       → grammar.prefix S m (t ∷ later) ≡ r
   unfolding grammar.prefix
   operand m t later q r is next = ap (λ k. grammar.prefix_by S m k (t ∷ later)) is ∙ next

@@ -141,7 +141,7 @@ pub record Listed (S : ℕ → Parser Tree) (here : Place) (ts : List Token) (fo
 module _ (S : ℕ → Parser Tree) (d : ℕ) (full : Full S d) (low : d ≤ max_height) where
   -- ---- items with commas
 
-  last_full : (n : ℕ) (here : Place) (x : Tree) (rest : List Token) → may_end (next_place here x) ≡ true → ends here (kind_of rest) ≡ true
+  pub last_full : (n : ℕ) (here : Place) (x : Tree) (rest : List Token) → may_end (next_place here x) ≡ true → ends here (kind_of rest) ≡ true
       → rule.items S n here x rest ≡ Some (tree.last x, rest)
   unfolding rule.items
   last_full zero here x rest may stop = checked_holds (may_end (next_place here x)) (tree.last x) rest may

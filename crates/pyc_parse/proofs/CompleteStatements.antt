@@ -40,7 +40,7 @@ yield_kind (tree.yield_from t from x) rest is well = well.0
 yield_kind _ rest is well = never is
 
 -- a target may stand where an expression or a tuple does
-target_list : (e : Tree) → is_target e ≡ true → is_expression_list e ≡ true
+pub target_list : (e : Tree) → is_target e ≡ true → is_expression_list e ≡ true
 unfolding is_target
 target_list (tree.name _) is = refl
 target_list (tree.attribute _ _ _) is = refl
@@ -50,7 +50,7 @@ target_list (tree.display _ _ _ _) is = refl
 target_list (tree.bare _) is = refl
 target_list _ is = never is
 
-single_list : (e : Tree) → is_single_target e ≡ true → is_expression_list e ≡ true
+pub single_list : (e : Tree) → is_single_target e ≡ true → is_expression_list e ≡ true
 single_list (tree.name _) is = refl
 single_list (tree.attribute _ _ _) is = refl
 single_list (tree.subscript _ _ _ _) is = refl

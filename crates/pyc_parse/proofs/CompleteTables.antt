@@ -82,13 +82,14 @@ is_common (kind.Keyword word.For) = true
 is_common (kind.Keyword word.Async) = true
 is_common _ = false
 
--- whether a token may follow an item at some places alone: what a statement goes on with or ends by an expression, `in` or
--- the end of a statement targets, and a colon the items of a `with` and the parameters of a lambda
+-- whether a token may follow an item at some places alone: what a statement goes on with or ends by an expression, `as` too,
+-- `in` or the end of a statement targets, and a colon the items of a `with` and the parameters of a lambda
 abbrev pub is_special : Place → Kind → Bool
 is_special place.Items (kind.Delimiter delimiter.Semicolon) = true
 is_special place.Items (kind.Delimiter delimiter.Colon) = true
 is_special place.Items (kind.Delimiter delimiter.Equal) = true
 is_special place.Items (kind.Augmented _) = true
+is_special place.Items (kind.Keyword word.As) = true
 is_special place.Targets (kind.Keyword word.In) = true
 is_special place.Targets (kind.Delimiter delimiter.Semicolon) = true
 is_special place.WithItems (kind.Delimiter delimiter.Colon) = true
@@ -196,6 +197,7 @@ after_items k is =
     special (kind.Delimiter delimiter.Colon) is = (refl, refl)
     special (kind.Delimiter delimiter.Equal) is = (refl, refl)
     special (kind.Augmented o) is = (refl, refl)
+    special (kind.Keyword word.As) is = (refl, refl)
     special _ is = never is
 
 -- what follows a context manager goes on with nothing, and is no `as`
@@ -232,6 +234,7 @@ special_comma place.Items (kind.Delimiter delimiter.Semicolon) is = refl
 special_comma place.Items (kind.Delimiter delimiter.Colon) is = refl
 special_comma place.Items (kind.Delimiter delimiter.Equal) is = refl
 special_comma place.Items (kind.Augmented o) is = refl
+special_comma place.Items (kind.Keyword word.As) is = refl
 special_comma place.Targets (kind.Keyword word.In) is = refl
 special_comma place.Targets (kind.Delimiter delimiter.Semicolon) is = refl
 special_comma place.WithItems (kind.Delimiter delimiter.Colon) is = refl
@@ -259,6 +262,7 @@ special_begins place.Items (kind.Delimiter delimiter.Semicolon) is = refl
 special_begins place.Items (kind.Delimiter delimiter.Colon) is = refl
 special_begins place.Items (kind.Delimiter delimiter.Equal) is = refl
 special_begins place.Items (kind.Augmented o) is = refl
+special_begins place.Items (kind.Keyword word.As) is = refl
 special_begins place.Targets (kind.Keyword word.In) is = refl
 special_begins place.Targets (kind.Delimiter delimiter.Semicolon) is = refl
 special_begins place.WithItems (kind.Delimiter delimiter.Colon) is = refl
@@ -318,6 +322,7 @@ special_clause place.Items (kind.Delimiter delimiter.Semicolon) is = refl
 special_clause place.Items (kind.Delimiter delimiter.Colon) is = refl
 special_clause place.Items (kind.Delimiter delimiter.Equal) is = refl
 special_clause place.Items (kind.Augmented o) is = refl
+special_clause place.Items (kind.Keyword word.As) is = refl
 special_clause place.Targets (kind.Keyword word.In) is = refl
 special_clause place.Targets (kind.Delimiter delimiter.Semicolon) is = refl
 special_clause place.WithItems (kind.Delimiter delimiter.Colon) is = refl

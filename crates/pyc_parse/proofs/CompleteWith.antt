@@ -61,7 +61,7 @@ managers_some (tree.last e) some = refl
 managers_some (tree.piece e comma more) some = refl
 
 -- an item without a star is an expression
-unstarred : (e : Tree) → is_item e ≡ true → not (is_starred e) ≡ true → is_at 1 e ≡ true
+pub unstarred : (e : Tree) → is_item e ≡ true → not (is_starred e) ≡ true → is_at 1 e ≡ true
 unstarred (tree.starred star x) item plain = never plain
 unstarred e item plain = item
 
@@ -77,7 +77,7 @@ managers_well (tree.piece e comma more) well plain = (
 )
 
 -- an expression has no star
-plain_star : (e : Tree) → is_at 1 e ≡ true → not (is_starred e) ≡ true
+pub plain_star : (e : Tree) → is_at 1 e ≡ true → not (is_starred e) ≡ true
 plain_star (tree.starred star x) high = never high
 plain_star _ high = refl
 

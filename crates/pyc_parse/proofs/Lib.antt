@@ -35,3 +35,5 @@ pub mod CompleteWith
 pub mod CompleteNames
 pub mod CompleteStatements
 pub mod CompleteHeaders
+pub mod CompleteLines
+pub mod CompleteRefused
