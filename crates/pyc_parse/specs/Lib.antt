@@ -21,3 +21,5 @@ pub mod LineView
 pub mod Reads
 pub mod Nests
 pub mod Parted
+pub mod BlockTrees
+pub mod Blocks

@@ -1,6 +1,7 @@
 //! The trees of the lines of a Python source, and its blocks.
 #![tactic(auto)]
 
+mod block;
 mod built;
 mod built_line;
 mod built_statement;
@@ -17,6 +18,7 @@ mod target;
 mod tokens;
 mod tree;
 
+pub use block::{After, CompoundClause, Decorator, Form, Next, Placed, Stmt, Suite};
 pub use line::{Header, Line};
 pub use place::{Place, Sort};
 pub use statement::{
