@@ -18,3 +18,4 @@ pub mod PiecesEnds
 pub mod NameSteps
 pub mod StatementSteps
 pub mod SingleTargets
+pub mod BlockLemmas

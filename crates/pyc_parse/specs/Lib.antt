@@ -23,3 +23,5 @@ pub mod Nests
 pub mod Parted
 pub mod BlockTrees
 pub mod Blocks
+pub mod BlockView
+pub mod BlockReads

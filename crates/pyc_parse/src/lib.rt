@@ -2,6 +2,7 @@
 #![tactic(auto)]
 
 mod block;
+mod blocks;
 mod built;
 mod built_line;
 mod built_statement;

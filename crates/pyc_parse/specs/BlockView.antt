@@ -1,0 +1,14 @@
+-- The plain lines and statements that those of the code are.
+use Rattle.std.specs.Prelude.{List, [], ◌∷◌, map}
+use Rattle.pyc_parse.specs.declared.block.Placed.{Placed as PlacedOf}
+use Rattle.pyc_parse.specs.declared.blocks.Lines.{Lines}
+use Rattle.pyc_parse.specs.Blocks.{Placed}
+use Rattle.pyc_parse.specs.LineView.{line_of}
+
+-- the line of one of the code
+abbrev pub placed_of : PlacedOf → Placed
+placed_of p = record { indent = p.indent; number = p.number; line = line_of p.line }
+
+-- the lines that are left to read
+abbrev pub lines_of : Lines → List Placed
+lines_of lines = map placed_of lines.rest.items
