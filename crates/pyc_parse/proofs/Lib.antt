@@ -19,3 +19,5 @@ pub mod NameSteps
 pub mod StatementSteps
 pub mod SingleTargets
 pub mod BlockLemmas
+pub mod BlockSteps
+pub mod BlockViewLemmas

@@ -108,10 +108,10 @@ unfoldable pub follower : After → ℕ → List Placed → Option After
 follower so indent [] = None
 follower so indent (p ∷ ps) = if p.indent == indent then line_follows so p.line else None
 
--- whether the next line is deeper
-unfoldable pub is_deeper : ℕ → List Placed → Bool
-is_deeper indent [] = false
-is_deeper indent (p ∷ ps) = nat_lt indent p.indent
+-- the indent of the block under a line, where the next line is deeper
+unfoldable pub under : ℕ → List Placed → Option ℕ
+under indent [] = None
+under indent (p ∷ ps) = if nat_lt indent p.indent then Some (indent + 1) else None
 
 -- the physical line of the next line
 unfoldable pub number_of : List Placed → ℕ
@@ -201,12 +201,15 @@ all_decorators indent = λ ps. decorators (length ps) indent ps
 
 -- over what reads the block at an indent
 module _ (self : ℕ → Parser Stmts) where
+  abbrev pub suite_under : ℕ → Option ℕ → Parser Suite
+  suite_under number None = fault number
+  suite_under number (Some inner) = do
+    found ← self inner
+    pure (block found)
+
   -- the statements on the line of a header, or the block under it: a header without either is a fault
   unfoldable pub suite : ℕ → ℕ → Separated Statement → Parser Suite
-  suite number indent found = λ ps.
-      if is_none found
-      then (if is_deeper indent ps then (do inner ← self (indent + 1); pure (block inner)) ps else Err number)
-      else Ok (inline found, ps)
+  suite number indent found = λ ps. if is_none found then suite_under number (under indent ps) ps else Ok (inline found, ps)
 
   abbrev pub clause_of : Placed → ℕ → Line → Parser Clause
   clause_of p indent (line.header h colon found) = do

@@ -24,4 +24,5 @@ pub mod Parted
 pub mod BlockTrees
 pub mod Blocks
 pub mod BlockView
+pub mod BlockNests
 pub mod BlockReads

@@ -1,7 +1,7 @@
 //! Blocks: the statements of a module, by the indents of its lines.
 #![tactic(auto)]
 
-ghost use Rattle.std.specs.Prelude.{◌≡◌, map, drop};
+ghost use Rattle.std.specs.Prelude.{◌≡◌, ◌+◌, map, drop, length, nat_lt, Some, None, if◌then◌else◌};
 ghost use Rattle.pyc_parse.specs.BlockReads.{Reads};
 ghost use Rattle.pyc_parse.specs.BlockView.{lines_of, placed_of};
 ghost use Rattle.pyc_parse.specs.Blocks as spec;
@@ -9,7 +9,9 @@ ghost use Rattle.pyc_parse.specs.Lines as line;
 ghost use Rattle.pyc_parse.specs.LineView.{header_of, line_of};
 ghost use Rattle.pyc_parse.specs.StatementView.{separated_of, statement_of};
 
-use crate::block::{After, Form, Next, Placed, Stmt};
+mod rules;
+
+use crate::block::{After, Form, Next, Placed};
 use crate::error::BlockFault;
 use crate::line::{Header, Line};
 use crate::statement::{Separated, Statement};
@@ -89,13 +91,38 @@ fn line_follows(after: After, line: &Line) -> Option<After>
 }
 
 /// Whether a header has no statements after it.
-fn is_none(statements: &Separated<Statement>) -> bool
+pub fn is_none(statements: &Separated<Statement>) -> bool
     ensures { result ≡ spec.is_none (separated_of statement_of statements.now) }
 {
     match statements.each.as_slice() {
         [] => statements.last.is_none(),
         [_, ..] => false,
     }
+}
+
+/// The level under an indent, where this one is deeper.
+fn level_under(indent: usize, deeper: usize) -> Option<usize>
+    ensures { result ≡ (if nat_lt indent deeper then Some (indent + 1) else None) }
+{
+    if indent < deeper {
+        Some(indent + 1)
+    } else {
+        None
+    }
+}
+
+/// Whether what stands next decorates.
+pub fn is_decorator(next: Next) -> bool
+    ensures { result ≡ spec.is_decorator next }
+{
+    matches!(next, Next::Decorator)
+}
+
+/// Whether what stands next is a definition.
+pub fn is_definition(next: Next) -> bool
+    ensures { result ≡ spec.is_definition next }
+{
+    matches!(next, Next::Definition)
 }
 
 /// The lines that are left to read.
@@ -105,20 +132,27 @@ pub struct Lines {
 }
 
 impl Lines {
-    /// Whether the next line is deeper.
-    #[tactic(auto, unfolding(crate::specs::Blocks::is_deeper))]
-    fn is_deeper(&self, indent: usize) -> bool
-        ensures { result ≡ spec.is_deeper indent (lines_of self.now) }
+    /// How many they are.
+    pub fn len(&self) -> usize
+        ensures { result ≡ length (lines_of self.now) }
+    {
+        self.rest.len()
+    }
+
+    /// The indent of the block under a line, where the next line is deeper.
+    #[tactic(auto, unfolding(crate::specs::Blocks::under))]
+    pub fn under(&self, indent: usize) -> Option<usize>
+        ensures { result ≡ spec.under indent (lines_of self.now) }
     {
         match self.rest.front() {
-            Some(placed) => indent < placed.indent,
-            None => false,
+            Some(placed) => level_under(indent, placed.indent),
+            None => None,
         }
     }
 
     /// The physical line of the next line.
     #[tactic(auto, unfolding(crate::specs::Blocks::number_of))]
-    fn number(&self) -> usize
+    pub fn number(&self) -> usize
         ensures { result ≡ spec.number_of (lines_of self.now) }
     {
         match self.rest.front() {
@@ -129,7 +163,7 @@ impl Lines {
 
     /// Whether the next line is another clause of the statement, and what that is to those after it.
     #[tactic(auto, unfolding(crate::specs::Blocks::follower))]
-    fn follower(&self, after: After, indent: usize) -> Option<After>
+    pub fn follower(&self, after: After, indent: usize) -> Option<After>
         ensures { result ≡ spec.follower after indent (lines_of self.now) }
     {
         match self.rest.front() {
@@ -178,7 +212,7 @@ impl Lines {
 
     /// What the next line of a block at this indent is.
     #[tactic(auto, unfolding(crate::specs::Blocks::next_of))]
-    fn next(&self, indent: usize) -> Next
+    pub fn next(&self, indent: usize) -> Next
         ensures { result ≡ spec.next_of indent (lines_of self.now) }
     {
         match self.rest.front() {
@@ -191,7 +225,7 @@ impl Lines {
 
     /// The next line.
     #[tactic(auto, unfolding(crate::specs::Blocks::take_one))]
-    fn take(&mut self) -> Result<Placed, BlockFault>
+    pub fn take(&mut self) -> Result<Placed, BlockFault>
         ensures { Reads placed_of (spec.take_one (lines_of self.old)) result (lines_of self.new) }
     {
         match self.rest.pop_front() {
@@ -199,11 +233,4 @@ impl Lines {
             None => Err(BlockFault::Block(0)),
         }
     }
-}
-
-/// A probe.
-fn probe(stmt: Stmt) -> Stmt
-    ensures { result ≡ stmt }
-{
-    stmt
 }
