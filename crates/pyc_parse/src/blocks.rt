@@ -2,8 +2,8 @@
 #![tactic(auto)]
 
 ghost use Rattle.std.specs.Prelude.{◌≡◌, ◌+◌, map, drop, length, nat_lt, Some, None, if◌then◌else◌};
-ghost use Rattle.pyc_parse.specs.BlockReads.{Reads};
-ghost use Rattle.pyc_parse.specs.BlockView.{lines_of, placed_of};
+ghost use Rattle.pyc_parse.specs.BlockReads.{Reads, Answers};
+ghost use Rattle.pyc_parse.specs.BlockView.{lines_of, placed_of, stmts_of};
 ghost use Rattle.pyc_parse.specs.Blocks as spec;
 ghost use Rattle.pyc_parse.specs.Lines as line;
 ghost use Rattle.pyc_parse.specs.LineView.{header_of, line_of};
@@ -11,11 +11,13 @@ ghost use Rattle.pyc_parse.specs.StatementView.{separated_of, statement_of};
 
 mod rules;
 
-use crate::block::{After, Form, Next, Placed};
+use crate::block::{After, Form, Next, Placed, Stmt};
+use crate::blocks::rules::block_at;
 use crate::error::BlockFault;
 use crate::line::{Header, Line};
 use crate::statement::{Separated, Statement};
 use pyc_lex::{Keyword, Kind};
+use std::alloc::Global;
 use std::collections::VecDeque;
 
 /// Which clause begins with a condition after this token.
@@ -233,4 +235,18 @@ impl Lines {
             None => Err(BlockFault::Block(0)),
         }
     }
+}
+
+/// How many blocks nest at most: a scan lets 64 levels pass above the first.
+const MAX_BLOCKS: usize = 65;
+
+/// The statements of a module.
+#[tactic(auto, unfolding(crate::specs::Blocks::blocks))]
+pub fn read_blocks(alloc: Global, lines: Vec<Placed>) -> Result<Vec<Stmt>, BlockFault>
+    ensures { Answers stmts_of (spec.blocks (map placed_of lines.items)) result }
+{
+    let mut lines = Lines {
+        rest: VecDeque::from(lines),
+    };
+    block_at(alloc, &mut lines, MAX_BLOCKS, 0)
 }

@@ -20,6 +20,7 @@ mod tokens;
 mod tree;
 
 pub use block::{After, CompoundClause, Decorator, Form, Next, Placed, Stmt, Suite};
+pub use blocks::read_blocks;
 pub use line::{Header, Line};
 pub use place::{Place, Sort};
 pub use statement::{

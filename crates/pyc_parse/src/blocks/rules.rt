@@ -263,3 +263,23 @@ impl<F: Fn(Global, &mut Lines, usize, usize) -> Result<Vec<Stmt>, BlockFault>> R
         Ok(found)
     }
 }
+
+/// The block at an indent, under which this many blocks may still nest.
+pub fn block_at(
+    alloc: Global,
+    lines: &mut Lines,
+    depth: usize,
+    indent: usize,
+) -> Result<Vec<Stmt>, BlockFault>
+    ensures { Reads stmts_of (spec.block_at depth indent (lines_of lines.old)) result (lines_of lines.new) }
+{
+    if depth == 0 {
+        return Err(BlockFault::Block(lines.number()));
+    }
+    Rules {
+        alloc,
+        depth: depth - 1,
+        block: block_at,
+    }
+    .statements(lines, indent)
+}
