@@ -37,3 +37,6 @@ pub mod CompleteStatements
 pub mod CompleteHeaders
 pub mod CompleteLines
 pub mod CompleteRefused
+pub mod BlockLemmas
+pub mod BlockSteps
+pub mod BlockViewLemmas
