@@ -231,7 +231,7 @@ dots_full : (dots rest : List Token) → AreDots dots → is_dot (kind_of rest) 
 unfolding grammar.dots
 dots_full dots rest are stop =
     let front : take_while grammar.is_dot_token (dots ++ rest) ≡ dots =
-        ap (λ n. take n (dots ++ rest)) (dots_length dots rest are stop) ∙ take-append_seam dots rest in
+    ap (λ n. take n (dots ++ rest)) (dots_length dots rest are stop) ∙ take-append_seam dots rest in
     ap {B = Outcome (List Token)} (λ z. Some (z, drop (length z) (dots ++ rest))) front
     ∙ ap {B = Outcome (List Token)} (λ z. Some (dots, z)) (drop-append_seam dots rest)
 

@@ -230,8 +230,8 @@ unfolding rule.item rule.with_item rule.listed same_kind
 one_alone e ts later rest items is colon all =
     let W : Tree = tree.with_item e tree.nothing in
     let reads : rule.with_item expression ts ≡ made W later =
-        step (expression 1 ts) _ e later _ is
-        (no _ _ (same_kind (kind_of later) (kind.Keyword word.As)) later _ (ap (λ k. same_kind k (kind.Keyword word.As)) colon) refl) in
+    step (expression 1 ts) _ e later _ is
+    (no _ _ (same_kind (kind_of later) (kind.Keyword word.As)) later _ (ap (λ k. same_kind k (kind.Keyword word.As)) colon) refl) in
     after_made W (λ x. rule.checked (fits place.WithItems x) x) later (all.first, all.later)
     (ap (λ o. and_then o (λ x. rule.checked (fits place.WithItems x) x)) (sym reads) ∙ all.starts) (λ low only.
     parts W all.first later all.later only (λ same same_later.
@@ -263,15 +263,15 @@ clashes word_async t items ts rest r open_one all e =
     checks (is_colon (kind_of ts4)) _ ts4 r e3 (λ colon.
     let is_colon_here : kind_of ts4 ≡ kind.Delimiter delimiter.Colon = is_colon_is (kind_of ts4) colon in
     let text : ts ≡ yield_of P ++ ts4 =
-        is_opening ∙ (ap (opening ∷◌) (found.text ∙ (ap (λ z. z ++ ts2) bare.text ∙ ap (pieces_yield bare.found ++◌) is_closing))
-        ∙ (ap (opening ∷◌) (sym (append_assoc (pieces_yield bare.found) (closing ∷ []) ts4)) ∙ ap (λ z. z ++ ts4) (sym (paren_yield opening bare.found closing)))) in
+    is_opening ∙ (ap (opening ∷◌) (found.text ∙ (ap (λ z. z ++ ts2) bare.text ∙ ap (pieces_yield bare.found ++◌) is_closing))
+    ∙ (ap (opening ∷◌) (sym (append_assoc (pieces_yield bare.found) (closing ∷ []) ts4)) ∙ ap (λ z. z ++ ts4) (sym (paren_yield opening bare.found closing)))) in
     let reads : expression 1 ts ≡ Some (P, ts4) =
-        ap (expression 1) text
-        ∙ expression_full.reads 1 P ts4 (paren_well opening bare.found closing opens shut some bare.pieces bare.plain)
-        (omega (arith, paren_height opening bare.found closing, bare.low)) (omega arith) (omega (arith, paren_level opening bare.found closing))
-        (omega (arith, ap binds is_colon_here)) (ap is_string is_colon_here) in
+    ap (expression 1) text
+    ∙ expression_full.reads 1 P ts4 (paren_well opening bare.found closing opens shut some bare.pieces bare.plain)
+    (omega (arith, paren_height opening bare.found closing, bare.low)) (omega arith) (omega (arith, paren_level opening bare.found closing))
+    (omega (arith, ap binds is_colon_here)) (ap is_string is_colon_here) in
     let only : items ≡ tree.last (tree.with_item P tree.nothing) = one_alone P ts ts4 rest items reads is_colon_here all in
-    never (sym (ap not (paren_enclosed opening bare.found closing some bare.pieces bare.plain)) ∙ (ap is_open_with (sym only) ∙ open_one)))))))) 
+    never (sym (ap not (paren_enclosed opening bare.found closing some bare.pieces bare.plain)) ∙ (ap is_open_with (sym only) ∙ open_one))))))))
   where
     checks : {A G : Type 0} (b : Bool) (a : A) (us : List Token) (s : A × List Token) → rule.checked b a us ≡ Some s → (b ≡ true → G) → G
     checks true a us s e go = go refl
