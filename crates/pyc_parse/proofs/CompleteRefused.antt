@@ -14,27 +14,23 @@ use Rattle.pyc_parse.specs.Kinds.{kind_of, same_kind, is_string, begins_clause}
 use Rattle.pyc_parse.specs.Levels.{binds, level}
 use Rattle.pyc_parse.specs.Yield.{yield_of, pieces_yield}
 use Rattle.pyc_parse.specs.Height.{height, pieces_height, max_height}
-use Rattle.pyc_parse.specs.Targets.{is_starred}
-use Rattle.pyc_parse.specs.Places.{is_at, is_colon, is_item, fits}
+use Rattle.pyc_parse.specs.Places.{is_at, is_colon, fits}
 use Rattle.pyc_parse.specs.Well.{IsWell, ArePieces, is_yield, has_item}
 use Rattle.pyc_parse.specs.WellLines.{has_no_star, is_enclosed_item, is_open_with}
-use Rattle.pyc_parse.specs.Lines as line
 use Rattle.pyc_parse.specs.Lines.{Header}
 use Rattle.pyc_parse.specs.Parser.{Outcome, Parser, and_then, take_one, expect, made}
 use Rattle.pyc_parse.specs.Items as rule
 use Rattle.pyc_parse.specs.Expressions as grammar
 use Rattle.pyc_parse.specs.Expressions.{expression}
 use Rattle.pyc_parse.specs.Headers as header
-use Rattle.pyc_parse.proofs.Sound.{AreListed}
 use Rattle.pyc_parse.proofs.SoundTables.{never, is_colon_is}
 use Rattle.pyc_parse.proofs.SoundTools.{refused, bind, after_expected, after_made, at_level, either_second}
 use Rattle.pyc_parse.proofs.SoundItems.{after_item}
 use Rattle.pyc_parse.proofs.SoundLists.{is_first, listed_sound}
 use Rattle.pyc_parse.proofs.SoundExpressions.{expression_sound}
-use Rattle.pyc_parse.proofs.CompleteTools.{step, no, apart}
+use Rattle.pyc_parse.proofs.CompleteTools.{step, no}
 use Rattle.pyc_parse.proofs.CompleteTables.{ends}
 use Rattle.pyc_parse.proofs.Complete.{Full}
-use Rattle.pyc_parse.proofs.CompleteItems.{both_first, both_second}
 use Rattle.pyc_parse.proofs.CompleteLists.{Listed, listed_full, last_full, one_item}
 use Rattle.pyc_parse.proofs.CompleteBrackets.{parentheses_filled}
 use Rattle.pyc_parse.proofs.CompleteExpressions.{operand, expr_full, expression_full}
@@ -230,8 +226,8 @@ unfolding rule.item rule.with_item rule.listed same_kind
 one_alone e ts later rest items is colon all =
     let W : Tree = tree.with_item e tree.nothing in
     let reads : rule.with_item expression ts ≡ made W later =
-        step (expression 1 ts) _ e later _ is
-        (no _ _ (same_kind (kind_of later) (kind.Keyword word.As)) later _ (ap (λ k. same_kind k (kind.Keyword word.As)) colon) refl) in
+    step (expression 1 ts) _ e later _ is
+    (no _ _ (same_kind (kind_of later) (kind.Keyword word.As)) later _ (ap (λ k. same_kind k (kind.Keyword word.As)) colon) refl) in
     after_made W (λ x. rule.checked (fits place.WithItems x) x) later (all.first, all.later)
     (ap (λ o. and_then o (λ x. rule.checked (fits place.WithItems x) x)) (sym reads) ∙ all.starts) (λ low only.
     parts W all.first later all.later only (λ same same_later.
@@ -263,15 +259,15 @@ clashes word_async t items ts rest r open_one all e =
     checks (is_colon (kind_of ts4)) _ ts4 r e3 (λ colon.
     let is_colon_here : kind_of ts4 ≡ kind.Delimiter delimiter.Colon = is_colon_is (kind_of ts4) colon in
     let text : ts ≡ yield_of P ++ ts4 =
-        is_opening ∙ (ap (opening ∷◌) (found.text ∙ (ap (λ z. z ++ ts2) bare.text ∙ ap (pieces_yield bare.found ++◌) is_closing))
-        ∙ (ap (opening ∷◌) (sym (append_assoc (pieces_yield bare.found) (closing ∷ []) ts4)) ∙ ap (λ z. z ++ ts4) (sym (paren_yield opening bare.found closing)))) in
+    is_opening ∙ (ap (opening ∷◌) (found.text ∙ (ap (λ z. z ++ ts2) bare.text ∙ ap (pieces_yield bare.found ++◌) is_closing))
+    ∙ (ap (opening ∷◌) (sym (append_assoc (pieces_yield bare.found) (closing ∷ []) ts4)) ∙ ap (λ z. z ++ ts4) (sym (paren_yield opening bare.found closing)))) in
     let reads : expression 1 ts ≡ Some (P, ts4) =
-        ap (expression 1) text
-        ∙ expression_full.reads 1 P ts4 (paren_well opening bare.found closing opens shut some bare.pieces bare.plain)
-        (omega (arith, paren_height opening bare.found closing, bare.low)) (omega arith) (omega (arith, paren_level opening bare.found closing))
-        (omega (arith, ap binds is_colon_here)) (ap is_string is_colon_here) in
+    ap (expression 1) text
+    ∙ expression_full.reads 1 P ts4 (paren_well opening bare.found closing opens shut some bare.pieces bare.plain)
+    (omega (arith, paren_height opening bare.found closing, bare.low)) (omega arith) (omega (arith, paren_level opening bare.found closing))
+    (omega (arith, ap binds is_colon_here)) (ap is_string is_colon_here) in
     let only : items ≡ tree.last (tree.with_item P tree.nothing) = one_alone P ts ts4 rest items reads is_colon_here all in
-    never (sym (ap not (paren_enclosed opening bare.found closing some bare.pieces bare.plain)) ∙ (ap is_open_with (sym only) ∙ open_one)))))))) 
+    never (sym (ap not (paren_enclosed opening bare.found closing some bare.pieces bare.plain)) ∙ (ap is_open_with (sym only) ∙ open_one))))))))
   where
     checks : {A G : Type 0} (b : Bool) (a : A) (us : List Token) (s : A × List Token) → rule.checked b a us ≡ Some s → (b ≡ true → G) → G
     checks true a us s e go = go refl
