@@ -24,7 +24,7 @@ pub record Full (S : ℕ → Parser Tree) (d : ℕ) : Type 0 where
 
 -- ---- what an expression begins with
 
--- the first token of a tree whose tokens begin with those of another
+-- the first token passes a test; it stays the first where more tokens stand behind
 abbrev Begins : (Kind → Bool) → List Token → Type 0
 Begins test ts = test (kind_of ts) ≡ true
 

@@ -16,14 +16,14 @@ use Rattle.pyc_parse.specs.Kinds.{kind_of, same_kind, begins_clause, begins_expr
 use Rattle.pyc_parse.specs.Levels.{level}
 use Rattle.pyc_parse.specs.Yield.{yield_of, pieces_yield, clauses_yield}
 use Rattle.pyc_parse.specs.Height.{height, max_height}
-use Rattle.pyc_parse.specs.Places.{is_at, fits, begins, next_place, may_end, has_comma, is_item, is_entry, place_in, sort_of, empty_sort}
-use Rattle.pyc_parse.specs.Well.{IsWell, ArePieces, AreArguments, AreClauses, has_item, has_for, is_yield, is_expression_list, is_element, bracket_of}
+use Rattle.pyc_parse.specs.Places.{is_at, fits, begins, next_place, may_end, is_item, is_entry, place_in, sort_of, empty_sort}
+use Rattle.pyc_parse.specs.Well.{IsWell, ArePieces, AreArguments, AreClauses, has_item, has_for, is_yield, is_element, bracket_of}
 use Rattle.pyc_parse.specs.Parser.{Outcome, Parser, take_one, expect, made}
 use Rattle.pyc_parse.specs.Items as rule
 use Rattle.pyc_parse.specs.Expressions as grammar
 use Rattle.pyc_parse.proofs.Sound.{first_of}
 use Rattle.pyc_parse.proofs.SoundTables.{never}
-use Rattle.pyc_parse.proofs.SoundTools.{refused, level_at, either_first, either_second}
+use Rattle.pyc_parse.proofs.SoundTools.{refused, either_first, either_second}
 use Rattle.pyc_parse.proofs.CompleteTools.{step, yes, no, same_as, apart, expected, made_low}
 use Rattle.pyc_parse.proofs.CompleteTables.{ends, is_close, clause_follows, either}
 use Rattle.pyc_parse.proofs.Complete.{Full, opens, begins_item}

@@ -1,5 +1,5 @@
 -- Each well-formed header is read back from its tokens, where a colon follows.
-use Rattle.std.proofs.Common.{◌≡◌, refl, ap, sym, ◌∙◌, ℕ, suc, ◌+◌, ◌≤◌, Bool, true, false, List, [], ◌∷◌, ◌++◌, Option, None, Some, append_assoc, arith}
+use Rattle.std.proofs.Common.{◌≡◌, refl, ap, ◌∙◌, ℕ, ◌≤◌, true, List, [], ◌∷◌, ◌++◌, Option, None, Some, append_assoc, arith}
 use Rattle.pyc_lex.specs.declared.tokens.Bracket.TheVariants as bracket
 use Rattle.pyc_lex.specs.declared.tokens.Delimiter.TheVariants as delimiter
 use Rattle.pyc_lex.specs.declared.tokens.Keyword.TheVariants as word
@@ -8,12 +8,11 @@ use Rattle.pyc_lex.specs.declared.tokens.Kind.TheVariants as kind
 use Rattle.pyc_lex.specs.declared.tokens.Token.{Token}
 use Rattle.pyc_parse.specs.declared.place.Place.TheVariants as place
 use Rattle.pyc_parse.specs.Tree.{Tree, Pieces, Tail}
-use Rattle.pyc_parse.specs.Tree as tree
-use Rattle.pyc_parse.specs.Kinds.{kind_of, same_kind, begins_expression}
+use Rattle.pyc_parse.specs.Kinds.{kind_of, same_kind}
 use Rattle.pyc_parse.specs.Yield.{yield_of, pieces_yield, tail_yield, optional_token}
 use Rattle.pyc_parse.specs.Height.{height, pieces_height, tail_height, max_height}
-use Rattle.pyc_parse.specs.Places.{is_colon, is_at}
-use Rattle.pyc_parse.specs.Well.{IsAsync, ArePieces, MayFollow, has_item}
+use Rattle.pyc_parse.specs.Places.{is_colon}
+use Rattle.pyc_parse.specs.Well.{IsAsync, ArePieces, has_item}
 use Rattle.pyc_parse.specs.WellLines.{is_condition, is_word_header, ends_without_comma, is_open_with, IsAlias, IsHeader}
 use Rattle.pyc_parse.specs.Statements.{Alias, alias_yield}
 use Rattle.pyc_parse.specs.Lines as line
@@ -23,7 +22,7 @@ use Rattle.pyc_parse.specs.Items as rule
 use Rattle.pyc_parse.specs.SimpleStatements.{alias}
 use Rattle.pyc_parse.specs.Headers as grammar
 use Rattle.pyc_parse.proofs.SoundTables.{never}
-use Rattle.pyc_parse.proofs.CompleteTools.{step, yes, no, same_as, apart, expected, name_expected, checked_holds}
+use Rattle.pyc_parse.proofs.CompleteTools.{step, yes, no, same_as, expected, name_expected, checked_holds}
 use Rattle.pyc_parse.proofs.CompleteTables.{ends, no_colon}
 use Rattle.pyc_parse.proofs.Complete.{Full, opens}
 use Rattle.pyc_parse.proofs.CompleteItems.{Halts, halts_as, after, tail_full}

@@ -1,5 +1,5 @@
 -- Each well-formed line is read back from its tokens.
-use Rattle.std.proofs.Common.{◌≡◌, refl, ap, sym, ◌∙◌, ℕ, zero, suc, ◌+◌, ◌≤◌, Bool, true, false, nat_le, if◌then◌else◌, List, [], ◌∷◌, ◌++◌, length, length-append, Option, None, Some, append_assoc, append-nil, arith}
+use Rattle.std.proofs.Common.{◌≡◌, refl, ap, sym, ◌∙◌, ℕ, zero, suc, ◌≤◌, Bool, true, false, if◌then◌else◌, List, [], ◌∷◌, ◌++◌, length, length-append, Option, None, Some, append-nil, arith}
 use Rattle.std.proofs.lemmas.Bool.{le-leb}
 use Rattle.pyc_lex.specs.declared.tokens.Arithmetic.TheVariants as op
 use Rattle.pyc_lex.specs.declared.tokens.Delimiter.TheVariants as delimiter
@@ -9,32 +9,31 @@ use Rattle.pyc_lex.specs.declared.tokens.Kind.TheVariants as kind
 use Rattle.pyc_lex.specs.declared.tokens.Token.{Token}
 use Rattle.pyc_parse.specs.declared.place.Place.TheVariants as place
 use Rattle.pyc_parse.specs.Tree.{Tree}
-use Rattle.pyc_parse.specs.Kinds.{kind_of, end_of_line}
+use Rattle.pyc_parse.specs.Kinds.{kind_of}
 use Rattle.pyc_parse.specs.Yield.{yield_of, tail_yield}
 use Rattle.pyc_parse.specs.Height.{height, max_height}
 use Rattle.pyc_parse.specs.Places.{begins}
-use Rattle.pyc_parse.specs.Targets.{is_target, is_single_target}
 use Rattle.pyc_parse.specs.Well.{is_yield, is_expression_list}
 use Rattle.pyc_parse.specs.WellLines.{is_word_statement, is_declaration, IsStatement, AreStatements, MayBeStatements, IsLine, IsWellLine}
 use Rattle.pyc_parse.specs.Statements.{Statement, Separated, no_item, last_item, item, separated_yield, statement_yield, statement_height, targets_yield}
 use Rattle.pyc_parse.specs.Statements as statement
 use Rattle.pyc_parse.specs.Lines as line
 use Rattle.pyc_parse.specs.Lines.{Header, Line, header_yield, line_yield, line_height, statements_height}
-use Rattle.pyc_parse.specs.Parser.{Outcome, Parser, take_one, expect}
+use Rattle.pyc_parse.specs.Parser.{Parser, take_one, expect}
+use Rattle.pyc_parse.specs.Expressions.{expression}
 use Rattle.pyc_parse.specs.SimpleStatements as simple
 use Rattle.pyc_parse.specs.Headers as grammar
 use Rattle.pyc_parse.proofs.SoundTables.{never}
-use Rattle.pyc_parse.proofs.CompleteTools.{step, yes, no, expected}
+use Rattle.pyc_parse.proofs.CompleteTools.{step, expected}
 use Rattle.pyc_parse.proofs.CompleteTables.{either}
 use Rattle.pyc_parse.proofs.Complete.{Full, in_front}
-use Rattle.pyc_parse.proofs.CompleteItems.{Halts, halts_as, after}
+use Rattle.pyc_parse.proofs.CompleteItems.{after}
 use Rattle.pyc_parse.proofs.CompleteLists.{list_begins}
 use Rattle.pyc_parse.proofs.CompleteNames.{how_many}
 use Rattle.pyc_parse.proofs.CompleteStatements.{yield_kind, target_list, single_list, simple_full}
 use Rattle.pyc_parse.proofs.CompleteHeaders.{Refuses, header_full}
 use Rattle.pyc_parse.proofs.CompleteExpressions.{expression_full}
 use Rattle.pyc_parse.proofs.CompleteRefused.{with_refuses}
-use Rattle.pyc_parse.specs.Expressions.{expression}
 
 -- ---- what a statement begins with
 

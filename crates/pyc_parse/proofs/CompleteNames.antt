@@ -1,25 +1,19 @@
 -- Lists of names, dotted names, aliases and the modules of imports are read back.
-use Rattle.std.proofs.Common.{◌≡◌, refl, ap, sym, ◌∙◌, ℕ, zero, suc, ◌+◌, ◌≤◌, ◌<◌, Bool, true, false, not, ◌||◌, ◌&&◌, if◌then◌else◌, List, [], ◌∷◌, ◌++◌, length, length-append, take, drop, Option, None, Some, take_while, append_assoc, append-nil, arith}
+use Rattle.std.proofs.Common.{◌≡◌, refl, ap, sym, ◌∙◌, ℕ, zero, suc, ◌+◌, ◌≤◌, Bool, true, false, not, ◌&&◌, if◌then◌else◌, List, [], ◌∷◌, ◌++◌, length, length-append, take, drop, Option, None, Some, take_while, append_assoc, append-nil, arith}
 use Rattle.std.proofs.Math.Seq.{take-append_seam, drop-append_seam}
 use Rattle.std.specs.List.{prefix_len}
-use Rattle.pyc_lex.specs.declared.tokens.Bracket.TheVariants as bracket
 use Rattle.pyc_lex.specs.declared.tokens.Delimiter.TheVariants as delimiter
 use Rattle.pyc_lex.specs.declared.tokens.Keyword.TheVariants as word
 use Rattle.pyc_lex.specs.declared.tokens.Kind.{Kind}
 use Rattle.pyc_lex.specs.declared.tokens.Kind.TheVariants as kind
 use Rattle.pyc_lex.specs.declared.tokens.Token.{Token}
-use Rattle.pyc_parse.specs.declared.place.Place.TheVariants as place
-use Rattle.pyc_parse.specs.Tree.{Tree, Perhaps, Tail}
-use Rattle.pyc_parse.specs.Tree as tree
-use Rattle.pyc_parse.specs.Kinds.{kind_of, same_kind, is_name, is_string, end_of_line}
-use Rattle.pyc_parse.specs.Levels.{binds}
-use Rattle.pyc_parse.specs.Yield.{yield_of, tail_yield, perhaps_yield, optional_token}
+use Rattle.pyc_parse.specs.Kinds.{kind_of, same_kind, is_name}
 use Rattle.pyc_parse.specs.WellLines.{is_dot, IsAlias, AreParts, IsDotted, AreDots, IsSourceOf, AreSeparated, IsImportedModule, IsImportedName}
-use Rattle.pyc_parse.specs.Statements.{Separated, no_item, last_item, item, Alias, Part, Dotted, Source, ImportedModule, ImportedName, alias_yield, parts_yield, dotted_yield, optional_path, module_yield, name_yield, separated_yield}
-use Rattle.pyc_parse.specs.Parser.{Outcome, Parser, take_one, expect, expect_name}
+use Rattle.pyc_parse.specs.Statements.{Separated, no_item, last_item, item, Alias, Part, Dotted, alias_yield, parts_yield, dotted_yield, optional_path, module_yield, name_yield, separated_yield}
+use Rattle.pyc_parse.specs.Parser.{Outcome, Parser, take_one, expect_name}
 use Rattle.pyc_parse.specs.SimpleStatements as grammar
 use Rattle.pyc_parse.proofs.SoundTables.{never}
-use Rattle.pyc_parse.proofs.CompleteTools.{step, yes, no, same_as, apart, expected, name_expected}
+use Rattle.pyc_parse.proofs.CompleteTools.{step, yes, no, same_as, apart, name_expected}
 
 -- ---- names with commas
 

@@ -14,27 +14,23 @@ use Rattle.pyc_parse.specs.Kinds.{kind_of, same_kind, is_string, begins_clause}
 use Rattle.pyc_parse.specs.Levels.{binds, level}
 use Rattle.pyc_parse.specs.Yield.{yield_of, pieces_yield}
 use Rattle.pyc_parse.specs.Height.{height, pieces_height, max_height}
-use Rattle.pyc_parse.specs.Targets.{is_starred}
-use Rattle.pyc_parse.specs.Places.{is_at, is_colon, is_item, fits}
+use Rattle.pyc_parse.specs.Places.{is_at, is_colon, fits}
 use Rattle.pyc_parse.specs.Well.{IsWell, ArePieces, is_yield, has_item}
 use Rattle.pyc_parse.specs.WellLines.{has_no_star, is_enclosed_item, is_open_with}
-use Rattle.pyc_parse.specs.Lines as line
 use Rattle.pyc_parse.specs.Lines.{Header}
 use Rattle.pyc_parse.specs.Parser.{Outcome, Parser, and_then, take_one, expect, made}
 use Rattle.pyc_parse.specs.Items as rule
 use Rattle.pyc_parse.specs.Expressions as grammar
 use Rattle.pyc_parse.specs.Expressions.{expression}
 use Rattle.pyc_parse.specs.Headers as header
-use Rattle.pyc_parse.proofs.Sound.{AreListed}
 use Rattle.pyc_parse.proofs.SoundTables.{never, is_colon_is}
 use Rattle.pyc_parse.proofs.SoundTools.{refused, bind, after_expected, after_made, at_level, either_second}
 use Rattle.pyc_parse.proofs.SoundItems.{after_item}
 use Rattle.pyc_parse.proofs.SoundLists.{is_first, listed_sound}
 use Rattle.pyc_parse.proofs.SoundExpressions.{expression_sound}
-use Rattle.pyc_parse.proofs.CompleteTools.{step, no, apart}
+use Rattle.pyc_parse.proofs.CompleteTools.{step, no}
 use Rattle.pyc_parse.proofs.CompleteTables.{ends}
 use Rattle.pyc_parse.proofs.Complete.{Full}
-use Rattle.pyc_parse.proofs.CompleteItems.{both_first, both_second}
 use Rattle.pyc_parse.proofs.CompleteLists.{Listed, listed_full, last_full, one_item}
 use Rattle.pyc_parse.proofs.CompleteBrackets.{parentheses_filled}
 use Rattle.pyc_parse.proofs.CompleteExpressions.{operand, expr_full, expression_full}

@@ -1,5 +1,5 @@
 -- Each well-formed simple statement is read back from its tokens, where the statement ends.
-use Rattle.std.proofs.Common.{◌≡◌, refl, ap, sym, ◌∙◌, ℕ, zero, suc, ◌+◌, ◌≤◌, ◌<◌, Bool, true, false, not, ◌||◌, ◌&&◌, if◌then◌else◌, List, [], ◌∷◌, ◌++◌, length, length-append, Option, None, Some, append_assoc, append-nil, arith}
+use Rattle.std.proofs.Common.{◌≡◌, refl, ap, ◌∙◌, ℕ, zero, suc, ◌≤◌, ◌<◌, Bool, true, false, if◌then◌else◌, List, [], ◌∷◌, ◌++◌, length, length-append, Option, None, Some, append_assoc, arith}
 use Rattle.pyc_lex.specs.declared.tokens.Bracket.TheVariants as bracket
 use Rattle.pyc_lex.specs.declared.tokens.Delimiter.TheVariants as delimiter
 use Rattle.pyc_lex.specs.declared.tokens.Keyword.TheVariants as word
@@ -16,7 +16,7 @@ use Rattle.pyc_parse.specs.Height.{height, tail_height, perhaps_height, max_heig
 use Rattle.pyc_parse.specs.Places.{is_colon, is_at, begins}
 use Rattle.pyc_parse.specs.Targets.{is_target, is_single_target}
 use Rattle.pyc_parse.specs.Well.{IsWell, MayFollow, is_yield, is_expression_list}
-use Rattle.pyc_parse.specs.WellLines.{is_value, is_word_statement, is_declaration, is_augmented, AreSeparated, IsSourceOf, AreImportedNames, IsImportedModule, IsImportedName, AreAssigned, IsStatement}
+use Rattle.pyc_parse.specs.WellLines.{is_value, is_word_statement, is_declaration, is_augmented, AreImportedNames, IsImportedModule, IsImportedName, AreAssigned, IsStatement}
 use Rattle.pyc_parse.specs.Statements.{Statement, Separated, no_item, last_item, item, Source, Assigned, ImportedModule, ImportedName, optional_path, module_yield, name_yield, targets_yield, targets_height, separated_yield, statement_yield, statement_height}
 use Rattle.pyc_parse.specs.Statements as statement
 use Rattle.pyc_parse.specs.Parser.{Outcome, Parser, take_one, expect, expect_name}
@@ -26,7 +26,7 @@ use Rattle.pyc_parse.proofs.SoundTables.{never}
 use Rattle.pyc_parse.proofs.SoundTools.{at_level, either_second}
 use Rattle.pyc_parse.proofs.CompleteTools.{step, yes, no, same_as, apart, expected}
 use Rattle.pyc_parse.proofs.CompleteTables.{ends, either}
-use Rattle.pyc_parse.proofs.Complete.{Full, opens}
+use Rattle.pyc_parse.proofs.Complete.{Full}
 use Rattle.pyc_parse.proofs.CompleteItems.{Halts, halts_as, after, tail_full}
 use Rattle.pyc_parse.proofs.CompleteLists.{expressions_full, targets_full, yielded_full, list_begins}
 use Rattle.pyc_parse.proofs.CompleteNames.{ends_names, names_full, names_begin, modules_named, names_named, tokens_named, source_parts}
