@@ -40,3 +40,4 @@ pub mod CompleteRefused
 pub mod BlockLemmas
 pub mod BlockSteps
 pub mod BlockViewLemmas
+pub mod ParseLaws
