@@ -21,3 +21,4 @@ pub mod SingleTargets
 pub mod BlockLemmas
 pub mod BlockSteps
 pub mod BlockViewLemmas
+pub mod SoundBlocks

@@ -19,8 +19,9 @@ mod target;
 mod tokens;
 mod tree;
 
-pub use block::{After, CompoundClause, Decorator, Form, Next, Placed, Stmt, Suite};
+pub use block::{CompoundClause, Decorator, Placed, Stmt, Suite};
 pub use blocks::read_blocks;
+pub use error::BlockFault;
 pub use line::{Header, Line};
 pub use place::{Place, Sort};
 pub use statement::{
