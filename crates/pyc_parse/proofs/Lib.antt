@@ -41,3 +41,4 @@ pub mod BlockLemmas
 pub mod BlockSteps
 pub mod BlockViewLemmas
 pub mod ParseLaws
+pub mod SoundBlocks

@@ -199,6 +199,20 @@ decorators (suc n) indent = λ ps.
 unfoldable pub all_decorators : ℕ → Parser (List Decorator)
 all_decorators indent = λ ps. decorators (length ps) indent ps
 
+-- a clause before those that follow it
+abbrev pub clauses_after : (After → Parser Clauses) → Option (Clause × After) → Parser Clauses
+clauses_after more None = pure no_clause
+clauses_after more (Some found) = do
+  rest ← more found.1
+  pure (another found.0 rest)
+
+-- a statement before those that follow it
+abbrev pub statements_after : Parser Stmts → Option Stmt → Parser Stmts
+statements_after more None = pure no_statement
+statements_after more (Some found) = do
+  rest ← more
+  pure (statement found rest)
+
 -- over what reads the block at an indent
 module _ (self : ℕ → Parser Stmts) where
   abbrev pub suite_under : ℕ → Option ℕ → Parser Suite
@@ -232,13 +246,6 @@ module _ (self : ℕ → Parser Stmts) where
 
   unfoldable pub next_clause : After → ℕ → Parser (Option (Clause × After))
   next_clause so indent = λ ps. clause_by indent (follower so indent ps) ps
-
-  -- a clause before those that follow it
-  abbrev pub clauses_after : (After → Parser Clauses) → Option (Clause × After) → Parser Clauses
-  clauses_after more None = pure no_clause
-  clauses_after more (Some found) = do
-    rest ← more found.1
-    pure (another found.0 rest)
 
   -- the clauses that follow; the first number bounds the turns
   unfoldable pub clauses : ℕ → ℕ → After → Parser Clauses
@@ -283,13 +290,6 @@ module _ (self : ℕ → Parser Stmts) where
 
   unfoldable pub next_statement : ℕ → Parser (Option Stmt)
   next_statement indent = λ ps. statement_by indent (next_of indent ps) ps
-
-  -- a statement before those that follow it
-  abbrev pub statements_after : Parser Stmts → Option Stmt → Parser Stmts
-  statements_after more None = pure no_statement
-  statements_after more (Some found) = do
-    rest ← more
-    pure (statement found rest)
 
   -- the statements of a block; the first number bounds the turns
   unfoldable pub statements : ℕ → ℕ → Parser Stmts

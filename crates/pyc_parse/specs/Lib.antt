@@ -27,3 +27,4 @@ pub mod Blocks
 pub mod BlockView
 pub mod BlockNests
 pub mod BlockReads
+pub mod BlockYield

@@ -26,6 +26,7 @@ mod tree;
 
 pub use block::{CompoundClause, Decorator, Placed, Stmt, Suite};
 pub use blocks::read_blocks;
+pub use error::BlockFault;
 pub use fault::{ParseFault, What};
 pub use line::{Header, Line};
 pub use parse::parse_line;

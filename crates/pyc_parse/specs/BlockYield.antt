@@ -1,0 +1,36 @@
+-- The lines that statements hold, in text order, each with the level at which it stands.
+use Rattle.std.specs.Prelude.{ℕ, ◌+◌, List, [], ◌∷◌, ◌++◌}
+use Rattle.pyc_lex.specs.declared.tokens.Token.{Token}
+use Rattle.pyc_parse.specs.BlockTrees.{Decorator, Stmt, simple, compound, Clause, clause, Clauses, no_clause, another, Suite, inline, block, Stmts, no_statement, statement}
+use Rattle.pyc_parse.specs.Lines.{Header, Line}
+use Rattle.pyc_parse.specs.Lines as line
+use Rattle.pyc_parse.specs.Statements.{no_item}
+
+-- a line and its level
+abbrev pub Level : Type 0
+Level = ℕ × Line
+
+abbrev pub marks_yield : ℕ → List Decorator → List Level
+marks_yield indent [] = []
+marks_yield indent (d ∷ ds) = (indent, line.decorator d.mark d.value) ∷ marks_yield indent ds
+
+unfoldable mutual
+  pub stmt_yield : ℕ → Stmt → List Level
+  stmt_yield indent (simple found) = (indent, line.simple found) ∷ []
+  stmt_yield indent (compound marks first more) = marks_yield indent marks ++ (clause_yield indent first ++ clauses_yield indent more)
+
+  pub clause_yield : ℕ → Clause → List Level
+  clause_yield indent (clause h colon body) = suite_yield indent h colon body
+
+  -- a header and what it heads
+  pub suite_yield : ℕ → Header → Token → Suite → List Level
+  suite_yield indent h colon (inline found) = (indent, line.header h colon found) ∷ []
+  suite_yield indent h colon (block inner) = (indent, line.header h colon no_item) ∷ stmts_yield (indent + 1) inner
+
+  pub clauses_yield : ℕ → Clauses → List Level
+  clauses_yield indent no_clause = []
+  clauses_yield indent (another c cs) = clause_yield indent c ++ clauses_yield indent cs
+
+  pub stmts_yield : ℕ → Stmts → List Level
+  stmts_yield indent no_statement = []
+  stmts_yield indent (statement s ss) = stmt_yield indent s ++ stmts_yield indent ss
