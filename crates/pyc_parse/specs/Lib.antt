@@ -22,3 +22,8 @@ pub mod Reads
 pub mod Nests
 pub mod Parted
 pub mod Turns
+pub mod BlockTrees
+pub mod Blocks
+pub mod BlockView
+pub mod BlockNests
+pub mod BlockReads

@@ -1,6 +1,8 @@
 //! The trees of the lines of a Python source, and its blocks.
 #![tactic(auto)]
 
+mod block;
+mod blocks;
 mod built;
 mod built_line;
 mod built_statement;
@@ -22,6 +24,8 @@ mod tests;
 mod tokens;
 mod tree;
 
+pub use block::{CompoundClause, Decorator, Placed, Stmt, Suite};
+pub use blocks::read_blocks;
 pub use fault::{ParseFault, What};
 pub use line::{Header, Line};
 pub use parse::parse_line;

@@ -1,11 +1,14 @@
 //! The tree of a logical line.
 
-ghost use Rattle.std.specs.Prelude.{◌≡◌, ◌≢◌, None, Some, IfOk, IfErr};
+ghost use Rattle.std.specs.Prelude.{◌≡◌, ◌≢◌, ◌≤◌, None, Some, IfOk, IfErr};
 ghost use Rattle.pyc_parse.specs.Expressions.{expression};
 ghost use Rattle.pyc_parse.specs.Headers.{line_tree, complete, any_line};
 ghost use Rattle.pyc_parse.specs.LineFault.{fault_of, number_of};
+ghost use Rattle.pyc_parse.specs.Lines as spec;
+ghost use Rattle.pyc_parse.specs.Lines.{line_yield, line_height};
 ghost use Rattle.pyc_parse.specs.LineView.{line_of};
 ghost use Rattle.pyc_parse.specs.Reads.{Answers};
+ghost use Rattle.pyc_parse.specs.WellLines.{IsWellLine};
 
 use crate::built::MAX_HEIGHT;
 use crate::error::ParseError;
@@ -29,12 +32,18 @@ fn line_in(alloc: Global, tokens: &[Token]) -> Result<Line, ParseError>
     grammar.line(&mut Tokens { rest: tokens })
 }
 
-/// The tree of a logical line, or what is wrong with it, told on the line of its first token. It is told to be outside the
-/// profile where it has `:=`, begins with `from` and ends with `import *`, begins with `def` or `async def` and has `/`, or
+/// The tree of a logical line: the only one that is well-formed, has just the line's tokens, and is at most 1,000 nodes
+/// high. Where there is none, what is wrong with the line, told where its first token stands: it is outside the profile
+/// where it has `:=`, begins with `from` and ends with `import *`, begins with `def` or `async def` and has `/`, or
 /// begins with the name `match`, `case` or `type`. `Memory` comes only from a growth that was refused.
 pub fn parse_line(alloc: Global, tokens: &[Token]) -> Result<Line, ParseFault>
     ensures tree { IfOk result (λ line. line_tree tokens.now ≡ Some (line_of line)) }
+    ensures well { IfOk result (λ line. IsWellLine (line_of line)) }
+    ensures tokens { IfOk result (λ line. line_yield (line_of line) ≡ tokens.now) }
+    ensures low { IfOk result (λ line. line_height (line_of line) ≤ 1000) }
+    ensures complete { IfOk result (λ line. (other : spec.Line) → IsWellLine other → line_yield other ≡ tokens.now → line_of line ≡ other) }
     ensures refused { IfErr result (λ fault. fault.what ≢ What.Memory → line_tree tokens.now ≡ None) }
+    ensures none { IfErr result (λ fault. fault.what ≢ What.Memory → (other : spec.Line) → IsWellLine other → line_yield other ≡ tokens.now → ⊥) }
     ensures what { IfErr result (λ fault. fault.what ≢ What.Memory → fault.what ≡ fault_of tokens.now) }
     ensures place { IfErr result (λ fault. fault.line ≡ number_of tokens.now) }
 {

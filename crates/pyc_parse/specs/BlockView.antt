@@ -1,0 +1,78 @@
+-- The plain lines and statements that those of the code are.
+use Rattle.std.specs.Prelude.{List, [], ◌∷◌, Option, None, Some, map}
+use Rattle.std.specs.Global.{Vec}
+use Rattle.pyc_parse.specs.declared.block.After.{After}
+use Rattle.pyc_parse.specs.declared.block.CompoundClause.{CompoundClause as ClauseOf}
+use Rattle.pyc_parse.specs.declared.block.Decorator.{Decorator as DecoratorOf}
+use Rattle.pyc_parse.specs.declared.block.Placed.{Placed as PlacedOf}
+use Rattle.pyc_parse.specs.declared.block.Stmt.{Stmt as StmtOf, Row_of-CompoundClause, end_of-CompoundClause, more_of-CompoundClause}
+use Rattle.pyc_parse.specs.declared.block.Stmt.TheVariants as s
+use Rattle.pyc_parse.specs.declared.block.Suite.{Suite as SuiteOf, Row_of-Stmt, end_of-Stmt, more_of-Stmt}
+use Rattle.pyc_parse.specs.declared.block.Suite.TheVariants as u
+use Rattle.pyc_parse.specs.declared.blocks.Lines.{Lines}
+use Rattle.pyc_parse.specs.BlockTrees.{Decorator, Stmt, Clause, Clauses, Suite, Stmts}
+use Rattle.pyc_parse.specs.BlockTrees as plain
+use Rattle.pyc_parse.specs.Blocks.{Placed}
+use Rattle.pyc_parse.specs.LineView.{header_of, line_of}
+use Rattle.pyc_parse.specs.StatementView.{separated_of, statement_of}
+use Rattle.pyc_parse.specs.View.{tree_of}
+
+-- the line of one of the code
+abbrev pub placed_of : PlacedOf → Placed
+placed_of p = record { indent = p.indent; number = p.number; line = line_of p.line }
+
+-- the lines that are left to read
+abbrev pub lines_of : Lines → List Placed
+lines_of lines = map placed_of lines.rest.items
+
+abbrev pub decorator_of : DecoratorOf → Decorator
+decorator_of d = record { mark = d.mark; value = tree_of d.value.value }
+
+abbrev pub decorators_of : Vec DecoratorOf → List Decorator
+decorators_of marks = map decorator_of marks.items
+
+unfoldable mutual
+  -- the statement of one of the code
+  pub stmt_of : StmtOf → Stmt
+  stmt_of (s.Simple found) = plain.simple (separated_of statement_of found)
+  stmt_of (s.Compound' marks h colon body _ row) = plain.compound (decorators_of marks) (plain.clause (header_of h) colon (suite_of body)) (clauses_row row)
+
+  -- what a header heads
+  pub suite_of : SuiteOf → Suite
+  suite_of (u.Inline found) = plain.inline (separated_of statement_of found)
+  suite_of (u.Block' _ row) = plain.block (stmts_row row)
+
+  pub clauses_row : {n : _} → Row_of-CompoundClause n → Clauses
+  clauses_row end_of-CompoundClause = plain.no_clause
+  clauses_row (more_of-CompoundClause h colon body rest) = plain.another (plain.clause (header_of h) colon (suite_of body)) (clauses_row rest)
+
+  pub stmts_row : {n : _} → Row_of-Stmt n → Stmts
+  stmts_row end_of-Stmt = plain.no_statement
+  stmts_row (more_of-Stmt found rest) = plain.statement (stmt_of found) (stmts_row rest)
+
+-- ---- the same over lists, as contracts see a `Vec`
+
+-- a clause
+abbrev pub clause_of : ClauseOf → Clause
+clause_of c = plain.clause (header_of c.header) c.colon (suite_of c.suite)
+
+-- a clause, and what it is to those after it
+abbrev pub follower_of : Option (ClauseOf × After) → Option (Clause × After)
+follower_of None = None
+follower_of (Some found) = Some (clause_of found.0, found.1)
+
+-- clauses before others
+abbrev pub clauses_before : List ClauseOf → Clauses → Clauses
+clauses_before [] end = end
+clauses_before (c ∷ cs) end = plain.another (clause_of c) (clauses_before cs end)
+
+abbrev pub clauses_of : Vec ClauseOf → Clauses
+clauses_of found = clauses_before found.items plain.no_clause
+
+-- statements before others
+abbrev pub stmts_before : List StmtOf → Stmts → Stmts
+stmts_before [] end = end
+stmts_before (x ∷ xs) end = plain.statement (stmt_of x) (stmts_before xs end)
+
+abbrev pub stmts_of : Vec StmtOf → Stmts
+stmts_of found = stmts_before found.items plain.no_statement
