@@ -4,7 +4,7 @@ mod lines;
 mod refused;
 mod trees;
 
-use crate::{Expr, Line, Statement, What, parse_line};
+use crate::{Expr, Line, Separated, Statement, What, parse_line};
 use std::alloc::Global;
 use std::test::Fail;
 
@@ -20,13 +20,22 @@ fn parsed(alloc: Global, source: &str) -> Result<Result<Line, What>, Fail> {
     })
 }
 
+/// The only statement of a line.
+fn statement(alloc: Global, source: &str) -> Result<Statement, Fail> {
+    let Ok(line) = parsed(alloc, source)? else {
+        return Err("no tree".into());
+    };
+    let Line::Simple(statements) = line else {
+        return Err("no simple line".into());
+    };
+    let Separated { each: _, last } = statements;
+    Ok(last.ok_or("no statement")?)
+}
+
 /// The expression that a line is.
 fn expression(alloc: Global, source: &str) -> Result<Expr, Fail> {
-    match parsed(alloc, source)? {
-        Ok(Line::Simple(statements)) => match statements.last {
-            Some(Statement::Expression(found)) => Ok(Box::into_inner(found)),
-            _ => Err("no expression".into()),
-        },
-        _ => Err("no simple line".into()),
+    match statement(alloc, source)? {
+        Statement::Expression(found) => Ok(Box::into_inner(found)),
+        _ => Err("no expression".into()),
     }
 }

@@ -1,6 +1,6 @@
 //! The trees of lines.
 
-use super::{expression, parsed};
+use super::{expression, parsed, statement};
 use crate::{Expr, Header, Line, Statement};
 use std::test::Fail;
 
@@ -68,11 +68,13 @@ fn parentheses_are_nodes(rt: HostRuntime) -> Result<(), Fail> {
 
 #[test]
 fn the_parentheses_of_a_with_are_its_own(rt: HostRuntime) -> Result<(), Fail> {
-    let Ok(Line::Header(Header::WithEnclosed(_, _, _, items, _), _, _)) = parsed(
-        rt.alloc(),
-        "with (a, b): pass",
-    )?
-    else {
+    let Ok(line) = parsed(rt.alloc(), "with (a, b): pass")? else {
+        return Err("no tree".into());
+    };
+    let Line::Header(header, _, _) = &line else {
+        return Err("no header".into());
+    };
+    let Header::WithEnclosed(_, _, _, items, _) = header else {
         return Err("no with".into());
     };
     assert_eq!(rt; items.each.len(), 1);
@@ -93,10 +95,7 @@ fn a_lambda_takes_all_that_follows(rt: HostRuntime) -> Result<(), Fail> {
 
 #[test]
 fn a_starred_target(rt: HostRuntime) -> Result<(), Fail> {
-    let Ok(Line::Simple(statements)) = parsed(rt.alloc(), "*a, b = c")? else {
-        return Err("no simple line".into());
-    };
-    let Some(Statement::Assign(targets, value)) = statements.last else {
+    let Statement::Assign(targets, value) = statement(rt.alloc(), "*a, b = c")? else {
         return Err("no assignment".into());
     };
     assert!(rt; matches!(&*value, Expr::Name(_)));
