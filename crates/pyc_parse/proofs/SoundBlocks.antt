@@ -167,13 +167,13 @@ decorators_ok zero indent ps marks rest e =
 decorators_ok (suc n) indent ps marks rest e =
     either _ _ (is_decorator (next_of indent ps)) (marks, rest) e
     (λ some held.
-      bind (decorator_line ps) _ (marks, rest) held (λ d mid first then_more.
-      bind (decorators n indent mid) _ (marks, rest) then_more (λ more left read made.
-      parts (d ∷ more) marks left rest made (λ same end.
-      subst (λ x. IsYield ps (marks_yield indent x) rest) same
-      (here indent (next_of indent ps) ps refl (decorator_stands (next_of indent ps) some) (λ p later ps_is at.
-      join ps mid rest ((indent, line.decorator d.mark d.value) ∷ []) (marks_yield indent more) (mark_ok indent p later ps d mid ps_is at first)
-      (decorators_ok n indent mid more rest (read ∙ ap {B = Outcome (List Decorator)} (λ qs. Ok (more, qs)) end))))))))
+    bind (decorator_line ps) _ (marks, rest) held (λ d mid first then_more.
+    bind (decorators n indent mid) _ (marks, rest) then_more (λ more left read made.
+    parts (d ∷ more) marks left rest made (λ same end.
+    subst (λ x. IsYield ps (marks_yield indent x) rest) same
+    (here indent (next_of indent ps) ps refl (decorator_stands (next_of indent ps) some) (λ p later ps_is at.
+    join ps mid rest ((indent, line.decorator d.mark d.value) ∷ []) (marks_yield indent more) (mark_ok indent p later ps d mid ps_is at first)
+    (decorators_ok n indent mid more rest (read ∙ ap {B = Outcome (List Decorator)} (λ qs. Ok (more, qs)) end))))))))
     (λ none over. parts [] marks ps rest over (λ same left. subst (λ x. IsYield ps (marks_yield indent x) rest) same (ap (map level) left)))
 
 -- ---- over what reads the block at an indent
@@ -285,7 +285,7 @@ module _ (S : ℕ → Parser Stmts) (holds : Holds S) where
   definition_ok number indent marks ps s rest e =
       either _ _ (is_definition (next_of indent ps)) (s, rest) e
       (λ some held. here indent (next_of indent ps) ps refl (definition_stands (next_of indent ps) some) (λ p later ps_is at.
-        compound_ok indent after.Nothing marks p later ps s rest ps_is at held))
+      compound_ok indent after.Nothing marks p later ps s rest ps_is at held))
       (λ none over. refused number (s, rest) over)
 
   decorated_ok : (indent : ℕ) (ps : List Placed) (s : Stmt) (rest : List Placed) → decorated S indent ps ≡ Ok (s, rest) → IsYield ps (stmt_yield indent s) rest
