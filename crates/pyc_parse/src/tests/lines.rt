@@ -136,18 +136,19 @@ fn repeated(rt: &HostRuntime, text: &str, count: usize, last: &str) -> Result<St
 
 #[test]
 fn trees_are_at_most_1000_nodes_high(rt: HostRuntime) -> Result<(), Fail> {
-    // the line, the assignment and the number are one node each
-    for (count, want) in [
-        (0, None),
-        (900, None),
-        (997, None),
-        (998, Some(What::Line)),
-        (2000, Some(What::Line)),
-    ] {
-        let mut source = String::new(rt.alloc());
-        source.push_str("x = ")?;
-        source.push_str(repeated(&rt, "-", count, "1")?.as_str())?;
-        assert_eq!(rt; parsed(rt.alloc(), source.as_str())?.err(), want);
+    // the line, the assignment and the last operand are one node each
+    for unit in ["-", "not ", "2 ** ", "lambda: ", "a if b else "] {
+        for (count, want) in [
+            (900, None),
+            (997, None),
+            (998, Some(What::Line)),
+            (2000, Some(What::Line)),
+        ] {
+            let mut source = String::new(rt.alloc());
+            source.push_str("x = ")?;
+            source.push_str(repeated(&rt, unit, count, "1")?.as_str())?;
+            assert_eq!(rt; parsed(rt.alloc(), source.as_str())?.err(), want);
+        }
     }
     Ok(())
 }
