@@ -1,5 +1,5 @@
 -- The statements that are read hold the lines that were taken, in text order, each at its level.
-use Rattle.std.proofs.Common.{◌≡◌, refl, ap, sym, ◌∙◌, subst, ℕ, zero, suc, ◌+◌, Bool, true, false, nat_lt, ◌==◌, if◌then◌else◌, List, [], ◌∷◌, ◌++◌, map, Option, None, Some, Result, Ok, Err, append_assoc, length, length-append, ◌≤◌, ◌<◌, arith}
+use Rattle.std.proofs.Common.{◌≡◌, refl, ap, sym, ◌∙◌, subst, ℕ, zero, suc, ◌+◌, Bool, true, false, nat_lt, ◌==◌, if◌then◌else◌, List, [], ◌∷◌, ◌++◌, map, Option, None, Some, Ok, Err, append_assoc, length, length-append, ◌≤◌, ◌<◌, arith}
 use Rattle.std.proofs.lemmas.List.{append-nil, length-map}
 use Rattle.std.proofs.lemmas.Bool.{ltb-true, ltb-false, eqb-true, false≢true}
 use Rattle.pyc_lex.specs.declared.tokens.Token.{Token}
@@ -11,7 +11,7 @@ use Rattle.pyc_parse.specs.declared.block.Next.{Next}
 use Rattle.pyc_parse.specs.declared.block.Next.TheVariants as next
 use Rattle.pyc_parse.specs.BlockTrees.{Decorator, Stmt, simple, compound, Clause, clause, Clauses, no_clause, another, Suite, inline, block, Stmts, no_statement, statement}
 use Rattle.pyc_parse.specs.BlockYield.{Level, marks_yield, stmt_yield, clause_yield, suite_yield, clauses_yield, stmts_yield}
-use Rattle.pyc_parse.specs.Blocks.{Placed, Outcome, Parser, and_then, pure, fault, take_one, form_of, handled, opening, next_of, beginning, follower, line_follows, under, number_of, is_none, is_decorator, is_definition, simple_line, statements_of, decorator_line, decorator_of, decorators, all_decorators, suite, suite_under, clause_of, one_clause, clause_by, next_clause, clauses_after, clauses, all_clauses, compound_statement, definition, decorated, statement_by, next_statement, statements_after, statements, all_statements, block_at, module_of, blocks}
+use Rattle.pyc_parse.specs.Blocks.{Placed, Outcome, Parser, and_then, pure, take_one, form_of, handled, opening, next_of, beginning, follower, line_follows, under, number_of, is_decorator, is_definition, simple_line, statements_of, decorator_line, decorator_of, decorators, all_decorators, suite, suite_under, clause_of, one_clause, clause_by, next_clause, clauses_after, clauses, all_clauses, compound_statement, definition, decorated, statement_by, next_statement, statements_after, statements, all_statements, block_at, module_of, blocks}
 use Rattle.pyc_parse.specs.Lines.{Header, Line}
 use Rattle.pyc_parse.specs.Lines as line
 use Rattle.pyc_parse.specs.Statements.{Statement, Separated, no_item, last_item, item}
@@ -170,13 +170,13 @@ decorators_ok zero indent ps marks rest e =
 decorators_ok (suc n) indent ps marks rest e =
     either _ _ (is_decorator (next_of indent ps)) (marks, rest) e
     (λ some held.
-      bind (decorator_line ps) _ (marks, rest) held (λ d mid first then_more.
-      bind (decorators n indent mid) _ (marks, rest) then_more (λ more left read made.
-      parts (d ∷ more) marks left rest made (λ same end.
-      subst (λ x. IsYield ps (marks_yield indent x) rest) same
-      (here indent (next_of indent ps) ps refl (decorator_stands (next_of indent ps) some) (λ p later ps_is at.
-      join ps mid rest ((indent, line.decorator d.mark d.value) ∷ []) (marks_yield indent more) (mark_ok indent p later ps d mid ps_is at first)
-      (decorators_ok n indent mid more rest (read ∙ ap {B = Outcome (List Decorator)} (λ qs. Ok (more, qs)) end))))))))
+    bind (decorator_line ps) _ (marks, rest) held (λ d mid first then_more.
+    bind (decorators n indent mid) _ (marks, rest) then_more (λ more left read made.
+    parts (d ∷ more) marks left rest made (λ same end.
+    subst (λ x. IsYield ps (marks_yield indent x) rest) same
+    (here indent (next_of indent ps) ps refl (decorator_stands (next_of indent ps) some) (λ p later ps_is at.
+    join ps mid rest ((indent, line.decorator d.mark d.value) ∷ []) (marks_yield indent more) (mark_ok indent p later ps d mid ps_is at first)
+    (decorators_ok n indent mid more rest (read ∙ ap {B = Outcome (List Decorator)} (λ qs. Ok (more, qs)) end))))))))
     (λ none over. parts [] marks ps rest over (λ same left. subst (λ x. IsYield ps (marks_yield indent x) rest) same (ap (map level) left)))
 
 -- ---- over what reads the block at an indent
@@ -288,7 +288,7 @@ module _ (S : ℕ → Parser Stmts) (holds : Holds S) where
   definition_ok number indent marks ps s rest e =
       either _ _ (is_definition (next_of indent ps)) (s, rest) e
       (λ some held. here indent (next_of indent ps) ps refl (definition_stands (next_of indent ps) some) (λ p later ps_is at.
-        compound_ok indent after.Nothing marks p later ps s rest ps_is at held))
+      compound_ok indent after.Nothing marks p later ps s rest ps_is at held))
       (λ none over. refused number (s, rest) over)
 
   decorated_ok : (indent : ℕ) (ps : List Placed) (s : Stmt) (rest : List Placed) → decorated S indent ps ≡ Ok (s, rest) → IsYield ps (stmt_yield indent s) rest

@@ -49,11 +49,7 @@ fn decorator_line(lines: &mut Lines) -> Result<Decorator, BlockFault>
 }
 
 /// The decorators of a row.
-fn decorators(
-    alloc: Global,
-    lines: &mut Lines,
-    indent: usize,
-) -> Result<Vec<Decorator>, BlockFault>
+fn decorators(alloc: Global, lines: &mut Lines, indent: usize) -> Result<Vec<Decorator>, BlockFault>
     ensures { Reads decorators_of (spec.all_decorators indent (lines_of lines.old)) result (lines_of lines.new) }
 {
     let mut found = Vec::new(alloc);
@@ -228,11 +224,7 @@ impl<F: Fn(Global, &mut Lines, usize, usize) -> Result<Vec<Stmt>, BlockFault>> R
 
     /// The statement that the next line begins, or none where the block ends.
     #[tactic(auto, unfolding(crate::specs::Blocks::next_statement))]
-    fn next_statement(
-        &self,
-        lines: &mut Lines,
-        indent: usize,
-    ) -> Result<Option<Stmt>, BlockFault>
+    fn next_statement(&self, lines: &mut Lines, indent: usize) -> Result<Option<Stmt>, BlockFault>
         requires { Nests self.now.depth (F.pre self.now.block) (F.post self.now.block) }
         ensures { Reads (option_map stmt_of) (spec.next_statement (spec.block_at self.now.depth) indent (lines_of lines.old)) result (lines_of lines.new) }
     {
