@@ -1,5 +1,5 @@
 -- Lemmas on the lines of blocks.
-use Rattle.std.proofs.Common.{◌≡◌, refl, ap, ℕ, suc, ◌-◌, ◌≤◌, length, List, [], ◌∷◌, Bool, false, Err, arith}
+use Rattle.std.proofs.Common.{◌≡◌, refl, ap, ℕ, suc, ◌-◌, ◌≤◌, length, List, [], ◌∷◌, false, Err, arith}
 use Rattle.pyc_parse.specs.declared.statement.Item.{Item}
 use Rattle.pyc_parse.specs.declared.statement.Statement.{Statement as StatementOf}
 use Rattle.pyc_parse.specs.Blocks.{Placed, is_none, number_of, all_statements, block_at}

@@ -1,5 +1,5 @@
 -- Turns of the loops over decorators, clauses and statements.
-use Rattle.std.proofs.Common.{◌≡◌, ℕ, suc, ◌+◌, ◌-◌, ◌<◌, ◌≤◌, refl, ap, sym, subst, ◌∙◌, arith, Bool, true, false, List, [], ◌∷◌, ◌++◌, Option, Some, None, Result, Ok, Err, IsErrAnd, map, option_map, append_assoc}
+use Rattle.std.proofs.Common.{◌≡◌, ℕ, suc, ◌+◌, ◌-◌, ◌<◌, ◌≤◌, refl, ap, sym, subst, ◌∙◌, arith, true, false, List, [], ◌∷◌, ◌++◌, Option, Some, None, Result, Ok, Err, IsErrAnd, map, option_map, append_assoc}
 use Rattle.std.proofs.lemmas.List.{map_push, append-nil}
 use Rattle.pyc_parse.specs.declared.block.After.{After}
 use Rattle.pyc_parse.specs.declared.block.CompoundClause.{CompoundClause as ClauseOf}
@@ -7,7 +7,7 @@ use Rattle.pyc_parse.specs.declared.block.Decorator.{Decorator as DecoratorOf}
 use Rattle.pyc_parse.specs.declared.block.Stmt.{Stmt as StmtOf}
 use Rattle.pyc_parse.specs.declared.error.BlockFault.{BlockFault}
 use Rattle.pyc_parse.specs.declared.error.BlockFault.TheVariants as fault
-use Rattle.pyc_parse.specs.BlockTrees.{Decorator, Stmt, Clause, Clauses, no_clause, another, Stmts, no_statement, statement}
+use Rattle.pyc_parse.specs.BlockTrees.{Decorator, Clauses, no_clause, another, Stmts, no_statement, statement}
 use Rattle.pyc_parse.specs.Blocks.{Placed, Outcome, Parser, and_then, pure, next_clause, clauses, next_statement, statements, next_of, is_decorator, decorator_line, decorators}
 use Rattle.pyc_parse.specs.BlockReads.{Reads}
 use Rattle.pyc_parse.specs.BlockView.{clause_of, follower_of, clauses_before, stmt_of, stmts_before, decorator_of}

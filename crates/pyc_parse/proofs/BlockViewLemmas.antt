@@ -1,5 +1,5 @@
 -- What each constructor of blocks of the code is as a plain tree.
-use Rattle.std.proofs.Common.{◌≡◌, refl, ap, ◌∙◌, List, [], ◌∷◌}
+use Rattle.std.proofs.Common.{◌≡◌, refl, ap, ◌∙◌}
 use Rattle.std.specs.Global.{Vec}
 use mathlib.Core.Former.{Count}
 use Rattle.pyc_parse.specs.declared.block.CompoundClause.{CompoundClause as ClauseOf}

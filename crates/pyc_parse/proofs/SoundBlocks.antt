@@ -1,14 +1,17 @@
 -- The statements that are read hold the lines that were taken, in text order, each at its level.
-use Rattle.std.proofs.Common.{◌≡◌, refl, ap, sym, ◌∙◌, subst, ℕ, zero, suc, ◌+◌, Bool, true, false, nat_lt, ◌==◌, if◌then◌else◌, List, [], ◌∷◌, ◌++◌, map, Option, None, Some, Result, Ok, Err, append_assoc, length, arith}
-use Rattle.std.proofs.lemmas.Bool.{ltb-false, eqb-true, false≢true}
+use Rattle.std.proofs.Common.{◌≡◌, refl, ap, sym, ◌∙◌, subst, ℕ, zero, suc, ◌+◌, Bool, true, false, nat_lt, ◌==◌, if◌then◌else◌, List, [], ◌∷◌, ◌++◌, map, Option, None, Some, Ok, Err, append_assoc, length, length-append, ◌≤◌, ◌<◌, arith}
+use Rattle.std.proofs.lemmas.List.{append-nil, length-map}
+use Rattle.std.proofs.lemmas.Bool.{ltb-true, ltb-false, eqb-true, false≢true}
 use Rattle.pyc_lex.specs.declared.tokens.Token.{Token}
 use Rattle.pyc_parse.specs.declared.block.After.{After}
 use Rattle.pyc_parse.specs.declared.block.After.TheVariants as after
+use Rattle.pyc_parse.specs.declared.block.Form.{Form}
+use Rattle.pyc_parse.specs.declared.block.Form.TheVariants as form
 use Rattle.pyc_parse.specs.declared.block.Next.{Next}
 use Rattle.pyc_parse.specs.declared.block.Next.TheVariants as next
 use Rattle.pyc_parse.specs.BlockTrees.{Decorator, Stmt, simple, compound, Clause, clause, Clauses, no_clause, another, Suite, inline, block, Stmts, no_statement, statement}
 use Rattle.pyc_parse.specs.BlockYield.{Level, marks_yield, stmt_yield, clause_yield, suite_yield, clauses_yield, stmts_yield}
-use Rattle.pyc_parse.specs.Blocks.{Placed, Outcome, Parser, and_then, pure, fault, take_one, next_of, beginning, follower, line_follows, under, number_of, is_none, is_decorator, is_definition, simple_line, statements_of, decorator_line, decorator_of, decorators, all_decorators, suite, suite_under, clause_of, one_clause, clause_by, next_clause, clauses_after, clauses, all_clauses, compound_statement, definition, decorated, statement_by, next_statement, statements_after, statements, all_statements, block_at}
+use Rattle.pyc_parse.specs.Blocks.{Placed, Outcome, Parser, and_then, pure, take_one, form_of, handled, opening, next_of, beginning, follower, line_follows, under, number_of, is_decorator, is_definition, simple_line, statements_of, decorator_line, decorator_of, decorators, all_decorators, suite, suite_under, clause_of, one_clause, clause_by, next_clause, clauses_after, clauses, all_clauses, compound_statement, definition, decorated, statement_by, next_statement, statements_after, statements, all_statements, block_at, module_of, blocks}
 use Rattle.pyc_parse.specs.Lines.{Header, Line}
 use Rattle.pyc_parse.specs.Lines as line
 use Rattle.pyc_parse.specs.Statements.{Statement, Separated, no_item, last_item, item}
@@ -350,3 +353,115 @@ pub block_holds : (depth : ℕ) → Holds (block_at depth)
 unfolding block_at all_statements
 block_holds zero indent ps found rest e = refused (number_of ps) (found, rest) e
 block_holds (suc depth) indent ps found rest e = statements_ok (block_at depth) (block_holds depth) (length ps) indent ps found rest e
+
+-- ---- modules
+
+clause_some : (indent : ℕ) (c : Clause) → 1 ≤ length (clause_yield indent c)
+unfolding clause_yield
+clause_some indent (clause h colon (inline found)) = omega arith
+clause_some indent (clause h colon (block inner)) = omega arith
+
+-- a statement has a line
+stmt_some : (indent : ℕ) (s : Stmt) → 1 ≤ length (stmt_yield indent s)
+unfolding stmt_yield
+stmt_some indent (simple found) = omega arith
+stmt_some indent (compound marks first others) =
+    let all = length-append (marks_yield indent marks) (clause_yield indent first ++ clauses_yield indent others) in
+    let clauses = length-append (clause_yield indent first) (clauses_yield indent others) in
+    let some = clause_some indent first in omega (arith, all, clauses, some)
+
+-- fewer lines are left than there were
+fewer : (indent : ℕ) (ps : List Placed) (s : Stmt) (rest : List Placed) → IsYield ps (stmt_yield indent s) rest → length rest < length ps
+fewer indent ps s rest is =
+    let all = ap length is ∙ length-append (stmt_yield indent s) (map level rest) in
+    let whole = length-map ps level in let left = length-map rest level in let some = stmt_some indent s in omega (arith, all, whole, left, some)
+
+opening_goes : (number indent : ℕ) (ps : List Placed) (f : Form) → opening number indent ps f ≡ next.End → ⊥
+opening_goes number indent ps form.If e = cc
+opening_goes number indent ps form.Elif e = cc
+opening_goes number indent ps form.Else e = cc
+opening_goes number indent ps form.While e = cc
+opening_goes number indent ps form.For e = cc
+opening_goes number indent ps form.Try e = one_of (handled indent ps) e
+  where
+    one_of : (b : Bool) → (if b then next.Header after.Try else next.Fault number) ≡ next.End → ⊥
+    one_of true e = cc
+    one_of false e = cc
+opening_goes number indent ps form.Except e = cc
+opening_goes number indent ps form.Finally e = cc
+opening_goes number indent ps form.With e = cc
+opening_goes number indent ps form.Definition e = cc
+
+beginning_goes : (number indent : ℕ) (ps : List Placed) (l : Line) → beginning number indent ps l ≡ next.End → ⊥
+beginning_goes number indent ps (line.simple found) e = cc
+beginning_goes number indent ps (line.header h colon found) e = opening_goes number indent ps (form_of h) e
+beginning_goes number indent ps (line.decorator t v) e = cc
+
+-- no line ends the block that is not indented
+goes_on : (own number : ℕ) (a b : Bool) (others : Next) → nat_lt own 0 ≡ a → (if a then next.End else if b then next.Fault number else others) ≡ next.End
+    → (others ≡ next.End → ⊥) → ⊥
+goes_on own number true b others below e go = let less = ltb-true own 0 below in omega (arith, less)
+goes_on own number false true others below e go = cc
+goes_on own number false false others below e go = go e
+
+ends : (ps : List Placed) → next_of 0 ps ≡ next.End → ps ≡ []
+unfolding next_of
+ends [] e = refl
+ends (p ∷ ps) e =
+    absurd (goes_on p.indent p.number (nat_lt p.indent 0) (nat_lt 0 p.indent) (beginning p.number 0 ps p.line) refl e (beginning_goes p.number 0 ps p.line))
+
+empty : (ps : List Placed) → length ps ≤ 0 → ps ≡ []
+empty [] few = refl
+empty (p ∷ ps) few = absurd (omega (arith, few))
+
+none_left : {G : Type 0} (o : Outcome Stmt) (x : Option Stmt) (rest : List Placed) → and_then o (λ found. pure (Some found)) ≡ Ok (x, rest) → x ≡ None → G
+none_left (Ok p) x rest e none = parts (Some p.0) x p.1 rest e (λ same left. absurd (cc))
+none_left (Err number) x rest e none = refused number (x, rest) e
+
+module _ (S : ℕ → Parser Stmts) (holds : Holds S) where
+  -- only the end of a block gives no statement
+  over : (indent : ℕ) (found : Next) (ps : List Placed) (x : Option Stmt) (rest : List Placed) → statement_by S indent found ps ≡ Ok (x, rest) → x ≡ None
+      → found ≡ next.End
+  over indent next.End ps x rest e none = refl
+  over indent (next.Fault number) ps x rest e none = refused number (x, rest) e
+  over indent next.Simple ps x rest e none = none_left (simple_line ps) x rest e none
+  over indent next.Decorator ps x rest e none = none_left (decorated S indent ps) x rest e none
+  over indent next.Definition ps x rest e none = none_left (compound_statement S indent [] after.Nothing ps) x rest e none
+  over indent (next.Header so) ps x rest e none = none_left (compound_statement S indent [] so ps) x rest e none
+
+  -- in so many turns the block that is not indented reads all lines
+  abbrev ReadsAll : ℕ → Type 0
+  ReadsAll n = (ps : List Placed) (found : Stmts) (rest : List Placed) → length ps ≤ n → statements S n 0 ps ≡ Ok (found, rest) → rest ≡ []
+
+  all_step : (n : ℕ) (ps : List Placed) (x : Option Stmt) (later : List Placed) (found : Stmts) (rest : List Placed) → length ps ≤ suc n → ReadsAll n
+      → statement_by S 0 (next_of 0 ps) ps ≡ Ok (x, later) → statements_after (statements S n 0) x later ≡ Ok (found, rest) → rest ≡ []
+  all_step n ps None later found rest few more read e =
+      parts no_statement found later rest e (λ same left.
+      sym left ∙ (sym (statement_ok S holds 0 (next_of 0 ps) ps None later refl read) ∙ ends ps (over 0 (next_of 0 ps) ps None later read refl)))
+  all_step n ps (Some s) later found rest few more read e =
+      bind (statements S n 0 later) _ (found, rest) e (λ others left read_on made.
+      parts (statement s others) found left rest made (λ same end.
+      let less = fewer 0 ps s later (statement_ok S holds 0 (next_of 0 ps) ps (Some s) later refl read) in
+      sym end ∙ more later others left (omega (arith, few, less)) read_on))
+
+  statements_all : (n : ℕ) → ReadsAll n
+  unfolding statements next_statement
+  statements_all zero ps found rest few e = parts no_statement found ps rest e (λ same left. sym left ∙ empty ps few)
+  statements_all (suc n) ps found rest few e =
+      bind (next_statement S 0 ps) _ (found, rest) e (λ x later read made. all_step n ps x later found rest few (statements_all n) read made)
+
+block_all : (depth : ℕ) (ps : List Placed) (found : Stmts) (rest : List Placed) → block_at (suc depth) 0 ps ≡ Ok (found, rest) → rest ≡ []
+unfolding block_at all_statements
+block_all depth ps found rest e = statements_all (block_at depth) (block_holds depth) (length ps) ps found rest (omega arith) e
+
+whole : (depth : ℕ) (ps : List Placed) (o : Outcome Stmts) (found : Stmts) → block_at (suc depth) 0 ps ≡ o → module_of o ≡ Ok found → map level ps ≡ stmts_yield 0 found
+whole depth ps (Ok p) found is e =
+    block_holds (suc depth) 0 ps p.0 p.1 is
+    ∙ (ap (λ rest. stmts_yield 0 p.0 ++ map level rest) (block_all depth ps p.0 p.1 is)
+    ∙ (append-nil (stmts_yield 0 p.0) ∙ ap (stmts_yield 0) (cc)))
+whole depth ps (Err number) found is e = absurd (cc)
+
+-- the statements of a module hold all its lines, in text order, each at its level
+pub blocks_hold : (ps : List Placed) (found : Stmts) → blocks ps ≡ Ok found → map level ps ≡ stmts_yield 0 found
+unfolding blocks
+blocks_hold ps found e = whole 64 ps (block_at 65 0 ps) found refl e

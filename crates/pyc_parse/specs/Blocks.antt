@@ -3,7 +3,6 @@ use Rattle.std.specs.Prelude.{ℕ, suc, zero, ◌+◌, Bool, true, false, ◌&&�
 use Rattle.pyc_lex.specs.declared.tokens.Keyword.TheVariants as keyword
 use Rattle.pyc_lex.specs.declared.tokens.Kind.{Kind}
 use Rattle.pyc_lex.specs.declared.tokens.Kind.TheVariants as kind
-use Rattle.pyc_lex.specs.declared.tokens.Token.{Token}
 use Rattle.pyc_parse.specs.declared.block.After.{After}
 use Rattle.pyc_parse.specs.declared.block.After.TheVariants as after
 use Rattle.pyc_parse.specs.declared.block.Form.{Form}

@@ -5,7 +5,6 @@ ghost use Rattle.std.specs.Prelude.{◌≡◌, ◌+◌, map, drop, length, nat_l
 ghost use Rattle.pyc_parse.specs.BlockReads.{Reads, Answers};
 ghost use Rattle.pyc_parse.specs.BlockView.{lines_of, placed_of, stmts_of};
 ghost use Rattle.pyc_parse.specs.Blocks as spec;
-ghost use Rattle.pyc_parse.specs.Lines as line;
 ghost use Rattle.pyc_parse.specs.LineView.{header_of, line_of};
 ghost use Rattle.pyc_parse.specs.StatementView.{separated_of, statement_of};
 

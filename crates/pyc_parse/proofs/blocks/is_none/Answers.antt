@@ -1,4 +1,4 @@
-use Rattle.std.proofs.Common.{◌≡◌, ◌≤◌, length, arith}
+use Rattle.std.proofs.Common.{arith}
 use Rattle.pyc_parse.proofs.BlockLemmas.{is_none-some}
 use Rattle.pyc_parse.proofs.blocks.is_none.Goals as goal
 

@@ -1,4 +1,4 @@
-use Rattle.std.proofs.Common.{◌≡◌, ◌-◌, ◌≤◌, length, arith, Option, Some, None}
+use Rattle.std.proofs.Common.{arith, Option}
 use Rattle.pyc_parse.specs.declared.block.After.{After}
 use Rattle.pyc_parse.specs.declared.block.CompoundClause.{CompoundClause}
 use Rattle.pyc_parse.specs.Blocks.{block_at, clauses, all_clauses}

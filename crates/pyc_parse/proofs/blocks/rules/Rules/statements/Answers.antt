@@ -1,4 +1,4 @@
-use Rattle.std.proofs.Common.{◌≡◌, ◌-◌, ◌≤◌, length, arith, Option, Some, None, option_map}
+use Rattle.std.proofs.Common.{arith, Option, option_map}
 use Rattle.pyc_parse.specs.declared.block.Stmt.{Stmt}
 use Rattle.pyc_parse.specs.Blocks.{block_at, statements, all_statements}
 use Rattle.pyc_parse.specs.BlockView.{lines_of, stmt_of}
