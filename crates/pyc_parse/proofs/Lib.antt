@@ -42,3 +42,4 @@ pub mod BlockSteps
 pub mod BlockViewLemmas
 pub mod ParseLaws
 pub mod SoundBlocks
+pub mod ModuleLemmas

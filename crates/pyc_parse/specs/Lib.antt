@@ -28,3 +28,4 @@ pub mod BlockView
 pub mod BlockNests
 pub mod BlockReads
 pub mod BlockYield
+pub mod Modules

@@ -14,7 +14,8 @@ mod front;
 mod grammar;
 mod kinds;
 mod line;
-mod parse;
+mod line_parser;
+mod module_tree;
 mod pieces;
 mod place;
 mod statement;
@@ -29,7 +30,8 @@ pub use blocks::read_blocks;
 pub use error::BlockFault;
 pub use fault::{ParseFault, What};
 pub use line::{Header, Line};
-pub use parse::parse_line;
+pub use line_parser::parse_line;
+pub use module_tree::{Module, parse};
 pub use place::{Place, Sort};
 pub use statement::{
     Alias, Assigned, Dotted, ImportedModule, ImportedName, Item, Part, Separated, Source, Statement,

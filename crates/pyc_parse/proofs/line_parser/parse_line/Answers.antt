@@ -5,7 +5,7 @@ use Rattle.pyc_parse.specs.Reads.{Answers}
 use Rattle.pyc_parse.specs.LineView.{line_of}
 use Rattle.pyc_parse.proofs.ParseLaws.{only_tree, no_tree}
 use Rattle.pyc_parse.proofs.SoundLines.{line_sound}
-use Rattle.pyc_parse.proofs.parse.parse_line.Goals as goal
+use Rattle.pyc_parse.proofs.line_parser.parse_line.Goals as goal
 
 pub returns-in-Ok-clause-well : goal.returns-in-Ok-clause-well
 returns-in-Ok-clause-well c = (line_sound c.args.tokens.now (line_of c.in-Ok.line) c.in-Ok.ensures).0

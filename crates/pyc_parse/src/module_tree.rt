@@ -1,0 +1,73 @@
+//! The tree of a module.
+
+ghost use Rattle.std.specs.Prelude.{◌≡◌, map};
+ghost use Rattle.pyc_lex.specs.View.{line_in, lexis_in};
+ghost use Rattle.pyc_parse.specs.BlockView.{placed_of};
+ghost use Rattle.pyc_parse.specs.Modules.{Answers, module_in, module_of, placed_lines as lines_with_trees};
+
+use crate::block::{Placed, Stmt};
+use crate::blocks::read_blocks;
+use crate::error::BlockFault;
+use crate::fault::{ParseFault, What, line_number};
+use crate::line_parser::parse_line;
+use pyc_lex::{Ignore, LogicalLine, Scan};
+use std::alloc::Global;
+
+/// The tree of a module, with its ignore comments.
+#[derive(Drop)]
+pub struct Module {
+    pub statements: Vec<Stmt>,
+    pub ignores: Vec<Ignore>,
+    /// Whether an ignore comment before the first logical line silences the whole file.
+    pub whole_file: bool,
+}
+
+/// The lines with their trees, or the first that has none.
+fn placed_lines(alloc: Global, lines: &[LogicalLine]) -> Result<Vec<Placed>, ParseFault>
+    ensures { Answers (λ found. map placed_of found.items) (lines_with_trees (map line_in lines.now)) result }
+{
+    let mut found = Vec::new(alloc);
+    for line in lines {
+        let tree = parse_line(alloc, &line.tokens)?;
+        let number = line_number(&line.tokens);
+        let placed = Placed {
+            indent: line.indent,
+            number,
+            line: tree,
+        };
+        match found.push(placed) {
+            Ok(()) => {}
+            Err(_) => {
+                return Err(ParseFault {
+                    line: number,
+                    what: What::Memory,
+                });
+            }
+        }
+    }
+    Ok(found)
+}
+
+/// The tree of a module, or the first line that has no tree, else the first that stands where it may not. `Memory` comes
+/// only from a growth that was refused.
+#[tactic(auto, unfolding(crate::specs::Modules::module_of))]
+pub fn parse(alloc: Global, scan: Scan) -> Result<Module, ParseFault>
+    ensures { Answers module_in (module_of (lexis_in scan)) result }
+{
+    let lines = placed_lines(alloc, &scan.lines)?;
+    match read_blocks(alloc, lines) {
+        Ok(statements) => Ok(Module {
+            statements,
+            ignores: scan.ignores,
+            whole_file: scan.whole_file,
+        }),
+        Err(BlockFault::Block(line)) => Err(ParseFault {
+            line,
+            what: What::Block,
+        }),
+        Err(BlockFault::Memory) => Err(ParseFault {
+            line: 0,
+            what: What::Memory,
+        }),
+    }
+}
