@@ -49,7 +49,7 @@ placed_step front after l ls ts t number same tree is all =
     ap (λ o. with_placed front (placed_before l o (placed_lines ls))) (ap line_tree (sym same) ∙ tree)
     ∙ (pushed front l t (placed_lines ls)
     ∙ ap (λ (ps : List Placed). with_placed ps (placed_lines ls))
-      (ap (λ n. front ++ record { indent = l.indent; number = n; line = t } ∷ []) (sym (is ∙ ap number_of same)) ∙ sym all))
+    (ap (λ n. front ++ record { indent = l.indent; number = n; line = t } ∷ []) (sym (is ∙ ap number_of same)) ∙ sym all))
 
 -- a line without one
 pub placed_bad : (front : List Placed) (l : lex.Line) (ls : List lex.Line) (ts : List Token) (fault : ParseFault) → ts ≡ l.tokens → line_tree ts ≡ None

@@ -1,6 +1,7 @@
 //! Lines, with what they are.
 
 mod lines;
+mod modules;
 mod refused;
 mod trees;
 

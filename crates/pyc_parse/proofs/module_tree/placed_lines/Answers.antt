@@ -20,7 +20,7 @@ returns-in_err-tree c =
     sym c.loop-line.invariant
     ∙ (ap (λ (ls : List lex.Line). with_placed (map placed_of c.loop-line.found.items) (placed_lines ls)) next
     ∙ placed_bad (map placed_of c.loop-line.found.items) (line_in c.line-item.result) rest c.deref.result.now fault c.deref.ensures.value
-      (c.in_err-tree.ensures.refused some) c.in_err-tree.ensures.place (c.in_err-tree.ensures.what some)))
+    (c.in_err-tree.ensures.refused some) c.in_err-tree.ensures.place (c.in_err-tree.ensures.what some)))
 
 pub loop-line-preserved : goal.loop-line-preserved
 loop-line-preserved c =
@@ -29,7 +29,7 @@ loop-line-preserved c =
     let after = ap (λ (ps : List PlacedOf). map placed_of ps) c.in-Ok.ensures.items ∙ placed_push c.loop-line.found.items _ in
     sym (ap (λ (ls : List lex.Line). with_placed (map placed_of c.loop-line.found.items) (placed_lines ls)) next
     ∙ placed_step (map placed_of c.loop-line.found.items) (map placed_of c.push.new.self.items) (line_in c.line-item.result) rest c.deref.result.now (line_of c.in_ok-tree.tree)
-      c.line_number-number.result c.deref.ensures.value c.in_ok-tree.ensures.tree (c.line_number-number.ensures ∙ ap number_of (c.deref-in-loop-line.ensures.value ∙ sym c.deref.ensures.value)) after)
+    c.line_number-number.result c.deref.ensures.value c.in_ok-tree.ensures.tree (c.line_number-number.ensures ∙ ap number_of (c.deref-in-loop-line.ensures.value ∙ sym c.deref.ensures.value)) after)
     ∙ c.loop-line.invariant
 
 pub returns : goal.returns
