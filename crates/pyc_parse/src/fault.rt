@@ -21,7 +21,7 @@ pub enum What {
     Memory,
 }
 
-/// What is wrong, and the physical line on which it is told, counted from 1.
+/// What is wrong, and the physical line on which it is told, counted from 1; 0 where no line is told.
 #[derive(Clone, Copy, Debug, PartialEq, Eq)]
 pub struct ParseFault {
     pub line: usize,
