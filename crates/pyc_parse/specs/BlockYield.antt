@@ -1,8 +1,10 @@
 -- The lines that statements hold, in text order, each with the level at which it stands.
-use Rattle.std.specs.Prelude.{ℕ, ◌+◌, List, [], ◌∷◌, ◌++◌}
+use Rattle.std.specs.Prelude.{ℕ, ◌+◌, List, [], ◌∷◌, ◌++◌, map}
 use Rattle.pyc_lex.specs.declared.tokens.Token.{Token}
 use Rattle.pyc_parse.specs.BlockTrees.{Decorator, Stmt, simple, compound, Clause, clause, Clauses, no_clause, another, Suite, inline, block, Stmts, no_statement, statement}
-use Rattle.pyc_parse.specs.Lines.{Header, Line}
+use Rattle.pyc_lex.specs.Lines as lex
+use Rattle.pyc_lex.specs.Texts.{tokens_of}
+use Rattle.pyc_parse.specs.Lines.{Header, Line, line_yield}
 use Rattle.pyc_parse.specs.Lines as line
 use Rattle.pyc_parse.specs.Statements.{no_item}
 
@@ -34,3 +36,15 @@ unfoldable mutual
   pub stmts_yield : ℕ → Stmts → List Level
   stmts_yield indent no_statement = []
   stmts_yield indent (statement s ss) = stmt_yield indent s ++ stmts_yield indent ss
+
+-- the logical line that a tree at a level holds
+abbrev pub held : Level → lex.Line
+held l = record { indent = l.0; tokens = line_yield l.1 }
+
+-- the logical lines that the statements of a module hold
+unfoldable pub lines_held : Stmts → List lex.Line
+lines_held found = map held (stmts_yield 0 found)
+
+-- the tokens that they hold, in text order
+abbrev pub stmts_tokens : Stmts → List Token
+stmts_tokens found = tokens_of (lines_held found)

@@ -29,3 +29,4 @@ pub mod BlockNests
 pub mod BlockReads
 pub mod BlockYield
 pub mod Modules
+pub mod Outcome

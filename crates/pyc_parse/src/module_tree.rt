@@ -1,8 +1,9 @@
 //! The tree of a module.
 
-ghost use Rattle.std.specs.Prelude.{◌≡◌, map};
+ghost use Rattle.std.specs.Prelude.{◌≡◌, IfOk, map};
 ghost use Rattle.pyc_lex.specs.View.{line_in, lexis_in};
 ghost use Rattle.pyc_parse.specs.BlockView.{placed_of};
+ghost use Rattle.pyc_parse.specs.BlockYield.{lines_held};
 ghost use Rattle.pyc_parse.specs.Modules.{Answers, module_in, module_of, placed_lines as lines_with_trees};
 
 use crate::block::{Placed, Stmt};
@@ -48,11 +49,12 @@ fn placed_lines(alloc: Global, lines: &[LogicalLine]) -> Result<Vec<Placed>, Par
     Ok(found)
 }
 
-/// The tree of a module, or the first line that has no tree, else the first that stands where it may not. `Memory` comes
-/// only from a growth that was refused.
+/// The tree of a module, or the first line that has no tree, else the first that stands where it may not. The tree holds
+/// each line of the scan once, in text order and at its level. `Memory` comes only from a growth that was refused.
 #[tactic(auto, unfolding(crate::specs::Modules::module_of))]
 pub fn parse(alloc: Global, scan: Scan) -> Result<Module, ParseFault>
-    ensures { Answers module_in (module_of (lexis_in scan)) result }
+    ensures tree { Answers module_in (module_of (lexis_in scan)) result }
+    ensures held { IfOk result (λ module. lines_held (module_in module).statements ≡ (lexis_in scan).lines) }
 {
     let lines = placed_lines(alloc, &scan.lines)?;
     match read_blocks(alloc, lines) {
