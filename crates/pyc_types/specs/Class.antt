@@ -45,3 +45,7 @@ bool_id = builtin_id (codes "bool")
 -- the class `float`
 abbrev pub float_id : Id
 float_id = builtin_id (codes "float")
+
+-- the class `bytes`
+abbrev pub bytes_id : Id
+bytes_id = builtin_id (codes "bytes")

@@ -1,11 +1,12 @@
 use super::*;
 use std::test::Fail;
 
-const ALL: [Builtin; 5] = [
+const ALL: [Builtin; 6] = [
     Builtin::Int,
     Builtin::Str,
     Builtin::Bool,
     Builtin::Float,
+    Builtin::Bytes,
     Builtin::None,
 ];
 
@@ -19,6 +20,7 @@ fn assigns_builtins(rt: HostRuntime) -> Result<(), Fail> {
                 Builtin::Str => matches!(want, Builtin::Str),
                 Builtin::Bool => matches!(want, Builtin::Bool | Builtin::Int | Builtin::Float),
                 Builtin::Float => matches!(want, Builtin::Float),
+                Builtin::Bytes => matches!(want, Builtin::Bytes),
                 Builtin::None => matches!(want, Builtin::None),
             };
             let answer = assignable(&builtins, builtins.ty(got), builtins.ty(want));
@@ -31,7 +33,7 @@ fn assigns_builtins(rt: HostRuntime) -> Result<(), Fail> {
 #[test]
 fn shows_builtins(rt: HostRuntime) -> Result<(), Fail> {
     let builtins = Builtins::new(rt.alloc())?;
-    let texts = ["int", "str", "bool", "float", "None"];
+    let texts = ["int", "str", "bool", "float", "bytes", "None"];
     for (builtin, text) in ALL.iter().zip(texts) {
         let shown = show(rt.alloc(), builtins.ty(*builtin))?;
         assert_eq!(rt; shown.as_str(), text);
