@@ -11,9 +11,11 @@ pub mod Moving
 pub mod OutcomeLemmas
 pub mod Refusals
 pub mod RepeatLemmas
+pub mod ScopeLemmas
 pub mod Served
 pub mod SortLemmas
 pub mod TextLemmas
 pub mod Texts
 pub mod Turns
+pub mod UnitLemmas
 pub mod WorkspaceLemmas

@@ -19,9 +19,11 @@ pub mod Refusal
 pub mod Replies
 pub mod Report
 pub mod Runs
+pub mod Scopes
 pub mod Session
 pub mod Sort
 pub mod Status
+pub mod Units
 pub mod Updates
 pub mod Window
 pub mod Words
