@@ -5,6 +5,7 @@ pub mod ErrorLemmas
 pub mod FirstBytes
 pub mod FoundLemmas
 pub mod Going
+pub mod LiteralLemmas
 pub mod MessageLemmas
 pub mod ModuleLemmas
 pub mod Moving
@@ -14,6 +15,7 @@ pub mod RepeatLemmas
 pub mod ScopeLemmas
 pub mod Served
 pub mod SortLemmas
+pub mod SpanLemmas
 pub mod TextLemmas
 pub mod Texts
 pub mod Turns

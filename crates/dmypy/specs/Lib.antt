@@ -9,6 +9,7 @@ pub mod Event
 pub mod FoundMessages
 pub mod Fresh
 pub mod Input
+pub mod LiteralForms
 pub mod MemorySource
 pub mod Message
 pub mod ModuleName

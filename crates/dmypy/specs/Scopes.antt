@@ -1,11 +1,12 @@
 -- The parts of a scope in text order: its simple statements and its definitions, with the blocks of `if`, `for`, `while`, `try`
 -- and `with` opened. A function and a class are scopes of their own (Python reference, "Naming and binding").
 use Rattle.std.specs.Prelude.{Bool, true, false, ◌||◌, if◌then◌else◌, List, [], ◌∷◌, ◌++◌}
+use Rattle.pyc_lex.specs.declared.tokens.Token.{Token}
 use Rattle.pyc_parse.specs.BlockTrees.{Clause, clause, Clauses, no_clause, another, Stmt, compound, Stmts, no_statement, statement, Suite, inline, block}
 use Rattle.pyc_parse.specs.BlockTrees as tree
 use Rattle.pyc_parse.specs.BlockView.{clause_of}
 use Rattle.pyc_parse.specs.Lines.{Header, def, class, class_of}
-use Rattle.pyc_parse.specs.Statements.{Statement, Separated, no_item, last_item, item}
+use Rattle.pyc_parse.specs.Statements.{Statement, statement_yield, Separated, no_item, last_item, item}
 use Rattle.pyc_parse.specs.StatementView.{statement_of}
 use Rattle.dmypy.specs.declared.scope.ScopePart.{ScopePart}
 use Rattle.dmypy.specs.declared.scope.ScopePart.TheVariants as declared
@@ -58,6 +59,11 @@ unfoldable mutual
   pub suite_parts : Suite → List Part
   suite_parts (inline found) = line_parts found
   suite_parts (block inner) = parts_of inner
+
+-- the tokens of a simple statement that is a part; those of a definition belong to its own scope
+abbrev pub part_tokens : Part → List Token
+part_tokens (simple s) = statement_yield s
+part_tokens (definition _) = []
 
 -- ---- what the code holds
 

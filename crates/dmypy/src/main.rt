@@ -15,6 +15,7 @@ mod fresh;
 mod input;
 pub mod keep;
 pub mod laws;
+pub mod literal_forms;
 pub mod memory_source;
 pub mod message;
 pub mod module_name;

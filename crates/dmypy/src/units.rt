@@ -12,7 +12,6 @@ use crate::scope::{ScopePart, is_class_header, is_function_header, scope_parts, 
 use pyc_parse::{CompoundClause, Stmt};
 use std::alloc::{AllocError, Global};
 
-
 /// The definitions among the units of a module that has these statements, in text order: each function and class, and after
 /// a class its methods. The only error is that memory runs out.
 #[tactic(auto, unfolding(crate::specs::Units::unit_clauses))]
