@@ -127,10 +127,13 @@ fn annotation_type(alloc: Global, bytes: &[u8], note: &Expr) -> Result<Option<Bu
     }
 }
 
-/// The builtin class of this name in Normalization Form KC.
+/// The builtin class of this name in Normalization Form KC. A name in ASCII takes no memory.
 fn named_type(alloc: Global, name: &str) -> Result<Option<Builtin>, AllocError>
     ensures { IfOk result (λ found. found ≡ spec.builtin_named (nfkc_text name.now)) }
 {
+    if name.is_ascii() {
+        return Ok(builtin_named(name.as_bytes()));
+    }
     Ok(builtin_named(to_nfkc(alloc, name)?.as_bytes()))
 }
 
