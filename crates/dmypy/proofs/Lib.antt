@@ -4,11 +4,11 @@ pub mod CommandWords
 pub mod ErrorLemmas
 pub mod FirstBytes
 pub mod FoundLemmas
+pub mod FreshLemmas
 pub mod Going
 pub mod MessageLemmas
 pub mod ModuleLemmas
 pub mod Moving
-pub mod OutcomeLemmas
 pub mod Refusals
 pub mod RepeatLemmas
 pub mod Served

@@ -9,10 +9,10 @@ pub mod Event
 pub mod FoundMessages
 pub mod Fresh
 pub mod Input
+pub mod LiteralForms
 pub mod MemorySource
 pub mod Message
 pub mod ModuleName
-pub mod Outcome
 pub mod Path
 pub mod Reading
 pub mod Refusal
@@ -20,8 +20,10 @@ pub mod Replies
 pub mod Report
 pub mod Runs
 pub mod Session
+pub mod Silencing
 pub mod Sort
 pub mod Status
+pub mod Units
 pub mod Updates
 pub mod Window
 pub mod Words
