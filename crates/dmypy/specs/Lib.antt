@@ -19,6 +19,7 @@ pub mod Refusal
 pub mod Replies
 pub mod Report
 pub mod Runs
+pub mod Scopes
 pub mod Session
 pub mod Silencing
 pub mod Sort

@@ -24,6 +24,7 @@ mod path;
 pub mod refusal;
 mod reply;
 pub mod report;
+pub mod scope;
 mod serving;
 mod silencing;
 pub mod sources;
