@@ -8,27 +8,31 @@ use Rattle.pyc_types.specs.Builtin.{ty_of, builtin_orders}
 use Rattle.pyc_types.specs.Assignable.{assignable, MeetsTheRules}
 use Rattle.dmypy.specs.declared.message.Message.{Message as Declared}
 use Rattle.pyc_parse.specs.BlockTrees.{Stmts}
-use Rattle.dmypy.specs.declared.literal_forms.LiteralForm.{LiteralForm}
-use Rattle.dmypy.specs.LiteralForms.{literal_forms}
+use Rattle.dmypy.specs.declared.literal_forms.LiteralForm.{LiteralForm as DeclaredForm}
+use Rattle.dmypy.specs.LiteralForms.{LiteralForm, form_in, literal_forms}
 use Rattle.dmypy.specs.Message.{Message, message_in}
 use Rattle.dmypy.specs.FoundMessages.{assignment_message, form_message, IsAssignable, Reports, nothing, passed, refused, ReportsExactly}
 
-module _ (forms : List LiteralForm) (i : ℕ) (d : LiteralForm) (within : i < length forms) (messages : List Declared) (before : map message_in messages ≡ filter_map form_message (take i forms))
-    (found : Option Declared) (told : option_map message_in found ≡ form_message (get_or forms i d)) where
+-- the messages on annotated literals of the code
+abbrev pub messages_on : List DeclaredForm → List Message
+messages_on forms = filter_map form_message (map form_in forms)
+
+module _ (forms : List DeclaredForm) (i : ℕ) (d : DeclaredForm) (within : i < length forms) (messages : List Declared) (before : map message_in messages ≡ messages_on (take i forms))
+    (found : Option Declared) (told : option_map message_in found ≡ form_message (form_in (get_or forms i d))) where
   -- the forms so far and the one at i
-  one_more : filter_map form_message (take (i + 1) forms) ≡ filter_map form_message (take i forms) ++ filter_map form_message (get_or forms i d ∷ [])
-  one_more = rw (add-one, take-suc forms i d within, filter_map-append) refl
+  one_more : messages_on (take (i + 1) forms) ≡ messages_on (take i forms) ++ filter_map form_message (form_in (get_or forms i d) ∷ [])
+  one_more = rw (add-one, take-suc forms i d within, map-append, filter_map-append) refl
 
   -- a form with a message adds it
-  pub messages_more-some : (message : Declared) → found ≡ Some message → map message_in (messages ++ message ∷ []) ≡ filter_map form_message (take (i + 1) forms)
+  pub messages_more-some : (message : Declared) → found ≡ Some message → map message_in (messages ++ message ∷ []) ≡ messages_on (take (i + 1) forms)
   messages_more-some message some =
-      let has : Some (message_in message) ≡ form_message (get_or forms i d) = ap (option_map message_in) (sym some) ∙ told in
+      let has : Some (message_in message) ≡ form_message (form_in (get_or forms i d)) = ap (option_map message_in) (sym some) ∙ told in
       rw (one_more, map-append, before, ← has) refl
 
   -- a form with none adds nothing
-  pub messages_more-none : found ≡ None → map message_in messages ≡ filter_map form_message (take (i + 1) forms)
+  pub messages_more-none : found ≡ None → map message_in messages ≡ messages_on (take (i + 1) forms)
   messages_more-none none =
-      let has : None ≡ form_message (get_or forms i d) = ap (option_map message_in) (sym none) ∙ told in
+      let has : None ≡ form_message (form_in (get_or forms i d)) = ap (option_map message_in) (sym none) ∙ told in
       rw (one_more, ← has, append-nil) before
 
 -- one form more, by the answer of the test

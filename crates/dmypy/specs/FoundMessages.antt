@@ -9,8 +9,7 @@ use Rattle.pyc_types.specs.Text.{text_of}
 use Rattle.pyc_types.specs.Builtin.{ty_of, builtin_orders}
 use Rattle.pyc_types.specs.Assignable.{Goes, assignable}
 use Rattle.dmypy.specs.declared.message.Code.TheVariants.{Assignment, Syntax}
-use Rattle.dmypy.specs.declared.literal_forms.LiteralForm.{LiteralForm}
-use Rattle.dmypy.specs.LiteralForms.{literal_forms}
+use Rattle.dmypy.specs.LiteralForms.{LiteralForm, literal_forms}
 use Rattle.dmypy.specs.Message.{Message}
 use Rattle.dmypy.specs.Silencing.{unsilenced}
 

@@ -7,6 +7,7 @@ ghost use Rattle.pyc_parse.specs.Outcome.{outcome_in, outcome_tokens};
 ghost use Rattle.pyc_types.specs.Shape.{shape};
 ghost use Rattle.dmypy.specs.FoundMessages as spec;
 ghost use Rattle.dmypy.specs.FoundMessages.{messages_of, told_messages};
+ghost use Rattle.dmypy.specs.LiteralForms.{form_in};
 ghost use Rattle.dmypy.specs.Message.{message_in};
 
 use crate::literal_forms::{LiteralForm, literal_forms};
@@ -64,7 +65,7 @@ fn form_messages(
     builtins: &Builtins,
     forms: &[LiteralForm],
 ) -> Result<Vec<Message>, AllocError>
-    ensures { IfOk result (λ messages. map message_in messages.items ≡ filter_map spec.form_message forms.now) }
+    ensures { IfOk result (λ messages. map message_in messages.items ≡ filter_map spec.form_message (map form_in forms.now)) }
 {
     let mut messages = Vec::new(alloc);
     for form in forms {
@@ -82,7 +83,7 @@ fn form_message(
     builtins: &Builtins,
     form: &LiteralForm,
 ) -> Result<Option<Message>, AllocError>
-    ensures { IfOk result (λ message. option_map message_in message ≡ spec.form_message form.now) }
+    ensures { IfOk result (λ message. option_map message_in message ≡ spec.form_message (form_in form.now)) }
 {
     let got = builtins.ty(form.value);
     let want = builtins.ty(form.annotation);
