@@ -22,6 +22,9 @@ use pyc_types::Builtin;
 use std::alloc::{AllocError, Global};
 use unicode_normalization::to_nfkc;
 
+#[cfg(test)]
+mod tests;
+
 /// An annotated literal: its annotation, the type of its value, and where the value begins, line and column from 1.
 #[derive(Clone, Copy, Debug, PartialEq, Eq)]
 pub struct LiteralForm {

@@ -12,6 +12,9 @@ ghost use Rattle.dmypy.specs.Scopes.{part_in, parts_of};
 use pyc_parse::{CompoundClause, Header, Separated, Statement, Stmt, Suite};
 use std::alloc::{AllocError, Global};
 
+#[cfg(test)]
+mod tests;
+
 /// A part of a scope.
 #[derive(Drop)]
 pub enum ScopePart<'a> {
