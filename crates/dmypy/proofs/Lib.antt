@@ -4,12 +4,12 @@ pub mod CommandWords
 pub mod ErrorLemmas
 pub mod FirstBytes
 pub mod FoundLemmas
+pub mod FreshLemmas
 pub mod Going
 pub mod LiteralLemmas
 pub mod MessageLemmas
 pub mod ModuleLemmas
 pub mod Moving
-pub mod OutcomeLemmas
 pub mod Refusals
 pub mod RepeatLemmas
 pub mod ScopeLemmas

@@ -13,7 +13,6 @@ pub mod LiteralForms
 pub mod MemorySource
 pub mod Message
 pub mod ModuleName
-pub mod Outcome
 pub mod Path
 pub mod Reading
 pub mod Refusal
@@ -22,6 +21,7 @@ pub mod Report
 pub mod Runs
 pub mod Scopes
 pub mod Session
+pub mod Silencing
 pub mod Sort
 pub mod Status
 pub mod Units

@@ -134,8 +134,9 @@ impl Daemon {
     {
         let report = fresh_report(self.alloc, self.present.files())?;
         let last = self.present.share(self.alloc)?;
-        self.bodies = last.count_units();
+        let bodies = self.present.units(self.alloc)?.len();
         self.last = last;
+        self.bodies = bodies;
         Ok(report)
     }
 

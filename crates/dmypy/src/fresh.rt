@@ -5,7 +5,7 @@ ghost use Rattle.dmypy.specs.Report.{found_in, report_in};
 
 use crate::checked::{Found, Report};
 use crate::file::File;
-use crate::found::found;
+use crate::found::told;
 use crate::report::report;
 use pyc_types::Builtins;
 use std::alloc::{AllocError, Global};
@@ -21,7 +21,7 @@ pub fn fresh_report(alloc: Global, files: &[Rc<File>]) -> Result<Report, AllocEr
     report(alloc, found.as_slice())
 }
 
-// What is found in each file.
+// What is told of each file.
 fn found_in_files<'a>(
     alloc: Global,
     builtins: &Builtins,
@@ -36,7 +36,7 @@ fn found_in_files<'a>(
     Ok(all)
 }
 
-// What is found in a file.
+// What is told of a file.
 fn check_file<'a>(
     alloc: Global,
     builtins: &Builtins,
@@ -46,6 +46,6 @@ fn check_file<'a>(
 {
     Ok(Found {
         path: file.path(),
-        messages: found(alloc, builtins, file.outcome())?,
+        messages: told(alloc, builtins, file.bytes(), file.outcome())?,
     })
 }

@@ -1,13 +1,14 @@
-ghost use Rattle.std.specs.Prelude.{◌≡◌, [], List, length, IfOk, IfErr, OnOk, OnErr};
+ghost use Rattle.std.specs.Prelude.{◌≡◌, ◌++◌, [], List, length, map, IfOk, IfErr, OnOk, OnErr};
 ghost use Rattle.std.specs.Cmp.Lexicographic.{slice_cmp};
 ghost use Rattle.std.specs.Ordering.{nat_cmp};
 ghost use Rattle.dmypy.specs.Daemon.{file_in, files_in};
-ghost use Rattle.dmypy.specs.Fresh.{units_of};
+ghost use Rattle.dmypy.specs.Fresh.{numbered, unit_in, units_of};
 ghost use Rattle.dmypy.specs.ModuleName.{module_of, name_in, same_module};
 ghost use Rattle.dmypy.specs.Workspace.{File as PlainFile, IsInOrder, IsPlaceOf, IsGapFor, has_file, is_module_taken, with_file, without_file};
 
 use crate::file::File;
 use crate::module_name::ModuleName;
+use crate::unit::UnitId;
 use std::alloc::{AllocError, Global};
 use std::cmp::Ordering;
 use std::marker::Model;
@@ -103,11 +104,11 @@ impl Workspace {
         })
     }
 
-    /// How many units the files have.
-    pub fn count_units(&self) -> usize
-        ensures { result ≡ length (units_of self.now) }
+    /// The units of the files, in order.
+    pub fn units(&self, alloc: Global) -> Result<Vec<UnitId<'_>>, AllocError>
+        ensures { IfOk result (λ units. map unit_in units.items ≡ units_of self.now) }
     {
-        count_units(&self.files)
+        units_of(alloc, &self.files)
     }
 
     /// The files, in ascending order of their paths.
@@ -154,13 +155,27 @@ fn share(alloc: Global, files: &[Rc<File>]) -> Result<Vec<Rc<File>>, AllocError>
     Ok(shared)
 }
 
-// How many units these files have.
-fn count_units(files: &Vec<Rc<File>>) -> usize
-    ensures { result ≡ length (units_of (files_in files.now.items)) }
+// The units of these files, in order.
+fn units_of<'a>(alloc: Global, files: &'a [Rc<File>]) -> Result<Vec<UnitId<'a>>, AllocError>
+    ensures { IfOk result (λ units. map unit_in units.items ≡ units_of (files_in files.now)) }
 {
-    let mut count = 0;
+    let mut units = Vec::new(alloc);
     for file in files {
-        count += file.count_units();
+        push_units(&mut units, file.path(), file.count_units())?;
     }
-    count
+    Ok(units)
+}
+
+// Adds so many units of the file of a path.
+fn push_units<'a>(
+    units: &mut Vec<UnitId<'a>>,
+    path: &'a str,
+    count: usize,
+) -> Result<(), AllocError>
+    ensures { OnOk result (map unit_in units.new.items ≡ map unit_in units.old.items ++ numbered path.now 0 count) }
+{
+    for index in 0..count {
+        units.push(UnitId { path, index })?;
+    }
+    Ok(())
 }

@@ -39,6 +39,11 @@ fn files_are_checked_and_counted(rt: HostRuntime) -> Result<(), Fail> {
                 "ok\nfiles 0 bodies 0 rechecked 0\nSuccess: no issues found in 1 source file\nstatus 0\nfiles 1 bodies 2 rechecked 2\n",
                 End::EndOfInput,
             ),
+            (
+                "add a.py 58\nclass B:\n    def f(self, n: int) -> int:\n        return 1\nadd b.py 8\nmatch x:check\nstatus\n",
+                "ok\nok\nb.py:1: error: Outside the profile  [syntax]\nFound 1 error in 1 file (checked 2 source files)\nstatus 1\nfiles 2 bodies 5 rechecked 5\n",
+                End::EndOfInput,
+            ),
         ],
     )
 }

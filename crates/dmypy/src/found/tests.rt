@@ -1,18 +1,16 @@
 //! Sources with the messages that are found in them.
 
-use super::found;
-use crate::outcome::outcome;
+use super::{Message, found, told};
+use pyc_parse::outcome;
 use pyc_types::Builtins;
 use std::alloc::Global;
 use std::fmt::Write;
 use std::test::Fail;
 
-/// The messages on a source, each as its line, column, code and text, and ended by a `;`.
-fn shown(alloc: Global, source: &[u8]) -> Result<String, Fail> {
-    let builtins = Builtins::new(alloc)?;
-    let outcome = outcome(alloc, source)?;
+/// These messages, each as its line, column, code and text, and ended by a `;`.
+fn shown(alloc: Global, messages: &[Message]) -> Result<String, Fail> {
     let mut shown = String::new(alloc);
-    for message in &found(alloc, &builtins, &outcome)? {
+    for message in messages {
         let line = message.line;
         let column = message.column;
         let code = message.code.name();
@@ -22,9 +20,28 @@ fn shown(alloc: Global, source: &[u8]) -> Result<String, Fail> {
     Ok(shown)
 }
 
+/// What is found in a source.
+fn found_in(alloc: Global, source: &[u8]) -> Result<String, Fail> {
+    let builtins = Builtins::new(alloc)?;
+    let outcome = outcome(alloc, source)?;
+    shown(alloc, &found(alloc, &builtins, source, &outcome)?)
+}
+
+/// The lines of what is told of a source, each with a space after it.
+fn lines_told(alloc: Global, source: &[u8]) -> Result<String, Fail> {
+    let builtins = Builtins::new(alloc)?;
+    let outcome = outcome(alloc, source)?;
+    let mut lines = String::new(alloc);
+    for message in &told(alloc, &builtins, source, &outcome)? {
+        let line = message.line;
+        write!(lines, "{line} ")?;
+    }
+    Ok(lines)
+}
+
 #[test]
 fn reports_what_is_not_assignable(rt: HostRuntime) -> Result<(), Fail> {
-    let cases: [(&[u8], &str); 4] = [
+    let cases: [(&[u8], &str); 6] = [
         (
             b"x: int = \"a\"\n",
             "1:10 assignment: Incompatible types in assignment (expression has type \"str\", variable has type \"int\");",
@@ -42,48 +59,52 @@ fn reports_what_is_not_assignable(rt: HostRuntime) -> Result<(), Fail> {
             "1:11 assignment: Incompatible types in assignment (expression has type \"bool\", variable has type \"None\");\
              2:11 assignment: Incompatible types in assignment (expression has type \"None\", variable has type \"bool\");",
         ),
+        (
+            b"if a:\n    x: int = \\\n      b'a' b\"\"\n",
+            "3:7 assignment: Incompatible types in assignment (expression has type \"bytes\", variable has type \"int\");",
+        ),
+        (
+            b"def f():\n    x: int = ''\nclass C:\n    x: int = ''\nx: int = ('')\nx: C = ''\nx.y: int = ''\nx: str = 1j\n",
+            "",
+        ),
     ];
     for (source, want) in cases {
-        assert_eq!(rt; shown(rt.alloc(), source)?.as_str(), want);
+        assert_eq!(rt; found_in(rt.alloc(), source)?.as_str(), want);
     }
     Ok(())
 }
 
 #[test]
 fn reports_the_first_fault(rt: HostRuntime) -> Result<(), Fail> {
-    let cases: [(&[u8], &str); 17] = [
-        (b" x: int = 1\n", "1:1 syntax: Invalid syntax;"),
-        (b"x: int = 1\nx: int = 1\n", "2:1 syntax: Invalid syntax;"),
-        (b"int: int = 1\n", "1:1 syntax: Invalid syntax;"),
+    let cases: [(&[u8], &str); 6] = [
+        (b" x: int = 1\n", "1:1 syntax: Unexpected or missing block;"),
         (b"if: int = 1\n", "1:1 syntax: Invalid syntax;"),
-        (b"x = 1\n", "1:1 syntax: Invalid syntax;"),
-        (b"x: object = 1\n", "1:1 syntax: Invalid syntax;"),
-        (b"x: int = y\n", "1:1 syntax: Invalid syntax;"),
-        (b"x: int = 1 1\n", "1:1 syntax: Invalid syntax;"),
-        (b"x = 1\n\n$", "3:1 syntax: Invalid character;"),
-        (
-            b"x = 1\n\ny: str = 'a",
-            "3:1 syntax: Unterminated string literal;",
-        ),
-        (b"x = 1\n\xff", "1:1 syntax: Source is not UTF-8;"),
+        (b"x: int = ''\nx: int = 1 1\n", "2:1 syntax: Invalid syntax;"),
+        (b"x = = 1\n\n$", "3:1 syntax: Invalid character;"),
+        (b"x := 1\n", "1:1 syntax: Outside the profile;"),
         (b"x: int = 1\ny = (1 +\n", "2:1 syntax: Unmatched bracket;"),
-        (
-            b"if x:\n    y\n  z",
-            "3:1 syntax: Unindent does not match any outer indentation level;",
-        ),
-        (
-            b"if x:\n        y\n\tz",
-            "3:1 syntax: Inconsistent use of tabs and spaces in indentation;",
-        ),
-        (
-            b"\n(((((((((((((((((((((((((((((((((((((((((((((((((((((((((((((((((",
-            "2:1 syntax: Too deeply nested;",
-        ),
-        (b"x: int = \\\n1\n", "1:1 syntax: Invalid syntax;"),
-        (b"x: str = b'a'\n", "1:1 syntax: Invalid syntax;"),
     ];
     for (source, want) in cases {
-        assert_eq!(rt; shown(rt.alloc(), source)?.as_str(), want);
+        assert_eq!(rt; found_in(rt.alloc(), source)?.as_str(), want);
+    }
+    Ok(())
+}
+
+#[test]
+fn ignores_silence(rt: HostRuntime) -> Result<(), Fail> {
+    let cases: [(&[u8], &str); 9] = [
+        (b"x: int = ''\ny: int = '' # type: ignore\nz: int = ''\n", "1 3 "),
+        (b"x: int = '' # type: ignore[assignment]\n", ""),
+        (b"x: int = '' # type: ignore[return, assignment]\n", ""),
+        (b"x: int = '' # type: ignore[return]\n", "1 "),
+        (b"x: int = '' # type: ignore[assignmen]\n", "1 "),
+        (b"x: int = \\\n  '' # type: ignore\n", ""),
+        (b"# type: ignore\nx: int = ''\ny: int = ''\n", ""),
+        (b"# type: ignore[assignment]\nx: int = ''\n", "2 "),
+        (b"# type: ignore\nx = = 1 # type: ignore[syntax]\n", "2 "),
+    ];
+    for (source, want) in cases {
+        assert_eq!(rt; lines_told(rt.alloc(), source)?.as_str(), want);
     }
     Ok(())
 }

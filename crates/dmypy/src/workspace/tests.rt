@@ -1,5 +1,5 @@
 use super::*;
-use crate::tree::Outcome;
+use pyc_parse::Outcome;
 use std::test::Fail;
 
 fn file_of(alloc: Global, path: &str, text: &str) -> Result<File, AllocError> {
