@@ -8,11 +8,12 @@ use std::test::Fail;
 
 /// The annotated literals of a source, each as its line, column, annotation and type, and ended by a `;`.
 fn forms_of(alloc: Global, source: &str) -> Result<String, Fail> {
-    let Outcome::Tree(module) = outcome(alloc, source.as_bytes())? else {
+    let bytes = source.as_bytes();
+    let Outcome::Tree(module) = outcome(alloc, bytes)? else {
         return Err("no tree".into());
     };
     let mut shown = String::new(alloc);
-    for form in &literal_forms(alloc, source.as_bytes(), &module.statements)? {
+    for form in &literal_forms(alloc, bytes, &module.statements)? {
         let line = form.line;
         let column = form.column;
         let annotation = form.annotation;
