@@ -43,3 +43,5 @@ pub mod BlockViewLemmas
 pub mod ParseLaws
 pub mod SoundBlocks
 pub mod ModuleLemmas
+pub mod SoundModules
+pub mod OutcomeLemmas

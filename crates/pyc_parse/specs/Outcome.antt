@@ -37,7 +37,7 @@ parse_text what.Memory = []
 
 -- what a source with these logical lines is
 abbrev pub parsed : Result Module ParseFault → Outcome
-parsed (Ok module) = tree module
+parsed (Ok found) = tree found
 parsed (Err told) = fault told.line (parse_text told.what)
 
 abbrev pub scanned : Result Lexis LexFault → Outcome
@@ -51,11 +51,11 @@ outcome_of source = scanned (lines_of source)
 
 -- the tokens of a tree in text order; a fault has none
 abbrev pub outcome_tokens : Outcome → List Token
-outcome_tokens (tree module) = stmts_tokens module.statements
+outcome_tokens (tree found) = stmts_tokens found.statements
 outcome_tokens (fault line text) = []
 
 -- ---- what the code answers
 
 abbrev pub outcome_in : OutcomeOf → Outcome
-outcome_in (declared.Tree module) = tree (module_in module)
+outcome_in (declared.Tree found) = tree (module_in found)
 outcome_in (declared.Fault told) = fault told.line told.text.now

@@ -54,7 +54,7 @@ fn placed_lines(alloc: Global, lines: &[LogicalLine]) -> Result<Vec<Placed>, Par
 #[tactic(auto, unfolding(crate::specs::Modules::module_of))]
 pub fn parse(alloc: Global, scan: Scan) -> Result<Module, ParseFault>
     ensures tree { Answers module_in (module_of (lexis_in scan)) result }
-    ensures held { IfOk result (λ module. lines_held (module_in module).statements ≡ (lexis_in scan).lines) }
+    ensures held { IfOk result (λ found. lines_held (module_in found).statements ≡ (lexis_in scan).lines) }
 {
     let lines = placed_lines(alloc, &scan.lines)?;
     match read_blocks(alloc, lines) {

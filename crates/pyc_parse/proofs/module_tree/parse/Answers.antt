@@ -1,0 +1,10 @@
+-- The statements of a module hold its lines.
+use Rattle.std.proofs.Common.{rules, map}
+use Rattle.pyc_lex.specs.View.{line_in}
+use Rattle.pyc_parse.specs.BlockView.{placed_of, stmts_of}
+use Rattle.pyc_parse.proofs.SoundModules.{statements_hold}
+use Rattle.pyc_parse.proofs.module_tree.parse.Goals as goal
+
+pub returns-in-Ok-clause-held : goal.returns-in-Ok-clause-held
+returns-in-Ok-clause-held c =
+    statements_hold (map line_in c.args.scan.lines.items) (map placed_of c.in_ok-lines.lines.items) (stmts_of c.in-Ok.statements) (search rules) (search rules)

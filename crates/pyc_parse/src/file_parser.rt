@@ -1,0 +1,85 @@
+//! Reads a source.
+
+ghost use Rattle.std.specs.Prelude.{◌≡◌, ◌≢◌, All, IfOk, OnOk, Ok};
+ghost use Rattle.pyc_lex.specs.Lines.{Lexis, lines_of};
+ghost use Rattle.pyc_lex.specs.Texts.{IsTextSpan, tokens_of};
+ghost use Rattle.pyc_lex.specs.View.{lexis_in};
+ghost use Rattle.pyc_parse.specs.Modules.{module_of};
+ghost use Rattle.pyc_parse.specs.Outcome as spec;
+ghost use Rattle.pyc_parse.specs.Outcome.{outcome_in, outcome_of, outcome_tokens, parse_text};
+
+use crate::fault::{ParseFault, What};
+use crate::file_outcome::{Fault, Outcome};
+use crate::module_tree::parse;
+use pyc_lex::{LexFault, Scan, scan};
+use std::alloc::{AllocError, Global};
+
+/// What is told of a line without a tree, or of a block.
+fn parse_text(what: What) -> &'static str
+    ensures { result.now ≡ parse_text what }
+{
+    match what {
+        What::Line => "Invalid syntax",
+        What::Block => "Unexpected or missing block",
+        What::OutsideProfile => "Outside the profile",
+        What::Memory => "",
+    }
+}
+
+fn at_fault(line: usize, text: &'static str) -> Outcome
+    ensures { outcome_in result ≡ spec.fault line text.now }
+{
+    Outcome::Fault(Fault { line, text })
+}
+
+/// What a source with this lexical fault is.
+fn lexical_outcome(fault: LexFault) -> Result<Outcome, AllocError>
+    ensures outcome { IfOk result (λ outcome. outcome_in outcome ≡ spec.lexical_outcome fault) }
+    ensures of_source { OnOk result (fault ≢ LexFault.Memory) }
+{
+    match fault {
+        LexFault::NotUtf8 => Ok(at_fault(1, "Source is not UTF-8")),
+        LexFault::BadCharacter(line) => Ok(at_fault(line, "Invalid character")),
+        LexFault::OpenString(line) => Ok(at_fault(line, "Unterminated string literal")),
+        LexFault::Bracket(line) => Ok(at_fault(line, "Unmatched bracket")),
+        LexFault::Dedent(line) => Ok(at_fault(
+            line,
+            "Unindent does not match any outer indentation level",
+        )),
+        LexFault::Tabs(line) => Ok(at_fault(
+            line,
+            "Inconsistent use of tabs and spaces in indentation",
+        )),
+        LexFault::Deep(line) => Ok(at_fault(line, "Too deeply nested")),
+        LexFault::Memory => Err(AllocError),
+    }
+}
+
+/// What a source with these logical lines is.
+fn parsed(alloc: Global, scan: Scan) -> Result<Outcome, AllocError>
+    ensures { IfOk result (λ outcome. outcome_in outcome ≡ spec.parsed (module_of (lexis_in scan))) }
+{
+    match parse(alloc, scan) {
+        Ok(module) => Ok(Outcome::Tree(module)),
+        Err(
+            ParseFault {
+                what: What::Memory,
+                ..
+            },
+        ) => Err(AllocError),
+        Err(ParseFault { line, what }) => Ok(at_fault(line, parse_text(what))),
+    }
+}
+
+/// What a source is: its first lexical fault, else its first line without a tree, else the first fault of its blocks, else
+/// the tree of its module, whose tokens are spans of its text. The only error is that memory runs out.
+#[tactic(auto, unfolding(crate::specs::Outcome::outcome_of))]
+pub fn outcome(alloc: Global, bytes: &[u8]) -> Result<Outcome, AllocError>
+    ensures outcome { IfOk result (λ outcome. outcome_in outcome ≡ outcome_of bytes.now) }
+    ensures spans { IfOk result (λ outcome. All (λ token. IsTextSpan bytes.now token.span) (outcome_tokens (outcome_in outcome))) }
+{
+    match scan(alloc, bytes) {
+        Ok(scan) => parsed(alloc, scan),
+        Err(fault) => lexical_outcome(fault),
+    }
+}
