@@ -11,6 +11,7 @@ PROGRAM prints what the files are that its standard input names (`bench/outcomes
   the first line, and with the text, that the rules say of Python's own tokens and tree;
 - `refused by both`: Python refuses the file too, by `ast` or, on the line of the fault, by its compiler alone;
 - the rule by which a file has a tree here that `ast` refuses (`BEYOND`), told by what Python says against it;
+- `limits of Python's parser`: Python gives up before it knows;
 - `unexplained`: anything else.
 
 Each file that is not in the first heading is named. The status is 1 where a file is unexplained, else 0.
@@ -27,13 +28,14 @@ import warnings
 from pathlib import Path
 
 from compare_tokens import BYTE_ORDER_MARK, with_line_feeds
-from profile_rules import BEYOND, LEFT_OUT, Expected, beyond, expected
+from profile_rules import BEYOND, LATER, LEFT_OUT, LIMITS, Expected, beyond, by_limits, expected
 
 BUILD = Path(__file__).resolve().parent / "build_outcomes.py"
 SECONDS = 600
 TREE = "tree"
 BOTH = "tree in both"
 REFUSED = "refused by both"
+PASSED = {*BEYOND, LATER} - {LIMITS}
 NOT_READ = (SyntaxError, ValueError, MemoryError, RecursionError)
 
 # What a source is here: the line and the text of its fault, or no line and `tree`.
@@ -72,6 +74,10 @@ def python_says(source, path, flags):
         return None, str(told) if isinstance(error, (SyntaxError, ValueError)) else f"{type(error).__name__}: {error}", line
 
 
+def told_of(own):
+    return "tree here" if own.text == TREE else f"{own.text} on line {own.line} here"
+
+
 def text_of(source):
     return with_line_feeds(source.removeprefix(BYTE_ORDER_MARK).decode())
 
@@ -82,7 +88,7 @@ def judged_tree(own, tree, source, path):
         want = expected(text_of(source), tree)
     except UnicodeDecodeError:
         want = Expected(1, 1, "Source is not UTF-8", "not UTF-8")
-    told = f"{own.text} on line {own.line} here"
+    told = told_of(own)
     if want is None:
         if own.text == TREE:
             return BOTH, ""
@@ -99,9 +105,10 @@ def judged(own, source, path):
     tree, why, line = python_says(source, path, ast.PyCF_ONLY_AST)
     if tree is not None:
         return judged_tree(own, tree, source, path)
+    told = f"{told_of(own)}, {why} on line {line} there"
     if own.text == TREE:
-        return beyond(why, text_of(source)) or "unexplained", f"tree here, {why} on line {line} there"
-    return REFUSED, f"{own.text} on line {own.line} here, {why} on line {line} there"
+        return beyond(why, text_of(source)) or "unexplained", told
+    return (LIMITS if by_limits(why) else REFUSED), told
 
 
 def compare(program, folder):
@@ -117,7 +124,7 @@ def compare(program, folder):
             print(f"{path.relative_to(folder)}: {heading}: {told}", flush=True)
     print(f"Python {platform.python_version()}, {len(paths)} files, {size} bytes")
     for heading, count in counts.most_common():
-        rule = LEFT_OUT.get(heading) or (heading in BEYOND and "a tree here, refused by Python")
+        rule = LEFT_OUT.get(heading) or (heading in PASSED and "a tree here, refused by Python")
         print(f"{count:6} {heading}{f': {rule}' if rule else ''}")
     return counts["unexplained"]
 

@@ -7,10 +7,10 @@ rule. `beyond` names the rule by which a source has a tree that `ast` refuses.
 import ast
 import bisect
 import collections
-import io
 import re
 import sys
 import tokenize
+import unicodedata
 import warnings
 
 from compare_tokens import STRING, ends_early, python_tokens
@@ -19,8 +19,9 @@ MOST_NESTED = 64
 MOST_HIGH = 1_000
 SOFT = {"match", "case", "type"}
 OPENS, CLOSES = set("([{"), set(")]}")
-# Comments, strings and brackets; a line that may have more than 64 indents
+# Comments, strings as they are cut here, and brackets; what takes an `f` out; a line that may have more than 64 indents
 QUICK = re.compile(rf"#[^\n]*|{STRING.pattern}|[\[\](){{}}]", re.DOTALL)
+NO_F = str.maketrans("", "", "fF")
 WIDE = re.compile(rf"^[ \t\f]{{{MOST_NESTED + 1}}}", re.MULTILINE)
 NO_TEXT = {tokenize.COMMENT, tokenize.NL, tokenize.INDENT, tokenize.DEDENT, tokenize.ENDMARKER}
 
@@ -44,6 +45,8 @@ LEFT_OUT = {
 # The forms that are nodes of a kind of their own
 NEWER = {"Match": "match", "TypeAlias": "type", "TemplateStr": "template string"}
 
+LIMITS = "limits of Python's parser"
+LATER = "a later edition of Unicode"
 # What Python says against a source that has a tree here
 BEYOND = {
     "leading zeros": "leading zeros in decimal integer literals",
@@ -55,7 +58,7 @@ BEYOND = {
     "declared encoding": "unknown encoding|encoding problem|codec can't decode",
     "null characters": "null bytes",
     "backslash before the last line end": "^unexpected EOF while parsing",
-    "limits of Python's parser": "^(MemoryError|RecursionError)|too many nested parentheses|too many levels of indentation",
+    LIMITS: "^(MemoryError|RecursionError)|too many nested parentheses|too many levels of indentation",
 }
 
 # The lines, first and last, on one of which a fault must stand; its text, None for any; the rule.
@@ -228,28 +231,37 @@ def expected(text, tree):
     return Expected(firsts[place], firsts[place], line_text(lines[place]), rule)
 
 
-def without_fields(text):
-    """A text with each f-string made a plain string."""
-    lines = io.StringIO(text).readlines()
-    for kind, string, (line, column) in reversed(list(python_tokens(text))):
-        prefix = string[: re.search("[\"']", string).start()] if kind == tokenize.STRING else ""
-        row = lines[line - 1] if prefix else ""
-        if "f" in prefix.lower():
-            lines[line - 1] = row[:column] + prefix.lower().replace("f", "") + row[column + len(prefix) :]
-    return "".join(lines)
+def plain(found):
+    """A string without an `f` in its prefix; any other piece as it stands."""
+    prefix = re.match("[a-zA-Z]*", found[0])[0]
+    return prefix.translate(NO_F) + found[0][len(prefix) :]
 
 
 def is_read_without_fields(text):
+    """Whether Python reads a text with each f-string made a plain string."""
     try:
         with warnings.catch_warnings():
             warnings.simplefilter("ignore")
-            ast.parse(without_fields(text))
+            ast.parse(QUICK.sub(plain, text))
     except (SyntaxError, ValueError, tokenize.TokenError):
         return False
     return True
 
 
+def is_new_character(told):
+    """Whether Python refuses a character that its edition of Unicode does not assign."""
+    found = re.search(r"^invalid .*character .*U\+([0-9A-F]+)", told)
+    return found is not None and unicodedata.category(chr(int(found[1], 16))) == "Cn"
+
+
 def beyond(told, text):
     """The rule by which a text has a tree against which Python says this, or None."""
+    if is_new_character(told):
+        return LATER
     rule = next((rule for rule, pattern in BEYOND.items() if re.search(pattern, told)), None)
     return rule or ("fields of f-strings are not read" if is_read_without_fields(text) else None)
+
+
+def by_limits(told):
+    """Whether Python says that it gives up."""
+    return re.search(BEYOND[LIMITS], told) is not None

@@ -37,9 +37,14 @@ def repeated(front, each, back, end=""):
     return lambda count: f"{front}{each * count}{back}{end * count}\n"
 
 
-def blocks(header, body):
-    """So many headers, each one space deeper than the one before, and then a body."""
-    return lambda count: "".join(f"{' ' * at}{header}\n" for at in range(count)) + " " * count + body + "\n"
+def blocks(header, body, second=""):
+    """So many headers, each one space deeper than the one before, and then a body; a header may have a second line."""
+
+    def source(count):
+        lines = [f"{' ' * at}{line}\n" for at in range(count) for line in (header, second) if line]
+        return "".join(lines) + " " * count + body + "\n"
+
+    return source
 
 
 def mixed(each, inner, end):
@@ -57,6 +62,7 @@ SHAPES = {
     "not": repeated("x = ", "not ", "1"),
     "lambda": repeated("x = ", "lambda: ", "1"),
     "lambda with a default": repeated("x = ", "lambda x=1: ", "1"),
+    "lambda in a default": repeated("x = ", "lambda x=", "1", ": 1"),
     "conditionals": repeated("x = ", "1 if 1 else ", "1"),
     "powers": repeated("x = ", "2**", "2"),
     "powers of signs": repeated("x = ", "2**-", "2"),
@@ -85,6 +91,7 @@ SHAPES = {
     "not in parentheses": mixed("(", "not ", ")"),
     "signs in parentheses": mixed("(", "-", ")"),
     "lambda in lists": mixed("[", "lambda: ", "]"),
+    "lambda with a default in calls": mixed("f(x=", "lambda x=1: ", ")"),
     "conditionals in calls": mixed("f(", "1 if 1 else ", ")"),
     "targets in lists": repeated("", "[", "x", "]"),
     "targets in parentheses": lambda count: f"for {'(' * count}x{')' * count} in y: pass\n",
@@ -96,6 +103,8 @@ SHAPES = {
     "def": blocks("def f():", "pass"),
     "class": blocks("class C:", "pass"),
     "for": blocks("for x in y:", "x = " + "-" * 900 + "1"),
+    "decorated def": blocks("@x", "pass", "def f():"),
+    "else": blocks("if 1: pass", "pass", "else:"),
     "elif": lambda count: "if 1: pass\n" + "elif 1: pass\n" * count,
     "try": lambda count: "try: pass\n" + "except x: pass\n" * count,
     "decorators": lambda count: "@x\n" * count + "def f(): pass\n",
@@ -132,7 +141,10 @@ def largest(holds, low, high):
 
 def most_of(shape):
     """How many repetitions 1 MiB holds."""
-    return largest(lambda count: len(shape(count)) <= MOST, 1, MOST)
+    fits = 1
+    while len(shape(2 * fits)) <= MOST:
+        fits *= 2
+    return largest(lambda count: len(shape(count)) <= MOST, fits, 2 * fits - 1)
 
 
 def stack_for(program, source):
