@@ -79,7 +79,10 @@ fn reports_the_first_fault(rt: HostRuntime) -> Result<(), Fail> {
     let cases: [(&[u8], &str); 6] = [
         (b" x: int = 1\n", "1:1 syntax: Unexpected or missing block;"),
         (b"if: int = 1\n", "1:1 syntax: Invalid syntax;"),
-        (b"x: int = ''\nx: int = 1 1\n", "2:1 syntax: Invalid syntax;"),
+        (
+            b"x: int = ''\nx: int = 1 1\n",
+            "2:1 syntax: Invalid syntax;",
+        ),
         (b"x = = 1\n\n$", "3:1 syntax: Invalid character;"),
         (b"x := 1\n", "1:1 syntax: Outside the profile;"),
         (b"x: int = 1\ny = (1 +\n", "2:1 syntax: Unmatched bracket;"),
@@ -93,7 +96,10 @@ fn reports_the_first_fault(rt: HostRuntime) -> Result<(), Fail> {
 #[test]
 fn ignores_silence(rt: HostRuntime) -> Result<(), Fail> {
     let cases: [(&[u8], &str); 9] = [
-        (b"x: int = ''\ny: int = '' # type: ignore\nz: int = ''\n", "1 3 "),
+        (
+            b"x: int = ''\ny: int = '' # type: ignore\nz: int = ''\n",
+            "1 3 ",
+        ),
         (b"x: int = '' # type: ignore[assignment]\n", ""),
         (b"x: int = '' # type: ignore[return, assignment]\n", ""),
         (b"x: int = '' # type: ignore[return]\n", "1 "),
