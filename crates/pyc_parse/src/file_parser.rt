@@ -1,8 +1,7 @@
 //! Reads a source.
 
-ghost use Rattle.std.specs.Prelude.{◌≡◌, ◌≢◌, All, IfOk, OnOk, Ok};
-ghost use Rattle.pyc_lex.specs.Lines.{Lexis, lines_of};
-ghost use Rattle.pyc_lex.specs.Texts.{IsTextSpan, tokens_of};
+ghost use Rattle.std.specs.Prelude.{◌≡◌, ◌≢◌, All, IfOk, OnOk};
+ghost use Rattle.pyc_lex.specs.Texts.{IsTextSpan};
 ghost use Rattle.pyc_lex.specs.View.{lexis_in};
 ghost use Rattle.pyc_parse.specs.Modules.{module_of};
 ghost use Rattle.pyc_parse.specs.Outcome as spec;
@@ -26,6 +25,7 @@ fn parse_text(what: What) -> &'static str
     }
 }
 
+/// A source whose first fault is told on this line.
 fn at_fault(line: usize, text: &'static str) -> Outcome
     ensures { outcome_in result ≡ spec.fault line text.now }
 {

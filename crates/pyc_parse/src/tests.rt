@@ -2,6 +2,7 @@
 
 mod lines;
 mod modules;
+mod outcomes;
 mod refused;
 mod trees;
 

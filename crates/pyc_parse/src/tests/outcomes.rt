@@ -1,0 +1,170 @@
+//! What sources are: their first faults, and their trees with the ignore comments.
+
+use crate::{Module, Outcome, outcome};
+use pyc_lex::Codes;
+use std::alloc::Global;
+use std::test::Fail;
+
+/// The first fault of a source: its line, and what is told.
+fn told(alloc: Global, source: &[u8]) -> Result<Option<(usize, &'static str)>, Fail> {
+    let found = outcome(alloc, source).ok().ok_or("no memory")?;
+    Ok(match found {
+        Outcome::Tree(_) => None,
+        Outcome::Fault(fault) => Some((fault.line, fault.text)),
+    })
+}
+
+/// The tree of a source.
+fn tree(alloc: Global, source: &str) -> Result<Module, Fail> {
+    match outcome(alloc, source.as_bytes()).ok().ok_or("no memory")? {
+        Outcome::Tree(found) => Ok(found),
+        Outcome::Fault(_) => Err("no tree".into()),
+    }
+}
+
+/// So many of a text, one after another.
+fn repeated(alloc: Global, text: &str, count: usize) -> Result<String, Fail> {
+    let mut repeated = String::new(alloc);
+    for _turn in 0..count {
+        repeated.push_str(text)?;
+    }
+    Ok(repeated)
+}
+
+/// So many headers, each deeper than the one before, with `y` below the last.
+fn nested(alloc: Global, levels: usize) -> Result<String, Fail> {
+    let mut source = String::new(alloc);
+    for level in 0..levels {
+        source.push_str(repeated(alloc, " ", level)?.as_str())?;
+        source.push_str("if x:\n")?;
+    }
+    source.push_str(repeated(alloc, " ", levels)?.as_str())?;
+    source.push_str("y\n")?;
+    Ok(source)
+}
+
+/// A number in so many parentheses.
+fn enclosed(alloc: Global, levels: usize) -> Result<String, Fail> {
+    let mut source = repeated(alloc, "(", levels)?;
+    source.push_str("1")?;
+    source.push_str(repeated(alloc, ")", levels)?.as_str())?;
+    Ok(source)
+}
+
+#[test]
+fn lexical_faults(rt: HostRuntime) -> Result<(), Fail> {
+    for (source, line, text) in [
+        ("x = 1\ny = $\n", 2, "Invalid character"),
+        ("x = ?\n", 1, "Invalid character"),
+        ("a\nx = \"a\ny = 1\n", 2, "Unterminated string literal"),
+        ("x = \"\"\"a\"\n", 1, "Unterminated string literal"),
+        (
+            "x = f\"{\", \".join(y)}\"\n",
+            1,
+            "Unterminated string literal",
+        ),
+        ("def (\n", 1, "Unmatched bracket"),
+        ("a\nx = )\n", 2, "Unmatched bracket"),
+        ("x = (\n[\n1)\n", 3, "Unmatched bracket"),
+        ("x = [\n(\n", 2, "Unmatched bracket"),
+        (
+            "if x:\n    y\n  z\n",
+            3,
+            "Unindent does not match any outer indentation level",
+        ),
+        (
+            "if x:\n\ty\n        z\n",
+            3,
+            "Inconsistent use of tabs and spaces in indentation",
+        ),
+    ] {
+        assert_eq!(rt; told(rt.alloc(), source.as_bytes())?, Some((line, text)));
+    }
+    Ok(())
+}
+
+#[test]
+fn bytes_that_are_no_text(rt: HostRuntime) -> Result<(), Fail> {
+    let source = b"x = 1\ny = $\n\xff\n";
+    assert_eq!(rt; told(rt.alloc(), source)?, Some((1, "Source is not UTF-8")));
+    Ok(())
+}
+
+#[test]
+fn limits_of_depth(rt: HostRuntime) -> Result<(), Fail> {
+    let alloc = rt.alloc();
+    assert_eq!(rt; told(alloc, nested(alloc, 64)?.as_bytes())?, None);
+    assert_eq!(rt;
+        told(alloc, nested(alloc, 65)?.as_bytes())?,
+        Some((66, "Too deeply nested"))
+    );
+    assert_eq!(rt; told(alloc, enclosed(alloc, 64)?.as_bytes())?, None);
+    assert_eq!(rt;
+        told(alloc, enclosed(alloc, 65)?.as_bytes())?,
+        Some((1, "Too deeply nested"))
+    );
+    Ok(())
+}
+
+#[test]
+fn faults_of_lines_and_blocks(rt: HostRuntime) -> Result<(), Fail> {
+    for (source, line, text) in [
+        ("x = = 1\n", 1, "Invalid syntax"),
+        ("\n\n  \nx = = 1\n", 4, "Invalid syntax"),
+        ("x\ny = (1 +\n = 2)\n", 2, "Invalid syntax"),
+        (
+            "x = (1 +\n  2)\nif x:\ny = 1\n",
+            3,
+            "Unexpected or missing block",
+        ),
+        ("x\n  y\n", 2, "Unexpected or missing block"),
+        ("@a\nx\n", 1, "Unexpected or missing block"),
+        ("match x:\n    pass\n", 1, "Outside the profile"),
+        ("x\nfrom a import *\n", 2, "Outside the profile"),
+        ("x\n(y := 1)\n", 2, "Outside the profile"),
+        ("def f(a, /): pass\n", 1, "Outside the profile"),
+    ] {
+        assert_eq!(rt; told(rt.alloc(), source.as_bytes())?, Some((line, text)));
+    }
+    Ok(())
+}
+
+#[test]
+fn first_fault_of_the_first_kind(rt: HostRuntime) -> Result<(), Fail> {
+    for (source, line, text) in [
+        ("x = = 1\ny = $\n", 2, "Invalid character"),
+        ("if x:\ny = $\n", 2, "Invalid character"),
+        ("if x:\ny\nz = = 1\n", 3, "Invalid syntax"),
+        ("else: x\nmatch y:\n", 2, "Outside the profile"),
+        ("x\n)\n$\n", 2, "Unmatched bracket"),
+        ("x = = 1\ny = = 2\n", 1, "Invalid syntax"),
+        ("x = = 1\nmatch y:\n    pass\n", 1, "Invalid syntax"),
+        ("match x:\n    y = = 1\n", 1, "Outside the profile"),
+        ("if x:\ny\nif z:\nw\n", 1, "Unexpected or missing block"),
+    ] {
+        assert_eq!(rt; told(rt.alloc(), source.as_bytes())?, Some((line, text)));
+    }
+    Ok(())
+}
+
+#[test]
+fn trees_with_ignore_comments(rt: HostRuntime) -> Result<(), Fail> {
+    let alloc = rt.alloc();
+    let one = tree(alloc, "x: int = \"a\"\ny = 1  # type: ignore\n")?;
+    assert_eq!(rt; one.statements.len(), 2);
+    assert_eq!(rt; one.ignores.len(), 1);
+    let ignore = one.ignores.first().ok_or("no ignore")?;
+    assert_eq!(rt; ignore.line, 2);
+    assert!(rt; matches!(ignore.codes, Codes::All));
+    assert!(rt; !one.whole_file);
+
+    let whole = tree(alloc, "\u{feff}# type: ignore\nx = 1\n")?;
+    assert_eq!(rt; whole.statements.len(), 1);
+    assert!(rt; whole.whole_file);
+
+    let nothing = tree(alloc, "")?;
+    assert!(rt; nothing.statements.is_empty());
+    assert!(rt; nothing.ignores.is_empty());
+    assert!(rt; !nothing.whole_file);
+    Ok(())
+}
