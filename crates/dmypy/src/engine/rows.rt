@@ -69,6 +69,51 @@ fn commands_are_refused(rt: HostRuntime) -> Result<(), Fail> {
     )
 }
 
+#[test]
+fn sources_are_read(rt: HostRuntime) -> Result<(), Fail> {
+    assert_sessions(
+        &rt,
+        rt.alloc(),
+        &[
+            (
+                "add p.py 26\nx = (1 +\n  2)\nif x:\ny = 1\ncheck\n",
+                "ok\np.py:3: error: Unexpected or missing block  [syntax]\nFound 1 error in 1 file (checked 1 source file)\nstatus 1\n",
+                End::EndOfInput,
+            ),
+            (
+                "add o.py 18\nmatch x:\n    pass\ncheck\n",
+                "ok\no.py:1: error: Outside the profile  [syntax]\nFound 1 error in 1 file (checked 1 source file)\nstatus 1\n",
+                End::EndOfInput,
+            ),
+            (
+                "add f.py 22\nx = f\"{\", \".join(y)}\"\ncheck\n",
+                "ok\nf.py:1: error: Unterminated string literal  [syntax]\nFound 1 error in 1 file (checked 1 source file)\nstatus 1\n",
+                End::EndOfInput,
+            ),
+            (
+                "add i.py 41\nx: int = \"a\"  # type: ignore[assignment]\ncheck\n",
+                "ok\nSuccess: no issues found in 1 source file\nstatus 0\n",
+                End::EndOfInput,
+            ),
+            (
+                "add i.py 37\nx: int = \"a\"  # type: ignore[return]\ncheck\n",
+                "ok\ni.py:1: error: Incompatible types in assignment (expression has type \"str\", variable has type \"int\")  [assignment]\nFound 1 error in 1 file (checked 1 source file)\nstatus 1\n",
+                End::EndOfInput,
+            ),
+            (
+                "add b.py 134\nx = ((((((((((((((((((((((((((((((((((((((((((((((((((((((((((((((((1))))))))))))))))))))))))))))))))))))))))))))))))))))))))))))))))\ncheck\n",
+                "ok\nSuccess: no issues found in 1 source file\nstatus 0\n",
+                End::EndOfInput,
+            ),
+            (
+                "add b.py 136\nx = (((((((((((((((((((((((((((((((((((((((((((((((((((((((((((((((((1)))))))))))))))))))))))))))))))))))))))))))))))))))))))))))))))))\ncheck\n",
+                "ok\nb.py:1: error: Too deeply nested  [syntax]\nFound 1 error in 1 file (checked 1 source file)\nstatus 1\n",
+                End::EndOfInput,
+            ),
+        ],
+    )
+}
+
 // A line that adds a file, so many line feeds for it, and the commands after them.
 fn with_line_feeds(
     alloc: Global,
