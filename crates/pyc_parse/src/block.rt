@@ -34,7 +34,7 @@ pub enum Stmt {
 #[cycle(block)]
 #[derive(Drop)]
 pub struct CompoundClause {
-    pub header: Header,
+    pub header: Box<Header>,
     pub colon: Token,
     pub suite: Suite,
 }
