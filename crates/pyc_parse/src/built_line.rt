@@ -78,7 +78,11 @@ pub fn for_each(
     ensures memory { IfErr result (λ e. e ≡ Memory) }
 {
     let height = taller(targets.height, iterated.height) + 1;
-    made(alloc, Header::For(word_async, word, targets.expr, word_in, iterated.expr), height)
+    made(
+        alloc,
+        Header::For(word_async, word, targets.expr, word_in, iterated.expr),
+        height,
+    )
 }
 
 /// `except` alone.
@@ -92,7 +96,12 @@ pub fn except(alloc: Global, word: Token) -> Result<BuiltHeader, ParseError>
 
 /// `except`, what is caught, and perhaps a name.
 #[tactic(auto, unfolding(crate::specs::Lines::header_height))]
-pub fn except_of(alloc: Global, word: Token, caught: Built, alias: Option<Alias>) -> Result<BuiltHeader, ParseError>
+pub fn except_of(
+    alloc: Global,
+    word: Token,
+    caught: Built,
+    alias: Option<Alias>,
+) -> Result<BuiltHeader, ParseError>
     ensures made { IfOk result (λ b. header_of b.header.value ≡ line.except_of word (tree_of caught.expr.value) (option_map alias_of alias)) }
     ensures memory { IfErr result (λ e. e ≡ Memory) }
 {
@@ -102,7 +111,12 @@ pub fn except_of(alloc: Global, word: Token, caught: Built, alias: Option<Alias>
 
 /// Perhaps `async`, then `with` and items.
 #[tactic(auto, unfolding(crate::specs::Lines::header_height))]
-pub fn with(alloc: Global, word_async: Option<Token>, word: Token, items: BuiltPieces) -> Result<BuiltHeader, ParseError>
+pub fn with(
+    alloc: Global,
+    word_async: Option<Token>,
+    word: Token,
+    items: BuiltPieces,
+) -> Result<BuiltHeader, ParseError>
     ensures made { IfOk result (λ b. header_of b.header.value ≡ line.with word_async word (pieces_of items.pieces)) }
     ensures memory { IfErr result (λ e. e ≡ Memory) }
 {
@@ -124,7 +138,11 @@ pub fn with_enclosed(
     ensures memory { IfErr result (λ e. e ≡ Memory) }
 {
     let height = items.height + 1;
-    made(alloc, Header::WithEnclosed(word_async, word, opening, items.pieces, closing), height)
+    made(
+        alloc,
+        Header::WithEnclosed(word_async, word, opening, items.pieces, closing),
+        height,
+    )
 }
 
 /// Perhaps `async`, then `def`, a name, parameters in parentheses, and perhaps what is returned.
@@ -143,7 +161,9 @@ pub fn def(
     ensures memory { IfErr result (λ e. e ≡ Memory) }
 {
     let height = taller(parameters.height, returned.height) + 1;
-    made(alloc, Header::Def(
+    made(
+        alloc,
+        Header::Def(
             word_async,
             word,
             name,
@@ -151,7 +171,9 @@ pub fn def(
             parameters.pieces,
             closing,
             returned.tail,
-        ), height)
+        ),
+        height,
+    )
 }
 
 /// `class` and a name.
@@ -177,7 +199,11 @@ pub fn class_of(
     ensures memory { IfErr result (λ e. e ≡ Memory) }
 {
     let height = arguments.height + 1;
-    made(alloc, Header::ClassOf(word, name, opening, arguments.pieces, closing), height)
+    made(
+        alloc,
+        Header::ClassOf(word, name, opening, arguments.pieces, closing),
+        height,
+    )
 }
 
 /// A line of statements.

@@ -161,7 +161,9 @@ impl<F: Fn(Global, &mut Tokens<'_>, usize, u8) -> Result<Built, ParseError>> Gra
         let parameters = self.some_items(tokens, Place::Parameters(true))?;
         let closing = tokens.expect(Kind::Close(Bracket::Round))?;
         let returned = self.tail(tokens, Kind::Delimiter(Delimiter::Arrow))?;
-        built_line::def(self.alloc, word_async, word, name, opening, parameters, closing, returned)
+        built_line::def(
+            self.alloc, word_async, word, name, opening, parameters, closing, returned,
+        )
     }
 
     /// The bases and keywords of a class in parentheses.
