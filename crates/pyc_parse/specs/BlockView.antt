@@ -35,7 +35,7 @@ unfoldable mutual
   -- the statement of one of the code
   pub stmt_of : StmtOf → Stmt
   stmt_of (s.Simple found) = plain.simple (separated_of statement_of found)
-  stmt_of (s.Compound' marks h colon body _ row) = plain.compound (decorators_of marks) (plain.clause (header_of h.value) colon (suite_of body)) (clauses_row row)
+  stmt_of (s.Compound' marks _ h colon body _ row) = plain.compound (decorators_of marks) (plain.clause (header_of h.value) colon (suite_of body)) (clauses_row row)
 
   -- what a header heads
   pub suite_of : SuiteOf → Suite

@@ -27,7 +27,7 @@ pub enum Stmt {
     /// Simple statements on one line.
     Simple(Separated<Statement>),
     /// Decorators, the first clause, and those after it.
-    Compound(Vec<Decorator>, CompoundClause, Vec<CompoundClause>),
+    Compound(Vec<Decorator>, Box<CompoundClause>, Vec<CompoundClause>),
 }
 
 /// A header, its colon, and what it heads.
