@@ -1,6 +1,8 @@
 -- The parts of a scope, one statement after another.
 use Rattle.std.proofs.Common.{◌≡◌, ℕ, ◌+◌, ◌<◌, List, [], ◌∷◌, ◌++◌, map, take, take-suc, length, Some, None, true, false, refl, sym, ap, ◌∙◌, add-one, append_assoc, append-nil}
 use Rattle.std.proofs.Math.ListN.{get_or}
+use Rattle.std.specs.declared.alloc.Global.{Global}
+use Rattle.std.specs.declared.boxed.Box.{Box}
 use Rattle.std.specs.Global.{Vec}
 use Rattle.pyc_parse.specs.declared.block.CompoundClause.{CompoundClause as ClauseOf}
 use Rattle.pyc_parse.specs.declared.block.Decorator.{Decorator as DecoratorOf}
@@ -23,13 +25,13 @@ pub parts_Simple : (line : SeparatedOf StatementOf) → statement_parts (stmt_of
 unfolding statement_parts
 parts_Simple line = rw (view_Simple line) refl
 
-pub parts_definition : (marks : Vec DecoratorOf) (first : ClauseOf) (rest : Vec ClauseOf) → is_definition (clause_of first) ≡ true
-    → statement_parts (stmt_of (s.Compound marks first rest)) ≡ definition (clause_of first) ∷ []
+pub parts_definition : (marks : Vec DecoratorOf) (first : Box ClauseOf Global) (rest : Vec ClauseOf) → is_definition (clause_of first.value) ≡ true
+    → statement_parts (stmt_of (s.Compound marks first rest)) ≡ definition (clause_of first.value) ∷ []
 unfolding statement_parts
 parts_definition marks first rest is = rw (view_Compound marks first rest, is) refl
 
-pub parts_opened : (marks : Vec DecoratorOf) (first : ClauseOf) (rest : Vec ClauseOf) → is_definition (clause_of first) ≡ false
-    → statement_parts (stmt_of (s.Compound marks first rest)) ≡ suite_parts (suite_of first.suite) ++ clauses_parts (clauses_before rest.items no_clause)
+pub parts_opened : (marks : Vec DecoratorOf) (first : Box ClauseOf Global) (rest : Vec ClauseOf) → is_definition (clause_of first.value) ≡ false
+    → statement_parts (stmt_of (s.Compound marks first rest)) ≡ suite_parts (suite_of first.value.suite) ++ clauses_parts (clauses_before rest.items no_clause)
 unfolding statement_parts clause_parts
 parts_opened marks first rest is = rw (view_Compound marks first rest, is) refl
 

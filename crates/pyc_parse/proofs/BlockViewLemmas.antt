@@ -1,5 +1,7 @@
 -- What each constructor of blocks of the code is as a plain tree.
 use Rattle.std.proofs.Common.{◌≡◌, refl, ap, ◌∙◌}
+use Rattle.std.specs.declared.alloc.Global.{Global}
+use Rattle.std.specs.declared.boxed.Box.{Box}
 use Rattle.std.specs.Global.{Vec}
 use mathlib.Core.Former.{Count}
 use Rattle.pyc_parse.specs.declared.block.CompoundClause.{CompoundClause as ClauseOf}
@@ -34,15 +36,15 @@ unfolding stmt_of
 view_Simple found = refl
 
 abbrev clauses_in : StmtOf → (n : Count) × Row_of-CompoundClause n
-clauses_in (s.Compound' _ _ _ _ _ row) = (_, row)
+clauses_in (s.Compound' _ _ _ _ _ _ row) = (_, row)
 clauses_in _ = (_, end_of-CompoundClause)
 
-pub view_Compound : (marks : Vec DecoratorOf) (first : ClauseOf) (more : Vec ClauseOf)
-    → stmt_of (s.Compound marks first more) ≡ plain.compound (decorators_of marks) (clause_of first) (clauses_of more)
+pub view_Compound : (marks : Vec DecoratorOf) (first : Box ClauseOf Global) (more : Vec ClauseOf)
+    → stmt_of (s.Compound marks first more) ≡ plain.compound (decorators_of marks) (clause_of first.value) (clauses_of more)
 unfolding stmt_of
 view_Compound marks first more =
     let row = clauses_in (s.Compound marks first more) in
-    ap (plain.compound (decorators_of marks) (clause_of first))
+    ap (plain.compound (decorators_of marks) (clause_of first.value))
     (clauses_row-items row.0 row.1 ∙ ap (λ items. clauses_before items plain.no_clause) (items_hidden-the_row-CompoundClause-0 more))
 
 pub view_Inline : (found : SeparatedOf StatementOf) → suite_of (u.Inline found) ≡ plain.inline (separated_of statement_of found)

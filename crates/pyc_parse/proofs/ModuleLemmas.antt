@@ -1,11 +1,8 @@
 -- The lines of a module, one after another.
-use Rattle.std.proofs.Common.{◌≡◌, ◌≢◌, ◌<◌, ◌≤◌, ◌+◌, ℕ, suc, List, [], ◌∷◌, ◌++◌, length, map, drop, Option, Some, None, Result, Ok, Err, IsErrAnd, refl, ap, sym, ◌∙◌, subst, arith, append_assoc, append-nil, drop-cons}
-use Rattle.std.proofs.Math.ListN.{get_or}
-use Rattle.std.proofs.lemmas.List.{drop_all}
+use Rattle.std.proofs.Common.{◌≡◌, ◌≢◌, ◌+◌, ℕ, List, [], ◌∷◌, ◌++◌, length, map, Some, None, Result, Ok, Err, IsErrAnd, refl, ap, sym, ◌∙◌, subst, arith, append_assoc, append-nil}
 use Rattle.pyc_lex.specs.declared.tokens.LogicalLine.{LogicalLine}
 use Rattle.pyc_lex.specs.declared.tokens.Token.{Token}
 use Rattle.pyc_lex.specs.Lines as lex
-use Rattle.pyc_lex.specs.View.{line_in}
 use Rattle.pyc_parse.specs.declared.block.Placed.{Placed as PlacedOf}
 use Rattle.pyc_parse.specs.declared.fault.ParseFault.{ParseFault}
 use Rattle.pyc_parse.specs.declared.fault.What.TheVariants as what
@@ -21,15 +18,9 @@ abbrev pub with_placed : List Placed → Result (List Placed) ParseFault → Res
 with_placed front (Ok ps) = Ok (front ++ ps)
 with_placed front (Err fault) = Err fault
 
--- the next line, and none
-pub lines_next : (lines : List LogicalLine) (i : ℕ) (line : LogicalLine) → i < length lines → line ≡ get_or lines i line
-    → map line_in (drop i lines) ≡ line_in line ∷ map line_in (drop (i + 1) lines)
-lines_next lines i line within is =
-    let more : i + 1 ≡ suc i = omega arith in
-    ap (λ (some : List LogicalLine). map line_in some) (drop-cons lines i line within) ∙ rw (more, sym is) refl
-
-pub lines_none : (lines : List LogicalLine) (i : ℕ) → length lines ≤ i → map line_in (drop i lines) ≡ []
-lines_none lines i past = ap (λ (some : List LogicalLine). map line_in some) (drop_all i lines past)
+pub no_line_left : (lines : List LogicalLine) → length lines ≡ 0 → lines ≡ []
+no_line_left [] none = refl
+no_line_left (l ∷ lines) none = absurd (omega arith)
 
 pub placed_push : (front : List PlacedOf) (p : PlacedOf) → map placed_of (front ++ p ∷ []) ≡ map placed_of front ++ placed_of p ∷ []
 placed_push [] p = refl

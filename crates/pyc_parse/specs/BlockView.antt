@@ -35,7 +35,7 @@ unfoldable mutual
   -- the statement of one of the code
   pub stmt_of : StmtOf → Stmt
   stmt_of (s.Simple found) = plain.simple (separated_of statement_of found)
-  stmt_of (s.Compound' marks h colon body _ row) = plain.compound (decorators_of marks) (plain.clause (header_of h) colon (suite_of body)) (clauses_row row)
+  stmt_of (s.Compound' marks _ h colon body _ row) = plain.compound (decorators_of marks) (plain.clause (header_of h.value) colon (suite_of body)) (clauses_row row)
 
   -- what a header heads
   pub suite_of : SuiteOf → Suite
@@ -44,7 +44,7 @@ unfoldable mutual
 
   pub clauses_row : {n : _} → Row_of-CompoundClause n → Clauses
   clauses_row end_of-CompoundClause = plain.no_clause
-  clauses_row (more_of-CompoundClause h colon body rest) = plain.another (plain.clause (header_of h) colon (suite_of body)) (clauses_row rest)
+  clauses_row (more_of-CompoundClause h colon body rest) = plain.another (plain.clause (header_of h.value) colon (suite_of body)) (clauses_row rest)
 
   pub stmts_row : {n : _} → Row_of-Stmt n → Stmts
   stmts_row end_of-Stmt = plain.no_statement
@@ -54,7 +54,7 @@ unfoldable mutual
 
 -- a clause
 abbrev pub clause_of : ClauseOf → Clause
-clause_of c = plain.clause (header_of c.header) c.colon (suite_of c.suite)
+clause_of c = plain.clause (header_of c.header.value) c.colon (suite_of c.suite)
 
 -- a clause, and what it is to those after it
 abbrev pub follower_of : Option (ClauseOf × After) → Option (Clause × After)

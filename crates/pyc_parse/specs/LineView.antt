@@ -26,5 +26,5 @@ header_of (h.ClassOf t name opening arguments closing) = plain.class_of t name o
 -- the line of one of the code
 abbrev pub line_of : LineOf → Line
 line_of (l.Simple statements) = plain.simple (separated_of statement_of statements)
-line_of (l.Header h colon statements) = plain.header (header_of h) colon (separated_of statement_of statements)
+line_of (l.Header h colon statements) = plain.header (header_of h.value) colon (separated_of statement_of statements)
 line_of (l.Decorator t x) = plain.decorator t (tree_of x.value)

@@ -6,6 +6,7 @@ use Rattle.pyc_parse.specs.declared.statement.Assigned.{Assigned as AssignedOf}
 use Rattle.pyc_parse.specs.declared.statement.Dotted.{Dotted as DottedOf}
 use Rattle.pyc_parse.specs.declared.statement.ImportedModule.{ImportedModule as ModuleOf}
 use Rattle.pyc_parse.specs.declared.statement.ImportedName.{ImportedName as NameOf}
+use Rattle.pyc_parse.specs.declared.statement.ImportFrom.{ImportFrom as ImportFromOf}
 use Rattle.pyc_parse.specs.declared.statement.Item.{Item}
 use Rattle.pyc_parse.specs.declared.statement.Part.{Part as PartOf}
 use Rattle.pyc_parse.specs.declared.statement.Separated.{Separated as SeparatedOf}
@@ -60,6 +61,9 @@ token_of token = token
 abbrev pub assigned_of : AssignedOf → Assigned
 assigned_of found = record { target = tree_of found.target.value; equal = found.equal }
 
+abbrev pub import_from_of : ImportFromOf → Statement
+import_from_of found = plain.import_from found.word (source_of found.source) found.word_import found.opening (separated_of name_of found.names) found.closing
+
 -- the statement of one of the code
 abbrev pub statement_of : StatementOf → Statement
 statement_of (s.Expression x) = plain.expression (tree_of x.value)
@@ -72,6 +76,5 @@ statement_of (s.Raise t value cause) = plain.raise t (perhaps_of value) (tail_of
 statement_of (s.Assert t test message) = plain.assert t (tree_of test.value) (tail_of message)
 statement_of (s.Delete t targets) = plain.delete t (tree_of targets.value)
 statement_of (s.Declare t names) = plain.declare t (separated_of token_of names)
-statement_of (s.Import t modules) = plain.import t (separated_of module_of modules)
-statement_of (s.ImportFrom t from word_import opening names closing) =
-    plain.import_from t (source_of from) word_import opening (separated_of name_of names) closing
+statement_of (s.Import t modules) = plain.import t (separated_of module_of modules.value)
+statement_of (s.ImportFrom found) = import_from_of found.value

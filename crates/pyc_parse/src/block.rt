@@ -27,14 +27,14 @@ pub enum Stmt {
     /// Simple statements on one line.
     Simple(Separated<Statement>),
     /// Decorators, the first clause, and those after it.
-    Compound(Vec<Decorator>, CompoundClause, Vec<CompoundClause>),
+    Compound(Vec<Decorator>, Box<CompoundClause>, Vec<CompoundClause>),
 }
 
 /// A header, its colon, and what it heads.
 #[cycle(block)]
 #[derive(Drop)]
 pub struct CompoundClause {
-    pub header: Header,
+    pub header: Box<Header>,
     pub colon: Token,
     pub suite: Suite,
 }

@@ -1,6 +1,7 @@
 //! Headers and lines with their heights.
 
-ghost use Rattle.std.specs.Prelude.{◌≡◌, ◌≤◌, option_map};
+ghost use Rattle.std.specs.Prelude.{◌≡◌, ◌≤◌, option_map, IfOk, IfErr};
+ghost use Rattle.pyc_parse.specs.declared.error.ParseError.TheVariants.{Memory};
 ghost use Rattle.pyc_parse.specs.Lines as line;
 ghost use Rattle.pyc_parse.specs.Lines.{header_height, line_height};
 ghost use Rattle.pyc_parse.specs.LineView.{header_of, line_of};
@@ -9,16 +10,18 @@ ghost use Rattle.pyc_parse.specs.View.{tree_of, pieces_of, tail_of};
 
 use crate::built::{Built, BuiltPieces, BuiltTail, taller};
 use crate::built_statement::BuiltStatements;
+use crate::error::ParseError;
 use crate::line::{Header, Line};
 use crate::statement::Alias;
 use pyc_lex::Token;
+use std::alloc::Global;
 
 /// A header with its height.
 #[derive(Drop)]
 pub struct BuiltHeader {
-    pub header: Header,
+    pub header: Box<Header>,
     pub height: usize,
-    pub ghost height_is: { height ≡ header_height (header_of header) },
+    pub ghost height_is: { height ≡ header_height (header_of header.value) },
     pub ghost low: { height ≤ 1001 },
 }
 
@@ -31,99 +34,121 @@ pub struct BuiltLine {
     pub ghost low: { height ≤ 1002 },
 }
 
+/// A header on the heap, with its height.
+fn made(alloc: Global, header: Header, height: usize) -> Result<BuiltHeader, ParseError>
+    requires height_is { height ≡ header_height (header_of header) }
+    requires low { height ≤ 1001 }
+    ensures made { IfOk result (λ b. header_of b.header.value ≡ header_of header) }
+    ensures memory { IfErr result (λ e. e ≡ Memory) }
+{
+    let header = Box::new(alloc, header)?;
+    Ok(BuiltHeader { header, height })
+}
+
 /// `if`, `elif` or `while`, and a condition.
 #[tactic(auto, unfolding(crate::specs::Lines::header_height))]
-pub fn condition(word: Token, test: Built) -> BuiltHeader
-    ensures { header_of result.header ≡ line.condition word (tree_of test.expr.value) }
+pub fn condition(alloc: Global, word: Token, test: Built) -> Result<BuiltHeader, ParseError>
+    ensures made { IfOk result (λ b. header_of b.header.value ≡ line.condition word (tree_of test.expr.value)) }
+    ensures memory { IfErr result (λ e. e ≡ Memory) }
 {
-    BuiltHeader {
-        height: test.height + 1,
-        header: Header::Condition(word, test.expr),
-    }
+    let height = test.height + 1;
+    made(alloc, Header::Condition(word, test.expr), height)
 }
 
 /// `else`, `try` or `finally`.
 #[tactic(auto, unfolding(crate::specs::Lines::header_height))]
-pub fn word(token: Token) -> BuiltHeader
-    ensures { header_of result.header ≡ line.word token }
+pub fn word(alloc: Global, token: Token) -> Result<BuiltHeader, ParseError>
+    ensures made { IfOk result (λ b. header_of b.header.value ≡ line.word token) }
+    ensures memory { IfErr result (λ e. e ≡ Memory) }
 {
-    BuiltHeader {
-        header: Header::Word(token),
-        height: 1,
-    }
+    made(alloc, Header::Word(token), 1)
 }
 
 /// Perhaps `async`, then `for`, targets, `in` and what is iterated.
 #[tactic(auto, unfolding(crate::specs::Lines::header_height))]
 pub fn for_each(
+    alloc: Global,
     word_async: Option<Token>,
     word: Token,
     targets: Built,
     word_in: Token,
     iterated: Built,
-) -> BuiltHeader
-    ensures { header_of result.header ≡ line.for_each word_async word (tree_of targets.expr.value) word_in (tree_of iterated.expr.value) }
+) -> Result<BuiltHeader, ParseError>
+    ensures made { IfOk result (λ b. header_of b.header.value ≡ line.for_each word_async word (tree_of targets.expr.value) word_in (tree_of iterated.expr.value)) }
+    ensures memory { IfErr result (λ e. e ≡ Memory) }
 {
     let height = taller(targets.height, iterated.height) + 1;
-    BuiltHeader {
-        header: Header::For(word_async, word, targets.expr, word_in, iterated.expr),
+    made(
+        alloc,
+        Header::For(word_async, word, targets.expr, word_in, iterated.expr),
         height,
-    }
+    )
 }
 
 /// `except` alone.
 #[tactic(auto, unfolding(crate::specs::Lines::header_height))]
-pub fn except(word: Token) -> BuiltHeader
-    ensures { header_of result.header ≡ line.except word }
+pub fn except(alloc: Global, word: Token) -> Result<BuiltHeader, ParseError>
+    ensures made { IfOk result (λ b. header_of b.header.value ≡ line.except word) }
+    ensures memory { IfErr result (λ e. e ≡ Memory) }
 {
-    BuiltHeader {
-        header: Header::Except(word),
-        height: 1,
-    }
+    made(alloc, Header::Except(word), 1)
 }
 
 /// `except`, what is caught, and perhaps a name.
 #[tactic(auto, unfolding(crate::specs::Lines::header_height))]
-pub fn except_of(word: Token, caught: Built, alias: Option<Alias>) -> BuiltHeader
-    ensures { header_of result.header ≡ line.except_of word (tree_of caught.expr.value) (option_map alias_of alias) }
+pub fn except_of(
+    alloc: Global,
+    word: Token,
+    caught: Built,
+    alias: Option<Alias>,
+) -> Result<BuiltHeader, ParseError>
+    ensures made { IfOk result (λ b. header_of b.header.value ≡ line.except_of word (tree_of caught.expr.value) (option_map alias_of alias)) }
+    ensures memory { IfErr result (λ e. e ≡ Memory) }
 {
-    BuiltHeader {
-        height: caught.height + 1,
-        header: Header::ExceptOf(word, caught.expr, alias),
-    }
+    let height = caught.height + 1;
+    made(alloc, Header::ExceptOf(word, caught.expr, alias), height)
 }
 
 /// Perhaps `async`, then `with` and items.
 #[tactic(auto, unfolding(crate::specs::Lines::header_height))]
-pub fn with(word_async: Option<Token>, word: Token, items: BuiltPieces) -> BuiltHeader
-    ensures { header_of result.header ≡ line.with word_async word (pieces_of items.pieces) }
+pub fn with(
+    alloc: Global,
+    word_async: Option<Token>,
+    word: Token,
+    items: BuiltPieces,
+) -> Result<BuiltHeader, ParseError>
+    ensures made { IfOk result (λ b. header_of b.header.value ≡ line.with word_async word (pieces_of items.pieces)) }
+    ensures memory { IfErr result (λ e. e ≡ Memory) }
 {
-    BuiltHeader {
-        height: items.height + 1,
-        header: Header::With(word_async, word, items.pieces),
-    }
+    let height = items.height + 1;
+    made(alloc, Header::With(word_async, word, items.pieces), height)
 }
 
 /// The same with the items in parentheses.
 #[tactic(auto, unfolding(crate::specs::Lines::header_height))]
 pub fn with_enclosed(
+    alloc: Global,
     word_async: Option<Token>,
     word: Token,
     opening: Token,
     items: BuiltPieces,
     closing: Token,
-) -> BuiltHeader
-    ensures { header_of result.header ≡ line.with_enclosed word_async word opening (pieces_of items.pieces) closing }
+) -> Result<BuiltHeader, ParseError>
+    ensures made { IfOk result (λ b. header_of b.header.value ≡ line.with_enclosed word_async word opening (pieces_of items.pieces) closing) }
+    ensures memory { IfErr result (λ e. e ≡ Memory) }
 {
-    BuiltHeader {
-        height: items.height + 1,
-        header: Header::WithEnclosed(word_async, word, opening, items.pieces, closing),
-    }
+    let height = items.height + 1;
+    made(
+        alloc,
+        Header::WithEnclosed(word_async, word, opening, items.pieces, closing),
+        height,
+    )
 }
 
 /// Perhaps `async`, then `def`, a name, parameters in parentheses, and perhaps what is returned.
 #[tactic(auto, unfolding(crate::specs::Lines::header_height))]
 pub fn def(
+    alloc: Global,
     word_async: Option<Token>,
     word: Token,
     name: Token,
@@ -131,12 +156,14 @@ pub fn def(
     parameters: BuiltPieces,
     closing: Token,
     returned: BuiltTail,
-) -> BuiltHeader
-    ensures { header_of result.header ≡ line.def word_async word name opening (pieces_of parameters.pieces) closing (tail_of returned.tail) }
+) -> Result<BuiltHeader, ParseError>
+    ensures made { IfOk result (λ b. header_of b.header.value ≡ line.def word_async word name opening (pieces_of parameters.pieces) closing (tail_of returned.tail)) }
+    ensures memory { IfErr result (λ e. e ≡ Memory) }
 {
     let height = taller(parameters.height, returned.height) + 1;
-    BuiltHeader {
-        header: Header::Def(
+    made(
+        alloc,
+        Header::Def(
             word_async,
             word,
             name,
@@ -146,35 +173,37 @@ pub fn def(
             returned.tail,
         ),
         height,
-    }
+    )
 }
 
 /// `class` and a name.
 #[tactic(auto, unfolding(crate::specs::Lines::header_height))]
-pub fn class(word: Token, name: Token) -> BuiltHeader
-    ensures { header_of result.header ≡ line.class word name }
+pub fn class(alloc: Global, word: Token, name: Token) -> Result<BuiltHeader, ParseError>
+    ensures made { IfOk result (λ b. header_of b.header.value ≡ line.class word name) }
+    ensures memory { IfErr result (λ e. e ≡ Memory) }
 {
-    BuiltHeader {
-        header: Header::Class(word, name),
-        height: 1,
-    }
+    made(alloc, Header::Class(word, name), 1)
 }
 
 /// The same with bases and keywords in parentheses.
 #[tactic(auto, unfolding(crate::specs::Lines::header_height))]
 pub fn class_of(
+    alloc: Global,
     word: Token,
     name: Token,
     opening: Token,
     arguments: BuiltPieces,
     closing: Token,
-) -> BuiltHeader
-    ensures { header_of result.header ≡ line.class_of word name opening (pieces_of arguments.pieces) closing }
+) -> Result<BuiltHeader, ParseError>
+    ensures made { IfOk result (λ b. header_of b.header.value ≡ line.class_of word name opening (pieces_of arguments.pieces) closing) }
+    ensures memory { IfErr result (λ e. e ≡ Memory) }
 {
-    BuiltHeader {
-        height: arguments.height + 1,
-        header: Header::ClassOf(word, name, opening, arguments.pieces, closing),
-    }
+    let height = arguments.height + 1;
+    made(
+        alloc,
+        Header::ClassOf(word, name, opening, arguments.pieces, closing),
+        height,
+    )
 }
 
 /// A line of statements.
@@ -191,7 +220,7 @@ pub fn simple(statements: BuiltStatements) -> BuiltLine
 /// A header, its colon, and perhaps statements.
 #[tactic(auto, unfolding(crate::specs::Lines::line_height))]
 pub fn header(header: BuiltHeader, colon: Token, statements: BuiltStatements) -> BuiltLine
-    ensures { line_of result.line ≡ line.header (header_of header.header) colon (separated_of statement_of statements.statements) }
+    ensures { line_of result.line ≡ line.header (header_of header.header.value) colon (separated_of statement_of statements.statements) }
 {
     let height = taller(header.height, statements.height) + 1;
     BuiltLine {

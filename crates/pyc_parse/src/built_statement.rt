@@ -1,10 +1,11 @@
 //! Statements with their heights.
 
-ghost use Rattle.std.specs.Prelude.{◌≡◌, ◌≤◌, ℕ, max, map};
+ghost use Rattle.std.specs.Prelude.{◌≡◌, ◌≤◌, ℕ, max, map, IfOk, IfErr};
+ghost use Rattle.pyc_parse.specs.declared.error.ParseError.TheVariants.{Memory};
 ghost use Rattle.pyc_parse.specs.Height.{height as height_of};
 ghost use Rattle.pyc_parse.specs.Parser.{Parser};
 ghost use Rattle.pyc_parse.specs.SimpleStatements.{chained as chained_of};
-ghost use Rattle.pyc_parse.specs.StatementView.{statement_of, separated_of, token_of, module_of, name_of, source_of, assigned_of};
+ghost use Rattle.pyc_parse.specs.StatementView.{statement_of, separated_of, token_of, module_of, import_from_of, assigned_of};
 ghost use Rattle.pyc_parse.specs.Statements as statement;
 ghost use Rattle.pyc_parse.specs.Statements.{statement_height, targets_height};
 ghost use Rattle.pyc_parse.specs.Lines.{statements_height};
@@ -12,7 +13,8 @@ ghost use Rattle.pyc_parse.specs.Tree.{Tree};
 ghost use Rattle.pyc_parse.specs.View.{tree_of, tail_of, perhaps_of};
 
 use crate::built::{Built, BuiltOption, BuiltTail, taller};
-use crate::statement::{Assigned, ImportedModule, ImportedName, Separated, Source, Statement};
+use crate::error::ParseError;
+use crate::statement::{Assigned, ImportFrom, ImportedModule, Separated, Statement};
 use crate::tree::Expr;
 use pyc_lex::Token;
 use std::alloc::Global;
@@ -175,29 +177,30 @@ pub fn declare(word: Token, names: Separated<Token>) -> BuiltStatement
 
 /// `import` and modules.
 #[tactic(auto, unfolding(crate::specs::Statements::statement_height))]
-pub fn import(word: Token, modules: Separated<ImportedModule>) -> BuiltStatement
-    ensures { statement_of result.statement ≡ statement.import word (separated_of module_of modules) }
+pub fn import(
+    alloc: Global,
+    word: Token,
+    modules: Separated<ImportedModule>,
+) -> Result<BuiltStatement, ParseError>
+    ensures made { IfOk result (λ b. statement_of b.statement ≡ statement.import word (separated_of module_of modules)) }
+    ensures memory { IfErr result (λ e. e ≡ Memory) }
 {
-    BuiltStatement {
+    let modules = Box::new(alloc, modules)?;
+    Ok(BuiltStatement {
         statement: Statement::Import(word, modules),
         height: 1,
-    }
+    })
 }
 
 /// `from`, a module, `import`, and names.
 #[tactic(auto, unfolding(crate::specs::Statements::statement_height))]
-pub fn import_from(
-    word: Token,
-    source: Source,
-    word_import: Token,
-    opening: Option<Token>,
-    names: Separated<ImportedName>,
-    closing: Option<Token>,
-) -> BuiltStatement
-    ensures { statement_of result.statement ≡ statement.import_from word (source_of source) word_import opening (separated_of name_of names) closing }
+pub fn import_from(alloc: Global, found: ImportFrom) -> Result<BuiltStatement, ParseError>
+    ensures made { IfOk result (λ b. statement_of b.statement ≡ import_from_of found) }
+    ensures memory { IfErr result (λ e. e ≡ Memory) }
 {
-    BuiltStatement {
-        statement: Statement::ImportFrom(word, source, word_import, opening, names, closing),
+    let found = Box::new(alloc, found)?;
+    Ok(BuiltStatement {
+        statement: Statement::ImportFrom(found),
         height: 1,
-    }
+    })
 }

@@ -38,6 +38,7 @@ pub use line_parser::parse_line;
 pub use module_tree::{Module, parse};
 pub use place::{Place, Sort};
 pub use statement::{
-    Alias, Assigned, Dotted, ImportedModule, ImportedName, Item, Part, Separated, Source, Statement,
+    Alias, Assigned, Dotted, ImportFrom, ImportedModule, ImportedName, Item, Part, Separated,
+    Source, Statement,
 };
 pub use tree::{Clause, Expr, Link, Piece, Pieces, Tail};

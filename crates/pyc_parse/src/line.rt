@@ -35,7 +35,7 @@ pub enum Line {
     /// Statements, joined by semicolons.
     Simple(Separated<Statement>),
     /// A header, its colon, and perhaps statements.
-    Header(Header, Token, Separated<Statement>),
+    Header(Box<Header>, Token, Separated<Statement>),
     /// `@` and an expression.
     Decorator(Token, Box<Expr>),
 }

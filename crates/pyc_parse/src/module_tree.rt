@@ -24,8 +24,8 @@ pub struct Module {
 }
 
 /// The lines with their trees, or the first that has none.
-fn placed_lines(alloc: Global, lines: &[LogicalLine]) -> Result<Vec<Placed>, ParseFault>
-    ensures { Answers (λ found. map placed_of found.items) (lines_with_trees (map line_in lines.now)) result }
+fn placed_lines(alloc: Global, lines: Vec<LogicalLine>) -> Result<Vec<Placed>, ParseFault>
+    ensures { Answers (λ found. map placed_of found.items) (lines_with_trees (map line_in lines.items)) result }
 {
     let mut found = Vec::new(alloc);
     for line in lines {
@@ -56,7 +56,7 @@ pub fn parse(alloc: Global, scan: Scan) -> Result<Module, ParseFault>
     ensures tree { Answers module_in (module_of (lexis_in scan)) result }
     ensures held { IfOk result (λ found. lines_held (module_in found).statements ≡ (lexis_in scan).lines) }
 {
-    let lines = placed_lines(alloc, &scan.lines)?;
+    let lines = placed_lines(alloc, scan.lines)?;
     match read_blocks(alloc, lines) {
         Ok(statements) => Ok(Module {
             statements,

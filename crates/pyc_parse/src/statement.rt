@@ -66,6 +66,17 @@ pub struct Source {
     pub path: Option<Dotted>,
 }
 
+/// `from`, a module, `import`, and names, perhaps in parentheses.
+#[derive(Drop)]
+pub struct ImportFrom {
+    pub word: Token,
+    pub source: Source,
+    pub word_import: Token,
+    pub opening: Option<Token>,
+    pub names: Separated<ImportedName>,
+    pub closing: Option<Token>,
+}
+
 /// A simple statement.
 #[derive(Drop)]
 pub enum Statement {
@@ -90,7 +101,7 @@ pub enum Statement {
     /// `global` or `nonlocal`, and names.
     Declare(Token, Separated<Token>),
     /// `import` and modules.
-    Import(Token, Separated<ImportedModule>),
-    /// `from`, a module, `import`, and names, perhaps in parentheses.
-    ImportFrom(Token, Source, Token, Option<Token>, Separated<ImportedName>, Option<Token>),
+    Import(Token, Box<Separated<ImportedModule>>),
+    /// Names of a module.
+    ImportFrom(Box<ImportFrom>),
 }

@@ -175,6 +175,7 @@ impl<F: Fn(Global, &mut Lines, usize, usize) -> Result<Vec<Stmt>, BlockFault>> R
         ensures { Reads stmt_of (spec.compound_statement (spec.block_at self.now.depth) indent (decorators_of marks) after (lines_of lines.old)) result (lines_of lines.new) }
     {
         let first = self.one_clause(lines, indent)?;
+        let first = Box::new(self.alloc, first)?;
         let more = self.clauses(lines, indent, after)?;
         Ok(Stmt::Compound(marks, first, more))
     }

@@ -24,11 +24,11 @@ use std::alloc::Global;
 
 /// `else`, `try` or `finally`.
 #[tactic(auto, unfolding(crate::specs::Headers::word_header))]
-pub fn word_header(tokens: &mut Tokens<'_>) -> Result<BuiltHeader, ParseError>
-    ensures { Reads (λ b. header_of b.header) (headers.word_header tokens.old.rest.now) result tokens.new.rest.now }
+pub fn word_header(alloc: Global, tokens: &mut Tokens<'_>) -> Result<BuiltHeader, ParseError>
+    ensures { Reads (λ b. header_of b.header.value) (headers.word_header tokens.old.rest.now) result tokens.new.rest.now }
 {
     let word = tokens.take()?;
-    Ok(built_line::word(word))
+    built_line::word(alloc, word)
 }
 
 impl<F: Fn(Global, &mut Tokens<'_>, usize, u8) -> Result<Built, ParseError>> Grammar<F> {
@@ -36,11 +36,11 @@ impl<F: Fn(Global, &mut Tokens<'_>, usize, u8) -> Result<Built, ParseError>> Gra
     #[tactic(auto, using(crate::proofs::Steps::Reads_made), unfolding(crate::specs::Headers::condition))]
     pub fn condition(&self, tokens: &mut Tokens<'_>) -> Result<BuiltHeader, ParseError>
         requires { Nests self.now.depth (F.pre self.now.expr) (F.post self.now.expr) }
-        ensures { Reads (λ b. header_of b.header) (headers.condition (spec.expr self.now.depth) tokens.old.rest.now) result tokens.new.rest.now }
+        ensures { Reads (λ b. header_of b.header.value) (headers.condition (spec.expr self.now.depth) tokens.old.rest.now) result tokens.new.rest.now }
     {
         let word = tokens.take()?;
         let test = self.expr(tokens, 1)?;
-        Ok(built_line::condition(word, test))
+        built_line::condition(self.alloc, word, test)
     }
 
     /// `for`, targets, `in` and what is iterated, perhaps after `async`.
@@ -51,28 +51,28 @@ impl<F: Fn(Global, &mut Tokens<'_>, usize, u8) -> Result<Built, ParseError>> Gra
         word_async: Option<Token>,
     ) -> Result<BuiltHeader, ParseError>
         requires { Nests self.now.depth (F.pre self.now.expr) (F.post self.now.expr) }
-        ensures { Reads (λ b. header_of b.header) (headers.for_each (spec.expr self.now.depth) word_async tokens.old.rest.now) result tokens.new.rest.now }
+        ensures { Reads (λ b. header_of b.header.value) (headers.for_each (spec.expr self.now.depth) word_async tokens.old.rest.now) result tokens.new.rest.now }
     {
         let word = tokens.take()?;
         let targets = self.targets(tokens)?;
         let word_in = tokens.expect(Kind::Keyword(Keyword::In))?;
         let iterated = self.expressions(tokens, Place::Items)?;
-        Ok(built_line::for_each(word_async, word, targets, word_in, iterated))
+        built_line::for_each(self.alloc, word_async, word, targets, word_in, iterated)
     }
 
     /// `except`, and perhaps what is caught.
     #[tactic(auto, using(crate::proofs::Steps::Reads_made), unfolding(crate::specs::Headers::excepted))]
     pub fn excepted(&self, tokens: &mut Tokens<'_>) -> Result<BuiltHeader, ParseError>
         requires { Nests self.now.depth (F.pre self.now.expr) (F.post self.now.expr) }
-        ensures { Reads (λ b. header_of b.header) (headers.excepted (spec.expr self.now.depth) tokens.old.rest.now) result tokens.new.rest.now }
+        ensures { Reads (λ b. header_of b.header.value) (headers.excepted (spec.expr self.now.depth) tokens.old.rest.now) result tokens.new.rest.now }
     {
         let word = tokens.take()?;
         if is_colon(tokens.peek()) {
-            return Ok(built_line::except(word));
+            return built_line::except(self.alloc, word);
         }
         let caught = self.expr(tokens, 1)?;
         let alias = alias(tokens)?;
-        Ok(built_line::except_of(word, caught, alias))
+        built_line::except_of(self.alloc, word, caught, alias)
     }
 
     /// The items of a `with`.
@@ -94,7 +94,7 @@ impl<F: Fn(Global, &mut Tokens<'_>, usize, u8) -> Result<Built, ParseError>> Gra
         word: Token,
     ) -> Result<BuiltHeader, ParseError>
         requires { Nests self.now.depth (F.pre self.now.expr) (F.post self.now.expr) }
-        ensures { Reads (λ b. header_of b.header) (headers.with_enclosed (spec.expr self.now.depth) word_async word tokens.old.rest.now) result tokens.new.rest.now }
+        ensures { Reads (λ b. header_of b.header.value) (headers.with_enclosed (spec.expr self.now.depth) word_async word tokens.old.rest.now) result tokens.new.rest.now }
     {
         let opening = tokens.expect(Kind::Open(Bracket::Round))?;
         let items = self.with_items(tokens)?;
@@ -102,7 +102,7 @@ impl<F: Fn(Global, &mut Tokens<'_>, usize, u8) -> Result<Built, ParseError>> Gra
         if !is_colon(tokens.peek()) {
             return Err(ParseError::Refused);
         }
-        Ok(built_line::with_enclosed(word_async, word, opening, items, closing))
+        built_line::with_enclosed(self.alloc, word_async, word, opening, items, closing)
     }
 
     /// The items of a `with` without parentheses.
@@ -114,13 +114,13 @@ impl<F: Fn(Global, &mut Tokens<'_>, usize, u8) -> Result<Built, ParseError>> Gra
         word: Token,
     ) -> Result<BuiltHeader, ParseError>
         requires { Nests self.now.depth (F.pre self.now.expr) (F.post self.now.expr) }
-        ensures { Reads (λ b. header_of b.header) (headers.with_open (spec.expr self.now.depth) word_async word tokens.old.rest.now) result tokens.new.rest.now }
+        ensures { Reads (λ b. header_of b.header.value) (headers.with_open (spec.expr self.now.depth) word_async word tokens.old.rest.now) result tokens.new.rest.now }
     {
         let items = self.with_items(tokens)?;
         if !ends_without_comma(&items.pieces) {
             return Err(ParseError::Refused);
         }
-        Ok(built_line::with(word_async, word, items))
+        built_line::with(self.alloc, word_async, word, items)
     }
 
     /// `with` and items, perhaps after `async`: parentheses belong to the header where they can.
@@ -131,7 +131,7 @@ impl<F: Fn(Global, &mut Tokens<'_>, usize, u8) -> Result<Built, ParseError>> Gra
         word_async: Option<Token>,
     ) -> Result<BuiltHeader, ParseError>
         requires { Nests self.now.depth (F.pre self.now.expr) (F.post self.now.expr) }
-        ensures { Reads (λ b. header_of b.header) (headers.with (spec.expr self.now.depth) word_async tokens.old.rest.now) result tokens.new.rest.now }
+        ensures { Reads (λ b. header_of b.header.value) (headers.with (spec.expr self.now.depth) word_async tokens.old.rest.now) result tokens.new.rest.now }
     {
         let word = tokens.take()?;
         let start = tokens.rest;
@@ -153,7 +153,7 @@ impl<F: Fn(Global, &mut Tokens<'_>, usize, u8) -> Result<Built, ParseError>> Gra
         word_async: Option<Token>,
     ) -> Result<BuiltHeader, ParseError>
         requires { Nests self.now.depth (F.pre self.now.expr) (F.post self.now.expr) }
-        ensures { Reads (λ b. header_of b.header) (headers.function (spec.expr self.now.depth) word_async tokens.old.rest.now) result tokens.new.rest.now }
+        ensures { Reads (λ b. header_of b.header.value) (headers.function (spec.expr self.now.depth) word_async tokens.old.rest.now) result tokens.new.rest.now }
     {
         let word = tokens.take()?;
         let name = tokens.expect_name()?;
@@ -161,9 +161,9 @@ impl<F: Fn(Global, &mut Tokens<'_>, usize, u8) -> Result<Built, ParseError>> Gra
         let parameters = self.some_items(tokens, Place::Parameters(true))?;
         let closing = tokens.expect(Kind::Close(Bracket::Round))?;
         let returned = self.tail(tokens, Kind::Delimiter(Delimiter::Arrow))?;
-        Ok(built_line::def(
-            word_async, word, name, opening, parameters, closing, returned,
-        ))
+        built_line::def(
+            self.alloc, word_async, word, name, opening, parameters, closing, returned,
+        )
     }
 
     /// The bases and keywords of a class in parentheses.
@@ -175,33 +175,33 @@ impl<F: Fn(Global, &mut Tokens<'_>, usize, u8) -> Result<Built, ParseError>> Gra
         name: Token,
     ) -> Result<BuiltHeader, ParseError>
         requires { Nests self.now.depth (F.pre self.now.expr) (F.post self.now.expr) }
-        ensures { Reads (λ b. header_of b.header) (headers.class_of (spec.expr self.now.depth) word name tokens.old.rest.now) result tokens.new.rest.now }
+        ensures { Reads (λ b. header_of b.header.value) (headers.class_of (spec.expr self.now.depth) word name tokens.old.rest.now) result tokens.new.rest.now }
     {
         let opening = tokens.take()?;
         let arguments = self.some_items(tokens, Place::Arguments)?;
         let closing = tokens.expect(Kind::Close(Bracket::Round))?;
-        Ok(built_line::class_of(word, name, opening, arguments, closing))
+        built_line::class_of(self.alloc, word, name, opening, arguments, closing)
     }
 
     /// `class`, a name, and perhaps bases and keywords.
     #[tactic(auto, using(crate::proofs::Steps::Reads_made), unfolding(crate::specs::Headers::class))]
     pub fn class(&self, tokens: &mut Tokens<'_>) -> Result<BuiltHeader, ParseError>
         requires { Nests self.now.depth (F.pre self.now.expr) (F.post self.now.expr) }
-        ensures { Reads (λ b. header_of b.header) (headers.class (spec.expr self.now.depth) tokens.old.rest.now) result tokens.new.rest.now }
+        ensures { Reads (λ b. header_of b.header.value) (headers.class (spec.expr self.now.depth) tokens.old.rest.now) result tokens.new.rest.now }
     {
         let word = tokens.take()?;
         let name = tokens.expect_name()?;
         if same_kind(tokens.peek(), Kind::Open(Bracket::Round)) {
             self.class_of(tokens, word, name)
         } else {
-            Ok(built_line::class(word, name))
+            built_line::class(self.alloc, word, name)
         }
     }
 
     /// A header after `async`.
     pub fn coroutine(&self, tokens: &mut Tokens<'_>) -> Result<BuiltHeader, ParseError>
         requires { Nests self.now.depth (F.pre self.now.expr) (F.post self.now.expr) }
-        ensures { Reads (λ b. header_of b.header) (headers.async (spec.expr self.now.depth) tokens.old.rest.now) result tokens.new.rest.now }
+        ensures { Reads (λ b. header_of b.header.value) (headers.async (spec.expr self.now.depth) tokens.old.rest.now) result tokens.new.rest.now }
     {
         let word_async = tokens.take()?;
         match tokens.peek() {

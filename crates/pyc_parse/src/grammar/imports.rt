@@ -12,7 +12,7 @@ use crate::built_statement::BuiltStatement;
 use crate::error::ParseError;
 use crate::grammar::names::{dotted, imported_names, modules, names};
 use crate::kinds::same_kind;
-use crate::statement::{Dotted, Source};
+use crate::statement::{Dotted, ImportFrom, Source};
 use crate::tokens::Tokens;
 use pyc_lex::{Bracket, Keyword, Kind, Token};
 use std::alloc::Global;
@@ -51,7 +51,7 @@ pub fn imported(alloc: Global, tokens: &mut Tokens<'_>) -> Result<BuiltStatement
 {
     let word = tokens.take()?;
     let modules = modules(alloc, tokens)?;
-    Ok(built_statement::import(word, modules))
+    built_statement::import(alloc, word, modules)
 }
 
 /// Imported names in parentheses.
@@ -68,7 +68,17 @@ fn enclosed_names(
     let opening = tokens.take()?;
     let names = imported_names(alloc, tokens, true)?;
     let closing = tokens.expect(Kind::Close(Bracket::Round))?;
-    Ok(built_statement::import_from(word, from, word_import, Some(opening), names, Some(closing)))
+    built_statement::import_from(
+        alloc,
+        ImportFrom {
+            word,
+            source: from,
+            word_import,
+            opening: Some(opening),
+            names,
+            closing: Some(closing),
+        },
+    )
 }
 
 /// Imported names without parentheses.
@@ -83,7 +93,17 @@ fn open_names(
     ensures { Reads (λ b. statement_of b.statement) (spec.open_names word (source_of from) word_import tokens.old.rest.now) result tokens.new.rest.now }
 {
     let names = imported_names(alloc, tokens, false)?;
-    Ok(built_statement::import_from(word, from, word_import, None, names, None))
+    built_statement::import_from(
+        alloc,
+        ImportFrom {
+            word,
+            source: from,
+            word_import,
+            opening: None,
+            names,
+            closing: None,
+        },
+    )
 }
 
 /// `from`, a module, `import` and names.

@@ -36,7 +36,7 @@ impl<F: Fn(Global, &mut Tokens<'_>, usize, u8) -> Result<Built, ParseError>> Gra
     #[tactic(auto, using(crate::proofs::Steps::Reads_made), unfolding(crate::specs::Headers::suite))]
     fn suite(&self, tokens: &mut Tokens<'_>, header: BuiltHeader) -> Result<BuiltLine, ParseError>
         requires { Nests self.now.depth (F.pre self.now.expr) (F.post self.now.expr) }
-        ensures { Reads (λ b. line_of b.line) (headers.suite (spec.expr self.now.depth) (header_of header.header) tokens.old.rest.now) result tokens.new.rest.now }
+        ensures { Reads (λ b. line_of b.line) (headers.suite (spec.expr self.now.depth) (header_of header.header.value) tokens.old.rest.now) result tokens.new.rest.now }
     {
         let colon = tokens.expect(Kind::Delimiter(Delimiter::Colon))?;
         if tokens.at_end() {
@@ -65,7 +65,7 @@ impl<F: Fn(Global, &mut Tokens<'_>, usize, u8) -> Result<Built, ParseError>> Gra
     {
         let header = match word {
             Keyword::If | Keyword::Elif | Keyword::While => self.condition(tokens)?,
-            Keyword::Else | Keyword::Try | Keyword::Finally => word_header(tokens)?,
+            Keyword::Else | Keyword::Try | Keyword::Finally => word_header(self.alloc, tokens)?,
             Keyword::For => self.for_each(tokens, None)?,
             Keyword::Except => self.excepted(tokens)?,
             Keyword::With => self.with(tokens, None)?,

@@ -74,7 +74,7 @@ fn the_parentheses_of_a_with_are_its_own(rt: HostRuntime) -> Result<(), Fail> {
     let Line::Header(header, _, _) = &line else {
         return Err("no header".into());
     };
-    let Header::WithEnclosed(_, _, _, items, _) = header else {
+    let Header::WithEnclosed(_, _, _, items, _) = &**header else {
         return Err("no with".into());
     };
     assert_eq!(rt; items.each.len(), 1);

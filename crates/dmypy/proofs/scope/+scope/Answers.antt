@@ -35,10 +35,10 @@ push_clauses-returns t c =
 
 pub push_statement-returns-then-is_definition : goal.push_statement-returns-then-is_definition
 push_statement-returns-then-is_definition t c =
-    rw (c.in-Compound.is, parts_definition c.in-Compound.field-0 c.in-Compound.first c.in-Compound.rest (sym c.if-is_definition.ensures), c.in_ok-push-in-Compound.ensures.items)
+    rw (c.in-Compound.is, parts_definition c.in-Compound.field-0 c.in-Compound.first c.in-Compound.rest (rw c.deref.ensures at (sym c.if-is_definition.ensures)), c.in_ok-push-in-Compound.ensures.items, ← c.deref-then-is_definition.ensures)
     (map-append part_in c.args.parts.now.items _)
 
 pub push_statement-returns-in_ok-push_suite-in-Compound : goal.push_statement-returns-in_ok-push_suite-in-Compound
 push_statement-returns-in_ok-push_suite-in-Compound t c =
     IfOk-equal c.push_clauses.result _ _ _ c.push_clauses.ensures
-    (rw (c.in-Compound.is, parts_opened c.in-Compound.field-0 c.in-Compound.first c.in-Compound.rest (sym c.if-is_definition.ensures), c.in_ok-push_suite-in-Compound.ensures, c.deref.ensures.value, append_assoc))
+    (rw (c.in-Compound.is, parts_opened c.in-Compound.field-0 c.in-Compound.first c.in-Compound.rest (rw c.deref.ensures at (sym c.if-is_definition.ensures)), c.in_ok-push_suite-in-Compound.ensures, c.deref-in-Compound.ensures, c.deref-in-Compound-2.ensures.value, append_assoc))
