@@ -20,6 +20,8 @@ pub mod memory_source;
 pub mod message;
 pub mod module_name;
 pub mod options;
+#[cfg(test)]
+mod parser_tests;
 mod path;
 pub mod refusal;
 mod reply;

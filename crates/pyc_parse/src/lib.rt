@@ -22,8 +22,6 @@ mod pieces;
 mod place;
 mod statement;
 mod target;
-#[cfg(test)]
-mod tests;
 mod tokens;
 mod tree;
 

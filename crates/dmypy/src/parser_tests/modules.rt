@@ -1,6 +1,6 @@
 //! The trees of modules, and their first faults.
 
-use crate::{What, parse};
+use pyc_parse::{What, parse};
 use std::alloc::Global;
 use std::test::Fail;
 

@@ -1,7 +1,7 @@
 //! The trees of lines.
 
 use super::{expression, parsed, statement};
-use crate::{Expr, Header, Line, Statement};
+use pyc_parse::{Expr, Header, Line, Statement};
 use std::test::Fail;
 
 #[test]

@@ -1,7 +1,7 @@
 //! What sources are: their first faults, and their trees with the ignore comments.
 
-use crate::{Module, Outcome, outcome};
 use pyc_lex::Codes;
+use pyc_parse::{Module, Outcome, outcome};
 use std::alloc::Global;
 use std::test::Fail;
 

@@ -1,7 +1,7 @@
 //! Lines that are none of the language, or of a form that is left out.
 
 use super::parsed;
-use crate::What;
+use pyc_parse::What;
 use std::test::Fail;
 
 #[test]

@@ -1,7 +1,7 @@
 //! Lines that are of the language.
 
 use super::parsed;
-use crate::What;
+use pyc_parse::What;
 use std::test::Fail;
 
 #[test]

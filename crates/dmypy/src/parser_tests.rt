@@ -6,7 +6,7 @@ mod outcomes;
 mod refused;
 mod trees;
 
-use crate::{Expr, Line, Separated, Statement, What, parse_line};
+use pyc_parse::{Expr, Line, Separated, Statement, What, parse_line};
 use std::alloc::Global;
 use std::test::Fail;
 
