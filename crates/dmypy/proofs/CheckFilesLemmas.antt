@@ -5,21 +5,21 @@ use Rattle.std.proofs.lemmas.List.{drop_all}
 use Rattle.std.specs.Global.{Global}
 use Rattle.std.specs.Io.KnownBytes.{Appends}
 use Rattle.dmypy.specs.CheckFiles.{Checks, program_line, check_status, err_text, out_text, file_update, is_any_refused, is_refused, refusal_line, refusal_lines, report_on, report_status, memory_line, printed_report}
-use Rattle.dmypy.specs.declared.options.Options.{Options}
-use Rattle.dmypy.specs.Entry.{Entry}
-use Rattle.dmypy.specs.Event.{Event, FetchStep, Links}
-use Rattle.dmypy.specs.Fresh.{fresh}
-use Rattle.dmypy.specs.Replies.{WritesPart}
-use Rattle.dmypy.specs.Report.{Report}
-use Rattle.dmypy.specs.Refusal.{refusal_text}
-use Rattle.dmypy.specs.Session.{Turn, done, refused}
+use Rattle.pyc_daemon.specs.declared.options.Options.{Options}
+use Rattle.pyc_daemon.specs.Entry.{Entry}
+use Rattle.pyc_daemon.specs.Event.{Event, FetchStep, Links}
+use Rattle.pyc_daemon.specs.Fresh.{fresh}
+use Rattle.pyc_daemon.specs.Replies.{WritesPart}
+use Rattle.pyc_daemon.specs.Report.{Report}
+use Rattle.pyc_daemon.specs.Refusal.{refusal_text}
+use Rattle.pyc_daemon.specs.Session.{Turn, done, refused}
 use Rattle.dmypy.specs.Updates.{BeginsUpdates, Prints, Updates, UpdatesOne, told_refusal}
-use Rattle.dmypy.specs.Workspace.{State, start}
-use Rattle.dmypy.specs.declared.ending.RunFault.{RunFault}
-use Rattle.dmypy.specs.declared.refusal.Refusal.{Refusal}
-use Rattle.dmypy.specs.declared.refusal.Refusal.TheVariants as refusal
-use Rattle.dmypy.proofs.Going.{appends_none, appends_trans, events_nil, links_push, part_before, part_after}
-use Rattle.dmypy.proofs.Moving.{append_nil}
+use Rattle.pyc_daemon.specs.Workspace.{State, start}
+use Rattle.pyc_daemon.specs.declared.ending.RunFault.{RunFault}
+use Rattle.pyc_daemon.specs.declared.refusal.Refusal.{Refusal}
+use Rattle.pyc_daemon.specs.declared.refusal.Refusal.TheVariants as refusal
+use Rattle.pyc_daemon.proofs.Going.{appends_none, appends_trans, events_nil, links_push, part_before, part_after}
+use Rattle.pyc_daemon.proofs.Moving.{append_nil}
 
 or_assoc : (a b c : Bool) → ((a || b) || c) ≡ (a || (b || c))
 or_assoc true b c = refl

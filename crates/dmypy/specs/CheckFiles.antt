@@ -1,16 +1,16 @@
 -- What a check of files prints, and the status that it ends with.
 use Rattle.std.specs.Prelude.{◌≡◌, ℕ, Bool, false, not, ◌||◌, bytes_eq, if◌then◌else◌, List, [], ◌∷◌, ◌++◌, drop, codes, Option, Result, Ok, Err}
 use Rattle.std.specs.Io.KnownBytes.{Appends}
-use Rattle.dmypy.specs.declared.ending.RunFault.{RunFault}
-use Rattle.dmypy.specs.declared.refusal.Refusal.TheVariants as refusal
-use Rattle.dmypy.specs.declared.options.Options.{Options}
-use Rattle.dmypy.specs.Entry.{Entry}
-use Rattle.dmypy.specs.Event.{Event, Links, first_event}
-use Rattle.dmypy.specs.Fresh.{fresh}
-use Rattle.dmypy.specs.Refusal.{refusal_text}
-use Rattle.dmypy.specs.Report.{Report}
-use Rattle.dmypy.specs.Session.{Turn, ok, update_turn}
-use Rattle.dmypy.specs.Workspace.{State, start}
+use Rattle.pyc_daemon.specs.declared.ending.RunFault.{RunFault}
+use Rattle.pyc_daemon.specs.declared.refusal.Refusal.TheVariants as refusal
+use Rattle.pyc_daemon.specs.declared.options.Options.{Options}
+use Rattle.pyc_daemon.specs.Entry.{Entry}
+use Rattle.pyc_daemon.specs.Event.{Event, Links, first_event}
+use Rattle.pyc_daemon.specs.Fresh.{fresh}
+use Rattle.pyc_daemon.specs.Refusal.{refusal_text}
+use Rattle.pyc_daemon.specs.Report.{Report}
+use Rattle.pyc_daemon.specs.Session.{Turn, ok, update_turn}
+use Rattle.pyc_daemon.specs.Workspace.{State, start}
 
 -- the turn of `update` for a file, with what it met
 abbrev pub file_update : State → List ℕ → Event → Turn

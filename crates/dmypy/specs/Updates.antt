@@ -1,16 +1,16 @@
 -- What the parts of a check of files do.
 use Rattle.std.specs.Prelude.{◌≡◌, ℕ, Bool, ◌||◌, List, ◌++◌, codes, Option, Result, Ok, Err}
 use Rattle.std.specs.Io.KnownBytes.{Appends}
-use Rattle.dmypy.specs.declared.ending.RunFault.{RunFault}
-use Rattle.dmypy.specs.declared.refusal.Refusal.{Refusal}
+use Rattle.pyc_daemon.specs.declared.ending.RunFault.{RunFault}
+use Rattle.pyc_daemon.specs.declared.refusal.Refusal.{Refusal}
 use Rattle.dmypy.specs.CheckFiles.{BeginsWith, after_updates, is_any_refused, is_refused, memory_line, printed_report, program_line, refusal_line, refusal_lines, report_status}
-use Rattle.dmypy.specs.Entry.{Entry}
-use Rattle.dmypy.specs.Event.{Event, Links}
-use Rattle.dmypy.specs.Refusal.{refusal_text}
-use Rattle.dmypy.specs.Replies.{WritesPart}
-use Rattle.dmypy.specs.Report.{Report}
-use Rattle.dmypy.specs.Session.{Turn}
-use Rattle.dmypy.specs.Workspace.{State}
+use Rattle.pyc_daemon.specs.Entry.{Entry}
+use Rattle.pyc_daemon.specs.Event.{Event, Links}
+use Rattle.pyc_daemon.specs.Refusal.{refusal_text}
+use Rattle.pyc_daemon.specs.Replies.{WritesPart}
+use Rattle.pyc_daemon.specs.Report.{Report}
+use Rattle.pyc_daemon.specs.Session.{Turn}
+use Rattle.pyc_daemon.specs.Workspace.{State}
 
 -- Updates of the first files of these paths, from a state to a state, before those that are `left`: `refused` tells whether one
 -- of them was refused. Whatever the files that are left meet, theirs comes after what was met so far.

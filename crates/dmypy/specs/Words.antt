@@ -4,7 +4,7 @@ use Rattle.clap.specs.Words.{App, all_of, Row, Rule, Text, new_app, new_rule, on
 use Rattle.clap.specs.declared.builder.action.ArgAction.TheVariants.{Append, SetTrue}
 use Rattle.clap.specs.declared.error.kind.ErrorKind.{ErrorKind}
 use Rattle.clap.specs.declared.error.kind.ErrorKind.TheVariants.{OutOfMemory}
-use Rattle.dmypy.specs.declared.options.Options.{Options}
+use Rattle.pyc_daemon.specs.declared.options.Options.{Options}
 use Rattle.dmypy.specs.declared.words.Job.{Job}
 use Rattle.dmypy.specs.declared.words.Job.TheVariants.{Session, Check}
 use Rattle.dmypy.specs.declared.words.Usage.{Usage}

@@ -2,47 +2,20 @@
 #![tactic(auto)]
 
 pub mod check_files;
-pub mod checked;
-mod command;
-pub mod counted;
-pub mod daemon;
+#[cfg(test)]
+mod daemon_tests;
 pub mod disk;
-pub mod ending;
-pub mod engine;
-pub mod file;
-pub mod found;
-mod fresh;
-mod input;
-pub mod keep;
-pub mod laws;
-pub mod literal_forms;
-pub mod memory_source;
-pub mod message;
-pub mod module_name;
-pub mod options;
 #[cfg(test)]
 mod parser_tests;
-mod path;
-pub mod refusal;
-mod reply;
-pub mod report;
-pub mod scope;
-mod serving;
-mod silencing;
-pub mod sources;
-pub mod status;
-pub mod unit;
-pub mod units;
-mod window;
+#[cfg(test)]
+mod session_tests;
 pub mod words;
-pub mod workspace;
-mod writing;
 
 use check_files::check_files;
-use counted::Counted;
 use disk::Disk;
-use engine::run;
-use options::Options;
+use pyc_daemon::counted::Counted;
+use pyc_daemon::engine::run;
+use pyc_daemon::options::Options;
 use std::process::ExitCode;
 use std::{env, io};
 use words::{Job, read_words, session_status};

@@ -5,9 +5,9 @@ ghost use Rattle.clap.specs.Words.{all_of, app_of, fault_of, rule_of, found_of, 
 ghost use Rattle.dmypy.specs.Words.{GivesSession, HasFiles, HasUsage, IsFlag, file_texts, files_id, files_rule, is_check, names_check, optioned_app, session_rows, command_line, flag_rule, option_text, ignore_missing_id, check_untyped_id, options_of};
 ghost use Rattle.dmypy.specs.Status.{status_of};
 
-use crate::ending::{End, RunFault};
-use crate::options::{Options, TURNS};
 use clap::{Arg, ArgAction, ArgMatches, Command};
+use pyc_daemon::ending::{End, RunFault};
+use pyc_daemon::options::{Options, TURNS};
 use std::alloc::{AllocError, Global};
 use thiserror::Error;
 

@@ -1,5 +1,5 @@
 use super::*;
-use crate::memory_source::MemorySource;
+use pyc_daemon::memory_source::MemorySource;
 use std::alloc::AllocError;
 use std::test::Fail;
 

@@ -1,5 +1,5 @@
 use Rattle.std.proofs.Common.{map, string_bytes, drop}
-use Rattle.dmypy.specs.Counted.{inner_of}
+use Rattle.pyc_daemon.specs.Counted.{inner_of}
 use Rattle.dmypy.specs.Updates.{Updates}
 use Rattle.dmypy.proofs.check_files.update_all.Given as goal
 

@@ -1,6 +1,0 @@
-use Rattle.dmypy.specs.Counted.{inner_of}
-use Rattle.dmypy.proofs.Going.{JoinedSoFar}
-use Rattle.dmypy.proofs.writing.write_parts.Given as goal
-
-abbrev pub invariant-loop-part : goal.invariant-loop-part
-invariant-loop-part g l = JoinedSoFar (g.W.Write.contents (inner_of l.fn.writer)) (g.W.Write.contents (inner_of l.writer)) l.parts l.part-index

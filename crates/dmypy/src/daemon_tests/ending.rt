@@ -1,0 +1,17 @@
+//! Faults that stop a session, as they are told.
+
+use pyc_daemon::ending::RunFault;
+use std::test::Fail;
+
+#[test]
+fn faults_as_they_are_told(rt: HostRuntime) -> Result<(), Fail> {
+    for (fault, text) in [
+        (RunFault::Read, "the input cannot be read"),
+        (RunFault::Write, "the output cannot be written"),
+        (RunFault::TooManyTurns, "the input does not end"),
+        (RunFault::Memory, "out of memory"),
+    ] {
+        assert_eq!(rt; fault.to_string(rt.alloc())?.as_str(), text);
+    }
+    Ok(())
+}

@@ -1,0 +1,117 @@
+//! Sources with the messages that are found in them.
+
+use pyc_daemon::found::{found, told};
+use pyc_daemon::message::Message;
+use pyc_parse::outcome;
+use pyc_types::Builtins;
+use std::alloc::Global;
+use std::fmt::Write;
+use std::test::Fail;
+
+/// These messages, each as its line, column, code and text, and ended by a `;`.
+fn shown(alloc: Global, messages: &[Message]) -> Result<String, Fail> {
+    let mut shown = String::new(alloc);
+    for message in messages {
+        let line = message.line;
+        let column = message.column;
+        let code = message.code.name();
+        let text = message.text.as_str();
+        write!(shown, "{line}:{column} {code}: {text};")?;
+    }
+    Ok(shown)
+}
+
+/// What is found in a source.
+fn found_in(alloc: Global, source: &[u8]) -> Result<String, Fail> {
+    let builtins = Builtins::new(alloc)?;
+    let outcome = outcome(alloc, source)?;
+    shown(alloc, &found(alloc, &builtins, source, &outcome)?)
+}
+
+/// The lines of what is told of a source, each with a space after it.
+fn lines_told(alloc: Global, source: &[u8]) -> Result<String, Fail> {
+    let builtins = Builtins::new(alloc)?;
+    let outcome = outcome(alloc, source)?;
+    let mut lines = String::new(alloc);
+    for message in &told(alloc, &builtins, source, &outcome)? {
+        let line = message.line;
+        write!(lines, "{line} ")?;
+    }
+    Ok(lines)
+}
+
+#[test]
+fn reports_what_is_not_assignable(rt: HostRuntime) -> Result<(), Fail> {
+    let cases: [(&[u8], &str); 6] = [
+        (
+            b"x: int = \"a\"\n",
+            "1:10 assignment: Incompatible types in assignment (expression has type \"str\", variable has type \"int\");",
+        ),
+        (
+            b"x: int = True\ny: float = 1\nz: None = None\ns: str = 's'\n",
+            "",
+        ),
+        (
+            b"y: float = 1.5\n\nx: int = 1.5",
+            "3:10 assignment: Incompatible types in assignment (expression has type \"float\", variable has type \"int\");",
+        ),
+        (
+            b"a: None = False\nb: bool = None # two\n",
+            "1:11 assignment: Incompatible types in assignment (expression has type \"bool\", variable has type \"None\");\
+             2:11 assignment: Incompatible types in assignment (expression has type \"None\", variable has type \"bool\");",
+        ),
+        (
+            b"if a:\n    x: int = \\\n      b'a' b\"\"\n",
+            "3:7 assignment: Incompatible types in assignment (expression has type \"bytes\", variable has type \"int\");",
+        ),
+        (
+            b"def f():\n    x: int = ''\nclass C:\n    x: int = ''\nx: int = ('')\nx: C = ''\nx.y: int = ''\nx: str = 1j\n",
+            "",
+        ),
+    ];
+    for (source, want) in cases {
+        assert_eq!(rt; found_in(rt.alloc(), source)?.as_str(), want);
+    }
+    Ok(())
+}
+
+#[test]
+fn reports_the_first_fault(rt: HostRuntime) -> Result<(), Fail> {
+    let cases: [(&[u8], &str); 6] = [
+        (b" x: int = 1\n", "1:1 syntax: Unexpected or missing block;"),
+        (b"if: int = 1\n", "1:1 syntax: Invalid syntax;"),
+        (
+            b"x: int = ''\nx: int = 1 1\n",
+            "2:1 syntax: Invalid syntax;",
+        ),
+        (b"x = = 1\n\n$", "3:1 syntax: Invalid character;"),
+        (b"x := 1\n", "1:1 syntax: Outside the profile;"),
+        (b"x: int = 1\ny = (1 +\n", "2:1 syntax: Unmatched bracket;"),
+    ];
+    for (source, want) in cases {
+        assert_eq!(rt; found_in(rt.alloc(), source)?.as_str(), want);
+    }
+    Ok(())
+}
+
+#[test]
+fn ignores_silence(rt: HostRuntime) -> Result<(), Fail> {
+    let cases: [(&[u8], &str); 9] = [
+        (
+            b"x: int = ''\ny: int = '' # type: ignore\nz: int = ''\n",
+            "1 3 ",
+        ),
+        (b"x: int = '' # type: ignore[assignment]\n", ""),
+        (b"x: int = '' # type: ignore[return, assignment]\n", ""),
+        (b"x: int = '' # type: ignore[return]\n", "1 "),
+        (b"x: int = '' # type: ignore[assignmen]\n", "1 "),
+        (b"x: int = \\\n  '' # type: ignore\n", ""),
+        (b"# type: ignore\nx: int = ''\ny: int = ''\n", ""),
+        (b"# type: ignore[assignment]\nx: int = ''\n", "2 "),
+        (b"# type: ignore\nx = = 1 # type: ignore[syntax]\n", "2 "),
+    ];
+    for (source, want) in cases {
+        assert_eq!(rt; lines_told(rt.alloc(), source)?.as_str(), want);
+    }
+    Ok(())
+}

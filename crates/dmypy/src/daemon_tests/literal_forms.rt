@@ -1,0 +1,78 @@
+//! Modules, with their annotated literals.
+
+use pyc_daemon::literal_forms::literal_forms;
+use pyc_parse::{Outcome, outcome};
+use std::alloc::Global;
+use std::fmt::Write;
+use std::test::Fail;
+
+/// The annotated literals of a source, each as its line, column, annotation and type, and ended by a `;`.
+fn forms_of(alloc: Global, source: &str) -> Result<String, Fail> {
+    let bytes = source.as_bytes();
+    let Outcome::Tree(module) = outcome(alloc, bytes)? else {
+        return Err("no tree".into());
+    };
+    let mut shown = String::new(alloc);
+    for form in &literal_forms(alloc, bytes, &module.statements)? {
+        let line = form.line;
+        let column = form.column;
+        let annotation = form.annotation;
+        let value = form.value;
+        write!(shown, "{line}:{column} {annotation:?} {value:?};")?;
+    }
+    Ok(shown)
+}
+
+#[test]
+fn finds_annotated_literals(rt: HostRuntime) -> Result<(), Fail> {
+    for (source, want) in [
+        ("x: int = 1\n", "1:10 Int Int;"),
+        ("x: float = 1.5\n", "1:12 Float Float;"),
+        (
+            "x: bool = True; y: None = None\n",
+            "1:11 Bool Bool;1:27 None None;",
+        ),
+        ("x: str = 'a' 'b'\n", "1:10 Str Str;"),
+        ("x: str = f'a'\n", "1:10 Str Str;"),
+        ("x: str = b'a' b'b'\n", "1:10 Str Bytes;"),
+        ("x: int = Rb'a'\n", "1:10 Int Bytes;"),
+        ("x: \u{ff49}\u{ff4e}\u{ff54} = 1\n", "1:10 Int Int;"),
+        ("x: int = \\\n  1\n", "2:3 Int Int;"),
+    ] {
+        assert_eq!(rt; forms_of(rt.alloc(), source)?.as_str(), want);
+    }
+    Ok(())
+}
+
+#[test]
+fn passes_other_statements_over(rt: HostRuntime) -> Result<(), Fail> {
+    for source in [
+        "x = 1\n",
+        "x: int\n",
+        "(x): int = 1\n",
+        "x.y: int = 1\n",
+        "x: (int) = 1\n",
+        "x: object = 1\n",
+        "x: True = 1\n",
+        "x: 'int' = 1\n",
+        "x: int = (1)\n",
+        "x: int = -1\n",
+        "x: int = 1j\n",
+        "x: int = ...\n",
+        "x: int = y\n",
+    ] {
+        assert_eq!(rt; forms_of(rt.alloc(), source)?.as_str(), "");
+    }
+    Ok(())
+}
+
+#[test]
+fn looks_into_blocks_and_no_definitions(rt: HostRuntime) -> Result<(), Fail> {
+    let source =
+        "if x:\n    y: int = 'a'\nelse:\n    z: str = 2\ndef f():\n    w: int = 3\nclass C:\n    v: int = 4\n";
+    assert_eq!(rt;
+        forms_of(rt.alloc(), source)?.as_str(),
+        "2:14 Int Str;4:14 Str Int;"
+    );
+    Ok(())
+}

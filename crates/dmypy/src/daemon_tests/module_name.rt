@@ -1,0 +1,31 @@
+//! Paths, with the modules that they name.
+
+use pyc_daemon::module_name::ModuleName;
+use std::test::Fail;
+
+#[test]
+fn names_modules(rt: HostRuntime) -> Result<(), Fail> {
+    for (path, parts) in [
+        ("a.py", "[\"a\"]"),
+        ("a/__init__.py", "[\"a\"]"),
+        ("a/b/c.py", "[\"a\", \"b\", \"c\"]"),
+        ("__init__.py/a.py", "[\"__init__.py\", \"a\"]"),
+        ("\u{fb01}.py", "[\"fi\"]"),
+    ] {
+        let name = ModuleName::of_path(rt.alloc(), path)?;
+        let shown = format!(in rt.alloc(); "{name:?}")?;
+        let want = format!(in rt.alloc(); "ModuleName {{ parts: {parts} }}")?;
+        assert_eq!(rt; shown.as_str(), want.as_str(), "at {path}");
+    }
+    Ok(())
+}
+
+#[test]
+fn tells_modules_apart(rt: HostRuntime) -> Result<(), Fail> {
+    let file = ModuleName::of_path(rt.alloc(), "a/b.py")?;
+    let folder = ModuleName::of_path(rt.alloc(), "a/b/__init__.py")?;
+    let other = ModuleName::of_path(rt.alloc(), "b.py")?;
+    assert!(rt; file.is_same(&folder));
+    assert!(rt; !file.is_same(&other));
+    Ok(())
+}

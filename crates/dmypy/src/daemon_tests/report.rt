@@ -1,0 +1,95 @@
+//! What was found in files, with the report of it.
+
+use pyc_daemon::checked::Found;
+use pyc_daemon::message::{Code, Message};
+use pyc_daemon::report::report;
+use std::alloc::{AllocError, Global};
+use std::test::Fail;
+
+const INCOMPATIBLE: &str =
+    "Incompatible types in assignment (expression has type \"str\", variable has type \"int\")";
+
+fn message(
+    alloc: Global,
+    line: usize,
+    column: usize,
+    code: Code,
+    text: &str,
+) -> Result<Message, AllocError> {
+    Ok(Message {
+        line,
+        column,
+        code,
+        text: String::from_str(alloc, text)?,
+    })
+}
+
+#[test]
+fn one_error_in_one_file(rt: HostRuntime) -> Result<(), Fail> {
+    let error = message(rt.alloc(), 1, 10, Code::Assignment, INCOMPATIBLE)?;
+    let found = Found {
+        path: "a.py",
+        messages: vec![in rt.alloc(); error]?,
+    };
+    let report = report(rt.alloc(), &[found])?;
+    assert_eq!(rt;
+        report.text.as_str(),
+        "a.py:1: error: Incompatible types in assignment (expression has type \"str\", variable has type \"int\")  [assignment]\nFound 1 error in 1 file (checked 1 source file)\n"
+    );
+    assert!(rt; !report.clean);
+    Ok(())
+}
+
+#[test]
+fn no_file(rt: HostRuntime) -> Result<(), Fail> {
+    let report = report(rt.alloc(), &[])?;
+    assert_eq!(rt;
+        report.text.as_str(),
+        "Success: no issues found in 0 source files\n"
+    );
+    assert!(rt; report.clean);
+    Ok(())
+}
+
+#[test]
+fn one_clean_file(rt: HostRuntime) -> Result<(), Fail> {
+    let found = Found {
+        path: "a.py",
+        messages: Vec::new(rt.alloc()),
+    };
+    let report = report(rt.alloc(), &[found])?;
+    assert_eq!(rt;
+        report.text.as_str(),
+        "Success: no issues found in 1 source file\n"
+    );
+    assert!(rt; report.clean);
+    Ok(())
+}
+
+// The error of line 3, column 9 is printed as that of column 1 is, and one of column 5 stands between them.
+#[test]
+fn files_and_errors_out_of_order(rt: HostRuntime) -> Result<(), Fail> {
+    let alloc = rt.alloc();
+    let invalid = message(alloc, 2, 4, Code::Syntax, "invalid syntax")?;
+    let last = Found {
+        path: "pkg/b.py",
+        messages: vec![in alloc; invalid]?,
+    };
+    let first = Found {
+        path: "a.py",
+        messages: vec![in alloc;
+            message(alloc, 3, 9, Code::Assignment, INCOMPATIBLE)?,
+            message(alloc, 10, 1, Code::Syntax, "invalid syntax")?,
+            message(alloc, 3, 5, Code::Assignment, "another text")?,
+            message(alloc, 2, 7, Code::Assignment, INCOMPATIBLE)?,
+            message(alloc, 3, 1, Code::Assignment, INCOMPATIBLE)?,
+        ]?,
+    };
+    let report = report(alloc, &[last, first])?;
+    assert_eq!(rt;
+        report.text.as_str(),
+        "a.py:2: error: Incompatible types in assignment (expression has type \"str\", variable has type \"int\")  [assignment]\na.py:3: error: Incompatible types in assignment (expression has type \"str\", variable has type \"int\")  [assignment]\na.py:3: error: another text  [assignment]\na.py:10: error: invalid syntax  [syntax]\npkg/b.py:2: error: invalid syntax  [syntax]\nFound 5 errors in 2 files (checked 2 source files)\n"
+    );
+    assert!(rt; !report.clean);
+    Ok(())
+}

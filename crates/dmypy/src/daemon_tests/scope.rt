@@ -1,0 +1,107 @@
+//! Modules, with the lines of their parts and of their units.
+
+use pyc_daemon::scope::{ScopePart, scope_parts};
+use pyc_daemon::units::unit_clauses;
+use pyc_parse::{Expr, Module, Outcome, Statement, outcome};
+use std::alloc::Global;
+use std::fmt::Write;
+use std::test::Fail;
+
+/// The tree of a source.
+fn module_of(alloc: Global, source: &str) -> Result<Module, Fail> {
+    match outcome(alloc, source.as_bytes())? {
+        Outcome::Tree(module) => Ok(module),
+        Outcome::Fault(_) => Err("no tree".into()),
+    }
+}
+
+/// The line of a statement that is a name alone, or 0.
+fn line_of(statement: &Statement) -> usize {
+    let Statement::Expression(expr) = statement else {
+        return 0;
+    };
+    match &**expr {
+        Expr::Name(name) => name.line,
+        _ => 0,
+    }
+}
+
+/// The lines of the parts of a source, those of definitions with a `d`.
+fn parts_of(alloc: Global, source: &str) -> Result<String, Fail> {
+    let module = module_of(alloc, source)?;
+    let mut shown = String::new(alloc);
+    for part in &scope_parts(alloc, &module.statements)? {
+        match part {
+            ScopePart::Simple(statement) => {
+                let line = line_of(statement);
+                write!(shown, "{line} ")?;
+            }
+            ScopePart::Definition(clause) => {
+                let line = clause.colon.line;
+                write!(shown, "d{line} ")?;
+            }
+        }
+    }
+    Ok(shown)
+}
+
+/// The lines of the definitions among the units of a source.
+fn units_of(alloc: Global, source: &str) -> Result<String, Fail> {
+    let module = module_of(alloc, source)?;
+    let mut shown = String::new(alloc);
+    for unit in &unit_clauses(alloc, &module.statements)? {
+        let line = unit.colon.line;
+        write!(shown, "{line} ")?;
+    }
+    Ok(shown)
+}
+
+#[test]
+fn opens_blocks_and_no_definitions(rt: HostRuntime) -> Result<(), Fail> {
+    for (source, want) in [
+        ("a\nb; c\n", "1 2 2 "),
+        (
+            "if x:\n    a\nelif x: b; c\nelse:\n    d\ne\n",
+            "2 3 3 5 6 ",
+        ),
+        (
+            "for x in y:\n    while x:\n        a\n    else: b\nelse:\n    c\n",
+            "3 4 6 ",
+        ),
+        (
+            "try:\n    a\nexcept x:\n    b\nexcept: c\nelse:\n    d\nfinally:\n    e\n",
+            "2 4 5 7 9 ",
+        ),
+        ("with x:\n    a\nasync with x: b\n", "2 3 "),
+        (
+            "@x\ndef f():\n    a\nb\nclass C:\n    c\nif x:\n    async def g(): d\n",
+            "d2 4 d5 d8 ",
+        ),
+    ] {
+        assert_eq!(rt; parts_of(rt.alloc(), source)?.as_str(), want);
+    }
+    Ok(())
+}
+
+#[test]
+fn finds_definitions_and_methods(rt: HostRuntime) -> Result<(), Fail> {
+    for (source, want) in [
+        ("a\nb\n", ""),
+        ("def f():\n    def g(): a\n", "1 "),
+        (
+            "class C:\n    a\n    def f(x): a\n    if x:\n        @x\n        def g(x): a\n    else:\n        async def h(x): a\n",
+            "1 3 6 8 ",
+        ),
+        (
+            "class C:\n    class D:\n        def f(x): a\n    def g(x): a\n",
+            "1 4 ",
+        ),
+        (
+            "if x:\n    class C: a\nelse:\n    def f(): a\ndef g(): a\n",
+            "2 4 5 ",
+        ),
+    ] {
+        assert_eq!(rt; units_of(rt.alloc(), source)?.as_str(), want);
+    }
+    Ok(())
+}

@@ -1,0 +1,67 @@
+//! Files of a session, as they are put in and taken out.
+
+use pyc_daemon::file::File;
+use pyc_daemon::module_name::ModuleName;
+use pyc_daemon::workspace::Workspace;
+use pyc_parse::Outcome;
+use std::alloc::{AllocError, Global};
+use std::test::Fail;
+
+fn file_of(alloc: Global, path: &str, text: &str) -> Result<File, AllocError> {
+    let name = ModuleName::of_path(alloc, path)?;
+    File::new(alloc, path, name, text.as_bytes().to_vec(alloc)?)
+}
+
+// The paths of the files, each with a space after it.
+fn listed(alloc: Global, workspace: &Workspace) -> Result<String, AllocError> {
+    let mut paths = String::new(alloc);
+    for file in workspace.files() {
+        paths.push_str(file.path())?;
+        paths.push(' ')?;
+    }
+    Ok(paths)
+}
+
+fn three_files(alloc: Global) -> Result<Workspace, AllocError> {
+    let mut workspace = Workspace::new(alloc);
+    for path in ["b.py", "a.py", "c.py"] {
+        workspace.put(file_of(alloc, path, "x: int = 1\n")?)?;
+    }
+    Ok(workspace)
+}
+
+#[test]
+fn keeps_files_in_order(rt: HostRuntime) -> Result<(), Fail> {
+    let mut workspace = three_files(rt.alloc())?;
+    assert_eq!(rt; listed(rt.alloc(), &workspace)?.as_str(), "a.py b.py c.py ");
+    assert!(rt; workspace.take(b"b.py"));
+    assert!(rt; !workspace.take(b"b.py"));
+    assert!(rt; !workspace.contains(b"b.py"));
+    assert_eq!(rt; listed(rt.alloc(), &workspace)?.as_str(), "a.py c.py ");
+    workspace.put(file_of(rt.alloc(), "b.py", "")?)?;
+    assert!(rt; workspace.contains(b"b.py"));
+    assert_eq!(rt; listed(rt.alloc(), &workspace)?.as_str(), "a.py b.py c.py ");
+    Ok(())
+}
+
+#[test]
+fn replaces_the_file_of_a_path(rt: HostRuntime) -> Result<(), Fail> {
+    let mut workspace = three_files(rt.alloc())?;
+    let before = workspace.share(rt.alloc())?;
+    workspace.put(file_of(rt.alloc(), "a.py", "\"")?)?;
+    assert_eq!(rt; workspace.len(), 3);
+    assert_eq!(rt; before.len(), 3);
+    assert!(rt; matches!(workspace.files()[0].outcome(), Outcome::Fault(_)));
+    assert!(rt; matches!(before.files()[0].outcome(), Outcome::Tree(_)));
+    Ok(())
+}
+
+#[test]
+fn knows_the_modules_of_its_files(rt: HostRuntime) -> Result<(), Fail> {
+    let workspace = three_files(rt.alloc())?;
+    let folder = ModuleName::of_path(rt.alloc(), "a/__init__.py")?;
+    let inner = ModuleName::of_path(rt.alloc(), "a/b.py")?;
+    assert!(rt; workspace.names_module(&folder));
+    assert!(rt; !workspace.names_module(&inner));
+    Ok(())
+}

@@ -1,0 +1,5 @@
+//! Sessions, with their replies.
+
+mod fakes;
+mod replies;
+mod rows;

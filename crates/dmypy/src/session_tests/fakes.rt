@@ -1,0 +1,140 @@
+use pyc_daemon::counted::Counted;
+use pyc_daemon::ending::{End, RunFault};
+use pyc_daemon::engine::run;
+use pyc_daemon::memory_source::MemorySource;
+use pyc_daemon::options::Options;
+use std::alloc::Global;
+use std::io::{self, ErrorKind, Read, Write};
+use std::process::Abort;
+use std::test::Fail;
+
+/// Options with room for each session of the tests.
+pub const OPTIONS: Options = Options {
+    ignore_missing: false,
+    check_untyped: false,
+    turns: 1_000_000,
+};
+
+/// Never.
+pub const NEVER: usize = usize::MAX;
+
+/// A reader of known bytes: at most `most` of them a call, and a fault at the call of number `faulty`, from 0.
+#[derive(Drop)]
+pub struct Pieces<'a> {
+    pub bytes: &'a [u8],
+    pub most: usize,
+    pub faulty: usize,
+    pub calls: usize,
+}
+
+impl<'a> Pieces<'a> {
+    /// All bytes in pieces of at most `most`, without a fault.
+    pub fn new(bytes: &'a [u8], most: usize) -> Self {
+        Pieces {
+            bytes,
+            most,
+            faulty: NEVER,
+            calls: 0,
+        }
+    }
+}
+
+impl Read for Pieces<'_> {
+    fn read(&mut self, buf: &mut [u8]) -> io::Result<usize> {
+        let call = self.calls;
+        self.calls = call.saturating_add(1);
+        if call == self.faulty {
+            return Err(io::Error::from(ErrorKind::BrokenPipe));
+        }
+        let count = self.most.min(self.bytes.len()).min(buf.len());
+        buf[..count].copy_from_slice(&self.bytes[..count]);
+        self.bytes = &self.bytes[count..];
+        Ok(count)
+    }
+}
+
+/// How a writer stops.
+#[derive(Clone, Copy, Debug, PartialEq, Eq)]
+pub enum Stop {
+    Fault,
+    Zero,
+}
+
+/// A writer that keeps what it gets: at most `most` bytes a call, and after `room` bytes it stops.
+#[derive(Drop)]
+pub struct Sink<'a> {
+    pub kept: &'a mut Vec<u8>,
+    pub most: usize,
+    pub room: usize,
+    pub stop: Stop,
+}
+
+impl<'a> Sink<'a> {
+    /// A writer that never stops.
+    pub fn new(kept: &'a mut Vec<u8>) -> Self {
+        Sink {
+            kept,
+            most: NEVER,
+            room: NEVER,
+            stop: Stop::Zero,
+        }
+    }
+}
+
+impl Write for Sink<'_> {
+    fn write(&mut self, buf: &[u8]) -> io::Result<usize> {
+        let count = self.most.min(self.room).min(buf.len());
+        if count == 0 {
+            return match self.stop {
+                Stop::Fault => Err(io::Error::from(ErrorKind::BrokenPipe)),
+                Stop::Zero => Ok(0),
+            };
+        }
+        self.kept.extend_from_slice(&buf[..count])?;
+        self.room -= count;
+        Ok(count)
+    }
+
+    fn flush(&mut self) -> io::Result<()> {
+        Ok(())
+    }
+}
+
+/// The answer of a session over these streams, without a source of files, with at most so many reads.
+pub fn session(
+    alloc: Global,
+    reader: Pieces<'_>,
+    writer: Sink<'_>,
+    turns: u64,
+) -> Result<End, RunFault> {
+    let mut sources = MemorySource::new(Vec::new(alloc));
+    let mut reader = Counted::new(reader);
+    let mut writer = Counted::new(writer);
+    let options = Options { turns, ..OPTIONS };
+    run(alloc, &mut reader, &mut writer, &mut sources, &options)
+}
+
+/// Asserts that each of these inputs is answered with its replies and ends so, whatever number of bytes a read gives.
+pub fn assert_sessions(
+    rt: &impl Abort,
+    alloc: Global,
+    sessions: &[(&str, &str, End)],
+) -> Result<(), Fail> {
+    for (input, replies, end) in sessions {
+        for most in [NEVER, 1, 2, 3] {
+            let mut kept = Vec::new(alloc);
+            let reader = Pieces::new(input.as_bytes(), most);
+            let answer = session(alloc, reader, Sink::new(&mut kept), OPTIONS.turns);
+            assert_eq!(rt;
+                kept.as_slice(),
+                replies.as_bytes(),
+                "{input:?}, at most {most} bytes a read"
+            );
+            assert!(rt;
+                answer == Ok(*end),
+                "{input:?}, at most {most} bytes a read"
+            );
+        }
+    }
+    Ok(())
+}

@@ -1,0 +1,58 @@
+use Rattle.std.proofs.Common.{◌≡◌, true, false, rules}
+use Rattle.std.proofs.lemmas.Result.{err_from_is_err_and}
+use Rattle.pyc_daemon.specs.Window.{ended_of}
+use Rattle.pyc_daemon.proofs.Going.{going_none, going_on, going_last, held_none, runs_last, runs_ended, runs_unread, runs_unwritten}
+use Rattle.pyc_daemon.proofs.engine.serve_all.Goals as goal
+
+pub commands-init : goal.commands-init
+commands-init g c = record {
+  room = c.requires.room;
+  reading = c.requires.reading;
+  going = going_none _ _ _ _ _ _ _ _ c.requires.empty c.requires.begun;
+}
+
+pub returns-in_err-answer-clause-runs : goal.returns-in_err-answer-clause-runs
+returns-in_err-answer-clause-runs g c =
+    let unended : ended_of c.commands.window ≡ false = search rules in
+    let used = c.in_err-answer.ensures.err in
+    let p = err_from_is_err_and c.from_residual.result c.from_residual.ensures.1 in
+    rw p.1 (runs_unread _ _ _ _ _ _ _ _ _ _ _ _ _ _ _ used.0 _ c.commands.invariant.going unended used.1 c.in_err-answer.ensures.stopped c.in_err-answer.ensures.untouched)
+
+pub returns-in_err-write_reply-clause-runs : goal.returns-in_err-write_reply-clause-runs
+returns-in_err-write_reply-clause-runs g c =
+    let unended : ended_of c.commands.window ≡ false = search rules in
+    let served = rw c.in-Some.is at c.in_ok-answer.ensures.served in
+    let p = err_from_is_err_and c.from_residual-in_err-write_reply.result c.from_residual-in_err-write_reply.ensures.1 in
+    rw p.1 (runs_unwritten _ _ _ _ _ _ _ _ _ _ _ _ _ _ _ _ _ served.0 served.1 c.in-Some.answer _ c.commands.invariant.going unended served.2 served.3 served.4
+    c.in_err-write_reply.ensures.part c.serve.ensures.reading.at_end (held_none c.serve.new.window))
+
+pub returns-in-Some-end-clause-runs : goal.returns-in-Some-end-clause-runs
+returns-in-Some-end-clause-runs g c =
+    let unended : ended_of c.commands.window ≡ false = search rules in
+    let served = rw c.in-Some.is at c.in_ok-answer.ensures.served in
+    runs_last _ _ _ _ _ _ _ _ _ _ _ _ _ _ _ _ _ served.0 served.1 c.in-Some.answer _ c.commands.invariant.going unended served.2 served.3 served.4
+    c.in-Some-end.is c.in_ok-write_reply.ensures.ok c.serve.ensures.reading.at_end (held_none c.serve.new.window)
+
+pub commands-preserved : goal.commands-preserved
+commands-preserved g c =
+    let unended : ended_of c.commands.window ≡ false = search rules in
+    let served = rw c.in-Some.is at c.in_ok-answer.ensures.served in
+    record {
+      room = c.serve.ensures.room;
+      reading = c.serve.ensures.reading;
+      going = going_on _ _ _ _ _ _ _ _ _ _ _ _ _ _ _ _ _ served.0 served.1 c.in-Some.answer c.commands.invariant.going unended served.2 served.3 served.4
+          c.in_default-end.is c.in_ok-write_reply.ensures.ok;
+    }
+
+pub returns-after-commands-clause-runs : goal.returns-after-commands-clause-runs
+returns-after-commands-clause-runs g c =
+    let over : ended_of c.commands.window ≡ true = search rules in
+    runs_ended _ _ _ _ _ _ _ _ _ _ _ c.commands.invariant.going over c.commands.invariant.reading.at_end (held_none c.commands.window over)
+
+pub returns-in_default-clause-runs : goal.returns-in_default-clause-runs
+returns-in_default-clause-runs g c =
+    let unended : ended_of c.commands.window ≡ false = search rules in
+    let served = rw c.in_default.is at c.in_ok-answer.ensures.served in
+    let over = served.3.1 in
+    runs_ended _ _ _ _ _ _ _ _ _ _ _ (going_last _ _ _ _ _ _ _ _ _ _ _ _ _ _ _ _ served.0 c.commands.invariant.going unended served.2 served.3.0 served.3.2 (rw served.3.3 at served.4))
+    over c.serve.ensures.reading.at_end (held_none c.serve.new.window over)

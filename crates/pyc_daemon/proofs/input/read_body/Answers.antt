@@ -1,0 +1,35 @@
+use Rattle.std.proofs.Common.{◌≡◌, [], refl, arith, rules}
+use Rattle.std.proofs.lemmas.Result.{err_from_is_err_and}
+use Rattle.pyc_daemon.specs.Counted.{calls_of}
+use Rattle.pyc_daemon.specs.Window.{held_of, ended_of}
+use Rattle.pyc_daemon.proofs.Moving.{advances_read, part_of_none, body_refilled, body_on, work_read, work_skip}
+use Rattle.pyc_daemon.proofs.input.read_body.Goals as goal
+
+pub returns-in_err-refill-clause-err : goal.returns-in_err-refill-clause-err
+returns-in_err-refill-clause-err g c =
+    let none : held_of c.loop-left.window ≡ [] = part_of_none _ _ _ (search rules) (search rules) c.first-part.ensures.most in
+    let so_far = c.loop-left.invariant.body in
+    let p = err_from_is_err_and c.from_residual.result c.from_residual.ensures.1 in
+    rw p.1 (so_far.used, advances_read _ _ _ _ _ _ _ so_far.moved none (search rules))
+
+pub loop-left-preserved-then-count-eq0 : goal.loop-left-preserved-then-count-eq0
+loop-left-preserved-then-count-eq0 g c =
+    let none : held_of c.loop-left.window ≡ [] = part_of_none _ _ _ (search rules) (search rules) c.first-part.ensures.most in
+    record {
+      reading = search rules;
+      body = body_refilled _ _ _ _ _ _ _ _ _ _ (ended_of c.loop-left.window) _ _ _ c.loop-left.invariant.body (search rules) none (search rules);
+      work = omega (arith, work_read (ended_of c.loop-left.window) (held_of c.loop-left.window) (calls_of c.loop-left.reader) c.args.turns _ (search rules) none c.in_ok-refill.ensures.work);
+    }
+
+pub loop-left-smaller : goal.loop-left-smaller
+loop-left-smaller g c =
+    work_skip _ _ _ _ _ (calls_of c.loop-left.reader) c.args.turns (search rules) c.skip.ensures.ended c.skip.ensures.held c.if-count-eq0.false (omega arith)
+
+pub loop-left-preserved : goal.loop-left-preserved
+loop-left-preserved g c =
+    let less = work_skip _ _ _ _ _ (calls_of c.loop-left.reader) c.args.turns (search rules) c.skip.ensures.ended c.skip.ensures.held c.if-count-eq0.false (omega arith) in
+    record {
+      reading = search rules;
+      body = body_on _ _ _ _ _ _ _ _ _ _ _ _ (ended_of c.loop-left.window) _ _ _ _ c.loop-left.invariant.body (search rules) c.first-part.ensures.front c.first-part.ensures.most refl c.skip.ensures.held c.keep_part-kept.ensures.kept;
+      work = omega (arith, less);
+    }

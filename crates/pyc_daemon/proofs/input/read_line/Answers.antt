@@ -1,0 +1,36 @@
+use Rattle.std.proofs.Common.{arith, rules}
+use Rattle.std.proofs.lemmas.Result.{err_from_is_err_and}
+use Rattle.pyc_daemon.specs.Counted.{calls_of}
+use Rattle.pyc_daemon.specs.Window.{held_of, ended_of}
+use Rattle.pyc_daemon.proofs.Moving.{line_byte_kept, line_byte_left, line_refilled, advances_read, work_byte, work_read}
+use Rattle.pyc_daemon.proofs.input.read_line.Goals as goal
+
+pub loop-window-preserved-then-len-lt-KEPT : goal.loop-window-preserved-then-len-lt-KEPT
+loop-window-preserved-then-len-lt-KEPT g c = record {
+  room = omega arith;
+  reading = search rules;
+  work = omega (arith, work_byte _ _ _ _ _ (calls_of c.loop-window.reader) c.args.turns c.take_byte.ensures.ended c.in-Some.ensures.byte);
+  line = line_byte_kept _ _ _ _ _ _ _ _ c.loop-window.invariant.line (c.in-Some.ensures.byte) c.in-Some.byte-test.1 (omega arith) c.push_reserved.ensures.items;
+}
+
+pub loop-window-preserved-else-len-lt-KEPT : goal.loop-window-preserved-else-len-lt-KEPT
+loop-window-preserved-else-len-lt-KEPT g c = record {
+  room = omega arith;
+  reading = search rules;
+  work = omega (arith, work_byte _ _ _ _ _ (calls_of c.loop-window.reader) c.args.turns c.take_byte.ensures.ended c.in-Some.ensures.byte);
+  line = line_byte_left _ _ _ _ _ _ _ c.loop-window.invariant.line (c.in-Some.ensures.byte) c.in-Some.byte-test.1 (omega arith);
+}
+
+pub loop-window-preserved : goal.loop-window-preserved
+loop-window-preserved g c = record {
+  room = omega arith;
+  reading = search rules;
+  work = omega (arith, work_read (ended_of c.loop-window.window) (held_of c.loop-window.window) (calls_of c.loop-window.reader) c.args.turns _ (search rules) (search rules) c.in_ok-refill-in-None.ensures.work);
+  line = line_refilled _ _ _ _ _ _ _ c.loop-window.invariant.line (search rules) (search rules);
+}
+
+pub returns-in_err-refill-in-None-clause-err : goal.returns-in_err-refill-in-None-clause-err
+returns-in_err-refill-in-None-clause-err g c =
+    let so_far = c.loop-window.invariant.line in
+    let p = err_from_is_err_and c.from_residual.result c.from_residual.ensures.1 in
+    rw p.1 (so_far.raw, advances_read _ _ _ _ _ _ _ so_far.moved (search rules) (search rules))

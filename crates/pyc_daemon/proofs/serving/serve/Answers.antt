@@ -1,0 +1,32 @@
+use Rattle.std.proofs.Common.{refl, ◌++◌, ◌∷◌, [], if◌then◌else◌, sym, ◌∙◌}
+use Rattle.std.proofs.lemmas.Result.{err_from_is_err_and}
+use Rattle.pyc_daemon.specs.Event.{quiet}
+use Rattle.pyc_daemon.proofs.Moving.{advances_trans}
+use Rattle.pyc_daemon.proofs.Served.{served, some_line, end_line}
+use Rattle.pyc_daemon.proofs.serving.serve.Goals as goal
+
+pub returns-in_err-answer-clause-err : goal.returns-in_err-answer-clause-err
+returns-in_err-answer-clause-err g c =
+    let line = c.in_ok-fed.ensures.line in
+    let more = c.in_err-answer.ensures.err in
+    let p = err_from_is_err_and c.from_residual-in_err-answer.result c.from_residual-in_err-answer.ensures.1 in
+    rw p.1 ((line.0 ++ (if c.in_ok-fed.fed then 10 ∷ [] else [])) ++ more.0, advances_trans _ _ _ _ _ _ _ _ line.1 more.1)
+
+pub returns-clause-served : goal.returns-clause-served
+returns-clause-served g c =
+    let line = c.in_ok-fed.ensures.line in
+    let done = c.in_ok-answer.ensures.obeyed in (
+      (line.0 ++ (if c.in_ok-fed.fed then 10 ∷ [] else [])) ++ done.0,
+      done.1,
+      advances_trans _ _ _ _ _ _ _ _ line.1 done.2,
+      served _ _ c.in_ok-answer.answer line.0 done.0 _ c.in_ok-fed.fed done.1 _ line.2 line.3
+          (λ unfed. (some_line _ c.in_ok-fed.fed (rw c.deref.ensures.value at (sym c.is_end.ensures ∙ c.if-is_end.false)) unfed, done.4 (c.in_ok-fed.ensures.last unfed)))
+          (λ rest last. rw (c.parse-command.ensures, c.command_line.ensures, c.deref-2.ensures.value) at (done.3 rest last)),
+      done.5,
+    )
+
+pub returns-then-is_end-clause-served : goal.returns-then-is_end-clause-served
+returns-then-is_end-clause-served g c =
+    let line = c.in_ok-fed.ensures.line in
+    let over = end_line line.0 _ c.in_ok-fed.fed line.3 (rw c.deref.ensures.value at (sym c.is_end.ensures ∙ c.if-is_end.true)) in
+    (line.0 ++ (if c.in_ok-fed.fed then 10 ∷ [] else []), quiet, line.1, (over.0, c.in_ok-fed.ensures.last over.1, refl, refl), refl)

@@ -1,0 +1,19 @@
+use Rattle.std.proofs.Common.{arith}
+use Rattle.std.proofs.lemmas.Result.{err_from_is_err_and}
+use Rattle.pyc_daemon.proofs.Going.{joined_none, joined_on, joined_part, joined_all}
+use Rattle.pyc_daemon.proofs.writing.write_parts.Goals as goal
+
+pub loop-part-init : goal.loop-part-init
+loop-part-init g c = joined_none _ _
+
+pub returns-in_err-write_bytes-clause-part : goal.returns-in_err-write_bytes-clause-part
+returns-in_err-write_bytes-clause-part g c =
+    let p = err_from_is_err_and c.from_residual.result c.from_residual.ensures.1 in
+    rw p.1 (joined_part _ _ _ _ _ _ _ c.loop-part.invariant (omega arith) c.as_bytes.ensures.value c.in_err-write_bytes.ensures.part)
+
+pub loop-part-preserved : goal.loop-part-preserved
+loop-part-preserved g c =
+    joined_on _ _ _ _ _ _ _ c.loop-part.invariant (omega arith) c.as_bytes.ensures.value c.in_ok-write_bytes.ensures.ok
+
+pub returns-clause-ok : goal.returns-clause-ok
+returns-clause-ok g c = joined_all _ _ _ _ c.loop-part.invariant (omega arith)

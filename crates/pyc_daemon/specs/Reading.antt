@@ -1,0 +1,28 @@
+-- What reading an input in pieces does: bytes are read from the reader, held in a window, and used.
+use Rattle.std.specs.Prelude.{◌≡◌, ℕ, ◌+◌, ◌-◌, ◌*◌, ◌<◌, ◌≤◌, Bool, IsTrue, if◌then◌else◌, List, ◌++◌, Option}
+use Rattle.std.specs.Io.KnownBytes.{Consumes, IsAtEnd}
+use Rattle.pyc_daemon.specs.declared.ending.RunFault.{RunFault}
+use Rattle.pyc_daemon.specs.declared.ending.RunFault.TheVariants.{Read, Write, TooManyTurns, Memory}
+
+-- From known bytes left in the reader and bytes held in the window to later ones: some were read, and `bytes` were used.
+pub record Advances (left : Option (List ℕ)) (held : List ℕ) (left' : Option (List ℕ)) (held' : List ℕ) (bytes : List ℕ) : Type 0 where
+  pub got : List ℕ
+  pub consumes : Consumes left left' got
+  pub seam : held ++ got ≡ bytes ++ held'
+
+-- The reader may still be called, and where it told its end nothing is left.
+pub record IsReading (left : Option (List ℕ)) (ended : Bool) (calls turns : ℕ) : Type 0 where
+  pub low : calls ≤ turns
+  pub at_end : IsTrue ended → IsAtEnd left
+
+-- What reading may still take, an upper bound that each step lowers: nothing once the reader told its end,
+-- else one for the end, 4,097 for each read that is left, and one for each byte that is held.
+abbrev pub work_left : Bool → ℕ → ℕ → ℕ → ℕ
+work_left ended held calls turns = if ended then 0 else 1 + (turns - calls) * 4097 + held
+
+-- What a fault of reading comes of: a fault that the reader answered, or as many reads as there may be.
+abbrev pub ComesOfReading : RunFault → ℕ → ℕ → ℕ → Type 0
+ComesOfReading Read faults calls turns = 0 < faults
+ComesOfReading Write faults calls turns = ⊥
+ComesOfReading TooManyTurns faults calls turns = calls ≡ turns
+ComesOfReading Memory faults calls turns = ⊥

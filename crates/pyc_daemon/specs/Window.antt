@@ -1,0 +1,11 @@
+-- What a window holds.
+use Rattle.std.specs.Prelude.{ℕ, ◌-◌, Bool, List, take, drop}
+use Rattle.pyc_daemon.specs.declared.window.Window.{Window}
+
+-- the bytes that were read and not used yet
+abbrev pub held_of : Window → List ℕ
+held_of w = take (w.end - w.start) (drop w.start w.buffer.items)
+
+-- whether the reader told its end
+abbrev pub ended_of : Window → Bool
+ended_of w = w.ended

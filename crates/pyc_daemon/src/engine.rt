@@ -1,0 +1,99 @@
+ghost use Rattle.std.specs.Prelude.{◌≡◌, ◌+◌, ◌<◌, ◌≤◌, [], false, List, vec_capacity, IfOk, IfErr, IfSome, IsErrOf};
+ghost use Rattle.std.specs.Io.KnownBytes.{Appends};
+ghost use Rattle.pyc_daemon.specs.Counted.{inner_of, calls_of, faults_of, zeros_of};
+ghost use Rattle.pyc_daemon.specs.Event.{Event, Links};
+ghost use Rattle.pyc_daemon.specs.Reading.{IsReading};
+ghost use Rattle.pyc_daemon.specs.Runs.{Runs, ComesOfRun};
+ghost use Rattle.pyc_daemon.specs.Session.{session_text, session_end};
+ghost use Rattle.pyc_daemon.specs.Window.{held_of, ended_of};
+ghost use Rattle.pyc_daemon.specs.Workspace.{start};
+
+use crate::counted::Counted;
+use crate::daemon::Daemon;
+use crate::ending::{End, RunFault};
+use crate::input::KEPT;
+use crate::options::Options;
+use crate::reply::Answer;
+use crate::serving::serve;
+use crate::sources::Sources;
+use crate::window::Window;
+use crate::writing::write_reply;
+use std::alloc::Global;
+use std::io::{Read, Write};
+
+/// Runs a session: reads commands and writes their replies, each before the next read waits. The buffers are made
+/// before the first read. It ends at `stop`, at the end of the input, or where the input cannot be read on.
+pub fn run<R: Read, W: Write, S: Sources>(
+    alloc: Global,
+    reader: &mut Counted<R>,
+    writer: &mut Counted<W>,
+    sources: &mut S,
+    options: &Options,
+) -> Result<End, RunFault>
+    requires unread { (calls_of reader.old ≡ 0) × (faults_of reader.old ≡ 0) × (zeros_of reader.old ≡ 0) }
+    requires unwritten { (calls_of writer.old ≡ 0) × (faults_of writer.old ≡ 0) × (zeros_of writer.old ≡ 0) }
+    // A run that ends has written what a session writes for the input, and ends as that does.
+    ensures replies { IfOk result (λ end. IfSome (R.remaining (inner_of reader.old)) (λ input. (events : List Event)
+        × Links S.step sources.old events sources.new
+        × Appends (W.contents (inner_of writer.old)) (W.contents (inner_of writer.new)) (session_text options.now input events)
+        × (session_end options.now input events ≡ end))) }
+    // In any case what is written begins what a session writes for each input that begins with what was read.
+    ensures runs { Runs S.step options.now sources.old sources.new (R.remaining (inner_of reader.old)) (R.remaining (inner_of reader.new))
+        (W.contents (inner_of writer.old)) (W.contents (inner_of writer.new)) result }
+    // What each fault comes of.
+    ensures read { IsErrOf result RunFault.Read → 0 < faults_of reader.new }
+    ensures write { IsErrOf result RunFault.Write → 0 < faults_of writer.new + zeros_of writer.new }
+    ensures turns { IsErrOf result RunFault.TooManyTurns → calls_of reader.new ≡ options.now.turns }
+    ensures memory { IsErrOf result RunFault.Memory → (reader.new ≡ reader.old) × (writer.new ≡ writer.old) × (sources.new ≡ sources.old) }
+{
+    let Ok(mut window) = Window::new(alloc) else {
+        return Err(RunFault::Memory);
+    };
+    let Ok(mut line) = Vec::with_capacity(alloc, KEPT) else {
+        return Err(RunFault::Memory);
+    };
+    let mut daemon = Daemon::new(alloc, *options);
+    serve_all(
+        alloc,
+        reader,
+        writer,
+        &mut window,
+        &mut line,
+        sources,
+        &mut daemon,
+        options.turns,
+    )
+}
+
+// Serves commands until the session ends.
+fn serve_all<R: Read, W: Write, S: Sources>(
+    alloc: Global,
+    reader: &mut Counted<R>,
+    writer: &mut Counted<W>,
+    window: &mut Window,
+    line: &mut Vec<u8>,
+    sources: &mut S,
+    daemon: &mut Daemon,
+    turns: u64,
+) -> Result<End, RunFault>
+    requires room { KEPT ≤ vec_capacity line.old }
+    requires empty { held_of window.old ≡ [] }
+    requires open { ended_of window.old ≡ false }
+    requires begun { daemon.old ≡ start daemon.old.options }
+    requires reading { IsReading (R.remaining (inner_of reader.old)) (ended_of window.old) (calls_of reader.old) turns }
+    ensures runs { Runs S.step daemon.old.options sources.old sources.new (R.remaining (inner_of reader.old)) (R.remaining (inner_of reader.new))
+        (W.contents (inner_of writer.old)) (W.contents (inner_of writer.new)) result }
+    ensures fault { IfErr result (λ e. ComesOfRun e (faults_of reader.new) (calls_of reader.new) (faults_of writer.new + zeros_of writer.new) turns) }
+{
+    'commands: while !window.is_ended() {
+        let Some(answer) = serve(alloc, reader, window, line, sources, daemon, turns)? else {
+            break 'commands;
+        };
+        let Answer { reply, end } = answer;
+        write_reply(writer, reply)?;
+        if let Some(end) = end {
+            return Ok(end);
+        }
+    }
+    Ok(End::EndOfInput)
+}

@@ -1,0 +1,196 @@
+ghost use Rattle.std.specs.Prelude.{◌≡◌, ◌==◌, ◌&&◌, not, ◌<◌, ◌≤◌, ◌++◌, [], ℕ, Bool, List, true, false, length, vec_capacity, IfOk, IfErr, OnErr, OnOk};
+ghost use Rattle.pyc_daemon.specs.Body.{CameAs, IsWanted};
+ghost use Rattle.pyc_daemon.specs.Command.{said};
+ghost use Rattle.pyc_daemon.specs.Counted.{inner_of, calls_of, faults_of};
+ghost use Rattle.pyc_daemon.specs.Event.{Event, FetchStep};
+ghost use Rattle.pyc_daemon.specs.Reading.{Advances, IsReading, ComesOfReading, work_left};
+ghost use Rattle.pyc_daemon.specs.Refusal.{early_refusal, keep_refusal};
+ghost use Rattle.pyc_daemon.specs.Replies.{Serves, turn_of};
+ghost use Rattle.pyc_daemon.specs.Runs.{IsLast};
+ghost use Rattle.pyc_daemon.specs.Session.{act_with, check_turn, file_turn, told_turn};
+ghost use Rattle.pyc_daemon.specs.Window.{held_of, ended_of};
+ghost use Rattle.pyc_daemon.specs.Workspace.{State};
+
+use crate::command::{Command, parse};
+use crate::counted::Counted;
+use crate::daemon::Daemon;
+use crate::ending::{End, RunFault};
+use crate::input::{Body, KEPT, command_line, read_body, read_line};
+use crate::keep::Keep;
+use crate::refusal::Refusal;
+use crate::reply::{Answer, Reply};
+use crate::sources::Sources;
+use crate::window::Window;
+use std::alloc::Global;
+use std::io::Read;
+
+/// Reads the next command and does it; nothing is written. There is no answer at the end of the input.
+pub fn serve<R: Read, S: Sources>(
+    alloc: Global,
+    reader: &mut Counted<R>,
+    window: &mut Window,
+    line: &mut Vec<u8>,
+    sources: &mut S,
+    daemon: &mut Daemon,
+    turns: u64,
+) -> Result<Option<Answer>, RunFault>
+    requires room { KEPT ≤ vec_capacity line.old }
+    requires open { ended_of window.old ≡ false }
+    requires reading { IsReading (R.remaining (inner_of reader.old)) (ended_of window.old) (calls_of reader.old) turns }
+    ensures room { KEPT ≤ vec_capacity line.new }
+    ensures reading { IsReading (R.remaining (inner_of reader.new)) (ended_of window.new) (calls_of reader.new) turns }
+    ensures served { IfOk result (λ answer. (bytes : List ℕ) × (event : Event)
+        × Advances (R.remaining (inner_of reader.old)) (held_of window.old) (R.remaining (inner_of reader.new)) (held_of window.new) bytes
+        × Serves daemon.old daemon.new bytes event (ended_of window.new) answer
+        × FetchStep S.step sources.old event.fetched sources.new) }
+    ensures err { OnErr result ((bytes : List ℕ)
+        × Advances (R.remaining (inner_of reader.old)) (held_of window.old) (R.remaining (inner_of reader.new)) (held_of window.new) bytes) }
+    ensures stopped { OnErr result (ended_of window.new ≡ false) }
+    ensures untouched { OnErr result (sources.new ≡ sources.old) }
+    ensures work { OnOk result (work_left (ended_of window.new) (length (held_of window.new)) (calls_of reader.new) turns
+        < work_left (ended_of window.old) (length (held_of window.old)) (calls_of reader.old) turns) }
+    ensures fault { IfErr result (λ e. ComesOfReading e (faults_of reader.new) (calls_of reader.new) turns) }
+{
+    let fed = read_line(reader, window, line, turns)?;
+    if is_end(line, fed) {
+        return Ok(None);
+    }
+    let command = parse(command_line(line, fed));
+    let answer = obey(alloc, reader, window, sources, daemon, command, turns)?;
+    Ok(Some(answer))
+}
+
+// Whether a line is the empty rest of an input.
+fn is_end(line: &[u8], fed: bool) -> bool
+    ensures { result ≡ (not fed && (length line.now == 0)) }
+{
+    !fed && line.is_empty()
+}
+
+// Does a command.
+fn obey<R: Read, S: Sources>(
+    alloc: Global,
+    reader: &mut Counted<R>,
+    window: &mut Window,
+    sources: &mut S,
+    daemon: &mut Daemon,
+    command: Command<'_>,
+    turns: u64,
+) -> Result<Answer, RunFault>
+    requires reading { IsReading (R.remaining (inner_of reader.old)) (ended_of window.old) (calls_of reader.old) turns }
+    ensures reading { IsReading (R.remaining (inner_of reader.new)) (ended_of window.new) (calls_of reader.new) turns }
+    ensures obeyed { IfOk result (λ answer. (bytes : List ℕ) × (event : Event)
+        × Advances (R.remaining (inner_of reader.old)) (held_of window.old) (R.remaining (inner_of reader.new)) (held_of window.new) bytes
+        × ((rest : List ℕ) → IsLast (ended_of window.new) rest → act_with daemon.old (said command.entry) event.wants_memory event.fetched (bytes ++ rest) ≡ turn_of answer daemon.new rest)
+        × (ended_of window.old ≡ true → (bytes ≡ []) × (ended_of window.new ≡ true))
+        × FetchStep S.step sources.old event.fetched sources.new) }
+    ensures err { OnErr result ((bytes : List ℕ)
+        × Advances (R.remaining (inner_of reader.old)) (held_of window.old) (R.remaining (inner_of reader.new)) (held_of window.new) bytes) }
+    ensures stopped { OnErr result (ended_of window.new ≡ false) }
+    ensures untouched { OnErr result (sources.new ≡ sources.old) }
+    ensures work { OnOk result (work_left (ended_of window.new) (length (held_of window.new)) (calls_of reader.new) turns
+        ≤ work_left (ended_of window.old) (length (held_of window.old)) (calls_of reader.old) turns) }
+    ensures fault { IfErr result (λ e. ComesOfReading e (faults_of reader.new) (calls_of reader.new) turns) }
+{
+    match command {
+        Command::Add { path, size } => {
+            keep_file(alloc, reader, window, daemon, Keep::Add, path, size, turns)
+        }
+        Command::Change { path, size } => {
+            keep_file(
+                alloc,
+                reader,
+                window,
+                daemon,
+                Keep::Change,
+                path,
+                size,
+                turns,
+            )
+        }
+        Command::Update { path } => Ok(tell(daemon.update(sources, path))),
+        Command::Remove { path } => Ok(tell(daemon.remove(path))),
+        Command::Check => Ok(check(daemon)),
+        Command::Status => Ok(Answer::counts(daemon.status())),
+        Command::Stop => Ok(Answer::last("ok\n", End::Stopped)),
+        Command::Endless => Ok(Answer::last(Refusal::Command.text(), End::Broken)),
+        Command::Unknown => Ok(Answer::line(Refusal::Command.text())),
+    }
+}
+
+// The answer to a command that is done or refused.
+fn tell(told: Result<(), Refusal>) -> Answer
+    ensures { (s : State) (rest : List ℕ) → turn_of result s rest ≡ told_turn told s rest }
+{
+    match told {
+        Ok(()) => Answer::line("ok\n"),
+        Err(why) => Answer::line(why.text()),
+    }
+}
+
+// `check`
+fn check(daemon: &mut Daemon) -> Answer
+    ensures { (mark : Bool) × ((rest : List ℕ) → check_turn daemon.old mark rest ≡ turn_of result daemon.new rest) }
+{
+    match daemon.check() {
+        Ok(report) => Answer {
+            reply: Reply::Checked(report),
+            end: None,
+        },
+        Err(_) => Answer::line(Refusal::Memory.text()),
+    }
+}
+
+// `add` and `change`: the next bytes are the file's, also where it is refused.
+fn keep_file<R: Read>(
+    alloc: Global,
+    reader: &mut Counted<R>,
+    window: &mut Window,
+    daemon: &mut Daemon,
+    keep: Keep,
+    path: &[u8],
+    size: usize,
+    turns: u64,
+) -> Result<Answer, RunFault>
+    requires reading { IsReading (R.remaining (inner_of reader.old)) (ended_of window.old) (calls_of reader.old) turns }
+    ensures reading { IsReading (R.remaining (inner_of reader.new)) (ended_of window.new) (calls_of reader.new) turns }
+    ensures kept { IfOk result (λ answer. (bytes : List ℕ) × (mark : Bool)
+        × Advances (R.remaining (inner_of reader.old)) (held_of window.old) (R.remaining (inner_of reader.new)) (held_of window.new) bytes
+        × ((rest : List ℕ) → IsLast (ended_of window.new) rest
+        → file_turn (keep_refusal keep daemon.old.present path.now size mark) daemon.old path.now size (bytes ++ rest) ≡ turn_of answer daemon.new rest)
+        × (ended_of window.old ≡ true → (bytes ≡ []) × (ended_of window.new ≡ true))) }
+    ensures err { OnErr result ((bytes : List ℕ)
+        × Advances (R.remaining (inner_of reader.old)) (held_of window.old) (R.remaining (inner_of reader.new)) (held_of window.new) bytes) }
+    ensures stopped { OnErr result (ended_of window.new ≡ false) }
+    ensures work { OnOk result (work_left (ended_of window.new) (length (held_of window.new)) (calls_of reader.new) turns
+        ≤ work_left (ended_of window.old) (length (held_of window.old)) (calls_of reader.old) turns) }
+    ensures fault { IfErr result (λ e. ComesOfReading e (faults_of reader.new) (calls_of reader.new) turns) }
+{
+    let refusal = daemon.early_refusal(keep, path, size);
+    let body = read_body(alloc, reader, window, size, refusal.is_none(), turns)?;
+    Ok(answer_body(daemon, keep, path, size, refusal, body))
+}
+
+// The answer to a command whose bytes came, or did not.
+fn answer_body(
+    daemon: &mut Daemon,
+    keep: Keep,
+    path: &[u8],
+    size: usize,
+    refusal: Option<Refusal>,
+    body: Body,
+) -> Answer
+    requires refusal { refusal ≡ early_refusal keep daemon.old.present path.now size }
+    requires whole { IsWanted body size refusal }
+    ensures { (mark : Bool) × ((bytes : List ℕ) (wanted ended : Bool) (rest : List ℕ) → CameAs body bytes size wanted ended → IsLast ended rest
+        → file_turn (keep_refusal keep daemon.old.present path.now size mark) daemon.old path.now size (bytes ++ rest) ≡ turn_of result daemon.new rest) }
+{
+    match body {
+        Body::Whole(bytes) => match daemon.keep(keep, path, bytes) {
+            Ok(()) => Answer::line("ok\n"),
+            Err(why) => Answer::line(why.text()),
+        },
+        Body::NotKept => Answer::line(refusal.unwrap_or(Refusal::Memory).text()),
+        Body::Truncated => Answer::last(Refusal::Truncated.text(), End::Broken),
+    }
+}
