@@ -3,7 +3,6 @@ use Rattle.std.specs.Prelude.{◌≡◌, ℕ, Bool, ◌||◌, List, ◌++◌, co
 use Rattle.std.specs.Io.KnownBytes.{Appends}
 use Rattle.pyc_daemon.specs.declared.ending.RunFault.{RunFault}
 use Rattle.pyc_daemon.specs.declared.refusal.Refusal.{Refusal}
-use Rattle.dmypy.specs.CheckFiles.{BeginsWith, after_updates, is_any_refused, is_refused, memory_line, printed_report, program_line, refusal_line, refusal_lines, report_status}
 use Rattle.pyc_daemon.specs.Entry.{Entry}
 use Rattle.pyc_daemon.specs.Event.{Event, Links}
 use Rattle.pyc_daemon.specs.Refusal.{refusal_text}
@@ -11,6 +10,7 @@ use Rattle.pyc_daemon.specs.Replies.{WritesPart}
 use Rattle.pyc_daemon.specs.Report.{Report}
 use Rattle.pyc_daemon.specs.Session.{Turn}
 use Rattle.pyc_daemon.specs.Workspace.{State}
+use Rattle.dmypy.specs.CheckFiles.{BeginsWith, after_updates, is_any_refused, is_refused, memory_line, printed_report, program_line, refusal_line, refusal_lines, report_status}
 
 -- Updates of the first files of these paths, from a state to a state, before those that are `left`: `refused` tells whether one
 -- of them was refused. Whatever the files that are left meet, theirs comes after what was met so far.

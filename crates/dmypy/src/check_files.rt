@@ -2,13 +2,13 @@
 
 ghost use Rattle.std.specs.Prelude.{◌≡◌, ◌+◌, ◌<◌, [], ℕ, Bool, List, Result, map, string_bytes, if◌then◌else◌, IfOk, OnErr, OnOk};
 ghost use Rattle.std.specs.Io.KnownBytes.{Appends};
-ghost use Rattle.dmypy.specs.CheckFiles.{Checks, check_status, err_text, exit_status, file_update, out_text};
 ghost use Rattle.pyc_daemon.specs.Counted.{inner_of, faults_of, zeros_of};
 ghost use Rattle.pyc_daemon.specs.Event.{Event, FetchStep, Links};
 ghost use Rattle.pyc_daemon.specs.Fresh.{fresh};
 ghost use Rattle.pyc_daemon.specs.Replies.{WritesPart};
-ghost use Rattle.dmypy.specs.Updates.{BeginsUpdates, Prints, Updates, UpdatesOne, told_refusal};
 ghost use Rattle.pyc_daemon.specs.declared.ending.RunFault.{RunFault};
+ghost use Rattle.dmypy.specs.CheckFiles.{Checks, check_status, err_text, exit_status, file_update, out_text};
+ghost use Rattle.dmypy.specs.Updates.{BeginsUpdates, Prints, Updates, UpdatesOne, told_refusal};
 
 use pyc_daemon::counted::Counted;
 use pyc_daemon::daemon::Daemon;

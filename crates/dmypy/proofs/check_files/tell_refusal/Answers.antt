@@ -1,6 +1,6 @@
 use Rattle.std.proofs.lemmas.Result.{err_from_is_err_and}
-use Rattle.dmypy.proofs.CheckFilesLemmas.{told_first, told_second}
 use Rattle.pyc_daemon.proofs.Going.{at_fault}
+use Rattle.dmypy.proofs.CheckFilesLemmas.{told_first, told_second}
 use Rattle.dmypy.proofs.check_files.tell_refusal.Goals as goal
 
 pub returns-in_err-write_parts-clause-part : goal.returns-in_err-write_parts-clause-part
