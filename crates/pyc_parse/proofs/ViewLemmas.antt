@@ -213,7 +213,7 @@ pub view_Nothing : tail_of t.Nothing ≡ tree.nothing
 unfolding tail_of
 view_Nothing = refl
 
-pub view_After : (mark : Token) (x : Box Expr Global) → tail_of (t.After mark x) ≡ tree.after mark (tree_of x.value)
+pub view_After : (mark : Box Token Global) (x : Box Expr Global) → tail_of (t.After mark x) ≡ tree.after mark.value (tree_of x.value)
 unfolding tail_of
 view_After mark x = refl
 

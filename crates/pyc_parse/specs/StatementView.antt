@@ -75,6 +75,6 @@ statement_of (s.Return t value) = plain.return t (perhaps_of value)
 statement_of (s.Raise t value cause) = plain.raise t (perhaps_of value) (tail_of cause)
 statement_of (s.Assert t test message) = plain.assert t (tree_of test.value) (tail_of message)
 statement_of (s.Delete t targets) = plain.delete t (tree_of targets.value)
-statement_of (s.Declare t names) = plain.declare t (separated_of token_of names)
+statement_of (s.Declare t names) = plain.declare t (separated_of token_of names.value)
 statement_of (s.Import t modules) = plain.import t (separated_of module_of modules.value)
 statement_of (s.ImportFrom found) = import_from_of found.value

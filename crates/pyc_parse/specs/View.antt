@@ -89,7 +89,7 @@ unfoldable mutual
   -- a token and the expression after it, or nothing
   pub tail_of : Ending → Tail
   tail_of t.Nothing = tree.nothing
-  tail_of (t.After' mark _ x) = tree.after mark (tree_of x)
+  tail_of (t.After' mark _ x) = tree.after mark.value (tree_of x)
 
 -- ---- the same over lists, as contracts see a `Vec`
 

@@ -83,15 +83,12 @@ pub struct BuiltTail {
     pub ghost low: { height ≤ 1000 },
 }
 
-/// The same expression on the heap.
-fn boxed(alloc: Global, expr: Expr) -> Result<Box<Expr>, ParseError>
-    ensures same { IfOk result (λ b. b.value ≡ expr) }
+/// The same value on the heap.
+fn boxed<T: Drop>(alloc: Global, value: T) -> Result<Box<T>, ParseError>
+    ensures same { IfOk result (λ b. b.value ≡ value) }
     ensures memory { IfErr result (λ e. e ≡ Memory) }
 {
-    match Box::new(alloc, expr) {
-        Ok(made) => Ok(made),
-        Err(_) => Err(ParseError::Memory),
-    }
+    Ok(Box::new(alloc, value)?)
 }
 
 /// The larger of two heights.
@@ -633,13 +630,15 @@ pub fn nothing() -> BuiltTail
 }
 
 /// A token and the expression after it.
-pub fn after(mark: Token, value: Built) -> BuiltTail
-    ensures { tail_of result.tail ≡ tree.after mark (tree_of value.expr.value) }
+pub fn after(alloc: Global, mark: Token, value: Built) -> Result<BuiltTail, ParseError>
+    ensures made { IfOk result (λ b. tail_of b.tail ≡ tree.after mark (tree_of value.expr.value)) }
+    ensures memory { IfErr result (λ e. e ≡ Memory) }
 {
-    BuiltTail {
+    let mark = Box::new(alloc, mark)?;
+    Ok(BuiltTail {
         tail: Tail::After(mark, value.expr),
         height: value.height,
-    }
+    })
 }
 
 /// No expression.

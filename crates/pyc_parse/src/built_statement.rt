@@ -166,13 +166,19 @@ pub fn word(token: Token) -> BuiltStatement
 
 /// `global` or `nonlocal`, and names.
 #[tactic(auto, unfolding(crate::specs::Statements::statement_height))]
-pub fn declare(word: Token, names: Separated<Token>) -> BuiltStatement
-    ensures { statement_of result.statement ≡ statement.declare word (separated_of token_of names) }
+pub fn declare(
+    alloc: Global,
+    word: Token,
+    names: Separated<Token>,
+) -> Result<BuiltStatement, ParseError>
+    ensures made { IfOk result (λ b. statement_of b.statement ≡ statement.declare word (separated_of token_of names)) }
+    ensures memory { IfErr result (λ e. e ≡ Memory) }
 {
-    BuiltStatement {
+    let names = Box::new(alloc, names)?;
+    Ok(BuiltStatement {
         statement: Statement::Declare(word, names),
         height: 1,
-    }
+    })
 }
 
 /// `import` and modules.

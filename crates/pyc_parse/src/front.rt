@@ -12,6 +12,7 @@ ghost use Rattle.pyc_parse.specs.View.{tree_of, pieces_of, pieces_before};
 
 use crate::built::{Built, BuiltPieces, taller};
 use crate::error::ParseError;
+use crate::growth::append;
 use crate::tree::{Expr, Piece, Pieces};
 use pyc_lex::Token;
 use std::alloc::Global;
@@ -67,7 +68,7 @@ impl Front {
         let are_targets = are_still_targets(self.are_targets, self.was_starred, &item);
         let was_starred = self.was_starred | is_starred(&item.expr);
         let value = Box::into_inner(item.expr);
-        self.each.push(Piece { value, comma })?;
+        append(&mut self.each, Piece { value, comma })?;
         self.height = height;
         self.has_comma = true;
         self.are_targets = are_targets;

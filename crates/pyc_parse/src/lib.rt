@@ -14,6 +14,7 @@ mod file_parser;
 mod forms;
 mod front;
 mod grammar;
+mod growth;
 mod kinds;
 mod line;
 mod line_parser;

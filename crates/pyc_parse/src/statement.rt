@@ -99,7 +99,7 @@ pub enum Statement {
     /// `del` and targets.
     Delete(Token, Box<Expr>),
     /// `global` or `nonlocal`, and names.
-    Declare(Token, Separated<Token>),
+    Declare(Token, Box<Separated<Token>>),
     /// `import` and modules.
     Import(Token, Box<Separated<ImportedModule>>),
     /// Names of a module.

@@ -110,10 +110,10 @@ pub enum Clause {
     If(Token, Box<Expr>),
 }
 
-/// A token with an expression after it, or nothing.
+/// A token with an expression after it, or nothing. Most are nothing, so the token stands in a box of its own.
 #[cycle(tree)]
 #[derive(Drop)]
 pub enum Tail {
     Nothing,
-    After(Token, Box<Expr>),
+    After(Box<Token>, Box<Expr>),
 }

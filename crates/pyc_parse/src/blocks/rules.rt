@@ -11,6 +11,7 @@ ghost use Rattle.pyc_parse.specs.StatementView.{separated_of, statement_of};
 use crate::block::{After, CompoundClause, Decorator, Next, Stmt, Suite};
 use crate::blocks::{Lines, is_decorator, is_definition, is_none};
 use crate::error::BlockFault;
+use crate::growth::append;
 use crate::line::Line;
 use crate::statement::{Separated, Statement};
 use std::alloc::Global;
@@ -154,7 +155,7 @@ impl<F: Fn(Global, &mut Lines, usize, usize) -> Result<Vec<Stmt>, BlockFault>> R
             match next {
                 None => return Ok(found),
                 Some((clause, later)) => {
-                    found.push(clause)?;
+                    append(&mut found, clause)?;
                     so = later;
                 }
             }
@@ -250,7 +251,7 @@ impl<F: Fn(Global, &mut Lines, usize, usize) -> Result<Vec<Stmt>, BlockFault>> R
             let next = self.next_statement(lines, indent)?;
             match next {
                 None => return Ok(found),
-                Some(statement) => found.push(statement)?,
+                Some(statement) => append(&mut found, statement)?,
             }
         }
         Ok(found)

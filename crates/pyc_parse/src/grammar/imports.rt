@@ -137,5 +137,5 @@ pub fn declared(alloc: Global, tokens: &mut Tokens<'_>) -> Result<BuiltStatement
 {
     let word = tokens.take()?;
     let names = names(alloc, tokens)?;
-    Ok(built_statement::declare(word, names))
+    built_statement::declare(alloc, word, names)
 }

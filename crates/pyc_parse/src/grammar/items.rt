@@ -30,7 +30,7 @@ impl<F: Fn(Global, &mut Tokens<'_>, usize, u8) -> Result<Built, ParseError>> Gra
         if same_kind(tokens.peek(), kind) {
             let mark = tokens.take()?;
             let value = self.expr(tokens, 1)?;
-            Ok(built::after(mark, value))
+            built::after(self.alloc, mark, value)
         } else {
             Ok(built::nothing())
         }
@@ -174,7 +174,8 @@ impl<F: Fn(Global, &mut Tokens<'_>, usize, u8) -> Result<Built, ParseError>> Gra
         if !target.is_target {
             return Err(ParseError::Refused);
         }
-        built::with_item(self.alloc, value, built::after(word, target))
+        let target = built::after(self.alloc, word, target)?;
+        built::with_item(self.alloc, value, target)
     }
 
     /// A context manager, perhaps with its target.

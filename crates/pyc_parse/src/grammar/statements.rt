@@ -15,6 +15,7 @@ use crate::built_statement::{BuiltChain, BuiltStatement, BuiltStatements};
 use crate::error::ParseError;
 use crate::grammar::Grammar;
 use crate::grammar::imports::{declared, imported, imported_from, word_statement};
+use crate::growth::append;
 use crate::kinds::{is_augmented, is_colon, same_kind};
 use crate::place::Place;
 use crate::statement::{Assigned, Item, Separated};
@@ -46,7 +47,7 @@ impl<F: Fn(Global, &mut Tokens<'_>, usize, u8) -> Result<Built, ParseError>> Gra
         if same_kind(tokens.peek(), Kind::Delimiter(Delimiter::Equal)) {
             let mark = tokens.take()?;
             let value = self.value(tokens)?;
-            Ok(built::after(mark, value))
+            built::after(self.alloc, mark, value)
         } else {
             Ok(built::nothing())
         }
@@ -70,10 +71,8 @@ impl<F: Fn(Global, &mut Tokens<'_>, usize, u8) -> Result<Built, ParseError>> Gra
             let equal = tokens.take()?;
             let next = self.value(tokens)?;
             height = taller(height, value.height);
-            targets.push(Assigned {
-                target: value.expr,
-                equal,
-            })?;
+            let target = value.expr;
+            append(&mut targets, Assigned { target, equal })?;
             value = next;
         }
         let height = taller(height, value.height);

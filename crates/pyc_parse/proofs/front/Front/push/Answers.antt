@@ -14,15 +14,15 @@ invariant_of-self-2 c =
     let was = c.args.self.now.was_starred in
     record {
       low = omega (arith, c.taller-height.ensures, c.args.self.now.low, c.args.item.low);
-      heights = heights_on _ _ _ _ _ c.in_ok-push.ensures.items c.args.self.now.heights
+      heights = heights_on _ _ _ _ _ c.in_ok-append.ensures c.args.self.now.heights
           (c.taller-height.ensures ∙ ap (max c.args.self.now.height) (c.args.item.height_is ∙ ap (λ (x : Expr). height (tree_of x)) out));
-      comma_is = comma_on _ _ _ c.in_ok-push.ensures.items;
-      targets_are = targets_on _ _ _ _ _ _ _ c.in_ok-push.ensures.items c.args.self.now.targets_are
+      comma_is = comma_on _ _ _ c.in_ok-append.ensures;
+      targets_are = targets_on _ _ _ _ _ _ _ c.in_ok-append.ensures c.args.self.now.targets_are
           (c.are_still_targets-are_targets.ensures
           ∙ ap (λ (x : Expr). c.args.self.now.are_targets && (is_item_target (tree_of x) && not (was && is_starred (tree_of x)))) out)
           (ap (λ b. was || b) c.is_starred.ensures ∙ ap (λ (x : Expr). was || is_starred (tree_of x)) (c.deref.ensures ∙ out));
     }
 
 pub returns-clause-pushed : goal.returns-clause-pushed
-returns-clause-pushed c = λ end. ap (λ (some : List Piece). pieces_before some end) c.in_ok-push.ensures.items
+returns-clause-pushed c = λ end. ap (λ (some : List Piece). pieces_before some end) c.in_ok-append.ensures
     ∙ (before_append _ _ end ∙ ap (λ (x : Expr). pieces_before c.args.self.now.each.items (tree.piece (tree_of x) c.args.comma end)) c.into_inner-value.ensures)

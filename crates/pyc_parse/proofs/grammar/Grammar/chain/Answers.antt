@@ -23,7 +23,7 @@ returns-in_err-next g c =
 
 pub loop-turn-preserved : goal.loop-turn-preserved
 loop-turn-preserved g c =
-    rw c.in_ok-push.ensures.items (record {
+    rw c.in_ok-append.ensures (record {
       read =
           chain_on _ _ _ _ _ _ _ c.loop-turn.invariant.read c.loop-turn-test.true (cc) (sym c.loop-turn.value.target_is ∙ not_false _ c.if-not-value.false)
           c.in_ok-equal.equal _ c.in_ok-equal.ensures (record { target = c.loop-turn.value.expr; equal = c.in_ok-equal.equal }) refl _ _ c.in_ok-next.ensures;
