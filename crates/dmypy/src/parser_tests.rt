@@ -8,6 +8,7 @@ mod trees;
 
 use pyc_parse::{Expr, Line, Separated, Statement, What, parse_line};
 use std::alloc::Global;
+use std::process::Abort;
 use std::test::Fail;
 
 /// The tree of the first line of a source, or what is wrong with it.
@@ -22,8 +23,26 @@ fn parsed(alloc: Global, source: &str) -> Result<Result<Line, What>, Fail> {
     })
 }
 
+/// What is wrong with the first line of a source, or nothing.
+fn refusal(alloc: Global, source: &str) -> Result<Option<What>, Fail> {
+    Ok(parsed(alloc, source)?.err())
+}
+
+/// Asserts that each of these lines has a tree, or that this is wrong with it.
+fn assert_refusals(
+    rt: &impl Abort,
+    alloc: Global,
+    sources: &[&str],
+    want: Option<What>,
+) -> Result<(), Fail> {
+    for source in sources {
+        assert_eq!(rt; refusal(alloc, source)?, want, "{source}");
+    }
+    Ok(())
+}
+
 /// The only statement of a line.
-fn statement(alloc: Global, source: &str) -> Result<Statement, Fail> {
+fn statement(alloc: Global, source: &str) -> Result<Box<Statement>, Fail> {
     let Ok(line) = parsed(alloc, source)? else {
         return Err("no tree".into());
     };
@@ -35,9 +54,9 @@ fn statement(alloc: Global, source: &str) -> Result<Statement, Fail> {
 }
 
 /// The expression that a line is.
-fn expression(alloc: Global, source: &str) -> Result<Expr, Fail> {
-    match statement(alloc, source)? {
-        Statement::Expression(found) => Ok(Box::into_inner(found)),
+fn expression(alloc: Global, source: &str) -> Result<Box<Expr>, Fail> {
+    match Box::into_inner(statement(alloc, source)?) {
+        Statement::Expression(found) => Ok(found),
         _ => Err("no expression".into()),
     }
 }

@@ -95,6 +95,6 @@ line_parts-items (x ∷ xs) end = ap (λ some. simple (statement_of x.value) ∷
 pub line_ends : (line : SeparatedOf StatementOf) → line.last ≡ None → line_parts (separated_of statement_of line) ≡ items_parts line.each.items
 line_ends line none = line_parts-items line.each.items (last_item_of statement_of line.last) ∙ (ap (λ last. items_parts line.each.items ++ line_parts (last_item_of statement_of last)) none ∙ append-nil (items_parts line.each.items))
 
-pub line_ends_with : (line : SeparatedOf StatementOf) (x : StatementOf) → line.last ≡ Some x
-    → line_parts (separated_of statement_of line) ≡ items_parts line.each.items ++ simple (statement_of x) ∷ []
+pub line_ends_with : (line : SeparatedOf StatementOf) (x : Box StatementOf Global) → line.last ≡ Some x
+    → line_parts (separated_of statement_of line) ≡ items_parts line.each.items ++ simple (statement_of x.value) ∷ []
 line_ends_with line x some = line_parts-items line.each.items (last_item_of statement_of line.last) ∙ ap (λ last. items_parts line.each.items ++ line_parts (last_item_of statement_of last)) some

@@ -131,7 +131,7 @@ fn push_line<'a>(
         parts.push(ScopePart::Simple(&item.value))?;
     }
     if let Some(statement) = &line.last {
-        parts.push(ScopePart::Simple(statement))?;
+        parts.push(ScopePart::Simple(&**statement))?;
     }
     Ok(())
 }

@@ -17,16 +17,16 @@ max_zero a = omega arith
 
 -- ---- comparisons
 
-pub links_append : (front : List Link) (l : Link) (end : Links) → links_before (front ++ l ∷ []) end ≡ links_before front (tree.link l.first l.second (tree_of l.right) end)
+pub links_append : (front : List Link) (l : Link) (end : Links) → links_before (front ++ l ∷ []) end ≡ links_before front (tree.link l.first l.second (tree_of l.right.value) end)
 links_append [] l end = refl
-links_append (q ∷ front) l end = ap (tree.link q.first q.second (tree_of q.right)) (links_append front l end)
+links_append (q ∷ front) l end = ap (tree.link q.first q.second (tree_of q.right.value)) (links_append front l end)
 
 pub link_heights : (front items : List Link) (l : Link) (so after : ℕ) → items ≡ front ++ l ∷ [] → ((end : Links) → links_height (links_before front end) ≡ max so (links_height end))
-    → after ≡ max so (height (tree_of l.right)) → (end : Links) → links_height (links_before items end) ≡ max after (links_height end)
+    → after ≡ max so (height (tree_of l.right.value)) → (end : Links) → links_height (links_before items end) ≡ max after (links_height end)
 unfolding links_height
 link_heights front items l so after is all more end =
     ap (λ (some : List Link). links_height (links_before some end)) is ∙ (ap links_height (links_append front l end)
-    ∙ (all (tree.link l.first l.second (tree_of l.right) end) ∙ rw more (max_assoc so (height (tree_of l.right)) (links_height end))))
+    ∙ (all (tree.link l.first l.second (tree_of l.right.value) end) ∙ rw more (max_assoc so (height (tree_of l.right.value)) (links_height end))))
 
 pub links_whole : (items : List Link) (h : ℕ) → ((end : Links) → links_height (links_before items end) ≡ max h (links_height end)) → h ≡ links_height (links_before items tree.unlinked)
 unfolding links_height

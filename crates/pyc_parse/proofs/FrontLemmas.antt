@@ -12,17 +12,17 @@ use Rattle.pyc_parse.specs.Places.{has_comma}
 use Rattle.pyc_parse.specs.Targets.{are_targets, is_item_target, is_starred}
 use Rattle.pyc_parse.specs.View.{tree_of, pieces_before}
 
-pub before_append : (front : List Piece) (p : Piece) (end : Pieces) → pieces_before (front ++ p ∷ []) end ≡ pieces_before front (tree.piece (tree_of p.value) p.comma end)
+pub before_append : (front : List Piece) (p : Piece) (end : Pieces) → pieces_before (front ++ p ∷ []) end ≡ pieces_before front (tree.piece (tree_of p.value.value) p.comma end)
 before_append [] p end = refl
-before_append (q ∷ front) p end = ap (tree.piece (tree_of q.value) q.comma) (before_append front p end)
+before_append (q ∷ front) p end = ap (tree.piece (tree_of q.value.value) q.comma) (before_append front p end)
 
 -- what an item adds to the height of those before it
 pub heights_on : (front items : List Piece) (p : Piece) (so after : ℕ) → items ≡ front ++ p ∷ [] → ((end : Pieces) → pieces_height (pieces_before front end) ≡ max so (pieces_height end))
-    → after ≡ max so (height (tree_of p.value)) → (end : Pieces) → pieces_height (pieces_before items end) ≡ max after (pieces_height end)
+    → after ≡ max so (height (tree_of p.value.value)) → (end : Pieces) → pieces_height (pieces_before items end) ≡ max after (pieces_height end)
 unfolding pieces_height
 heights_on front items p so after is all more end =
     ap (λ (some : List Piece). pieces_height (pieces_before some end)) is ∙ (ap pieces_height (before_append front p end)
-    ∙ (all (tree.piece (tree_of p.value) p.comma end) ∙ rw more (max_assoc so (height (tree_of p.value)) (pieces_height end))))
+    ∙ (all (tree.piece (tree_of p.value.value) p.comma end) ∙ rw more (max_assoc so (height (tree_of p.value.value)) (pieces_height end))))
   where
     max_assoc : (a b d : ℕ) → max a (max b d) ≡ max (max a b) d
     max_assoc a b d = omega arith
@@ -30,13 +30,13 @@ heights_on front items p so after is all more end =
 -- whether an item keeps those before it targets
 pub targets_on : (front items : List Piece) (p : Piece) (so after was was_after : Bool) → items ≡ front ++ p ∷ []
     → ((end : Pieces) → are_targets false (pieces_before front end) ≡ so && are_targets was end)
-    → after ≡ so && (is_item_target (tree_of p.value) && not (was && is_starred (tree_of p.value))) → was_after ≡ was || is_starred (tree_of p.value)
+    → after ≡ so && (is_item_target (tree_of p.value.value) && not (was && is_starred (tree_of p.value.value))) → was_after ≡ was || is_starred (tree_of p.value.value)
     → (end : Pieces) → are_targets false (pieces_before items end) ≡ after && are_targets was_after end
 unfolding are_targets
 targets_on front items p so after was was_after is all more later end =
     ap (λ (some : List Piece). are_targets false (pieces_before some end)) is ∙ (ap (are_targets false) (before_append front p end)
-    ∙ (all (tree.piece (tree_of p.value) p.comma end)
-    ∙ rw (more, later) (sym (and_assoc so (is_item_target (tree_of p.value) && not (was && is_starred (tree_of p.value))) (are_targets (was || is_starred (tree_of p.value)) end)))))
+    ∙ (all (tree.piece (tree_of p.value.value) p.comma end)
+    ∙ rw (more, later) (sym (and_assoc so (is_item_target (tree_of p.value.value) && not (was && is_starred (tree_of p.value.value))) (are_targets (was || is_starred (tree_of p.value.value)) end)))))
 
 -- an item has a comma
 pub comma_on : (front items : List Piece) (p : Piece) → items ≡ front ++ p ∷ [] → (end : Pieces) → has_comma (pieces_before items end) ≡ true || has_comma end

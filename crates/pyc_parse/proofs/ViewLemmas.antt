@@ -25,12 +25,12 @@ use Rattle.pyc_parse.specs.View.{tree_of, pieces_of, pieces_row, last_held, held
 pub pieces_row-items : (n : Count) (row : Row_of-Piece n) (end : Pieces) → pieces_row row end ≡ pieces_before (items-the_row-Piece n row) end
 unfolding pieces_row
 pieces_row-items n end_of-Piece end = refl
-pieces_row-items n (more_of-Piece x comma rest) end = ap (tree.piece (tree_of x) comma) (pieces_row-items _ rest end)
+pieces_row-items n (more_of-Piece _ x comma rest) end = ap (tree.piece (tree_of x) comma) (pieces_row-items _ rest end)
 
 pub links_row-items : (n : Count) (row : Row_of-Link n) → links_row row ≡ links_before (items-the_row-Link n row) tree.unlinked
 unfolding links_row
 links_row-items n end_of-Link = refl
-links_row-items n (more_of-Link first second x rest) = ap (tree.link first second (tree_of x)) (links_row-items _ rest)
+links_row-items n (more_of-Link first second _ x rest) = ap (tree.link first second (tree_of x)) (links_row-items _ rest)
 
 pub clauses_row-items : (n : Count) (row : Row_of-Clause n) → clauses_row row ≡ clauses_before (items-the_row-Clause n row) tree.no_clause
 unfolding clauses_row

@@ -1,5 +1,7 @@
 -- The plain statements that those of the code are.
 use Rattle.std.specs.Prelude.{List, [], ◌∷◌, Option, None, Some, map, option_map}
+use Rattle.std.specs.declared.alloc.Global.{Global}
+use Rattle.std.specs.declared.boxed.Box.{Box}
 use Rattle.pyc_lex.specs.declared.tokens.Token.{Token}
 use Rattle.pyc_parse.specs.declared.statement.Alias.{Alias as AliasOf}
 use Rattle.pyc_parse.specs.declared.statement.Assigned.{Assigned as AssignedOf}
@@ -25,9 +27,9 @@ separated_before view [] end = end
 separated_before view (x ∷ xs) end = item (view x.value) x.separator (separated_before view xs end)
 
 -- the last item, where there is one without a token after it
-abbrev pub last_item_of : {T A : Type 0} → (T → A) → Option T → Separated A
+abbrev pub last_item_of : {T A : Type 0} → (T → A) → Option (Box T Global) → Separated A
 last_item_of view None = no_item
-last_item_of view (Some x) = last_item (view x)
+last_item_of view (Some x) = last_item (view x.value)
 
 abbrev pub separated_of : {T A : Type 0} → (T → A) → SeparatedOf T → Separated A
 separated_of view found = separated_before view found.each.items (last_item_of view found.last)

@@ -59,7 +59,7 @@ unfoldable mutual
   -- items with a comma each, before others
   pub pieces_row : {n : _} → Row_of-Piece n → Pieces → Pieces
   pieces_row end_of-Piece end = end
-  pieces_row (more_of-Piece x comma rest) end = tree.piece (tree_of x) comma (pieces_row rest end)
+  pieces_row (more_of-Piece _ x comma rest) end = tree.piece (tree_of x) comma (pieces_row rest end)
 
   -- the last item, where there is one without a comma
   pub last_held : Held-Expr-Yield-1 → Pieces
@@ -74,7 +74,7 @@ unfoldable mutual
   -- comparisons
   pub links_row : {n : _} → Row_of-Link n → Links
   links_row end_of-Link = tree.unlinked
-  links_row (more_of-Link first second x rest) = tree.link first second (tree_of x) (links_row rest)
+  links_row (more_of-Link first second _ x rest) = tree.link first second (tree_of x) (links_row rest)
 
   -- a clause before others
   pub clause_before : Clause → Clauses → Clauses
@@ -96,7 +96,7 @@ unfoldable mutual
 -- items with a comma each, before others
 abbrev pub pieces_before : List Piece → Pieces → Pieces
 pieces_before [] end = end
-pieces_before (p ∷ ps) end = tree.piece (tree_of p.value) p.comma (pieces_before ps end)
+pieces_before (p ∷ ps) end = tree.piece (tree_of p.value.value) p.comma (pieces_before ps end)
 
 -- the last item, where there is one without a comma
 abbrev pub last_of : Option (Box Expr Global) → Pieces
@@ -111,7 +111,7 @@ perhaps_of (Some x) = tree.present (tree_of x.value)
 -- comparisons before others
 abbrev pub links_before : List Link → Links → Links
 links_before [] end = end
-links_before (l ∷ ls) end = tree.link l.first l.second (tree_of l.right) (links_before ls end)
+links_before (l ∷ ls) end = tree.link l.first l.second (tree_of l.right.value) (links_before ls end)
 
 -- clauses before others
 abbrev pub clauses_before : List Clause → Clauses → Clauses

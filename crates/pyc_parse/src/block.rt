@@ -50,7 +50,7 @@ pub enum Suite {
 }
 
 /// Which clause a header begins.
-#[derive(Clone, Copy, Debug, PartialEq, Eq)]
+#[derive(Clone, Copy)]
 pub enum Form {
     If,
     Elif,
@@ -66,7 +66,7 @@ pub enum Form {
 }
 
 /// After which clause of a statement a line stands.
-#[derive(Clone, Copy, Debug, PartialEq, Eq)]
+#[derive(Clone, Copy)]
 pub enum After {
     /// One that ends its statement.
     Nothing,
@@ -81,7 +81,7 @@ pub enum After {
 }
 
 /// What the next line of a block is.
-#[derive(Clone, Copy, Debug, PartialEq, Eq)]
+#[derive(Clone, Copy)]
 pub enum Next {
     /// None: the block ends.
     End,

@@ -84,7 +84,7 @@ pub struct BuiltTail {
 }
 
 /// The same value on the heap.
-fn boxed<T: Drop>(alloc: Global, value: T) -> Result<Box<T>, ParseError>
+pub fn boxed<T: Drop>(alloc: Global, value: T) -> Result<Box<T>, ParseError>
     ensures same { IfOk result (λ b. b.value ≡ value) }
     ensures memory { IfErr result (λ e. e ≡ Memory) }
 {

@@ -10,6 +10,7 @@ ghost use Rattle.pyc_parse.specs.View.{tree_of, links_before, clause_before, cla
 
 use crate::built::{Built, BuiltClauses, BuiltLinks, taller};
 use crate::error::ParseError;
+use crate::growth::append;
 use crate::tree::{Clause, Link};
 use pyc_lex::Token;
 use std::alloc::Global;
@@ -48,12 +49,12 @@ impl BuiltLinks {
         ensures memory { IfErr result (λ e. e ≡ Memory) }
     {
         let height = taller(self.height, link.right.height);
-        let right = Box::into_inner(link.right.expr);
-        self.links.push(Link {
+        let link = Link {
             first: link.first,
             second: link.second,
-            right,
-        })?;
+            right: link.right.expr,
+        };
+        append(&mut self.links, link)?;
         self.height = height;
         Ok(())
     }
@@ -96,7 +97,7 @@ impl BuiltClauses {
     {
         let (part, own) = part_of(clause);
         let height = taller(self.height, own);
-        self.clauses.push(part)?;
+        append(&mut self.clauses, part)?;
         self.height = height;
         Ok(())
     }

@@ -7,7 +7,7 @@ ghost use Rattle.pyc_parse.specs.declared.error.ParseError.TheVariants.{Memory};
 use std::alloc::{AllocError, AllocFailed};
 
 /// Why a rule of the grammar gives no tree.
-#[derive(Clone, Copy, Debug, PartialEq, Eq)]
+#[derive(Clone, Copy)]
 pub enum ParseError {
     /// The tokens are none of the rule, or their tree is too high.
     Refused,

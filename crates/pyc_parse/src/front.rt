@@ -67,7 +67,7 @@ impl Front {
         let height = taller(self.height, item.height);
         let are_targets = are_still_targets(self.are_targets, self.was_starred, &item);
         let was_starred = self.was_starred | is_starred(&item.expr);
-        let value = Box::into_inner(item.expr);
+        let value = item.expr;
         append(&mut self.each, Piece { value, comma })?;
         self.height = height;
         self.has_comma = true;

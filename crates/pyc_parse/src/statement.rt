@@ -7,7 +7,7 @@ use pyc_lex::Token;
 #[derive(Drop)]
 pub struct Separated<T> {
     pub each: Vec<Item<T>>,
-    pub last: Option<T>,
+    pub last: Option<Box<T>>,
 }
 
 /// An item and the token after it.

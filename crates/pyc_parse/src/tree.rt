@@ -87,7 +87,7 @@ pub struct Pieces {
 #[cycle(tree)]
 #[derive(Drop)]
 pub struct Piece {
-    pub value: Expr,
+    pub value: Box<Expr>,
     pub comma: Token,
 }
 
@@ -97,7 +97,7 @@ pub struct Piece {
 pub struct Link {
     pub first: Token,
     pub second: Option<Token>,
-    pub right: Expr,
+    pub right: Box<Expr>,
 }
 
 /// A clause of a comprehension.

@@ -49,7 +49,7 @@ const UNREADABLE: &str = "dmypy: b.py: refused 10 unreadable\n";
 
 #[test]
 fn texts_and_statuses(rt: HostRuntime) -> Result<(), Fail> {
-    for (line, printed, told, expected) in [
+    for (line, printed, told, expected) in &[
         (
             "b.py",
             "Success: no issues found in 0 source files\n",
@@ -64,7 +64,7 @@ fn texts_and_statuses(rt: HostRuntime) -> Result<(), Fail> {
         let mut out = Vec::new(rt.alloc());
         let mut err = Vec::new(rt.alloc());
         let status = status(rt.alloc(), line, &mut out, &mut err)?;
-        assert_eq!(rt; status, expected, "at {line}");
+        assert_eq!(rt; status, *expected, "at {line}");
         assert_eq!(rt; out.as_slice(), printed.as_bytes(), "at {line}");
         assert_eq!(rt; err.as_slice(), told.as_bytes(), "at {line}");
     }
@@ -73,7 +73,7 @@ fn texts_and_statuses(rt: HostRuntime) -> Result<(), Fail> {
 
 #[test]
 fn failing_writes(rt: HostRuntime) -> Result<(), Fail> {
-    for line in ["a.py", "b.py"] {
+    for line in &["a.py", "b.py"] {
         let mut files = Vec::new(rt.alloc());
         files.push(String::from_str(rt.alloc(), line)?)?;
         let mut sources = source(rt.alloc())?;

@@ -5,13 +5,13 @@ use std::test::Fail;
 
 #[test]
 fn faults_as_they_are_told(rt: HostRuntime) -> Result<(), Fail> {
-    for (fault, text) in [
+    for (fault, text) in &[
         (RunFault::Read, "the input cannot be read"),
         (RunFault::Write, "the output cannot be written"),
         (RunFault::TooManyTurns, "the input does not end"),
         (RunFault::Memory, "out of memory"),
     ] {
-        assert_eq!(rt; fault.to_string(rt.alloc())?.as_str(), text);
+        assert_eq!(rt; fault.to_string(rt.alloc())?.as_str(), *text);
     }
     Ok(())
 }

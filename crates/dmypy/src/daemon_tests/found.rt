@@ -69,8 +69,8 @@ fn reports_what_is_not_assignable(rt: HostRuntime) -> Result<(), Fail> {
             "",
         ),
     ];
-    for (source, want) in cases {
-        assert_eq!(rt; found_in(rt.alloc(), source)?.as_str(), want);
+    for (source, want) in &cases {
+        assert_eq!(rt; found_in(rt.alloc(), source)?.as_str(), *want);
     }
     Ok(())
 }
@@ -88,8 +88,8 @@ fn reports_the_first_fault(rt: HostRuntime) -> Result<(), Fail> {
         (b"x := 1\n", "1:1 syntax: Outside the profile;"),
         (b"x: int = 1\ny = (1 +\n", "2:1 syntax: Unmatched bracket;"),
     ];
-    for (source, want) in cases {
-        assert_eq!(rt; found_in(rt.alloc(), source)?.as_str(), want);
+    for (source, want) in &cases {
+        assert_eq!(rt; found_in(rt.alloc(), source)?.as_str(), *want);
     }
     Ok(())
 }
@@ -110,8 +110,8 @@ fn ignores_silence(rt: HostRuntime) -> Result<(), Fail> {
         (b"# type: ignore[assignment]\nx: int = ''\n", "2 "),
         (b"# type: ignore\nx = = 1 # type: ignore[syntax]\n", "2 "),
     ];
-    for (source, want) in cases {
-        assert_eq!(rt; lines_told(rt.alloc(), source)?.as_str(), want);
+    for (source, want) in &cases {
+        assert_eq!(rt; lines_told(rt.alloc(), source)?.as_str(), *want);
     }
     Ok(())
 }

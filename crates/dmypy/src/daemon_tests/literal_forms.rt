@@ -25,7 +25,7 @@ fn forms_of(alloc: Global, source: &str) -> Result<String, Fail> {
 
 #[test]
 fn finds_annotated_literals(rt: HostRuntime) -> Result<(), Fail> {
-    for (source, want) in [
+    for (source, want) in &[
         ("x: int = 1\n", "1:10 Int Int;"),
         ("x: float = 1.5\n", "1:12 Float Float;"),
         (
@@ -39,14 +39,14 @@ fn finds_annotated_literals(rt: HostRuntime) -> Result<(), Fail> {
         ("x: \u{ff49}\u{ff4e}\u{ff54} = 1\n", "1:10 Int Int;"),
         ("x: int = \\\n  1\n", "2:3 Int Int;"),
     ] {
-        assert_eq!(rt; forms_of(rt.alloc(), source)?.as_str(), want);
+        assert_eq!(rt; forms_of(rt.alloc(), source)?.as_str(), *want);
     }
     Ok(())
 }
 
 #[test]
 fn passes_other_statements_over(rt: HostRuntime) -> Result<(), Fail> {
-    for source in [
+    for source in &[
         "x = 1\n",
         "x: int\n",
         "(x): int = 1\n",

@@ -31,7 +31,7 @@ fn first_file_of_a_path_serves(rt: HostRuntime) -> Result<(), Fail> {
 fn missing_files_are_counted(rt: HostRuntime) -> Result<(), Fail> {
     let files = vec![in rt.alloc(); file(rt.alloc(), "a.py", b"x = 1\n")?]?;
     let mut sources = MemorySource::new(files);
-    for path in ["z.py", "a.p", "a.py.", ""] {
+    for path in &["z.py", "a.p", "a.py.", ""] {
         assert_eq!(rt;
             sources.fetch(rt.alloc(), path).err(),
             Some(FetchFault::Unreadable),

@@ -5,7 +5,7 @@ use std::test::Fail;
 
 #[test]
 fn names_modules(rt: HostRuntime) -> Result<(), Fail> {
-    for (path, parts) in [
+    for (path, parts) in &[
         ("a.py", "[\"a\"]"),
         ("a/__init__.py", "[\"a\"]"),
         ("a/b/c.py", "[\"a\", \"b\", \"c\"]"),

@@ -58,7 +58,7 @@ fn units_of(alloc: Global, source: &str) -> Result<String, Fail> {
 
 #[test]
 fn opens_blocks_and_no_definitions(rt: HostRuntime) -> Result<(), Fail> {
-    for (source, want) in [
+    for (source, want) in &[
         ("a\nb; c\n", "1 2 2 "),
         (
             "if x:\n    a\nelif x: b; c\nelse:\n    d\ne\n",
@@ -78,14 +78,14 @@ fn opens_blocks_and_no_definitions(rt: HostRuntime) -> Result<(), Fail> {
             "d2 4 d5 d8 ",
         ),
     ] {
-        assert_eq!(rt; parts_of(rt.alloc(), source)?.as_str(), want);
+        assert_eq!(rt; parts_of(rt.alloc(), source)?.as_str(), *want);
     }
     Ok(())
 }
 
 #[test]
 fn finds_definitions_and_methods(rt: HostRuntime) -> Result<(), Fail> {
-    for (source, want) in [
+    for (source, want) in &[
         ("a\nb\n", ""),
         ("def f():\n    def g(): a\n", "1 "),
         (
@@ -101,7 +101,7 @@ fn finds_definitions_and_methods(rt: HostRuntime) -> Result<(), Fail> {
             "2 4 5 ",
         ),
     ] {
-        assert_eq!(rt; units_of(rt.alloc(), source)?.as_str(), want);
+        assert_eq!(rt; units_of(rt.alloc(), source)?.as_str(), *want);
     }
     Ok(())
 }

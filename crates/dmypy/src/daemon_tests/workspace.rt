@@ -24,7 +24,7 @@ fn listed(alloc: Global, workspace: &Workspace) -> Result<String, AllocError> {
 
 fn three_files(alloc: Global) -> Result<Workspace, AllocError> {
     let mut workspace = Workspace::new(alloc);
-    for path in ["b.py", "a.py", "c.py"] {
+    for path in &["b.py", "a.py", "c.py"] {
         workspace.put(file_of(alloc, path, "x: int = 1\n")?)?;
     }
     Ok(workspace)

@@ -17,7 +17,7 @@ fn fault_of(alloc: Global, source: &str) -> Result<Option<(usize, What)>, Fail> 
 
 #[test]
 fn faults_come_in_their_order(rt: HostRuntime) -> Result<(), Fail> {
-    for (source, want) in [
+    for (source, want) in &[
         ("x = (1 +\n  2)\nif x:\ny = 1\n", Some((3, What::Block))),
         ("if x:\n    y\nelse:\n    z\n", None),
         (
@@ -42,7 +42,7 @@ fn faults_come_in_their_order(rt: HostRuntime) -> Result<(), Fail> {
         ("else: x\n", Some((1, What::Block))),
         ("# nothing\n", None),
     ] {
-        assert_eq!(rt; fault_of(rt.alloc(), source)?, want);
+        assert_eq!(rt; fault_of(rt.alloc(), source)?, *want);
     }
     Ok(())
 }

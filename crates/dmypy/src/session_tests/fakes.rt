@@ -121,9 +121,9 @@ pub fn assert_sessions(
     sessions: &[(&str, &str, End)],
 ) -> Result<(), Fail> {
     for (input, replies, end) in sessions {
-        for most in [NEVER, 1, 2, 3] {
+        for most in &[NEVER, 1, 2, 3] {
             let mut kept = Vec::new(alloc);
-            let reader = Pieces::new(input.as_bytes(), most);
+            let reader = Pieces::new(input.as_bytes(), *most);
             let answer = session(alloc, reader, Sink::new(&mut kept), OPTIONS.turns);
             assert_eq!(rt;
                 kept.as_slice(),

@@ -125,13 +125,13 @@ fn a_reader_that_fails_at_each_call(rt: HostRuntime) -> Result<(), Fail> {
 #[test]
 fn a_writer_that_stops_at_each_byte(rt: HostRuntime) -> Result<(), Fail> {
     for room in 0..ONE_ERROR_REPLIES.len() {
-        for stop in [Stop::Fault, Stop::Zero] {
+        for stop in &[Stop::Fault, Stop::Zero] {
             let mut kept = Vec::new(rt.alloc());
             let writer = Sink {
                 kept: &mut kept,
                 most: 1,
                 room,
-                stop,
+                stop: *stop,
             };
             let answer = session(
                 rt.alloc(),
@@ -154,15 +154,15 @@ fn a_writer_that_stops_at_each_byte(rt: HostRuntime) -> Result<(), Fail> {
 fn as_many_reads_as_there_may_be(rt: HostRuntime) -> Result<(), Fail> {
     let replies =
         b"Success: no issues found in 0 source files\nstatus 0\nSuccess: no issues found in 0 source files\nstatus 0\n";
-    for (turns, end) in [(4, Err(RunFault::TooManyTurns)), (5, Ok(End::EndOfInput))] {
+    for (turns, end) in &[(4, Err(RunFault::TooManyTurns)), (5, Ok(End::EndOfInput))] {
         let mut kept = Vec::new(rt.alloc());
         let answer = session(
             rt.alloc(),
             Pieces::new(b"check\ncheck\n", 3),
             Sink::new(&mut kept),
-            turns,
+            *turns,
         );
-        assert!(rt; answer == end, "{turns} reads");
+        assert!(rt; answer == *end, "{turns} reads");
         assert_eq!(rt; kept.as_slice(), replies.as_slice(), "{turns} reads");
     }
     Ok(())
@@ -190,9 +190,9 @@ fn lines_and_paths_at_their_limits(rt: HostRuntime) -> Result<(), Fail> {
         (507, "\r\n", "refused 1 command\n"),
         (5000, "\n", "refused 1 command\n"),
     ];
-    for (path, end, reply) in rows {
+    for (path, end, reply) in &rows {
         let mut kept = Vec::new(rt.alloc());
-        let line = add_line(rt.alloc(), path, end)?;
+        let line = add_line(rt.alloc(), *path, end)?;
         let answer = session(
             rt.alloc(),
             Pieces::new(&line, NEVER),

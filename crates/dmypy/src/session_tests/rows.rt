@@ -134,7 +134,7 @@ fn with_line_feeds(
 
 #[test]
 fn files_of_the_largest_size_are_taken(rt: HostRuntime) -> Result<(), Fail> {
-    for (line, count, rest, replies) in [
+    for (line, count, rest, replies) in &[
         ("add a.py 1048577\n", 1_048_577, "", "refused 5 large\n"),
         (
             "add a.py 1048577\n",
@@ -149,7 +149,7 @@ fn files_of_the_largest_size_are_taken(rt: HostRuntime) -> Result<(), Fail> {
             "ok\nSuccess: no issues found in 1 source file\nstatus 0\n",
         ),
     ] {
-        let input = with_line_feeds(rt.alloc(), line, count, rest)?;
+        let input = with_line_feeds(rt.alloc(), line, *count, rest)?;
         let mut kept = Vec::new(rt.alloc());
         let reader = Pieces::new(&input, NEVER);
         let answer = session(rt.alloc(), reader, Sink::new(&mut kept), OPTIONS.turns);
@@ -165,7 +165,7 @@ fn files_of_the_largest_size_are_taken(rt: HostRuntime) -> Result<(), Fail> {
 
 #[test]
 fn files_of_a_source_are_fetched(rt: HostRuntime) -> Result<(), Fail> {
-    for (input, replies, end) in [
+    for (input, replies, end) in &[
         (
             "update a.py\nupdate z.py\nupdate ../q.py\n",
             "ok\nrefused 10 unreadable\nrefused 2 path\n",
@@ -185,7 +185,7 @@ fn files_of_a_source_are_fetched(rt: HostRuntime) -> Result<(), Fail> {
         let mut writer = Counted::new(Sink::new(&mut kept));
         let answer = run(rt.alloc(), &mut reader, &mut writer, &mut sources, &OPTIONS);
         assert_eq!(rt; kept.as_slice(), replies.as_bytes(), "{input:?}");
-        assert!(rt; answer == Ok(end), "{input:?}");
+        assert!(rt; answer == Ok(*end), "{input:?}");
         assert_eq!(rt; sources.failures(), 1, "{input:?}");
     }
     Ok(())

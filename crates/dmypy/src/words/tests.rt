@@ -20,7 +20,7 @@ fn is_refused(alloc: Global, line: &str, part: &str) -> Result<bool, AllocError>
 
 #[test]
 fn sessions_with_their_options(rt: HostRuntime) -> Result<(), Fail> {
-    for (line, ignore_missing, check_untyped) in [
+    for (line, ignore_missing, check_untyped) in &[
         ("dmypy session", false, false),
         ("dmypy session --ignore-missing-imports", true, false),
         ("dmypy session --check-untyped-defs", false, true),
@@ -31,8 +31,8 @@ fn sessions_with_their_options(rt: HostRuntime) -> Result<(), Fail> {
         ),
     ] {
         let options = Options {
-            ignore_missing,
-            check_untyped,
+            ignore_missing: *ignore_missing,
+            check_untyped: *check_untyped,
             turns: 1_000_000_000,
         };
         let job = read_line(rt.alloc(), line)?.expect(&rt, line);
@@ -43,7 +43,7 @@ fn sessions_with_their_options(rt: HostRuntime) -> Result<(), Fail> {
 
 #[test]
 fn checks_with_their_files(rt: HostRuntime) -> Result<(), Fail> {
-    for (line, ignore_missing, names) in [
+    for (line, ignore_missing, names) in &[
         ("dmypy check a.py", false, "a.py"),
         ("dmypy check a.py b/c.py a.py", false, "a.py b/c.py a.py"),
         ("dmypy check --ignore-missing-imports a.py", true, "a.py"),
@@ -51,7 +51,7 @@ fn checks_with_their_files(rt: HostRuntime) -> Result<(), Fail> {
         ("dmypy check -- -a.py", false, "-a.py"),
     ] {
         let options = Options {
-            ignore_missing,
+            ignore_missing: *ignore_missing,
             check_untyped: false,
             turns: 1_000_000_000,
         };
@@ -67,7 +67,7 @@ fn checks_with_their_files(rt: HostRuntime) -> Result<(), Fail> {
 
 #[test]
 fn words_that_are_no_job(rt: HostRuntime) -> Result<(), Fail> {
-    for (line, part) in [
+    for (line, part) in &[
         ("", "Usage: dmypy <COMMAND>"),
         ("dmypy", "Usage: dmypy <COMMAND>"),
         ("dmypy watch", "unrecognized subcommand 'watch'"),
@@ -101,7 +101,7 @@ fn words_that_are_no_job(rt: HostRuntime) -> Result<(), Fail> {
 
 #[test]
 fn statuses(rt: HostRuntime) {
-    for (answer, status) in [
+    for (answer, status) in &[
         (Ok(End::Stopped), 0),
         (Ok(End::EndOfInput), 0),
         (Ok(End::Broken), 2),
@@ -110,6 +110,6 @@ fn statuses(rt: HostRuntime) {
         (Err(RunFault::TooManyTurns), 2),
         (Err(RunFault::Memory), 2),
     ] {
-        assert_eq!(rt; session_status(&answer), status);
+        assert_eq!(rt; session_status(answer), *status);
     }
 }

@@ -8,6 +8,7 @@ ghost use Rattle.pyc_parse.specs.Reads.{Reads};
 ghost use Rattle.pyc_parse.specs.SimpleStatements as spec;
 ghost use Rattle.pyc_parse.specs.StatementView.{alias_of, part_of, dotted_of, module_of, name_of, token_of, separated_of};
 
+use crate::built::boxed;
 use crate::error::ParseError;
 use crate::kinds::{is_name, same_kind};
 use crate::statement::{Alias, Dotted, ImportedModule, ImportedName, Item, Part, Separated};
@@ -83,9 +84,10 @@ pub fn names(alloc: Global, tokens: &mut Tokens<'_>) -> Result<Separated<Token>,
     for _turn in 0..tokens.rest.len() {
         let value = tokens.expect_name()?;
         if !same_kind(tokens.peek(), Kind::Delimiter(Delimiter::Comma)) {
+            let last = boxed(alloc, value)?;
             return Ok(Separated {
                 each,
-                last: Some(value),
+                last: Some(last),
             });
         }
         let separator = tokens.take()?;
@@ -105,9 +107,10 @@ pub fn modules(
     for _turn in 0..tokens.rest.len() {
         let value = imported_module(alloc, tokens)?;
         if !same_kind(tokens.peek(), Kind::Delimiter(Delimiter::Comma)) {
+            let last = boxed(alloc, value)?;
             return Ok(Separated {
                 each,
-                last: Some(value),
+                last: Some(last),
             });
         }
         let separator = tokens.take()?;
@@ -135,9 +138,10 @@ pub fn imported_names(
     for _turn in 0..tokens.rest.len() {
         let value = imported_name(tokens)?;
         if !same_kind(tokens.peek(), Kind::Delimiter(Delimiter::Comma)) {
+            let last = boxed(alloc, value)?;
             return Ok(Separated {
                 each,
-                last: Some(value),
+                last: Some(last),
             });
         }
         let separator = tokens.take()?;

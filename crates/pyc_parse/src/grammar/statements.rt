@@ -10,7 +10,7 @@ ghost use Rattle.pyc_parse.specs.SimpleStatements as statements;
 ghost use Rattle.pyc_parse.specs.StatementView.{assigned_of, separated_of, statement_of};
 ghost use Rattle.pyc_parse.specs.View.{tree_of, tail_of};
 
-use crate::built::{Built, BuiltTail, taller};
+use crate::built::{Built, BuiltTail, boxed, taller};
 use crate::built_statement::{BuiltChain, BuiltStatement, BuiltStatements};
 use crate::error::ParseError;
 use crate::grammar::Grammar;
@@ -243,9 +243,10 @@ impl<F: Fn(Global, &mut Tokens<'_>, usize, u8) -> Result<Built, ParseError>> Gra
             height = taller(height, next.height);
             let value = next.statement;
             if tokens.at_end() {
+                let last = boxed(self.alloc, value)?;
                 let statements = Separated {
                     each,
-                    last: Some(value),
+                    last: Some(last),
                 };
                 return Ok(BuiltStatements { statements, height });
             }

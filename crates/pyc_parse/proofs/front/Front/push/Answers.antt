@@ -1,28 +1,24 @@
-use Rattle.std.proofs.Common.{◌≡◌, ◌∙◌, ◌||◌, ◌&&◌, not, max, ap, sym, arith, List}
+use Rattle.std.proofs.Common.{◌≡◌, ◌∙◌, ◌||◌, max, ap, arith, List}
 use Rattle.pyc_parse.specs.declared.tree.Expr.{Expr}
 use Rattle.pyc_parse.specs.declared.tree.Piece.{Piece}
-use Rattle.pyc_parse.specs.Height.{height}
-use Rattle.pyc_parse.specs.Targets.{is_item_target, is_starred}
-use Rattle.pyc_parse.specs.Tree as tree
-use Rattle.pyc_parse.specs.View.{tree_of, pieces_before}
+use Rattle.pyc_parse.specs.Targets.{is_starred}
+use Rattle.pyc_parse.specs.View.{pieces_before, tree_of}
 use Rattle.pyc_parse.proofs.FrontLemmas.{before_append, heights_on, targets_on, comma_on}
 use Rattle.pyc_parse.proofs.front.Front.push.Goals as goal
 
 pub invariant_of-self-2 : goal.invariant_of-self-2
 invariant_of-self-2 c =
-    let out = sym c.into_inner-value.ensures in
     let was = c.args.self.now.was_starred in
     record {
       low = omega (arith, c.taller-height.ensures, c.args.self.now.low, c.args.item.low);
       heights = heights_on _ _ _ _ _ c.in_ok-append.ensures c.args.self.now.heights
-          (c.taller-height.ensures ∙ ap (max c.args.self.now.height) (c.args.item.height_is ∙ ap (λ (x : Expr). height (tree_of x)) out));
+          (c.taller-height.ensures ∙ ap (max c.args.self.now.height) c.args.item.height_is);
       comma_is = comma_on _ _ _ c.in_ok-append.ensures;
       targets_are = targets_on _ _ _ _ _ _ _ c.in_ok-append.ensures c.args.self.now.targets_are
-          (c.are_still_targets-are_targets.ensures
-          ∙ ap (λ (x : Expr). c.args.self.now.are_targets && (is_item_target (tree_of x) && not (was && is_starred (tree_of x)))) out)
-          (ap (λ b. was || b) c.is_starred.ensures ∙ ap (λ (x : Expr). was || is_starred (tree_of x)) (c.deref.ensures ∙ out));
+          c.are_still_targets-are_targets.ensures
+          (ap (λ b. was || b) c.is_starred.ensures ∙ ap (λ (x : Expr). was || is_starred (tree_of x)) c.deref.ensures);
     }
 
 pub returns-clause-pushed : goal.returns-clause-pushed
 returns-clause-pushed c = λ end. ap (λ (some : List Piece). pieces_before some end) c.in_ok-append.ensures
-    ∙ (before_append _ _ end ∙ ap (λ (x : Expr). pieces_before c.args.self.now.each.items (tree.piece (tree_of x) c.args.comma end)) c.into_inner-value.ensures)
+    ∙ before_append _ _ end

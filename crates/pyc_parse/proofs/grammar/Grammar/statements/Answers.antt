@@ -23,13 +23,16 @@ returns-in_err-next g c =
 
 pub invariant_of-result : goal.invariant_of-result
 invariant_of-result g c = record {
-  height_is = statements_tall-last _ _ _ _ c.taller-height.ensures c.loop-turn.invariant.tall (statement_of c.in_ok-next.next.statement) c.in_ok-next.next.height_is;
+  height_is =
+      rw c.in_ok-last.ensures.same
+      (statements_tall-last _ _ _ _ c.taller-height.ensures c.loop-turn.invariant.tall (statement_of c.in_ok-next.next.statement) c.in_ok-next.next.height_is);
   low = omega (arith, c.taller-height.ensures);
 }
 
 pub returns-then-at_end : goal.returns-then-at_end
 returns-then-at_end g c =
-    statements_end _ _ _ _ _ _ c.loop-turn.invariant.read c.loop-turn-test.true c.in_ok-next.next.statement _ c.in_ok-next.ensures c.if-at_end.ensures
+    rw c.in_ok-last.ensures.same
+    (statements_end _ _ _ _ _ _ c.loop-turn.invariant.read c.loop-turn-test.true c.in_ok-next.next.statement _ c.in_ok-next.ensures c.if-at_end.ensures)
 
 pub returns-in_err-separator : goal.returns-in_err-separator
 returns-in_err-separator g c =

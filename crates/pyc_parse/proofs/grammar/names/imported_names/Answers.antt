@@ -11,7 +11,8 @@ returns-in_err-value c =
 
 pub returns-then-not-same_kind : goal.returns-then-not-same_kind
 returns-then-not-same_kind c =
-    items_end name_of imported_name c.args.may_trail _ _ _ _ _ c.loop-turn-test.true c.loop-turn.invariant c.in_ok-value.value _ c.in_ok-value.ensures (cc)
+    rw c.in_ok-last.ensures.same
+    (items_end name_of imported_name c.args.may_trail _ _ _ _ _ c.loop-turn-test.true c.loop-turn.invariant c.in_ok-value.value _ c.in_ok-value.ensures (cc))
 
 pub returns-in_err-separator : goal.returns-in_err-separator
 returns-in_err-separator c =
