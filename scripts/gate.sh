@@ -30,7 +30,9 @@ run() {
     failed=$((failed + bad))
 }
 
-run rt ci
+# Four checks side by side, each with one job: `rt ci` alone reckons with twice the memory that these crates take, and lets
+# half of the processors wait for it.
+run env RT_JOBS="${RT_JOBS:-4}" rt ci
 run python3 scripts/refused_growths.py
 run python3 scripts/real_files.py
 
