@@ -6,7 +6,7 @@ mod outcomes;
 mod refused;
 mod trees;
 
-use pyc_parse::{Expr, Line, Separated, Statement, What, parse_line};
+use pyc_parse::{Expr, Line, Separated, SimpleStatement, What, parse_line};
 use std::alloc::Global;
 use std::process::Abort;
 use std::test::Fail;
@@ -42,7 +42,7 @@ fn assert_refusals(
 }
 
 /// The only statement of a line.
-fn statement(alloc: Global, source: &str) -> Result<Box<Statement>, Fail> {
+fn statement(alloc: Global, source: &str) -> Result<Box<SimpleStatement>, Fail> {
     let Ok(line) = parsed(alloc, source)? else {
         return Err("no tree".into());
     };
@@ -56,7 +56,7 @@ fn statement(alloc: Global, source: &str) -> Result<Box<Statement>, Fail> {
 /// The expression that a line is.
 fn expression(alloc: Global, source: &str) -> Result<Box<Expr>, Fail> {
     match Box::into_inner(statement(alloc, source)?) {
-        Statement::Expression(found) => Ok(found),
+        SimpleStatement::Expression(found) => Ok(found),
         _ => Err("no expression".into()),
     }
 }

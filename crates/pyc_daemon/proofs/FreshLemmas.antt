@@ -3,13 +3,13 @@ use Rattle.std.proofs.Common.{◌≡◌, ℕ, zero, suc, ◌+◌, List, [], ◌�
 use Rattle.std.proofs.Math.Logic.{∥∥₁_elim}
 use Rattle.std.proofs.Props.{props}
 use Rattle.pyc_parse.specs.Outcome.{Outcome, outcome_of}
-use Rattle.pyc_daemon.specs.FoundMessages.{told_messages}
+use Rattle.pyc_daemon.specs.FoundMessages.{unsilenced_messages}
 use Rattle.pyc_daemon.specs.Fresh.{checked, numbered, unit_in}
 use Rattle.pyc_daemon.specs.Message.{Message}
 use Rattle.pyc_daemon.specs.Report.{Found}
 use Rattle.pyc_daemon.specs.Workspace.{File, Unit}
 
-pub checked_from : (file : File) (path : List ℕ) (messages : List Message) (o : Outcome) → path ≡ file.path → messages ≡ told_messages file.bytes o
+pub checked_from : (file : File) (path : List ℕ) (messages : List Message) (o : Outcome) → path ≡ file.path → messages ≡ unsilenced_messages file.bytes o
     → ∥ o ≡ outcome_of file.bytes ∥₁ → ◌≡◌ {A = Found} (record { path = path; messages = messages }) (checked file)
 checked_from file path messages o at told is =
     ∥∥₁_elim is (Prim.hlevel props) (λ same. rw (at, told, same) refl)

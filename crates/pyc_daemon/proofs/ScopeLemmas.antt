@@ -4,38 +4,38 @@ use Rattle.std.proofs.Math.ListN.{get_or}
 use Rattle.std.specs.declared.alloc.Global.{Global}
 use Rattle.std.specs.declared.boxed.Box.{Box}
 use Rattle.std.specs.Global.{Vec}
-use Rattle.pyc_parse.specs.declared.block.CompoundClause.{CompoundClause as ClauseOf}
-use Rattle.pyc_parse.specs.declared.block.Decorator.{Decorator as DecoratorOf}
-use Rattle.pyc_parse.specs.declared.block.Stmt.{Stmt as StmtOf}
-use Rattle.pyc_parse.specs.declared.block.Stmt.TheVariants as s
-use Rattle.pyc_parse.specs.declared.block.Suite.TheVariants as u
-use Rattle.pyc_parse.specs.declared.statement.Item.{Item}
-use Rattle.pyc_parse.specs.declared.statement.Separated.{Separated as SeparatedOf}
-use Rattle.pyc_parse.specs.declared.statement.Statement.{Statement as StatementOf}
+use Rattle.pyc_tree.specs.declared.block.CompoundClause.{CompoundClause as ComprehensionOf}
+use Rattle.pyc_tree.specs.declared.block.Decorator.{Decorator as DecoratorOf}
+use Rattle.pyc_tree.specs.declared.block.Stmt.{Stmt as StmtOf}
+use Rattle.pyc_tree.specs.declared.block.Stmt.TheVariants as s
+use Rattle.pyc_tree.specs.declared.block.Suite.TheVariants as u
+use Rattle.pyc_tree.specs.declared.statement.Item.{Item}
+use Rattle.pyc_tree.specs.declared.statement.Separated.{Separated as SeparatedOf}
+use Rattle.pyc_tree.specs.declared.statement.SimpleStatement.{SimpleStatement as SimpleStatementOf}
 use Rattle.pyc_parse.specs.BlockTrees.{no_statement, no_clause}
 use Rattle.pyc_parse.specs.BlockView.{stmt_of, suite_of, clause_of, stmts_before, clauses_before}
-use Rattle.pyc_parse.specs.Statements.{Separated}
-use Rattle.pyc_parse.specs.StatementView.{statement_of, separated_of, separated_before, last_item_of}
+use Rattle.pyc_tree.specs.Statements.{Separated}
+use Rattle.pyc_tree.specs.StatementView.{statement_of, separated_of, separated_before, last_item_of}
 use Rattle.pyc_parse.proofs.BlockViewLemmas.{view_Simple, view_Compound, view_Inline, view_Block}
-use Rattle.pyc_daemon.specs.Scopes.{Part, simple, definition, is_definition, line_parts, parts_of, statement_parts, clause_parts, clauses_parts, suite_parts}
+use Rattle.pyc_daemon.specs.Scopes.{ScopePart, simple, definition, is_definition, line_parts, parts_of, statement_parts, clause_parts, clauses_parts, suite_parts}
 
 -- ---- one equation a constructor of the code
 
-pub parts_Simple : (line : SeparatedOf StatementOf) → statement_parts (stmt_of (s.Simple line)) ≡ line_parts (separated_of statement_of line)
+pub parts_Simple : (line : SeparatedOf SimpleStatementOf) → statement_parts (stmt_of (s.Simple line)) ≡ line_parts (separated_of statement_of line)
 unfolding statement_parts
 parts_Simple line = rw (view_Simple line) refl
 
-pub parts_definition : (marks : Vec DecoratorOf) (first : Box ClauseOf Global) (rest : Vec ClauseOf) → is_definition (clause_of first.value) ≡ true
+pub parts_definition : (marks : Vec DecoratorOf) (first : Box CompoundClauseOf Global) (rest : Vec CompoundClauseOf) → is_definition (clause_of first.value) ≡ true
     → statement_parts (stmt_of (s.Compound marks first rest)) ≡ definition (clause_of first.value) ∷ []
 unfolding statement_parts
 parts_definition marks first rest is = rw (view_Compound marks first rest, is) refl
 
-pub parts_opened : (marks : Vec DecoratorOf) (first : Box ClauseOf Global) (rest : Vec ClauseOf) → is_definition (clause_of first.value) ≡ false
+pub parts_opened : (marks : Vec DecoratorOf) (first : Box CompoundClauseOf Global) (rest : Vec CompoundClauseOf) → is_definition (clause_of first.value) ≡ false
     → statement_parts (stmt_of (s.Compound marks first rest)) ≡ suite_parts (suite_of first.value.suite) ++ clauses_parts (clauses_before rest.items no_clause)
 unfolding statement_parts clause_parts
 parts_opened marks first rest is = rw (view_Compound marks first rest, is) refl
 
-pub parts_Inline : (line : SeparatedOf StatementOf) → suite_parts (suite_of (u.Inline line)) ≡ line_parts (separated_of statement_of line)
+pub parts_Inline : (line : SeparatedOf SimpleStatementOf) → suite_parts (suite_of (u.Inline line)) ≡ line_parts (separated_of statement_of line)
 unfolding suite_parts
 parts_Inline line = rw (view_Inline line) refl
 
@@ -51,11 +51,11 @@ pub ruleset scope_views = (parts_Simple, parts_Inline, parts_Block)
 pub added : {A : Type 0} (first done more all now after : List A) → now ≡ first ++ done → after ≡ now ++ more → all ≡ done ++ more → after ≡ first ++ all
 added first done more all now after before here whole = here ∙ (ap (λ some. some ++ more) before ∙ (append_assoc first done more ∙ ap (λ some. first ++ some) (sym whole)))
 
-pub parts_start : (front : List Part) (xs : List StmtOf) → front ≡ front ++ parts_of (stmts_before (take 0 xs) no_statement)
+pub parts_start : (front : List ScopePart) (xs : List StmtOf) → front ≡ front ++ parts_of (stmts_before (take 0 xs) no_statement)
 unfolding parts_of
 parts_start front xs = sym (append-nil front)
 
-pub clauses_start : (front : List Part) (xs : List ClauseOf) → front ≡ front ++ clauses_parts (clauses_before (take 0 xs) no_clause)
+pub clauses_start : (front : List ScopePart) (xs : List CompoundClauseOf) → front ≡ front ++ clauses_parts (clauses_before (take 0 xs) no_clause)
 unfolding clauses_parts
 clauses_start front xs = sym (append-nil front)
 
@@ -70,12 +70,12 @@ unfolding parts_of
 parts_more xs i x within is =
     rw (add-one, take-suc xs i x within, sym is) (parts-append (take i xs) (x ∷ []) ∙ ap (λ some. parts_of (stmts_before (take i xs) no_statement) ++ some) (append-nil (statement_parts (stmt_of x))))
 
-clauses-append : (xs ys : List ClauseOf) → clauses_parts (clauses_before (xs ++ ys) no_clause) ≡ clauses_parts (clauses_before xs no_clause) ++ clauses_parts (clauses_before ys no_clause)
+clauses-append : (xs ys : List CompoundClauseOf) → clauses_parts (clauses_before (xs ++ ys) no_clause) ≡ clauses_parts (clauses_before xs no_clause) ++ clauses_parts (clauses_before ys no_clause)
 unfolding clauses_parts
 clauses-append [] ys = refl
 clauses-append (x ∷ xs) ys = ap (λ some. clause_parts (clause_of x) ++ some) (clauses-append xs ys) ∙ sym (append_assoc (clause_parts (clause_of x)) (clauses_parts (clauses_before xs no_clause)) (clauses_parts (clauses_before ys no_clause)))
 
-pub clauses_more : (xs : List ClauseOf) (i : ℕ) (x : ClauseOf) → i < length xs → x ≡ get_or xs i x
+pub clauses_more : (xs : List CompoundClauseOf) (i : ℕ) (x : CompoundClauseOf) → i < length xs → x ≡ get_or xs i x
     → clauses_parts (clauses_before (take (i + 1) xs) no_clause) ≡ clauses_parts (clauses_before (take i xs) no_clause) ++ suite_parts (suite_of x.suite)
 unfolding clauses_parts clause_parts
 clauses_more xs i x within is =
@@ -84,17 +84,17 @@ clauses_more xs i x within is =
 -- ---- the statements of a line
 
 -- the parts of items before others
-abbrev pub items_parts : List (Item StatementOf) → List Part
+abbrev pub items_parts : List (Item SimpleStatementOf) → List ScopePart
 items_parts items = map (λ item. simple (statement_of item.value)) items
 
-pub line_parts-items : (items : List (Item StatementOf)) (end : Separated _) → line_parts (separated_before statement_of items end) ≡ items_parts items ++ line_parts end
+pub line_parts-items : (items : List (Item SimpleStatementOf)) (end : Separated _) → line_parts (separated_before statement_of items end) ≡ items_parts items ++ line_parts end
 line_parts-items [] end = refl
 line_parts-items (x ∷ xs) end = ap (λ some. simple (statement_of x.value) ∷ some) (line_parts-items xs end)
 
 -- a line without a last item, and one with it
-pub line_ends : (line : SeparatedOf StatementOf) → line.last ≡ None → line_parts (separated_of statement_of line) ≡ items_parts line.each.items
+pub line_ends : (line : SeparatedOf SimpleStatementOf) → line.last ≡ None → line_parts (separated_of statement_of line) ≡ items_parts line.each.items
 line_ends line none = line_parts-items line.each.items (last_item_of statement_of line.last) ∙ (ap (λ last. items_parts line.each.items ++ line_parts (last_item_of statement_of last)) none ∙ append-nil (items_parts line.each.items))
 
-pub line_ends_with : (line : SeparatedOf StatementOf) (x : Box StatementOf Global) → line.last ≡ Some x
+pub line_ends_with : (line : SeparatedOf SimpleStatementOf) (x : Box SimpleStatementOf Global) → line.last ≡ Some x
     → line_parts (separated_of statement_of line) ≡ items_parts line.each.items ++ simple (statement_of x.value) ∷ []
 line_ends_with line x some = line_parts-items line.each.items (last_item_of statement_of line.last) ∙ ap (λ last. items_parts line.each.items ++ line_parts (last_item_of statement_of last)) some

@@ -2,21 +2,21 @@
 use Rattle.std.proofs.Common.{◌≡◌, ℕ, ◌+◌, ◌<◌, Bool, true, false, if◌then◌else◌, List, [], ◌∷◌, ◌++◌, All, map, length, refl, sym, ap, ◌∙◌, subst, append_assoc}
 use Rattle.std.proofs.Math.ListN.{get_or}
 use Rattle.std.proofs.lemmas.List.Elements.{All-nil, All-cons, All-head, All-tail, All-append, All-get_or}
-use Rattle.pyc_lex.specs.declared.tokens.Token.{Token}
+use Rattle.pyc_token.specs.declared.tokens.Token.{Token}
 use Rattle.pyc_lex.specs.Texts.{tokens_of}
-use Rattle.pyc_parse.specs.BlockTrees.{Clause, clause, Clauses, no_clause, another, Stmt, compound, Stmts, no_statement, statement, Suite, inline, block}
+use Rattle.pyc_parse.specs.BlockTrees.{CompoundClause, clause, CompoundClauses, no_clause, another, Stmt, compound, Stmts, no_statement, statement, Suite, inline, block}
 use Rattle.pyc_parse.specs.BlockTrees as tree
-use Rattle.pyc_parse.specs.BlockYield.{Level, held, lines_held, stmts_tokens, marks_yield, stmt_yield, clause_yield, suite_yield, clauses_yield, stmts_yield}
-use Rattle.pyc_parse.specs.Lines.{Header, line_yield, header_yield}
-use Rattle.pyc_parse.specs.Statements.{Statement, statement_yield, Separated, no_item, last_item, item, separated_yield}
-use Rattle.pyc_daemon.specs.declared.scope.ScopePart.{ScopePart}
-use Rattle.pyc_daemon.specs.Scopes.{Part, simple, definition, is_definition, line_parts, parts_of, statement_parts, clause_parts, clauses_parts, suite_parts, part_in, part_tokens}
+use Rattle.pyc_parse.specs.BlockYield.{IndentedLine, held, lines_held, stmts_tokens, marks_yield, stmt_yield, clause_yield, suite_yield, clauses_yield, stmts_yield}
+use Rattle.pyc_tree.specs.Lines.{Header, line_yield, header_yield}
+use Rattle.pyc_tree.specs.Statements.{SimpleStatement, statement_yield, Separated, no_item, last_item, item, separated_yield}
+use Rattle.pyc_daemon.specs.declared.scope.ScopePart.{ScopePart as ScopePartOf}
+use Rattle.pyc_daemon.specs.Scopes.{ScopePart, simple, definition, is_definition, line_parts, parts_of, statement_parts, clause_parts, clauses_parts, suite_parts, part_in, part_tokens}
 
 -- the tokens of some lines
-abbrev level_tokens : List Level → List Token
+abbrev level_tokens : List IndentedLine → List Token
 level_tokens levels = tokens_of (map held levels)
 
-levels_append : (xs ys : List Level) → level_tokens (xs ++ ys) ≡ level_tokens xs ++ level_tokens ys
+levels_append : (xs ys : List IndentedLine) → level_tokens (xs ++ ys) ≡ level_tokens xs ++ level_tokens ys
 levels_append [] ys = refl
 levels_append (x ∷ xs) ys = ap (λ some. line_yield x.1 ++ some) (levels_append xs ys) ∙ sym (append_assoc (line_yield x.1) (level_tokens xs) (level_tokens ys))
 
@@ -39,10 +39,10 @@ All-chosen P false xs ys all others = others
 
 module _ (P : Token → Type 0) where
   -- P holds of each token of a part
-  abbrev Holds : Part → Type 0
+  abbrev Holds : ScopePart → Type 0
   Holds part = All P (part_tokens part)
 
-  line_spans : (found : Separated Statement) → All P (separated_yield statement_yield found) → All Holds (line_parts found)
+  line_spans : (found : Separated SimpleStatement) → All P (separated_yield statement_yield found) → All Holds (line_parts found)
   line_spans no_item all = All-nil Holds
   line_spans (last_item s) all = All-cons Holds (simple s) [] all (All-nil Holds)
   line_spans (item s between rest) all =
@@ -51,10 +51,10 @@ module _ (P : Token → Type 0) where
       (line_spans rest (All-tail P between later (All-back P (statement_yield s) (between ∷ later) all)))
 
   -- a line's statements
-  simple_spans : (found : Separated Statement) → All P (separated_yield statement_yield found ++ []) → All Holds (line_parts found)
+  simple_spans : (found : Separated SimpleStatement) → All P (separated_yield statement_yield found ++ []) → All Holds (line_parts found)
   simple_spans found all = line_spans found (All-front P (separated_yield statement_yield found) [] all)
 
-  headed_spans : (front : List Token) (colon : Token) (found : Separated Statement) → All P ((front ++ colon ∷ separated_yield statement_yield found) ++ []) → All Holds (line_parts found)
+  headed_spans : (front : List Token) (colon : Token) (found : Separated SimpleStatement) → All P ((front ++ colon ∷ separated_yield statement_yield found) ++ []) → All Holds (line_parts found)
   headed_spans front colon found all =
       let later = separated_yield statement_yield found in
       line_spans found (All-tail P colon later (All-back P front (colon ∷ later) (All-front P (front ++ colon ∷ later) [] all)))
@@ -84,10 +84,10 @@ module _ (P : Token → Type 0) where
         (clause_spans indent first (All-front P (level_tokens one) (level_tokens others) clauses))
         (clauses_spans indent more (All-back P (level_tokens one) (level_tokens others) clauses)))
 
-    clause_spans : (indent : ℕ) (c : Clause) → All P (level_tokens (clause_yield indent c)) → All Holds (clause_parts c)
+    clause_spans : (indent : ℕ) (c : CompoundClause) → All P (level_tokens (clause_yield indent c)) → All Holds (clause_parts c)
     clause_spans indent (clause h colon body) all = suite_spans indent h colon body all
 
-    clauses_spans : (indent : ℕ) (cs : Clauses) → All P (level_tokens (clauses_yield indent cs)) → All Holds (clauses_parts cs)
+    clauses_spans : (indent : ℕ) (cs : CompoundClauses) → All P (level_tokens (clauses_yield indent cs)) → All Holds (clauses_parts cs)
     clauses_spans indent no_clause all = All-nil Holds
     clauses_spans indent (another c cs) all =
         let split = subst (All P) (levels_append (clause_yield indent c) (clauses_yield indent cs)) all in
@@ -105,13 +105,13 @@ module _ (P : Token → Type 0) where
   unfolding lines_held
   parts_spans ss all = stmts_spans 0 ss all
 
-  unmapped : (es : List ScopePart) → All Holds (map part_in es) → All (λ e. Holds (part_in e)) es
+  unmapped : (es : List ScopePartOf) → All Holds (map part_in es) → All (λ e. Holds (part_in e)) es
   unmapped [] all = All-nil (λ e. Holds (part_in e))
   unmapped (e ∷ es) all =
       All-cons (λ e. Holds (part_in e)) e es (All-head Holds (part_in e) (map part_in es) all) (unmapped es (All-tail Holds (part_in e) (map part_in es) all))
 
   -- and of the part at i
-  pub part_spans : (ss : Stmts) (es : List ScopePart) (i : ℕ) (e : ScopePart) → map part_in es ≡ parts_of ss → All P (stmts_tokens ss) → i < length es → e ≡ get_or es i e
+  pub part_spans : (ss : Stmts) (es : List ScopePartOf) (i : ℕ) (e : ScopePartOf) → map part_in es ≡ parts_of ss → All P (stmts_tokens ss) → i < length es → e ≡ get_or es i e
       → All P (part_tokens (part_in e))
   part_spans ss es i e are all within is =
       let found = unmapped es (subst (All Holds) (sym are) (parts_spans ss all)) in

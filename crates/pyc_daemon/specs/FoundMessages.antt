@@ -7,7 +7,7 @@ use Rattle.pyc_parse.specs.Outcome.{Outcome, tree, fault}
 use Rattle.pyc_types.specs.Shape.{T}
 use Rattle.pyc_types.specs.Text.{text_of}
 use Rattle.pyc_types.specs.Builtin.{ty_of, builtin_orders}
-use Rattle.pyc_types.specs.Assignable.{Goes, assignable}
+use Rattle.pyc_types.specs.Assignable.{Assignable, assignable}
 use Rattle.pyc_daemon.specs.declared.message.Code.TheVariants.{Assignment, Syntax}
 use Rattle.pyc_daemon.specs.LiteralForms.{LiteralForm, literal_forms}
 use Rattle.pyc_daemon.specs.Message.{Message}
@@ -46,14 +46,14 @@ unfoldable pub messages_of : List ℕ → Outcome → List Message
 messages_of source (tree m) = module_messages source m.statements
 messages_of source (fault line text) = fault_message line text ∷ []
 
--- what is told of a file: what is found in it and not silenced
-unfoldable pub told_messages : List ℕ → Outcome → List Message
-told_messages source (tree m) = unsilenced source m (messages_of source (tree m))
-told_messages source (fault line text) = messages_of source (fault line text)
+-- the unsilenced messages of a file: what is found in it and not silenced
+unfoldable pub unsilenced_messages : List ℕ → Outcome → List Message
+unsilenced_messages source (tree m) = unsilenced source m (messages_of source (tree m))
+unsilenced_messages source (fault line text) = messages_of source (fault line text)
 
 -- whether the rules of assignability lead from the type of a literal to its annotation
 abbrev pub IsAssignable : LiteralForm → Type 0
-IsAssignable form = Goes builtin_orders (ty_of form.value) (ty_of form.annotation)
+IsAssignable form = Assignable builtin_orders (ty_of form.value) (ty_of form.annotation)
 
 -- the messages report the annotated literals, by exactly these rules
 pub data Reports : List LiteralForm → List Message → Type 0 where

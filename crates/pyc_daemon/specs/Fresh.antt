@@ -2,14 +2,14 @@
 use Rattle.std.specs.Prelude.{ℕ, zero, suc, ◌+◌, List, [], ◌∷◌, map, flat_map, length}
 use Rattle.pyc_parse.specs.Outcome.{Outcome, tree, fault, outcome_of}
 use Rattle.pyc_daemon.specs.declared.unit.UnitId.{UnitId}
-use Rattle.pyc_daemon.specs.FoundMessages.{told_messages}
+use Rattle.pyc_daemon.specs.FoundMessages.{unsilenced_messages}
 use Rattle.pyc_daemon.specs.Report.{Report, Found, report_of}
 use Rattle.pyc_daemon.specs.Units.{unit_clauses}
 use Rattle.pyc_daemon.specs.Workspace.{File, Unit}
 
 -- what is told of a file
 abbrev pub checked : File → Found
-checked file = record { path = file.path; messages = told_messages file.bytes (outcome_of file.bytes) }
+checked file = record { path = file.path; messages = unsilenced_messages file.bytes (outcome_of file.bytes) }
 
 -- the report of a check of these files from scratch
 unfoldable pub fresh : List File → Report

@@ -2,22 +2,22 @@
 -- (Python reference, "Annotated assignment statements", "Literals").
 use Rattle.std.specs.Prelude.{ℕ, Bool, true, false, bytes_eq, codes, if◌then◌else◌, List, Option, None, Some}
 use Rattle.std.specs.List.{filter_map}
-use Rattle.pyc_lex.specs.declared.tokens.Keyword.TheVariants as keyword
-use Rattle.pyc_lex.specs.declared.tokens.Kind.{Kind}
-use Rattle.pyc_lex.specs.declared.tokens.Kind.TheVariants as kind
-use Rattle.pyc_lex.specs.declared.tokens.Number.TheVariants as number
-use Rattle.pyc_lex.specs.declared.tokens.Prefix.TheVariants as prefix
-use Rattle.pyc_lex.specs.declared.tokens.Token.{Token}
+use Rattle.pyc_token.specs.declared.tokens.Keyword.TheVariants as keyword
+use Rattle.pyc_token.specs.declared.tokens.Kind.{Kind}
+use Rattle.pyc_token.specs.declared.tokens.Kind.TheVariants as kind
+use Rattle.pyc_token.specs.declared.tokens.Number.TheVariants as number
+use Rattle.pyc_token.specs.declared.tokens.Prefix.TheVariants as prefix
+use Rattle.pyc_token.specs.declared.tokens.Token.{Token}
 use Rattle.pyc_lex.specs.Texts.{slice_at}
 use Rattle.pyc_parse.specs.BlockTrees.{Stmts}
-use Rattle.pyc_parse.specs.Statements.{Statement, annotate}
-use Rattle.pyc_parse.specs.Tree.{Tree, Tail, nothing, after}
-use Rattle.pyc_parse.specs.Tree as tree
+use Rattle.pyc_tree.specs.Statements.{SimpleStatement, annotate}
+use Rattle.pyc_tree.specs.Tree.{Tree, Tail, nothing, after}
+use Rattle.pyc_tree.specs.Tree as tree
 use Rattle.pyc_types.specs.declared.builtin_classes.Builtin.{Builtin}
 use Rattle.pyc_types.specs.declared.builtin_classes.Builtin.TheVariants as builtin
 use Rattle.pyc_daemon.specs.declared.literal_forms.LiteralForm.{LiteralForm as Declared}
 use Rattle.pyc_daemon.specs.ModuleName.{nfkc_text}
-use Rattle.pyc_daemon.specs.Scopes.{Part, simple, definition, parts_of}
+use Rattle.pyc_daemon.specs.Scopes.{ScopePart, simple, definition, parts_of}
 
 -- an annotated literal: its annotation, the type of its value, and where the value begins
 pub record LiteralForm : Type 0 where
@@ -92,12 +92,12 @@ is_name (tree.name t) = true
 is_name _ = false
 
 -- the annotated literal that a simple statement is
-unfoldable pub literal_form : List ℕ → Statement → Option LiteralForm
-literal_form source (annotate target colon note value) = if is_name target then valued_form (annotation_type source note) (value_token value) else None
+unfoldable pub literal_form : List ℕ → SimpleStatement → Option LiteralForm
+literal_form source (annotate target colon annotation value) = if is_name target then valued_form (annotation_type source annotation) (value_token value) else None
 literal_form source _ = None
 
 -- that of a part; a definition is none
-abbrev pub part_form : List ℕ → Part → Option LiteralForm
+abbrev pub part_form : List ℕ → ScopePart → Option LiteralForm
 part_form source (simple found) = literal_form source found
 part_form source (definition found) = None
 

@@ -2,7 +2,7 @@
 -- codes").
 use Rattle.std.specs.Prelude.{ℕ, Bool, true, false, not, ◌&&◌, ◌||◌, ◌==◌, nat_le, List, filter, length, bytes_eq, slice_range}
 use Rattle.std.specs.List.{list_any}
-use Rattle.pyc_lex.specs.declared.tokens.Span.{Span}
+use Rattle.pyc_token.specs.declared.tokens.Span.{Span}
 use Rattle.pyc_lex.specs.Ignores.{Codes, all, listed, IgnoreAt}
 use Rattle.pyc_parse.specs.Modules.{Module}
 use Rattle.pyc_daemon.specs.declared.message.Code.{Code}

@@ -6,7 +6,7 @@ ghost use Rattle.pyc_lex.specs.Texts.{IsTextSpan};
 ghost use Rattle.pyc_parse.specs.Outcome.{outcome_in, outcome_tokens};
 ghost use Rattle.pyc_types.specs.Shape.{shape};
 ghost use Rattle.pyc_daemon.specs.FoundMessages as spec;
-ghost use Rattle.pyc_daemon.specs.FoundMessages.{messages_of, told_messages};
+ghost use Rattle.pyc_daemon.specs.FoundMessages.{messages_of, unsilenced_messages};
 ghost use Rattle.pyc_daemon.specs.LiteralForms.{form_in};
 ghost use Rattle.pyc_daemon.specs.Message.{message_in};
 
@@ -17,17 +17,17 @@ use pyc_parse::{Fault, Outcome};
 use pyc_types::{Builtins, Ty, assignable, show};
 use std::alloc::{AllocError, Global};
 
-/// What is told of a file with this source and outcome: what is found in it, without what its ignore comments silence. The
+/// The unsilenced messages of a file with this source and outcome: what is found in it, without what its ignore comments silence. The
 /// only error is that memory runs out.
-#[tactic(auto, unfolding(crate::specs::FoundMessages::told_messages))]
-pub fn told(
+#[tactic(auto, unfolding(crate::specs::FoundMessages::unsilenced_messages))]
+pub fn unsilenced(
     alloc: Global,
     builtins: &Builtins,
     bytes: &[u8],
     outcome: &Outcome,
 ) -> Result<Vec<Message>, AllocError>
     requires spans { All (λ token. IsTextSpan bytes.now token.span) (outcome_tokens (outcome_in outcome.now)) }
-    ensures { IfOk result (λ messages. map message_in messages.items ≡ told_messages bytes.now (outcome_in outcome.now)) }
+    ensures { IfOk result (λ messages. map message_in messages.items ≡ unsilenced_messages bytes.now (outcome_in outcome.now)) }
 {
     let mut messages = found(alloc, builtins, bytes, outcome)?;
     if let Outcome::Tree(module) = outcome {

@@ -5,7 +5,7 @@ ghost use Rattle.pyc_daemon.specs.Report.{found_in, report_in};
 
 use crate::checked::{Found, Report};
 use crate::file::File;
-use crate::found::told;
+use crate::found::unsilenced;
 use crate::report::report;
 use pyc_types::Builtins;
 use std::alloc::{AllocError, Global};
@@ -46,6 +46,6 @@ fn check_file<'a>(
 {
     Ok(Found {
         path: file.path(),
-        messages: told(alloc, builtins, file.bytes(), file.outcome())?,
+        messages: unsilenced(alloc, builtins, file.bytes(), file.outcome())?,
     })
 }

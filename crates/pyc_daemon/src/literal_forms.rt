@@ -1,15 +1,15 @@
 //! The annotated literals of a module: each simple statement `NAME: TYPE = VALUE` whose value is one literal.
-#![tactic(auto, using(pyc_parse::proofs::ViewLemmas::views))]
+#![tactic(auto, using(pyc_tree::proofs::ViewLemmas::views))]
 
 ghost use Rattle.std.specs.Prelude.{◌≡◌, map, All, IfOk, option_map};
 ghost use Rattle.pyc_lex.specs.Texts.{IsTextSpan};
 ghost use Rattle.pyc_parse.specs.BlockTrees.{no_statement};
 ghost use Rattle.pyc_parse.specs.BlockView.{stmts_before};
 ghost use Rattle.pyc_parse.specs.BlockYield.{stmts_tokens};
-ghost use Rattle.pyc_parse.specs.Statements.{statement_yield};
-ghost use Rattle.pyc_parse.specs.StatementView.{statement_of};
-ghost use Rattle.pyc_parse.specs.View.{tree_of, tail_of};
-ghost use Rattle.pyc_parse.specs.Yield.{yield_of};
+ghost use Rattle.pyc_tree.specs.Statements.{statement_yield};
+ghost use Rattle.pyc_tree.specs.StatementView.{statement_of};
+ghost use Rattle.pyc_tree.specs.View.{tree_of, tail_of};
+ghost use Rattle.pyc_tree.specs.Yield.{yield_of};
 ghost use Rattle.pyc_daemon.specs.LiteralForms as spec;
 ghost use Rattle.pyc_daemon.specs.LiteralForms.{form_in, literal_forms};
 ghost use Rattle.pyc_daemon.specs.ModuleName.{nfkc_text};
@@ -17,7 +17,7 @@ ghost use Rattle.pyc_daemon.specs.Scopes.{part_in, part_tokens};
 
 use crate::scope::{ScopePart, scope_parts};
 use pyc_lex::{Keyword, Kind, Number, Prefix, Token, ident};
-use pyc_parse::{Expr, Statement, Stmt, Tail};
+use pyc_parse::{Expr, SimpleStatement, Stmt, Tail};
 use pyc_types::Builtin;
 use std::alloc::{AllocError, Global};
 use unicode_normalization::to_nfkc;
@@ -70,17 +70,17 @@ fn part_form(
 fn literal_form(
     alloc: Global,
     bytes: &[u8],
-    statement: &Statement,
+    statement: &SimpleStatement,
 ) -> Result<Option<LiteralForm>, AllocError>
     requires spans { All (λ token. IsTextSpan bytes.now token.span) (statement_yield (statement_of statement.now)) }
     ensures { IfOk result (λ form. option_map form_in form ≡ spec.literal_form bytes.now (statement_of statement.now)) }
 {
     match statement {
-        Statement::Annotate(target, _, note, value) => {
+        SimpleStatement::Annotate(target, _, annotation, value) => {
             if !is_name(target) {
                 return Ok(None);
             }
-            valued_form(alloc, bytes, note, value)
+            valued_form(alloc, bytes, annotation, value)
         }
         _ => Ok(None),
     }
@@ -90,12 +90,12 @@ fn literal_form(
 fn valued_form(
     alloc: Global,
     bytes: &[u8],
-    note: &Expr,
+    annotation: &Expr,
     value: &Tail,
 ) -> Result<Option<LiteralForm>, AllocError>
-    requires spans { All (λ token. IsTextSpan bytes.now token.span) (yield_of (tree_of note.now)) }
+    requires spans { All (λ token. IsTextSpan bytes.now token.span) (yield_of (tree_of annotation.now)) }
     ensures { IfOk result (λ form. option_map form_in form
-        ≡ spec.valued_form (spec.annotation_type bytes.now (tree_of note.now)) (spec.value_token (tail_of value.now))) }
+        ≡ spec.valued_form (spec.annotation_type bytes.now (tree_of annotation.now)) (spec.value_token (tail_of value.now))) }
 {
     let Some(first) = value_token(value) else {
         return Ok(None);
@@ -103,11 +103,11 @@ fn valued_form(
     let Some(value) = literal_type(first.kind) else {
         return Ok(None);
     };
-    let Some(annotation) = annotation_type(alloc, bytes, note)? else {
+    let Some(meant) = annotation_type(alloc, bytes, annotation)? else {
         return Ok(None);
     };
     Ok(Some(LiteralForm {
-        annotation,
+        annotation: meant,
         value,
         line: first.line,
         column: first.column,
@@ -115,12 +115,16 @@ fn valued_form(
 }
 
 /// The type that an annotation means.
-#[tactic(auto, using(pyc_parse::proofs::ViewLemmas::views), unfolding(crate::specs::LiteralForms::annotation_type))]
-fn annotation_type(alloc: Global, bytes: &[u8], note: &Expr) -> Result<Option<Builtin>, AllocError>
-    requires spans { All (λ token. IsTextSpan bytes.now token.span) (yield_of (tree_of note.now)) }
-    ensures { IfOk result (λ found. found ≡ spec.annotation_type bytes.now (tree_of note.now)) }
+#[tactic(auto, using(pyc_tree::proofs::ViewLemmas::views), unfolding(crate::specs::LiteralForms::annotation_type))]
+fn annotation_type(
+    alloc: Global,
+    bytes: &[u8],
+    annotation: &Expr,
+) -> Result<Option<Builtin>, AllocError>
+    requires spans { All (λ token. IsTextSpan bytes.now token.span) (yield_of (tree_of annotation.now)) }
+    ensures { IfOk result (λ found. found ≡ spec.annotation_type bytes.now (tree_of annotation.now)) }
 {
-    match note {
+    match annotation {
         Expr::Name(name) => named_type(alloc, ident(bytes, name.span)),
         Expr::Constant(token) => Ok(constant_annotation(token.kind)),
         _ => Ok(None),
@@ -181,7 +185,7 @@ fn value_token(value: &Tail) -> Option<Token>
 }
 
 /// The first token of a value that is one literal.
-#[tactic(auto, using(pyc_parse::proofs::ViewLemmas::views), unfolding(crate::specs::LiteralForms::literal_token))]
+#[tactic(auto, using(pyc_tree::proofs::ViewLemmas::views), unfolding(crate::specs::LiteralForms::literal_token))]
 fn literal_token(value: &Expr) -> Option<Token>
     ensures { result ≡ spec.literal_token (tree_of value.now) }
 {

@@ -4,18 +4,18 @@
 ghost use Rattle.std.specs.Prelude.{◌≡◌, ◌++◌, map, IfOk};
 ghost use Rattle.pyc_parse.specs.BlockTrees.{no_statement, no_clause};
 ghost use Rattle.pyc_parse.specs.BlockView.{clause_of, clauses_before, stmt_of, stmts_before, suite_of};
-ghost use Rattle.pyc_parse.specs.LineView.{header_of};
-ghost use Rattle.pyc_parse.specs.StatementView.{separated_of, statement_of};
+ghost use Rattle.pyc_tree.specs.LineView.{header_of};
+ghost use Rattle.pyc_tree.specs.StatementView.{separated_of, statement_of};
 ghost use Rattle.pyc_daemon.specs.Scopes as spec;
 ghost use Rattle.pyc_daemon.specs.Scopes.{part_in, parts_of};
 
-use pyc_parse::{CompoundClause, Header, Separated, Statement, Stmt, Suite};
+use pyc_parse::{CompoundClause, Header, Separated, SimpleStatement, Stmt, Suite};
 use std::alloc::{AllocError, Global};
 
 /// A part of a scope.
 #[derive(Drop)]
 pub enum ScopePart<'a> {
-    Simple(&'a Statement),
+    Simple(&'a SimpleStatement),
     /// The first clause of a function or a class, which is its only one.
     Definition(&'a CompoundClause),
 }
@@ -122,7 +122,7 @@ fn push_suite<'a>(parts: &mut Vec<ScopePart<'a>>, suite: &'a Suite) -> Result<()
 
 fn push_line<'a>(
     parts: &mut Vec<ScopePart<'a>>,
-    line: &'a Separated<Statement>,
+    line: &'a Separated<SimpleStatement>,
 ) -> Result<(), AllocError>
     ensures { IfOk result (λ _. map part_in parts.new.items
         ≡ map part_in parts.old.items ++ spec.line_parts (separated_of statement_of line.now)) }

@@ -1,13 +1,13 @@
 -- The codes of an ignore comment, read one after another.
 use Rattle.std.proofs.Common.{◌≡◌, ℕ, suc, ◌+◌, ◌-◌, ◌<◌, ◌≤◌, ◌==◌, true, false, List, [], ◌∷◌, ◌++◌, take, drop, length, if◌then◌else◌, Option, Some, None, option_map, option_and_then, refl, sym, ap, ◌∙◌, arith, length-drop, append_assoc}
 use Rattle.std.specs.List.{prefix_len}
-use Rattle.pyc_lex.specs.declared.tokens.Span.{Span}
+use Rattle.pyc_token.specs.declared.tokens.Span.{Span}
 use Rattle.pyc_lex.specs.Ignores.{is_code_byte, trimmed, codes_at}
 
 -- the codes so far before those of the rest are those of the whole, in the turns that are left
 pub record IsListing (whole : Option (List Span)) (end : ℕ) (turns : ℕ) (spans : List Span) (at : ℕ) (rest : List ℕ) : Type 0 where
   pub value : option_map (λ later. spans ++ later) (codes_at turns at rest) ≡ whole
-  pub place : at + length rest ≡ end
+  pub position : at + length rest ≡ end
   pub enough : length rest + 1 ≤ turns
 
 pub listing-start : (from turns : ℕ) (text : List ℕ) → turns ≡ length text + 1 → IsListing (codes_at (length text + 1) from text) (from + length text) turns [] from text
@@ -15,7 +15,7 @@ listing-start from turns text e = record {
   value =
       ap (λ (k : ℕ). option_map (λ later. [] ++ later) (codes_at k from text)) e
       ∙ elim (codes_at (length text + 1) from text) as (λ o. option_map (λ later. [] ++ later) o ≡ o) [ None ↦ refl | Some later ↦ refl ];
-  place = refl;
+  position = refl;
   enough = omega (arith, e);
 }
 
@@ -57,6 +57,6 @@ module _ (whole : Option (List Span)) (end turns : ℕ) (spans : List Span) (at 
               | Some later ↦ ap Some (append_assoc spans (span ∷ []) later)
             ]
             ∙ so;
-        place = omega (arith, left, moved, listing.place, within);
+        position = omega (arith, left, moved, listing.position, within);
         enough = omega (arith, left, listing.enough, n, within);
       }

@@ -1,12 +1,7 @@
-pub mod BoundaryLemmas
-pub mod CutLemmas
 pub mod IgnoreLemmas
-pub mod KeywordLemmas
-pub mod NameLemmas
-pub mod OperatorLemmas
+pub mod MarkLemmas
 pub mod OrderLemmas
 pub mod ReadLemmas
 pub mod ScanLemmas
 pub mod StackLemmas
-pub mod StringLemmas
 pub mod TextLemmas

@@ -3,16 +3,16 @@ use Rattle.std.proofs.Common.{◌≡◌, ◌≤◌, ◌+◌, ◌-◌, ◌==◌, 
 use Rattle.std.proofs.lemmas.List.Elements.{All-nil, All-cons, All-append}
 use Rattle.std.proofs.lemmas.List.Quantifiers.{all_pairs_push}
 use Rattle.std.specs.List.{All, AllPairs}
-use Rattle.pyc_lex.specs.declared.tokens.Kind.{Kind}
-use Rattle.pyc_lex.specs.declared.tokens.Token.{Token}
-use Rattle.pyc_lex.specs.declared.cut.Piece.{Piece}
-use Rattle.pyc_lex.specs.declared.cut.Piece.TheVariants as piece
-use Rattle.pyc_lex.specs.Cuts.{Cut, found, bad}
+use Rattle.pyc_token.specs.declared.tokens.Kind.{Kind}
+use Rattle.pyc_token.specs.declared.tokens.Token.{Token}
+use Rattle.pyc_token.specs.declared.lexeme.Lexeme.{Lexeme}
+use Rattle.pyc_token.specs.declared.lexeme.Lexeme.TheVariants as lexeme
+use Rattle.pyc_token.specs.Cuts.{Cut, found, bad}
 use Rattle.pyc_lex.specs.Ignores.{Codes, silenced}
 use Rattle.pyc_lex.specs.Indents.{columns_after}
 use Rattle.pyc_lex.specs.Limits.{IsBefore, depth_past, depth_after, NestsWithin, IsWithinLimits}
-use Rattle.pyc_lex.specs.Lines.{Line, Lexis, Reading, start_at, is_empty, moved, measured, with_ignore, end_met, line_ended, front_joined, token_at, with_line, step, read, and_then, finished, mark_len, pieces_of}
-use Rattle.pyc_lex.specs.Names.{kind_of_name}
+use Rattle.pyc_lex.specs.Lines.{Line, Lexis, Reading, start_at, is_empty, moved, measured, with_ignore, end_met, line_ended, front_joined, token_at, with_line, step, read, and_then, finished, mark_len, lexemes_of}
+use Rattle.pyc_token.specs.Names.{kind_of_name}
 use Rattle.pyc_lex.specs.Texts.{tokens_of}
 use Rattle.pyc_lex.proofs.ReadLemmas.{and_then-ok, IsPushed, Follows, step-follows}
 use Rattle.pyc_lex.proofs.StackLemmas.{IsStepped, bracketed-length}
@@ -36,7 +36,7 @@ limits-with_line lines indent (token ∷ tokens) all low nests =
     let line : Line = record { indent = indent; tokens = token ∷ tokens } in
     All-append IsWithinLimits lines (line ∷ []) all (All-cons IsWithinLimits line [] (record { indent = low; brackets = nests }) (All-nil IsWithinLimits))
 
--- ---- what holds between two pieces
+-- ---- what holds between two lexemes
 
 record IsOrderly (r : Reading) : Type 0 where
   stack : length r.indents ≤ 65
@@ -47,7 +47,7 @@ record IsOrderly (r : Reading) : Type 0 where
   depth : depth_after 0 r.begun ≡ length r.brackets
   brackets : length r.brackets ≤ 64
 
--- a place further on is after the same tokens
+-- a position further on is after the same tokens
 later : (tokens : List Token) (from next : ℕ) → from ≤ next → All (λ token. token.span.end ≤ from) tokens → All (λ token. token.span.end ≤ next) tokens
 later tokens from next l all = λ k d within. omega (arith, l, all k d within)
 
@@ -68,7 +68,7 @@ orderly-pushed r next kind text f orderly =
     let tokens : List Token = read_tokens r in
     let added : read_tokens next ≡ tokens ++ token ∷ [] = tokens-pushed r next kind text f in
     let from : next.from ≡ r.from + length text = ap (λ (s : Reading). s.from) f.is in
-    let stepped : IsStepped (length r.brackets) (length f.brackets) kind = bracketed-length r.brackets f.brackets kind r.place.line f.met orderly.brackets in
+    let stepped : IsStepped (length r.brackets) (length f.brackets) kind = bracketed-length r.brackets f.brackets kind r.position.line f.met orderly.brackets in
     let same : next.brackets ≡ f.brackets = ap (λ (s : Reading). s.brackets) f.is in
     let begun : next.begun ≡ r.begun ++ token ∷ [] = ap (λ (s : Reading). s.begun) f.is in
     let deeper : depth_past (depth_after 0 r.begun) kind ≡ length f.brackets = ap (λ (n : ℕ). depth_past n kind) orderly.depth ∙ stepped.depth in
@@ -129,22 +129,22 @@ orderly-end_met r orderly =
       | false ↦ λ some. orderly
     ] refl
 
-orderly-follows : (r : Reading) (p : Piece) (text : List ℕ) (next : Reading) → Follows r p text next → IsOrderly r → IsOrderly next
-orderly-follows r piece.Name text next f orderly = orderly-pushed r next (kind_of_name text) text f orderly
-orderly-follows r (piece.Token kind) text next f orderly = orderly-pushed r next kind text f orderly
-orderly-follows r piece.Blank text next f orderly = subst IsOrderly (sym f) (orderly-moved (measured r text) text (orderly-measured r text orderly))
-orderly-follows r piece.Comment text next f orderly =
+orderly-follows : (r : Reading) (p : Lexeme) (text : List ℕ) (next : Reading) → Follows r p text next → IsOrderly r → IsOrderly next
+orderly-follows r lexeme.Name text next f orderly = orderly-pushed r next (kind_of_name text) text f orderly
+orderly-follows r (lexeme.Token kind) text next f orderly = orderly-pushed r next kind text f orderly
+orderly-follows r lexeme.Blank text next f orderly = subst IsOrderly (sym f) (orderly-moved (measured r text) text (orderly-measured r text orderly))
+orderly-follows r lexeme.Comment text next f orderly =
     subst IsOrderly (sym f) (orderly-moved (with_ignore r (silenced r.from text)) text (orderly-ignored r (silenced r.from text) orderly))
-orderly-follows r piece.LineEnd text next f orderly = subst IsOrderly (sym f) (orderly-moved (end_met r) text (orderly-end_met r orderly))
-orderly-follows r piece.Joined text next f orderly = subst IsOrderly (sym f) (orderly-moved (front_joined r) text (orderly-front_joined r orderly))
+orderly-follows r lexeme.LineEnd text next f orderly = subst IsOrderly (sym f) (orderly-moved (end_met r) text (orderly-end_met r orderly))
+orderly-follows r lexeme.Joined text next f orderly = subst IsOrderly (sym f) (orderly-moved (front_joined r) text (orderly-front_joined r orderly))
 
-orderly-read : (r out : Reading) (pieces : List Cut) → IsOrderly r → read r pieces ≡ Ok out → IsOrderly out
+orderly-read : (r out : Reading) (lexemes : List Cut) → IsOrderly r → read r lexemes ≡ Ok out → IsOrderly out
 unfolding read
 orderly-read r out [] orderly e = let is : r ≡ out = cc in subst IsOrderly is orderly
-orderly-read r out (bad fault ∷ pieces) orderly e = absurd (met_fault r out fault e)
-orderly-read r out (found p text ∷ pieces) orderly e =
-    let got = and_then-ok (step r p text) (λ next. read next pieces) out e in
-    orderly-read got.0 out pieces (orderly-follows r p text got.0 (step-follows r p text got.0 got.1) orderly) got.2
+orderly-read r out (bad fault ∷ lexemes) orderly e = absurd (met_fault r out fault e)
+orderly-read r out (found p text ∷ lexemes) orderly e =
+    let got = and_then-ok (step r p text) (λ next. read next lexemes) out e in
+    orderly-read got.0 out lexemes (orderly-follows r p text got.0 (step-follows r p text got.0 got.1) orderly) got.2
 
 orderly-start : (from : ℕ) → IsOrderly (start_at from)
 orderly-start from = record {
@@ -163,10 +163,10 @@ pub record AreOrderly (lines : List Line) : Type 0 where
   pub order : AllPairs IsBefore (tokens_of lines)
   pub limits : All IsWithinLimits lines
 
-pub lexis_orderly : (source : List ℕ) (lexis : Lexis) → and_then (read (start_at (mark_len source)) (pieces_of source)) finished ≡ Ok lexis → AreOrderly lexis.lines
+pub lexis_orderly : (source : List ℕ) (lexis : Lexis) → and_then (read (start_at (mark_len source)) (lexemes_of source)) finished ≡ Ok lexis → AreOrderly lexis.lines
 lexis_orderly source lexis e =
-    let got = and_then-ok (read (start_at (mark_len source)) (pieces_of source)) finished lexis e in
-    let orderly : IsOrderly got.0 = orderly-read (start_at (mark_len source)) got.0 (pieces_of source) (orderly-start (mark_len source)) got.1 in
+    let got = and_then-ok (read (start_at (mark_len source)) (lexemes_of source)) finished lexis e in
+    let orderly : IsOrderly got.0 = orderly-read (start_at (mark_len source)) got.0 (lexemes_of source) (orderly-start (mark_len source)) got.1 in
     let same : tokens_of (line_ended got.0).lexis.lines ≡ read_tokens got.0 = tokens_of-with_line got.0.lexis.lines (length got.0.indents - 1) got.0.begun in
     subst (λ (x : Lexis). AreOrderly x.lines) (finished_lexis got.0 lexis got.2)
     (record { order = subst (AllPairs IsBefore) (sym same) orderly.order; limits = lines-line_ended got.0 orderly })

@@ -1,19 +1,19 @@
--- What a scan answers, from what the reading of its pieces answers.
+-- What a scan answers, from what the reading of its lexemes answers.
 use Rattle.std.proofs.Common.{◌≡◌, ◌≢◌, if◌then◌else◌, ℕ, true, false, List, [], ◌∷◌, ◌++◌, length, take, map, drop, IfOk, IfErr, IsUtf8, Result, Ok, Err, refl, sym, ◌∙◌}
 use Rattle.std.proofs.lemmas.Str.{is_utf8-from_IsUtf8, IsUtf8-from_is_utf8}
 use Rattle.std.proofs.lemmas.List.{take_at, drop_at}
 use Rattle.std.proofs.lemmas.List.Elements.{All-nil, All-cons, All-same, All-take, All-drop}
 use Rattle.std.specs.List.{All, AllPairs}
 use Rattle.std.specs.Str.{is_utf8}
-use Rattle.pyc_lex.specs.declared.tokens.Token.{Token}
-use Rattle.pyc_lex.specs.declared.tokens.LogicalLine.{LogicalLine}
-use Rattle.pyc_lex.specs.declared.tokens.Scan.{Scan}
+use Rattle.pyc_token.specs.declared.tokens.Token.{Token}
+use Rattle.pyc_lex.specs.declared.logical_lines.LogicalLine.{LogicalLine}
+use Rattle.pyc_lex.specs.declared.logical_lines.Scan.{Scan}
 use Rattle.pyc_lex.specs.declared.fault.LexFault.{LexFault}
 use Rattle.pyc_lex.specs.declared.fault.LexFault.TheVariants.{NotUtf8, Memory}
-use Rattle.pyc_lex.specs.Cuts.{cuts}
-use Rattle.pyc_lex.specs.Lines.{Lexis, start_at, and_then, read, finished, mark_len, pieces_of, lines_of}
+use Rattle.pyc_token.specs.Cuts.{cuts}
+use Rattle.pyc_lex.specs.Lines.{Lexis, start_at, and_then, read, finished, mark_len, lexemes_of, lines_of}
 use Rattle.pyc_lex.specs.Texts.{tokens_of, slice_at, IsTextSpan, token_texts}
-use Rattle.pyc_lex.specs.View.{line_in, lexis_in, Answers}
+use Rattle.pyc_lex.specs.View.{line_in, lexis_in, AnswersScan}
 use Rattle.pyc_lex.specs.Limits.{IsBefore, IsWithinLimits}
 use Rattle.pyc_lex.proofs.OrderLemmas.{AreOrderly, lexis_orderly}
 use Rattle.pyc_lex.proofs.TextLemmas.{IsText, tokens_of_lexis}
@@ -22,26 +22,26 @@ use Rattle.pyc_lex.proofs.TextLemmas.{IsText, tokens_of_lexis}
 pub lines_of-no_utf8 : (source : List ℕ) → ¬ (IsUtf8 source) → lines_of source ≡ Err NotUtf8
 unfolding lines_of
 lines_of-no_utf8 source other =
-    elim (is_utf8 source) as (λ b. is_utf8 source ≡ b → (if b then and_then (read (start_at (mark_len source)) (pieces_of source)) finished else Err NotUtf8) ≡ Err NotUtf8) [
+    elim (is_utf8 source) as (λ b. is_utf8 source ≡ b → (if b then and_then (read (start_at (mark_len source)) (lexemes_of source)) finished else Err NotUtf8) ≡ Err NotUtf8) [
       | true ↦ λ e. absurd (other (IsUtf8-from_is_utf8 source e))
       | false ↦ λ e. refl
     ] refl
 
-pub lines_of-utf8 : (source : List ℕ) → IsUtf8 source → lines_of source ≡ and_then (read (start_at (mark_len source)) (pieces_of source)) finished
+pub lines_of-utf8 : (source : List ℕ) → IsUtf8 source → lines_of source ≡ and_then (read (start_at (mark_len source)) (lexemes_of source)) finished
 unfolding lines_of
 lines_of-utf8 source utf8 = rw (is_utf8-from_IsUtf8 source utf8) refl
 
 pub lines_of-text : (source : List ℕ) (from : ℕ) (text : List ℕ) → IsUtf8 source → from ≡ mark_len source → text ≡ drop from source
     → lines_of source ≡ and_then (read (start_at from) (cuts text)) finished
-unfolding pieces_of
+unfolding lexemes_of
 lines_of-text source from text utf8 f t = lines_of-utf8 source utf8 ∙ rw (t, f) refl
 
-pub lines_answer : (source : List ℕ) (expected : Result Lexis LexFault) (r : Result Scan LexFault) → lines_of source ≡ expected → Answers expected r
+pub lines_answer : (source : List ℕ) (expected : Result Lexis LexFault) (r : Result Scan LexFault) → lines_of source ≡ expected → AnswersScan expected r
     → IfOk r (λ scan. lines_of source ≡ Ok (lexis_in scan))
 lines_answer source expected (Ok scan) e h = e ∙ h
 lines_answer source expected (Err fault) e h = tt
 
-pub fault_answer : (source : List ℕ) (expected : Result Lexis LexFault) (r : Result Scan LexFault) → lines_of source ≡ expected → Answers expected r
+pub fault_answer : (source : List ℕ) (expected : Result Lexis LexFault) (r : Result Scan LexFault) → lines_of source ≡ expected → AnswersScan expected r
     → IfErr r (λ fault. fault ≢ Memory → lines_of source ≡ Err fault)
 fault_answer source expected (Ok scan) e h = tt
 fault_answer source expected (Err fault) e h = λ other. e ∙ h other

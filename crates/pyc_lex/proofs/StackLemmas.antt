@@ -3,9 +3,9 @@ use Rattle.std.proofs.Common.{◌≡◌, ◌≤◌, ◌<◌, ◌+◌, ◌-◌, �
 use Rattle.std.proofs.lemmas.Bool.Decides.{nat_tests}
 use Rattle.pyc_lex.specs.declared.brackets.Opened.{Opened}
 use Rattle.pyc_lex.specs.declared.indents.Columns.{Columns}
-use Rattle.pyc_lex.specs.declared.tokens.Bracket.{Bracket}
-use Rattle.pyc_lex.specs.declared.tokens.Kind.{Kind}
-use Rattle.pyc_lex.specs.declared.tokens.Kind.TheVariants as kind
+use Rattle.pyc_token.specs.declared.tokens.Bracket.{Bracket}
+use Rattle.pyc_token.specs.declared.tokens.Kind.{Kind}
+use Rattle.pyc_token.specs.declared.tokens.Kind.TheVariants as kind
 use Rattle.pyc_lex.specs.declared.fault.LexFault.TheVariants.{Tabs, Deep, Bracket as Unmatched}
 use Rattle.pyc_lex.specs.Indents.{no_columns, compare_alike, top_of, max_depth, pushed, popped_to, settled}
 use Rattle.pyc_lex.specs.Limits.{depth_past}

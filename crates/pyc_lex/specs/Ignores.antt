@@ -1,7 +1,7 @@
 -- Comments that silence errors (mypy documentation, "Error codes", "Silencing errors based on error codes").
 use Rattle.std.specs.Prelude.{ℕ, zero, suc, ◌+◌, ◌-◌, Bool, not, ◌||◌, ◌==◌, nat_eq, if◌then◌else◌, List, [], ◌∷◌, reverse, take, drop, length, slice_index, codes, Option, None, Some, option_map, option_and_then}
 use Rattle.std.specs.List.{prefix_len, starts_with}
-use Rattle.pyc_lex.specs.declared.tokens.Span.{Span}
+use Rattle.pyc_token.specs.declared.tokens.Span.{Span}
 
 -- which errors a comment silences: all, or those of the codes at some spans
 pub data Codes : Type 0 where

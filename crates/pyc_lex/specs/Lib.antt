@@ -1,15 +1,9 @@
-pub mod Characters
-pub mod Cuts
 pub mod Fault
 pub mod Ignores
 pub mod Indents
 pub mod Limits
 pub mod Lines
-pub mod Names
-pub mod Numbers
-pub mod Operators
-pub mod Places
+pub mod Positions
 pub mod Reader
-pub mod Strings
 pub mod Texts
 pub mod View

@@ -1,8 +1,8 @@
 -- The order of tokens, and the limits of a line.
 use Rattle.std.specs.Prelude.{ℕ, ◌+◌, ◌-◌, ◌≤◌, List, [], ◌∷◌}
-use Rattle.pyc_lex.specs.declared.tokens.Kind.{Kind}
-use Rattle.pyc_lex.specs.declared.tokens.Kind.TheVariants as kind
-use Rattle.pyc_lex.specs.declared.tokens.Token.{Token}
+use Rattle.pyc_token.specs.declared.tokens.Kind.{Kind}
+use Rattle.pyc_token.specs.declared.tokens.Kind.TheVariants as kind
+use Rattle.pyc_token.specs.declared.tokens.Token.{Token}
 use Rattle.pyc_lex.specs.Indents.{max_depth}
 use Rattle.pyc_lex.specs.Lines.{Line}
 

@@ -1,26 +1,26 @@
--- The logical lines of a source, read off the list of all its pieces (Python reference, lexical analysis).
+-- The logical lines of a source, read off the list of all its lexemes (Python reference, lexical analysis).
 use Rattle.std.specs.Prelude.{ℕ, ◌+◌, ◌-◌, Bool, true, false, ◌&&◌, ◌||◌, ◌==◌, nat_le, nat_eq, if◌then◌else◌, List, [], ◌∷◌, ◌++◌, take, drop, length, slice_get, Option, None, Some, Result, Ok, Err}
 use Rattle.std.specs.List.{starts_with}
 use Rattle.std.specs.Str.{is_utf8}
-use Rattle.pyc_lex.specs.declared.tokens.Bracket.{Bracket}
-use Rattle.pyc_lex.specs.declared.tokens.Bracket.TheVariants as bracket
-use Rattle.pyc_lex.specs.declared.tokens.Kind.{Kind}
-use Rattle.pyc_lex.specs.declared.tokens.Kind.TheVariants as kind
-use Rattle.pyc_lex.specs.declared.tokens.Token.{Token}
+use Rattle.pyc_token.specs.declared.tokens.Bracket.{Bracket}
+use Rattle.pyc_token.specs.declared.tokens.Bracket.TheVariants as bracket
+use Rattle.pyc_token.specs.declared.tokens.Kind.{Kind}
+use Rattle.pyc_token.specs.declared.tokens.Kind.TheVariants as kind
+use Rattle.pyc_token.specs.declared.tokens.Token.{Token}
 use Rattle.pyc_lex.specs.declared.indents.Columns.{Columns}
-use Rattle.pyc_lex.specs.declared.places.Place.{Place}
+use Rattle.pyc_lex.specs.declared.positions.Position.{Position}
 use Rattle.pyc_lex.specs.declared.brackets.Opened.{Opened}
-use Rattle.pyc_lex.specs.declared.cut.Piece.{Piece}
-use Rattle.pyc_lex.specs.declared.cut.Piece.TheVariants as piece
-use Rattle.pyc_lex.specs.declared.cut.CutFault.{CutFault}
-use Rattle.pyc_lex.specs.declared.cut.CutFault.TheVariants as cut
+use Rattle.pyc_token.specs.declared.lexeme.Lexeme.{Lexeme}
+use Rattle.pyc_token.specs.declared.lexeme.Lexeme.TheVariants as lexeme
+use Rattle.pyc_token.specs.declared.lexeme.CutFault.{CutFault}
+use Rattle.pyc_token.specs.declared.lexeme.CutFault.TheVariants as cut
 use Rattle.pyc_lex.specs.declared.fault.LexFault.{LexFault}
 use Rattle.pyc_lex.specs.declared.fault.LexFault.TheVariants as fault
-use Rattle.pyc_lex.specs.Cuts.{Cut, found, bad, cuts}
+use Rattle.pyc_token.specs.Cuts.{Cut, found, bad, cuts}
 use Rattle.pyc_lex.specs.Ignores.{Codes, all, listed, IgnoreAt, silenced}
 use Rattle.pyc_lex.specs.Indents.{no_columns, columns_after, max_depth, settled}
-use Rattle.pyc_lex.specs.Names.{kind_of_name}
-use Rattle.pyc_lex.specs.Places.{place_after}
+use Rattle.pyc_token.specs.Names.{kind_of_name}
+use Rattle.pyc_lex.specs.Positions.{position_after}
 
 -- the tokens of a logical line, and how many entries the stack of indents has above the first
 pub record Line : Type 0 where
@@ -33,9 +33,9 @@ pub record Lexis : Type 0 where
   pub ignores : List IgnoreAt
   pub whole_file : Bool
 
--- what is known between two pieces: what the source is so far, the stack of indents, the brackets that are open,
+-- what is known between two lexemes: what the source is so far, the stack of indents, the brackets that are open,
 -- the columns of the blanks at the line's front and whether they are still counted, the tokens of the line that is begun,
--- and the place, as a byte, a physical line and a column
+-- and the position, as a byte, a physical line and a column
 pub record Reading : Type 0 where
   pub lexis : Lexis
   pub indents : List Columns
@@ -44,7 +44,7 @@ pub record Reading : Type 0 where
   pub is_measuring : Bool
   pub begun : List Token
   pub from : ℕ
-  pub place : Place
+  pub position : Position
 
 -- the source's beginning, at a byte
 abbrev pub start_at : ℕ → Reading
@@ -56,7 +56,7 @@ start_at from = record {
   is_measuring = true;
   begun = [];
   from = from;
-  place = record { line = 1; column = 1 };
+  position = record { line = 1; column = 1 };
 }
 
 -- whether a list has no element
@@ -69,9 +69,9 @@ abbrev pub and_then : {A B : Type 0} → Result A LexFault → (A → Result B L
 and_then (Ok known) next = next known
 and_then (Err stopped) next = Err stopped
 
--- the place after a piece of this text
+-- the position after a lexeme of this text
 abbrev pub moved : Reading → List ℕ → Reading
-moved r text = record r { from = r.from + length text; place = place_after r.place text }
+moved r text = record r { from = r.from + length text; position = position_after r.position text }
 
 -- ---- indents
 
@@ -79,7 +79,7 @@ moved r text = record r { from = r.from + length text; place = place_after r.pla
 abbrev pub line_settled : Reading → Result Reading LexFault
 line_settled r =
     if is_empty r.begun
-    then and_then (settled r.indents r.margin r.place.line) (λ stack. Ok (record r { indents = stack }))
+    then and_then (settled r.indents r.margin r.position.line) (λ stack. Ok (record r { indents = stack }))
     else Ok r
 
 -- blanks at the line's front are counted
@@ -119,13 +119,13 @@ bracketed brackets _ line = Ok brackets
 
 -- ---- tokens and lines
 
--- a token of this text at the place of a reading
+-- a token of this text at the position of a reading
 abbrev pub token_at : Reading → Kind → List ℕ → Token
 token_at r kind text = record {
   kind = kind;
   span = record { start = r.from; end = r.from + length text };
-  line = r.place.line;
-  column = r.place.column;
+  line = r.position.line;
+  column = r.position.column;
 }
 
 -- one more token in the line that is begun, with the brackets that are open after it
@@ -136,7 +136,7 @@ pushed r kind text brackets =
 -- what is known after a token: the first of a line settles its indent
 abbrev pub with_token : Reading → Kind → List ℕ → Result Reading LexFault
 with_token r kind text =
-    and_then (line_settled r) (λ s. and_then (bracketed s.brackets kind s.place.line) (λ brackets. Ok (pushed s kind text brackets)))
+    and_then (line_settled r) (λ s. and_then (bracketed s.brackets kind s.position.line) (λ brackets. Ok (pushed s kind text brackets)))
 
 -- these lines and one more of these tokens, where there is one: a line without tokens is no logical line
 abbrev pub with_line : List Line → ℕ → List Token → List Line
@@ -166,32 +166,32 @@ abbrev pub with_ignore : Reading → Option Codes → Reading
 with_ignore r None = r
 with_ignore r (Some codes) = record r {
   lexis = record r.lexis {
-    ignores = r.lexis.ignores ++ record { line = r.place.line; codes = codes } ∷ [];
+    ignores = r.lexis.ignores ++ record { line = r.position.line; codes = codes } ∷ [];
     whole_file = r.lexis.whole_file || is_all codes && is_empty r.lexis.lines && is_empty r.begun;
   };
 }
 
--- ---- all pieces
+-- ---- all lexemes
 
--- what is known after one more piece with this text
-unfoldable pub step : Reading → Piece → List ℕ → Result Reading LexFault
-step r piece.Name text = with_token r (kind_of_name text) text
-step r (piece.Token kind) text = with_token r kind text
-step r piece.Blank text = Ok (moved (measured r text) text)
-step r piece.Comment text = Ok (moved (with_ignore r (silenced r.from text)) text)
-step r piece.LineEnd text = Ok (moved (end_met r) text)
-step r piece.Joined text = Ok (moved (front_joined r) text)
+-- what is known after one more lexeme with this text
+unfoldable pub step : Reading → Lexeme → List ℕ → Result Reading LexFault
+step r lexeme.Name text = with_token r (kind_of_name text) text
+step r (lexeme.Token kind) text = with_token r kind text
+step r lexeme.Blank text = Ok (moved (measured r text) text)
+step r lexeme.Comment text = Ok (moved (with_ignore r (silenced r.from text)) text)
+step r lexeme.LineEnd text = Ok (moved (end_met r) text)
+step r lexeme.Joined text = Ok (moved (front_joined r) text)
 
 -- a fault of the text with its physical line
 abbrev pub told : CutFault → ℕ → LexFault
 told cut.BadCharacter line = fault.BadCharacter line
 told cut.OpenString line = fault.OpenString line
 
--- the fault at a place where no piece stands: that of the line's indent comes first
+-- the fault at a position where no lexeme stands: that of the line's indent comes first
 unfoldable pub fault_met : Reading → CutFault → Result Reading LexFault
-fault_met r met = and_then (line_settled r) (λ s. Err (told met s.place.line))
+fault_met r met = and_then (line_settled r) (λ s. Err (told met s.position.line))
 
--- what is known after all pieces, or the first fault
+-- what is known after all lexemes, or the first fault
 unfoldable pub read : Reading → List Cut → Result Reading LexFault
 read r [] = Ok r
 read r (bad met ∷ later) = fault_met r met
@@ -214,11 +214,11 @@ byte_order_mark = 0xEF ∷ 0xBB ∷ 0xBF ∷ []
 unfoldable pub mark_len : List ℕ → ℕ
 mark_len source = if starts_with nat_eq source byte_order_mark then 3 else 0
 
--- the pieces of a source, after its mark
-unfoldable pub pieces_of : List ℕ → List Cut
-pieces_of source = cuts (drop (mark_len source) source)
+-- the lexemes of a source, after its mark
+unfoldable pub lexemes_of : List ℕ → List Cut
+lexemes_of source = cuts (drop (mark_len source) source)
 
 -- the logical lines and ignore comments of a source, or its first lexical fault
 unfoldable pub lines_of : List ℕ → Result Lexis LexFault
 lines_of source =
-    if is_utf8 source then and_then (read (start_at (mark_len source)) (pieces_of source)) finished else Err fault.NotUtf8
+    if is_utf8 source then and_then (read (start_at (mark_len source)) (lexemes_of source)) finished else Err fault.NotUtf8

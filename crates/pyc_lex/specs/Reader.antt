@@ -14,5 +14,5 @@ reading_of r = record {
   is_measuring = r.is_measuring;
   begun = r.begun.items;
   from = r.from;
-  place = r.place;
+  position = r.position;
 }

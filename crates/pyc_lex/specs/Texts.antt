@@ -1,11 +1,11 @@
 -- The text of each token as a slice of the source.
 use Rattle.std.specs.Prelude.{ℕ, ◌<◌, ◌≤◌, List, [], ◌∷◌, ◌++◌, length, slice_range, IsUtf8}
-use Rattle.pyc_lex.specs.declared.tokens.Span.{Span}
-use Rattle.pyc_lex.specs.declared.tokens.Token.{Token}
-use Rattle.pyc_lex.specs.declared.cut.Piece.{Piece}
-use Rattle.pyc_lex.specs.declared.cut.Piece.TheVariants as piece
-use Rattle.pyc_lex.specs.Cuts.{Cut, found, bad}
-use Rattle.pyc_lex.specs.Lines.{Line, pieces_of}
+use Rattle.pyc_token.specs.declared.tokens.Span.{Span}
+use Rattle.pyc_token.specs.declared.tokens.Token.{Token}
+use Rattle.pyc_token.specs.declared.lexeme.Lexeme.{Lexeme}
+use Rattle.pyc_token.specs.declared.lexeme.Lexeme.TheVariants as lexeme
+use Rattle.pyc_token.specs.Cuts.{Cut, found, bad}
+use Rattle.pyc_lex.specs.Lines.{Line, lexemes_of}
 
 -- the tokens of some lines, in order
 abbrev pub tokens_of : List Line → List Token
@@ -23,12 +23,12 @@ pub record IsTextSpan (source : List ℕ) (span : Span) : Type 0 where
   pub is_utf8 : IsUtf8 (slice_range source span.start span.end)
 
 -- a token's text before other texts; what is no token adds none
-abbrev pub with_token_text : Piece → List ℕ → List (List ℕ) → List (List ℕ)
-with_token_text piece.Name text texts = text ∷ texts
-with_token_text (piece.Token kind) text texts = text ∷ texts
+abbrev pub with_token_text : Lexeme → List ℕ → List (List ℕ) → List (List ℕ)
+with_token_text lexeme.Name text texts = text ∷ texts
+with_token_text (lexeme.Token kind) text texts = text ∷ texts
 with_token_text _ text texts = texts
 
--- the texts of the tokens among some pieces, as they were cut
+-- the texts of the tokens among some lexemes, as they were cut
 unfoldable pub texts_among : List Cut → List (List ℕ)
 texts_among [] = []
 texts_among (bad fault ∷ later) = texts_among later
@@ -36,4 +36,4 @@ texts_among (found p text ∷ later) = with_token_text p text (texts_among later
 
 -- the texts of a source's tokens, as they were cut
 unfoldable pub token_texts : List ℕ → List (List ℕ)
-token_texts source = texts_among (pieces_of source)
+token_texts source = texts_among (lexemes_of source)

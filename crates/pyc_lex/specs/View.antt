@@ -2,12 +2,12 @@
 use Rattle.std.specs.Prelude.{◌≡◌, ◌≢◌, ℕ, List, map, Vec, Result, Ok, Err}
 use Rattle.std.specs.declared.alloc.Global.{Global}
 use Rattle.pyc_lex.specs.declared.ignores.Rest.{Rest}
-use Rattle.pyc_lex.specs.declared.tokens.Span.{Span}
-use Rattle.pyc_lex.specs.declared.tokens.Codes.{Codes as Declared}
-use Rattle.pyc_lex.specs.declared.tokens.Codes.TheVariants.{All, Listed}
-use Rattle.pyc_lex.specs.declared.tokens.Ignore.{Ignore}
-use Rattle.pyc_lex.specs.declared.tokens.LogicalLine.{LogicalLine}
-use Rattle.pyc_lex.specs.declared.tokens.Scan.{Scan}
+use Rattle.pyc_token.specs.declared.tokens.Span.{Span}
+use Rattle.pyc_lex.specs.declared.logical_lines.Codes.{Codes as Declared}
+use Rattle.pyc_lex.specs.declared.logical_lines.Codes.TheVariants.{All, Listed}
+use Rattle.pyc_lex.specs.declared.logical_lines.Ignore.{Ignore}
+use Rattle.pyc_lex.specs.declared.logical_lines.LogicalLine.{LogicalLine}
+use Rattle.pyc_lex.specs.declared.logical_lines.Scan.{Scan}
 use Rattle.pyc_lex.specs.declared.fault.LexFault.{LexFault}
 use Rattle.pyc_lex.specs.declared.fault.LexFault.TheVariants.{Memory}
 use Rattle.pyc_lex.specs.Ignores.{Codes, all, listed, IgnoreAt}
@@ -48,6 +48,6 @@ abbrev pub rest_in : Rest → ℕ × List ℕ
 rest_in rest = (rest.from, rest.text.now)
 
 -- a result is what the definition says; a want of memory says nothing
-abbrev pub Answers : Result Lexis LexFault → Result Scan LexFault → Type 0
-Answers expected (Ok scan) = expected ≡ Ok (lexis_in scan)
-Answers expected (Err fault) = fault ≢ Memory → expected ≡ Err fault
+abbrev pub AnswersScan : Result Lexis LexFault → Result Scan LexFault → Type 0
+AnswersScan expected (Ok scan) = expected ≡ Ok (lexis_in scan)
+AnswersScan expected (Err fault) = fault ≢ Memory → expected ≡ Err fault

@@ -1,6 +1,6 @@
 //! Open brackets.
 
-use crate::tokens::Bracket;
+use pyc_token::Bracket;
 
 /// An open bracket with its physical line.
 #[derive(Clone, Copy, Debug, PartialEq, Eq)]

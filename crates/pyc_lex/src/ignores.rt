@@ -5,8 +5,8 @@ ghost use Rattle.std.specs.List.{prefix_len};
 ghost use Rattle.pyc_lex.specs.Ignores as spec;
 ghost use Rattle.pyc_lex.specs.View.{codes_in, spans_in, rest_in};
 
-use crate::characters::byte_at;
-use crate::tokens::{Codes, Span};
+use crate::logical_lines::Codes;
+use pyc_token::{Span, byte_at};
 use std::alloc::{AllocError, Global};
 
 /// A text within the source, and the byte that it begins at.

@@ -3,26 +3,20 @@
 #![tactic(auto)]
 
 mod brackets;
-mod characters;
-mod cut;
 mod fault;
 mod ignores;
 mod indents;
 mod lines;
-mod names;
-mod numbers;
-mod operators;
-mod places;
+mod logical_lines;
+mod positions;
 mod reader;
 mod stack;
-mod strings;
 #[cfg(test)]
 mod tests;
-mod tokens;
 
 pub use fault::LexFault;
 pub use lines::{ident, scan};
-pub use tokens::{
-    Arithmetic, Bracket, Codes, Comparison, Delimiter, Ignore, Keyword, Kind, LogicalLine, Number,
-    Prefix, Scan, Span, Token, Word,
+pub use logical_lines::{Codes, Ignore, LogicalLine, Scan};
+pub use pyc_token::{
+    Arithmetic, Bracket, Comparison, Delimiter, Keyword, Kind, Number, Prefix, Span, Token, Word,
 };

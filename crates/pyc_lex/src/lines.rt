@@ -3,15 +3,15 @@
 ghost use Rattle.std.specs.Prelude.{◌≡◌, ◌≢◌, ◌<◌, ◌≤◌, ◌+◌, ◌^◌, length, map, All, AllPairs, IfOk, IfErr, Ok, Err, slice_range};
 ghost use Rattle.pyc_lex.specs.Lines as spec;
 ghost use Rattle.pyc_lex.specs.Lines.{lines_of};
-ghost use Rattle.pyc_lex.specs.View.{Answers, lexis_in};
-ghost use Rattle.pyc_lex.specs.Cuts.{cuts};
+ghost use Rattle.pyc_lex.specs.View.{AnswersScan, lexis_in};
+ghost use Rattle.pyc_token.specs.Cuts.{cuts};
 ghost use Rattle.pyc_lex.specs.Limits.{IsBefore, IsWithinLimits};
 ghost use Rattle.pyc_lex.specs.Texts.{tokens_of, token_texts, slice_at, IsTextSpan};
 
-use crate::cut::cut;
 use crate::fault::LexFault;
+use crate::logical_lines::Scan;
 use crate::reader::Reader;
-use crate::tokens::{Scan, Span};
+use pyc_token::{Span, cut};
 use std::alloc::Global;
 use std::str;
 
@@ -39,10 +39,10 @@ fn mark_len(bytes: &[u8]) -> usize
     }
 }
 
-/// Reads all pieces of a text that begins at a byte of the source.
+/// Reads all lexemes of a text that begins at a byte of the source.
 fn read(alloc: Global, from: usize, text: &str) -> Result<Scan, LexFault>
     requires { from + length text.now < 2 ^ 63 }
-    ensures { Answers (spec.and_then (spec.read (spec.start_at from) (cuts text.now)) spec.finished) result }
+    ensures { AnswersScan (spec.and_then (spec.read (spec.start_at from) (cuts text.now)) spec.finished) result }
 {
     let mut reader = Reader::new(alloc, from)?;
     let mut rest = text;
@@ -51,9 +51,9 @@ fn read(alloc: Global, from: usize, text: &str) -> Result<Scan, LexFault>
             break;
         }
         match cut(rest) {
-            Ok((piece, len)) => {
+            Ok((lexeme, len)) => {
                 let (front, left) = rest.split_at(len);
-                reader.step(alloc, piece, front)?;
+                reader.step(alloc, lexeme, front)?;
                 rest = left;
             }
             Err(fault) => return Err(reader.fault(fault)),

@@ -1,21 +1,20 @@
-//! What is known of a source between two of its pieces.
+//! What is known of a source between two of its lexemes.
 
 ghost use Rattle.std.specs.Prelude.{◌≡◌, ◌≢◌, ◌<◌, ◌≤◌, ◌+◌, ◌*◌, ◌^◌, ℕ, [], length, Some, OnOk, IfOk};
 ghost use Rattle.pyc_lex.specs.Lines as spec;
 
 use crate::brackets::Opened;
-use crate::cut::{CutFault, Piece};
 use crate::fault::LexFault;
 use crate::ignores::silenced;
 use crate::indents::Columns;
-use crate::names::kind_of_name;
-use crate::places::Place;
+use crate::logical_lines::{Codes, Ignore, LogicalLine, Scan};
+use crate::positions::Position;
 use crate::stack::{innermost, meet, settle};
-use crate::tokens::{Codes, Ignore, Kind, LogicalLine, Scan, Span, Token};
+use pyc_token::{CutFault, Kind, Lexeme, Span, Token, kind_of_name};
 use std::alloc::{AllocError, Global};
 
 /// What the source is so far, the stack of indents, the open brackets, the columns of the blanks at the line's front and
-/// whether they are still counted, the tokens of the line that is begun, and the place.
+/// whether they are still counted, the tokens of the line that is begun, and the position.
 #[derive(Drop)]
 pub(crate) struct Reader {
     lines: Vec<LogicalLine>,
@@ -27,16 +26,16 @@ pub(crate) struct Reader {
     is_measuring: bool,
     begun: Vec<Token>,
     from: usize,
-    place: Place,
+    position: Position,
     ghost wide_is_low: { margin.wide ≤ 8 * from },
     ghost narrow_is_low: { margin.narrow ≤ from },
-    ghost line_is_low: { place.line ≤ from + 1 },
-    ghost column_is_low: { place.column ≤ from + 1 },
-    ghost column_from_one: { 1 ≤ place.column },
+    ghost line_is_low: { position.line ≤ from + 1 },
+    ghost column_is_low: { position.column ≤ from + 1 },
+    ghost column_from_one: { 1 ≤ position.column },
 }
 
 impl Reader {
-    ghost use Rattle.pyc_lex.specs.View.{Leads, lexis_in, codes_in, Answers};
+    ghost use Rattle.pyc_lex.specs.View.{Leads, lexis_in, codes_in, AnswersScan};
     ghost use Rattle.pyc_lex.specs.Reader.{reading_of};
     ghost use Rattle.pyc_lex.specs.Ignores.{silenced};
 
@@ -55,16 +54,16 @@ impl Reader {
             is_measuring: true,
             begun: Vec::new(alloc),
             from,
-            place: Place { line: 1, column: 1 },
+            position: Position { line: 1, column: 1 },
         })
     }
 
-    /// Goes on past a piece.
+    /// Goes on past a lexeme.
     fn advance(&mut self, text: &[u8])
         requires { self.old.from + length text.now < 2 ^ 63 }
         ensures { reading_of self.new ≡ spec.moved (reading_of self.old) text.now }
     {
-        self.place = self.place.after(text);
+        self.position = self.position.after(text);
         self.from += text.len();
     }
 
@@ -73,7 +72,7 @@ impl Reader {
         ensures { Leads (spec.line_settled (reading_of self.old)) result (reading_of self.new) }
     {
         if self.begun.is_empty() {
-            settle(&mut self.indents, self.margin, self.place.line)?;
+            settle(&mut self.indents, self.margin, self.position.line)?;
         }
         Ok(())
     }
@@ -90,8 +89,8 @@ impl Reader {
         self.begun.push(Token {
             kind,
             span,
-            line: self.place.line,
-            column: self.place.column,
+            line: self.position.line,
+            column: self.position.column,
         })?;
         self.is_measuring = false;
         self.advance(text);
@@ -103,7 +102,7 @@ impl Reader {
         ensures { Leads (spec.with_token (reading_of self.old) kind text.now) result (reading_of self.new) }
     {
         self.settle_line()?;
-        meet(&mut self.brackets, kind, self.place.line)?;
+        meet(&mut self.brackets, kind, self.position.line)?;
         self.push_token(kind, text)?;
         Ok(())
     }
@@ -145,7 +144,7 @@ impl Reader {
             self.whole_file = true;
         }
         self.ignores.push(Ignore {
-            line: self.place.line,
+            line: self.position.line,
             codes,
         })?;
         Ok(())
@@ -163,26 +162,26 @@ impl Reader {
         Ok(())
     }
 
-    /// Reads one piece, of which this is the text.
+    /// Reads one lexeme, of which this is the text.
     #[tactic(auto, unfolding(crate::specs::Lines::step))]
-    pub fn step(&mut self, alloc: Global, piece: Piece, text: &str) -> Result<(), LexFault>
+    pub fn step(&mut self, alloc: Global, lexeme: Lexeme, text: &str) -> Result<(), LexFault>
         requires within { self.old.from + length text.now < 2 ^ 63 }
         requires not_empty { 1 ≤ length text.now }
-        ensures { Leads (spec.step (reading_of self.old) piece text.now) result (reading_of self.new) }
+        ensures { Leads (spec.step (reading_of self.old) lexeme text.now) result (reading_of self.new) }
     {
         let bytes = text.as_bytes();
-        match piece {
-            Piece::Name => self.add_token(kind_of_name(alloc, text)?, bytes)?,
-            Piece::Token(kind) => self.add_token(kind, bytes)?,
-            Piece::Blank => self.measure(bytes),
-            Piece::Comment => self.read_comment(alloc, bytes)?,
-            Piece::LineEnd => {
+        match lexeme {
+            Lexeme::Name => self.add_token(kind_of_name(alloc, text)?, bytes)?,
+            Lexeme::Token(kind) => self.add_token(kind, bytes)?,
+            Lexeme::Blank => self.measure(bytes),
+            Lexeme::Comment => self.read_comment(alloc, bytes)?,
+            Lexeme::LineEnd => {
                 if self.brackets.is_empty() {
                     self.end_line(alloc)?;
                 }
                 self.advance(bytes);
             }
-            Piece::Joined => {
+            Lexeme::Joined => {
                 if self.margin.wide != 0 {
                     self.is_measuring = false;
                 }
@@ -192,7 +191,7 @@ impl Reader {
         Ok(())
     }
 
-    /// The fault at a place where no piece stands: that of the line's indent comes first.
+    /// The fault at a position where no lexeme stands: that of the line's indent comes first.
     #[tactic(auto, unfolding(crate::specs::Lines::fault_met))]
     pub fn fault(&mut self, fault: CutFault) -> LexFault
         ensures { result ≢ LexFault.Memory → spec.fault_met (reading_of self.old) fault ≡ Err result }
@@ -201,14 +200,14 @@ impl Reader {
             return indent;
         }
         match fault {
-            CutFault::BadCharacter => LexFault::BadCharacter(self.place.line),
-            CutFault::OpenString => LexFault::OpenString(self.place.line),
+            CutFault::BadCharacter => LexFault::BadCharacter(self.position.line),
+            CutFault::OpenString => LexFault::OpenString(self.position.line),
         }
     }
 
     /// What the source is, at its end.
     pub fn finish(mut self, alloc: Global) -> Result<Scan, LexFault>
-        ensures { Answers (spec.finished (reading_of self)) result }
+        ensures { AnswersScan (spec.finished (reading_of self)) result }
     {
         if let Some(last) = innermost(&self.brackets) {
             return Err(LexFault::Bracket(last.line));
@@ -224,7 +223,7 @@ impl Reader {
             is_measuring: _,
             begun: _,
             from: _,
-            place: _,
+            position: _,
         } = self;
         Ok(Scan {
             lines,

@@ -8,7 +8,7 @@ ghost use Rattle.pyc_lex.specs.View.{Leads};
 use crate::brackets::Opened;
 use crate::fault::LexFault;
 use crate::indents::Columns;
-use crate::tokens::{Bracket, Kind};
+use pyc_token::{Bracket, Kind};
 use std::alloc::AllocError;
 
 /// The most entries above the first, and the most open brackets.

@@ -1,13 +1,13 @@
 -- Lemmas on the lines of blocks.
 use Rattle.std.proofs.Common.{◌≡◌, refl, ap, ℕ, suc, ◌-◌, ◌≤◌, length, List, [], ◌∷◌, false, Err, arith}
-use Rattle.pyc_parse.specs.declared.statement.Item.{Item}
-use Rattle.pyc_parse.specs.declared.statement.Statement.{Statement as StatementOf}
+use Rattle.pyc_tree.specs.declared.statement.Item.{Item}
+use Rattle.pyc_tree.specs.declared.statement.SimpleStatement.{SimpleStatement as SimpleStatementOf}
 use Rattle.pyc_parse.specs.Blocks.{Placed, is_none, number_of, all_statements, block_at}
-use Rattle.pyc_parse.specs.Statements.{Statement, Separated}
-use Rattle.pyc_parse.specs.StatementView.{statement_of, separated_before}
+use Rattle.pyc_tree.specs.Statements.{SimpleStatement, Separated}
+use Rattle.pyc_tree.specs.StatementView.{statement_of, separated_before}
 
 -- a first item is one
-pub is_none-some : (each : List (Item StatementOf)) (end : Separated Statement) → 1 ≤ length each → false ≡ is_none (separated_before statement_of each end)
+pub is_none-some : (each : List (Item SimpleStatementOf)) (end : Separated SimpleStatement) → 1 ≤ length each → false ≡ is_none (separated_before statement_of each end)
 is_none-some [] end more = absurd (omega arith)
 is_none-some (x ∷ each) end more = refl
 

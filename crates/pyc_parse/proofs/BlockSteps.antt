@@ -1,52 +1,52 @@
 -- Turns of the loops over decorators, clauses and statements.
 use Rattle.std.proofs.Common.{◌≡◌, ℕ, suc, ◌+◌, ◌-◌, ◌<◌, ◌≤◌, refl, ap, sym, subst, ◌∙◌, arith, true, false, List, [], ◌∷◌, ◌++◌, Option, Some, None, Result, Ok, Err, IsErrAnd, map, option_map, append_assoc}
 use Rattle.std.proofs.lemmas.List.{map_push, append-nil}
-use Rattle.pyc_parse.specs.declared.block.After.{After}
-use Rattle.pyc_parse.specs.declared.block.CompoundClause.{CompoundClause as ClauseOf}
-use Rattle.pyc_parse.specs.declared.block.Decorator.{Decorator as DecoratorOf}
-use Rattle.pyc_parse.specs.declared.block.Stmt.{Stmt as StmtOf}
-use Rattle.pyc_parse.specs.declared.error.BlockFault.{BlockFault}
-use Rattle.pyc_parse.specs.declared.error.BlockFault.TheVariants as fault
-use Rattle.pyc_parse.specs.BlockTrees.{Decorator, Clauses, no_clause, another, Stmts, no_statement, statement}
-use Rattle.pyc_parse.specs.Blocks.{Placed, Outcome, Parser, and_then, pure, next_clause, clauses, next_statement, statements, next_of, is_decorator, decorator_line, decorators}
-use Rattle.pyc_parse.specs.BlockReads.{Reads}
+use Rattle.pyc_tree.specs.declared.block.After.{After}
+use Rattle.pyc_tree.specs.declared.block.CompoundClause.{CompoundClause as ComprehensionOf}
+use Rattle.pyc_tree.specs.declared.block.Decorator.{Decorator as DecoratorOf}
+use Rattle.pyc_tree.specs.declared.block.Stmt.{Stmt as StmtOf}
+use Rattle.pyc_parse.specs.declared.block_fault.BlockFault.{BlockFault}
+use Rattle.pyc_parse.specs.declared.block_fault.BlockFault.TheVariants as fault
+use Rattle.pyc_parse.specs.BlockTrees.{Decorator, CompoundClauses, no_clause, another, Stmts, no_statement, statement}
+use Rattle.pyc_parse.specs.Blocks.{Placed, BlocksParsed, Parser, and_then, pure, next_clause, clauses, next_statement, statements, next_of, is_decorator, decorator_line, decorators}
+use Rattle.pyc_parse.specs.ReadsLines.{ReadsLines}
 use Rattle.pyc_parse.specs.BlockView.{clause_of, follower_of, clauses_before, stmt_of, stmts_before, decorator_of}
-use Rattle.pyc_parse.proofs.Turns.{one_more, no_more}
+use Rattle.pyc_tree.proofs.Turns.{one_more, no_more}
 
 -- the fault of a part is the fault of the whole
-pub read_err : {X Y A B : Type 0} (view : X → A) (part : Outcome A) (told : BlockFault) (left : List Placed) (whole_view : Y → B) (whole : Outcome B)
+pub read_err : {X Y A B : Type 0} (view : X → A) (part : BlocksParsed A) (told : BlockFault) (left : List Placed) (whole_view : Y → B) (whole : BlocksParsed B)
     (r : Result Y BlockFault) (new : List Placed)
-    → IsErrAnd r (λ e. e ≡ told) → Reads {X = X} view part (Err told) left → ((number : ℕ) → part ≡ Err number → whole ≡ Err number)
-    → Reads whole_view whole r new
+    → IsErrAnd r (λ e. e ≡ told) → ReadsLines {X = X} view part (Err told) left → ((number : ℕ) → part ≡ Err number → whole ≡ Err number)
+    → ReadsLines whole_view whole r new
 read_err view part told left whole_view whole (Ok y) new is read leads = absurd is
 read_err view part told left whole_view whole (Err fault.Memory) new is read leads = tt
 read_err {X} view part told left whole_view whole (Err (fault.Block number)) new is read leads =
-    leads number (subst (λ (e : BlockFault). Reads {X = X} view part (Err e) left) (sym is) read)
+    leads number (subst (λ (e : BlockFault). ReadsLines {X = X} view part (Err e) left) (sym is) read)
 
 -- ---- clauses
 
 -- clauses before those that are read
-abbrev pub with_clauses : List ClauseOf → Outcome Clauses → Outcome Clauses
+abbrev pub with_clauses : List CompoundClauseOf → BlocksParsed CompoundClauses → BlocksParsed CompoundClauses
 with_clauses front (Ok p) = Ok (clauses_before front p.0, p.1)
 with_clauses front (Err number) = Err number
 
-pub clauses_before-more : (front : List ClauseOf) (x : ClauseOf) (end : Clauses) → clauses_before (front ++ x ∷ []) end ≡ clauses_before front (another (clause_of x) end)
+pub clauses_before-more : (front : List CompoundClauseOf) (x : CompoundClauseOf) (end : CompoundClauses) → clauses_before (front ++ x ∷ []) end ≡ clauses_before front (another (clause_of x) end)
 clauses_before-more [] x end = refl
 clauses_before-more (y ∷ ys) x end = ap (another (clause_of y)) (clauses_before-more ys x end)
 
-with_clauses-none : (o : Outcome Clauses) → with_clauses [] o ≡ o
+with_clauses-none : (o : BlocksParsed CompoundClauses) → with_clauses [] o ≡ o
 with_clauses-none (Ok p) = refl
 with_clauses-none (Err number) = refl
 
-with_clauses-more : (front : List ClauseOf) (x : ClauseOf) (o : Outcome Clauses)
+with_clauses-more : (front : List CompoundClauseOf) (x : CompoundClauseOf) (o : BlocksParsed CompoundClauses)
     → with_clauses (front ++ x ∷ []) o ≡ with_clauses front (and_then o (λ rest. pure (another (clause_of x) rest)))
-with_clauses-more front x (Ok p) = ap {B = Outcome Clauses} (λ found. Ok (found, p.1)) (clauses_before-more front x p.0)
+with_clauses-more front x (Ok p) = ap {B = BlocksParsed CompoundClauses} (λ found. Ok (found, p.1)) (clauses_before-more front x p.0)
 with_clauses-more front x (Err number) = refl
 
-pub clauses_start : (f : ℕ → Outcome Clauses) (n m : ℕ) → n ≡ m → with_clauses [] (f (n - 0)) ≡ f m
+pub clauses_start : (f : ℕ → BlocksParsed CompoundClauses) (n m : ℕ) → n ≡ m → with_clauses [] (f (n - 0)) ≡ f m
 clauses_start f n m is = with_clauses-none (f (n - 0)) ∙ (let all : n - 0 ≡ m = omega (arith, is) in ap f all)
 
-module _ (S : ℕ → Parser Stmts) (n at indent : ℕ) (so : After) (all : Outcome Clauses) (front : List ClauseOf) (ps : List Placed)
+module _ (S : ℕ → Parser Stmts) (n at indent : ℕ) (so : After) (all : BlocksParsed CompoundClauses) (front : List CompoundClauseOf) (ps : List Placed)
     (read : with_clauses front (clauses S (n - at) indent so ps) ≡ all) where
   -- no turn is left
   pub clauses_over : n ≤ at → all ≡ Ok (clauses_before front no_clause, ps)
@@ -61,14 +61,14 @@ module _ (S : ℕ → Parser Stmts) (n at indent : ℕ) (so : After) (all : Outc
     unfolding clauses
     clauses_fault number is = sym (rw is at clauses_turn)
 
-    module _ (x : Option (ClauseOf × After)) (ps1 : List Placed) (is : next_clause S so indent ps ≡ Ok (follower_of x, ps1)) where
+    module _ (x : Option (CompoundClauseOf × After)) (ps1 : List Placed) (is : next_clause S so indent ps ≡ Ok (follower_of x, ps1)) where
       -- no clause follows
       pub clauses_end : x ≡ None → all ≡ Ok (clauses_before front no_clause, ps1)
       unfolding clauses
       clauses_end none = sym (rw (is, none) at clauses_turn)
 
       -- a clause follows
-      pub clauses_on : (c : ClauseOf) (later : After) → x ≡ Some (c, later)
+      pub clauses_on : (c : CompoundClauseOf) (later : After) → x ≡ Some (c, later)
           → with_clauses (front ++ c ∷ []) (clauses S (n - (at + 1)) indent later ps1) ≡ all
       unfolding clauses
       clauses_on c later some = with_clauses-more front c (clauses S (n - (at + 1)) indent later ps1) ∙ rw (is, some) at clauses_turn
@@ -76,7 +76,7 @@ module _ (S : ℕ → Parser Stmts) (n at indent : ℕ) (so : After) (all : Outc
 -- ---- statements
 
 -- statements before those that are read
-abbrev pub with_statements : List StmtOf → Outcome Stmts → Outcome Stmts
+abbrev pub with_statements : List StmtOf → BlocksParsed Stmts → BlocksParsed Stmts
 with_statements front (Ok p) = Ok (stmts_before front p.0, p.1)
 with_statements front (Err number) = Err number
 
@@ -84,19 +84,19 @@ pub stmts_before-more : (front : List StmtOf) (x : StmtOf) (end : Stmts) → stm
 stmts_before-more [] x end = refl
 stmts_before-more (y ∷ ys) x end = ap (statement (stmt_of y)) (stmts_before-more ys x end)
 
-with_statements-none : (o : Outcome Stmts) → with_statements [] o ≡ o
+with_statements-none : (o : BlocksParsed Stmts) → with_statements [] o ≡ o
 with_statements-none (Ok p) = refl
 with_statements-none (Err number) = refl
 
-with_statements-more : (front : List StmtOf) (x : StmtOf) (o : Outcome Stmts)
+with_statements-more : (front : List StmtOf) (x : StmtOf) (o : BlocksParsed Stmts)
     → with_statements (front ++ x ∷ []) o ≡ with_statements front (and_then o (λ rest. pure (statement (stmt_of x) rest)))
-with_statements-more front x (Ok p) = ap {B = Outcome Stmts} (λ found. Ok (found, p.1)) (stmts_before-more front x p.0)
+with_statements-more front x (Ok p) = ap {B = BlocksParsed Stmts} (λ found. Ok (found, p.1)) (stmts_before-more front x p.0)
 with_statements-more front x (Err number) = refl
 
-pub statements_start : (f : ℕ → Outcome Stmts) (n m : ℕ) → n ≡ m → with_statements [] (f (n - 0)) ≡ f m
+pub statements_start : (f : ℕ → BlocksParsed Stmts) (n m : ℕ) → n ≡ m → with_statements [] (f (n - 0)) ≡ f m
 statements_start f n m is = with_statements-none (f (n - 0)) ∙ (let all : n - 0 ≡ m = omega (arith, is) in ap f all)
 
-module _ (S : ℕ → Parser Stmts) (n at indent : ℕ) (all : Outcome Stmts) (front : List StmtOf) (ps : List Placed)
+module _ (S : ℕ → Parser Stmts) (n at indent : ℕ) (all : BlocksParsed Stmts) (front : List StmtOf) (ps : List Placed)
     (read : with_statements front (statements S (n - at) indent ps) ≡ all) where
   -- no turn is left
   pub statements_over : n ≤ at → all ≡ Ok (stmts_before front no_statement, ps)
@@ -125,26 +125,26 @@ module _ (S : ℕ → Parser Stmts) (n at indent : ℕ) (all : Outcome Stmts) (f
 -- ---- decorators
 
 -- decorators before those that are read
-abbrev pub with_decorators : List Decorator → Outcome (List Decorator) → Outcome (List Decorator)
+abbrev pub with_decorators : List Decorator → BlocksParsed (List Decorator) → BlocksParsed (List Decorator)
 with_decorators front (Ok p) = Ok (front ++ p.0, p.1)
 with_decorators front (Err number) = Err number
 
-with_decorators-none : (o : Outcome (List Decorator)) → with_decorators [] o ≡ o
+with_decorators-none : (o : BlocksParsed (List Decorator)) → with_decorators [] o ≡ o
 with_decorators-none (Ok p) = refl
 with_decorators-none (Err number) = refl
 
-with_decorators-more : (front : List Decorator) (x : Decorator) (o : Outcome (List Decorator))
+with_decorators-more : (front : List Decorator) (x : Decorator) (o : BlocksParsed (List Decorator))
     → with_decorators (front ++ x ∷ []) o ≡ with_decorators front (and_then o (λ rest. pure (x ∷ rest)))
-with_decorators-more front x (Ok p) = ap {B = Outcome (List Decorator)} (λ found. Ok (found, p.1)) (append_assoc front (x ∷ []) p.0)
+with_decorators-more front x (Ok p) = ap {B = BlocksParsed (List Decorator)} (λ found. Ok (found, p.1)) (append_assoc front (x ∷ []) p.0)
 with_decorators-more front x (Err number) = refl
 
-pub decorators_start : (f : ℕ → Outcome (List Decorator)) (n m : ℕ) → n ≡ m → with_decorators [] (f (n - 0)) ≡ f m
+pub decorators_start : (f : ℕ → BlocksParsed (List Decorator)) (n m : ℕ) → n ≡ m → with_decorators [] (f (n - 0)) ≡ f m
 decorators_start f n m is = with_decorators-none (f (n - 0)) ∙ (let all : n - 0 ≡ m = omega (arith, is) in ap f all)
 
 decorators_none : (front : List Decorator) (ps : List Placed) → with_decorators front (Ok ([], ps)) ≡ Ok (front, ps)
-decorators_none front ps = ap {B = Outcome (List Decorator)} (λ found. Ok (found, ps)) (append-nil front)
+decorators_none front ps = ap {B = BlocksParsed (List Decorator)} (λ found. Ok (found, ps)) (append-nil front)
 
-module _ (n at indent : ℕ) (all : Outcome (List Decorator)) (found : List DecoratorOf) (ps : List Placed)
+module _ (n at indent : ℕ) (all : BlocksParsed (List Decorator)) (found : List DecoratorOf) (ps : List Placed)
     (read : with_decorators (map decorator_of found) (decorators (n - at) indent ps) ≡ all) where
   -- no turn is left
   pub decorators_over : n ≤ at → all ≡ Ok (map decorator_of found, ps)

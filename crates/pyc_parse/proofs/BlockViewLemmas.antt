@@ -4,17 +4,17 @@ use Rattle.std.specs.declared.alloc.Global.{Global}
 use Rattle.std.specs.declared.boxed.Box.{Box}
 use Rattle.std.specs.Global.{Vec}
 use mathlib.Core.Former.{Count}
-use Rattle.pyc_parse.specs.declared.block.CompoundClause.{CompoundClause as ClauseOf}
-use Rattle.pyc_parse.specs.declared.block.Decorator.{Decorator as DecoratorOf}
-use Rattle.pyc_parse.specs.declared.block.Stmt.{Stmt as StmtOf, Row_of-CompoundClause, end_of-CompoundClause, more_of-CompoundClause, items-the_row-CompoundClause, items_hidden-the_row-CompoundClause-0}
-use Rattle.pyc_parse.specs.declared.block.Stmt.TheVariants as s
-use Rattle.pyc_parse.specs.declared.block.Suite.{Suite as SuiteOf, Row_of-Stmt, end_of-Stmt, more_of-Stmt, items-the_row-Stmt, items_hidden-the_row-Stmt-1}
-use Rattle.pyc_parse.specs.declared.block.Suite.TheVariants as u
-use Rattle.pyc_parse.specs.declared.statement.Separated.{Separated as SeparatedOf}
-use Rattle.pyc_parse.specs.declared.statement.Statement.{Statement as StatementOf}
+use Rattle.pyc_tree.specs.declared.block.CompoundClause.{CompoundClause as ComprehensionOf}
+use Rattle.pyc_tree.specs.declared.block.Decorator.{Decorator as DecoratorOf}
+use Rattle.pyc_tree.specs.declared.block.Stmt.{Stmt as StmtOf, Row_of-CompoundClause, end_of-CompoundClause, more_of-CompoundClause, items-the_row-CompoundClause, items_hidden-the_row-CompoundClause-0}
+use Rattle.pyc_tree.specs.declared.block.Stmt.TheVariants as s
+use Rattle.pyc_tree.specs.declared.block.Suite.{Suite as SuiteOf, Row_of-Stmt, end_of-Stmt, more_of-Stmt, items-the_row-Stmt, items_hidden-the_row-Stmt-1}
+use Rattle.pyc_tree.specs.declared.block.Suite.TheVariants as u
+use Rattle.pyc_tree.specs.declared.statement.Separated.{Separated as SeparatedOf}
+use Rattle.pyc_tree.specs.declared.statement.SimpleStatement.{SimpleStatement as SimpleStatementOf}
 use Rattle.pyc_parse.specs.BlockTrees as plain
 use Rattle.pyc_parse.specs.BlockView.{decorators_of, stmt_of, suite_of, clauses_row, stmts_row, clause_of, clauses_before, clauses_of, stmts_before, stmts_of}
-use Rattle.pyc_parse.specs.StatementView.{separated_of, statement_of}
+use Rattle.pyc_tree.specs.StatementView.{separated_of, statement_of}
 
 -- ---- rows and lists
 
@@ -31,7 +31,7 @@ stmts_row-items n (more_of-Stmt x rest) = ap (plain.statement (stmt_of x)) (stmt
 
 -- ---- one equation a constructor
 
-pub view_Simple : (found : SeparatedOf StatementOf) → stmt_of (s.Simple found) ≡ plain.simple (separated_of statement_of found)
+pub view_Simple : (found : SeparatedOf SimpleStatementOf) → stmt_of (s.Simple found) ≡ plain.simple (separated_of statement_of found)
 unfolding stmt_of
 view_Simple found = refl
 
@@ -39,7 +39,7 @@ abbrev clauses_in : StmtOf → (n : Count) × Row_of-CompoundClause n
 clauses_in (s.Compound' _ _ _ _ _ _ row) = (_, row)
 clauses_in _ = (_, end_of-CompoundClause)
 
-pub view_Compound : (marks : Vec DecoratorOf) (first : Box ClauseOf Global) (more : Vec ClauseOf)
+pub view_Compound : (marks : Vec DecoratorOf) (first : Box CompoundClauseOf Global) (more : Vec CompoundClauseOf)
     → stmt_of (s.Compound marks first more) ≡ plain.compound (decorators_of marks) (clause_of first.value) (clauses_of more)
 unfolding stmt_of
 view_Compound marks first more =
@@ -47,7 +47,7 @@ view_Compound marks first more =
     ap (plain.compound (decorators_of marks) (clause_of first.value))
     (clauses_row-items row.0 row.1 ∙ ap (λ items. clauses_before items plain.no_clause) (items_hidden-the_row-CompoundClause-0 more))
 
-pub view_Inline : (found : SeparatedOf StatementOf) → suite_of (u.Inline found) ≡ plain.inline (separated_of statement_of found)
+pub view_Inline : (found : SeparatedOf SimpleStatementOf) → suite_of (u.Inline found) ≡ plain.inline (separated_of statement_of found)
 unfolding suite_of
 view_Inline found = refl
 

@@ -1,17 +1,17 @@
 -- The lines of a module, one after another.
 use Rattle.std.proofs.Common.{◌≡◌, ◌≢◌, ◌+◌, ℕ, List, [], ◌∷◌, ◌++◌, length, map, Some, None, Result, Ok, Err, IsErrAnd, refl, ap, sym, ◌∙◌, subst, arith, append_assoc, append-nil}
-use Rattle.pyc_lex.specs.declared.tokens.LogicalLine.{LogicalLine}
-use Rattle.pyc_lex.specs.declared.tokens.Token.{Token}
+use Rattle.pyc_lex.specs.declared.logical_lines.LogicalLine.{LogicalLine}
+use Rattle.pyc_token.specs.declared.tokens.Token.{Token}
 use Rattle.pyc_lex.specs.Lines as lex
-use Rattle.pyc_parse.specs.declared.block.Placed.{Placed as PlacedOf}
-use Rattle.pyc_parse.specs.declared.fault.ParseFault.{ParseFault}
-use Rattle.pyc_parse.specs.declared.fault.What.TheVariants as what
+use Rattle.pyc_tree.specs.declared.block.Placed.{Placed as PlacedOf}
+use Rattle.pyc_line.specs.declared.fault.ParseFault.{ParseFault}
+use Rattle.pyc_line.specs.declared.fault.What.TheVariants as what
 use Rattle.pyc_parse.specs.Blocks.{Placed}
 use Rattle.pyc_parse.specs.BlockView.{placed_of}
-use Rattle.pyc_parse.specs.Headers.{line_tree}
-use Rattle.pyc_parse.specs.LineFault.{fault_of, number_of}
-use Rattle.pyc_parse.specs.Lines.{Line}
-use Rattle.pyc_parse.specs.Modules.{placed_before, placed_lines, Answers}
+use Rattle.pyc_tree.specs.Headers.{line_tree}
+use Rattle.pyc_line.specs.LineFault.{fault_of, number_of}
+use Rattle.pyc_tree.specs.Lines.{Line}
+use Rattle.pyc_parse.specs.Modules.{placed_before, placed_lines, AnswersModule}
 
 -- lines before those that are read
 abbrev pub with_placed : List Placed → Result (List Placed) ParseFault → Result (List Placed) ParseFault
@@ -53,7 +53,7 @@ placed_bad front l ls ts fault same none place what =
 
 -- a fault that was met is what is told
 pub answers_err : {X A : Type 0} (view : X → A) (expected : Result A ParseFault) (fault : ParseFault) (r : Result X ParseFault) → IsErrAnd r (λ told. told ≡ fault)
-    → (fault.what ≢ what.Memory → expected ≡ Err fault) → Answers view expected r
+    → (fault.what ≢ what.Memory → expected ≡ Err fault) → AnswersModule view expected r
 answers_err view expected fault (Ok x) is leads = absurd is
 answers_err view expected fault (Err told) is leads = subst (λ (x : ParseFault). x.what ≢ what.Memory → expected ≡ Err x) (sym is) leads
 

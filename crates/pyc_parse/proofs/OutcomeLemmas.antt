@@ -1,13 +1,13 @@
 -- The tokens of a tree are those of the lines of its source.
 use Rattle.std.proofs.Common.{◌≡◌, refl, sym, subst, List, [], ◌∷◌, map, Result, Ok, Err, IfOk, All}
 use Rattle.std.proofs.lemmas.List.Elements.{All-nil, All-head, All-tail, All-append}
-use Rattle.pyc_lex.specs.declared.tokens.LogicalLine.{LogicalLine}
-use Rattle.pyc_lex.specs.declared.tokens.Scan.{Scan}
-use Rattle.pyc_lex.specs.declared.tokens.Token.{Token}
+use Rattle.pyc_lex.specs.declared.logical_lines.LogicalLine.{LogicalLine}
+use Rattle.pyc_lex.specs.declared.logical_lines.Scan.{Scan}
+use Rattle.pyc_token.specs.declared.tokens.Token.{Token}
 use Rattle.pyc_lex.specs.Lines.{Lexis}
 use Rattle.pyc_lex.specs.Texts.{tokens_of}
 use Rattle.pyc_lex.specs.View.{line_in, lexis_in}
-use Rattle.pyc_parse.specs.declared.fault.ParseFault.{ParseFault}
+use Rattle.pyc_line.specs.declared.fault.ParseFault.{ParseFault}
 use Rattle.pyc_parse.specs.declared.file_outcome.Outcome.{Outcome as OutcomeOf}
 use Rattle.pyc_parse.specs.Modules.{Module, module_of}
 use Rattle.pyc_parse.specs.Outcome.{Outcome, outcome_in, outcome_tokens, parsed}

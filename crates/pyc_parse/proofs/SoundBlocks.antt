@@ -2,42 +2,42 @@
 use Rattle.std.proofs.Common.{◌≡◌, refl, ap, sym, ◌∙◌, subst, ℕ, zero, suc, ◌+◌, Bool, true, false, nat_lt, ◌==◌, if◌then◌else◌, List, [], ◌∷◌, ◌++◌, map, Option, None, Some, Ok, Err, append_assoc, length, length-append, ◌≤◌, ◌<◌, arith}
 use Rattle.std.proofs.lemmas.List.{append-nil, length-map}
 use Rattle.std.proofs.lemmas.Bool.{ltb-true, ltb-false, eqb-true, false≢true}
-use Rattle.pyc_lex.specs.declared.tokens.Token.{Token}
-use Rattle.pyc_parse.specs.declared.block.After.{After}
-use Rattle.pyc_parse.specs.declared.block.After.TheVariants as after
-use Rattle.pyc_parse.specs.declared.block.Form.{Form}
-use Rattle.pyc_parse.specs.declared.block.Form.TheVariants as form
-use Rattle.pyc_parse.specs.declared.block.Next.{Next}
-use Rattle.pyc_parse.specs.declared.block.Next.TheVariants as next
-use Rattle.pyc_parse.specs.BlockTrees.{Decorator, Stmt, simple, compound, Clause, clause, Clauses, no_clause, another, Suite, inline, block, Stmts, no_statement, statement}
-use Rattle.pyc_parse.specs.BlockYield.{Level, marks_yield, stmt_yield, clause_yield, suite_yield, clauses_yield, stmts_yield}
-use Rattle.pyc_parse.specs.Blocks.{Placed, Outcome, Parser, and_then, pure, take_one, form_of, handled, opening, next_of, beginning, follower, line_follows, under, number_of, is_decorator, is_definition, simple_line, statements_of, decorator_line, decorator_of, decorators, all_decorators, suite, suite_under, clause_of, one_clause, clause_by, next_clause, clauses_after, clauses, all_clauses, compound_statement, definition, decorated, statement_by, next_statement, statements_after, statements, all_statements, block_at, module_of, blocks}
-use Rattle.pyc_parse.specs.Lines.{Header, Line}
-use Rattle.pyc_parse.specs.Lines as line
-use Rattle.pyc_parse.specs.Statements.{Statement, Separated, no_item, last_item, item}
+use Rattle.pyc_token.specs.declared.tokens.Token.{Token}
+use Rattle.pyc_tree.specs.declared.block.After.{After}
+use Rattle.pyc_tree.specs.declared.block.After.TheVariants as after
+use Rattle.pyc_tree.specs.declared.block.Form.{Form}
+use Rattle.pyc_tree.specs.declared.block.Form.TheVariants as form
+use Rattle.pyc_tree.specs.declared.block.Next.{Next}
+use Rattle.pyc_tree.specs.declared.block.Next.TheVariants as next
+use Rattle.pyc_parse.specs.BlockTrees.{Decorator, Stmt, simple, compound, CompoundClause, clause, CompoundClauses, no_clause, another, Suite, inline, block, Stmts, no_statement, statement}
+use Rattle.pyc_parse.specs.BlockYield.{IndentedLine, marks_yield, stmt_yield, clause_yield, suite_yield, clauses_yield, stmts_yield}
+use Rattle.pyc_parse.specs.Blocks.{Placed, BlocksParsed, Parser, and_then, pure, take_one, form_of, handled, opening, next_of, beginning, follower, line_follows, under, number_of, is_decorator, is_definition, simple_line, statements_of, decorator_line, decorator_of, decorators, all_decorators, suite, suite_under, clause_of, one_clause, clause_by, next_clause, clauses_after, clauses, all_clauses, compound_statement, definition, decorated, statement_by, next_statement, statements_after, statements, all_statements, block_at, module_of, blocks}
+use Rattle.pyc_tree.specs.Lines.{Header, Line}
+use Rattle.pyc_tree.specs.Lines as line
+use Rattle.pyc_tree.specs.Statements.{SimpleStatement, Separated, no_item, last_item, item}
 
 -- a line and its level
-abbrev pub level : Placed → Level
+abbrev pub level : Placed → IndentedLine
 level p = (p.indent, p.line)
 
 -- lines are those that were taken, before those that are left
-abbrev pub IsYield : List Placed → List Level → List Placed → Type 0
+abbrev pub IsYield : List Placed → List IndentedLine → List Placed → Type 0
 IsYield ps taken rest = map level ps ≡ taken ++ map level rest
 
 -- ---- what is read is one thing
 
-refused : {A G : Type 0} (number : ℕ) (a : A × List Placed) → ◌≡◌ {A = Outcome A} (Err number) (Ok a) → G
+refused : {A G : Type 0} (number : ℕ) (a : A × List Placed) → ◌≡◌ {A = BlocksParsed A} (Err number) (Ok a) → G
 refused number a e = absurd (cc)
 
-ok_pair : {A : Type 0} (p q : A × List Placed) → ◌≡◌ {A = Outcome A} (Ok p) (Ok q) → p ≡ q
+ok_pair : {A : Type 0} (p q : A × List Placed) → ◌≡◌ {A = BlocksParsed A} (Ok p) (Ok q) → p ≡ q
 ok_pair p q e = cc
 
-parts : {A G : Type 0} (a b : A) (ps rest : List Placed) → ◌≡◌ {A = Outcome A} (Ok (a, ps)) (Ok (b, rest)) → (a ≡ b → ps ≡ rest → G) → G
+parts : {A G : Type 0} (a b : A) (ps rest : List Placed) → ◌≡◌ {A = BlocksParsed A} (Ok (a, ps)) (Ok (b, rest)) → (a ≡ b → ps ≡ rest → G) → G
 parts a b ps rest e go =
     let same : ◌≡◌ {A = _ × List Placed} (a, ps) (b, rest) = ok_pair (a, ps) (b, rest) e in
     go (ap (λ p. p.0) same) (ap (λ p. p.1) same)
 
-bind : {A B G : Type 0} (o : Outcome A) (f : A → Parser B) (r : B × List Placed) → and_then o f ≡ Ok r
+bind : {A B G : Type 0} (o : BlocksParsed A) (f : A → Parser B) (r : B × List Placed) → and_then o f ≡ Ok r
     → ((x : A) (later : List Placed) → o ≡ Ok (x, later) → f x later ≡ Ok r → G) → G
 bind (Ok p) f r e go = go p.0 p.1 refl e
 bind (Err number) f r e go = refused number r e
@@ -116,11 +116,11 @@ under_is indent inner (p ∷ ps) is = deeper indent inner (nat_lt indent p.inden
 -- one line
 one : (indent : ℕ) (p : Placed) (later rest : List Placed) (l : Line) → p.indent ≡ indent → p.line ≡ l → later ≡ rest → IsYield (p ∷ later) ((indent, l) ∷ []) rest
 one indent p later rest l at is left =
-    ap {B = List Level} (λ n. (n, p.line) ∷ map level later) at
-    ∙ (ap {B = List Level} (λ x. (indent, x) ∷ map level later) is ∙ ap {B = List Level} (λ qs. (indent, l) ∷ map level qs) left)
+    ap {B = List IndentedLine} (λ n. (n, p.line) ∷ map level later) at
+    ∙ (ap {B = List IndentedLine} (λ x. (indent, x) ∷ map level later) is ∙ ap {B = List IndentedLine} (λ qs. (indent, l) ∷ map level qs) left)
 
 -- lines and those after them
-join : (ps mid rest : List Placed) (xs ys : List Level) → IsYield ps xs mid → IsYield mid ys rest → IsYield ps (xs ++ ys) rest
+join : (ps mid rest : List Placed) (xs ys : List IndentedLine) → IsYield ps xs mid → IsYield mid ys rest → IsYield ps (xs ++ ys) rest
 join ps mid rest xs ys first second = first ∙ (ap (λ ls. xs ++ ls) second ∙ sym (append_assoc xs ys (map level rest)))
 
 simple_by : (indent : ℕ) (p : Placed) (later : List Placed) (l : Line) (s : Stmt) (rest : List Placed) → p.line ≡ l → p.indent ≡ indent
@@ -157,7 +157,7 @@ mark_ok indent p later ps d rest ps_is at e =
 -- ---- decorators
 
 -- either way of a test
-either : {A G : Type 0} (o other : Outcome A) (b : Bool) (r : A × List Placed) → (if b then o else other) ≡ Ok r
+either : {A G : Type 0} (o other : BlocksParsed A) (b : Bool) (r : A × List Placed) → (if b then o else other) ≡ Ok r
     → (b ≡ true → o ≡ Ok r → G) → (b ≡ false → other ≡ Ok r → G) → G
 either o other true r e holds fails = holds refl e
 either o other false r e holds fails = fails refl e
@@ -176,7 +176,7 @@ decorators_ok (suc n) indent ps marks rest e =
     subst (λ x. IsYield ps (marks_yield indent x) rest) same
     (here indent (next_of indent ps) ps refl (decorator_stands (next_of indent ps) some) (λ p later ps_is at.
     join ps mid rest ((indent, line.decorator d.mark d.value) ∷ []) (marks_yield indent more) (mark_ok indent p later ps d mid ps_is at first)
-    (decorators_ok n indent mid more rest (read ∙ ap {B = Outcome (List Decorator)} (λ qs. Ok (more, qs)) end))))))))
+    (decorators_ok n indent mid more rest (read ∙ ap {B = BlocksParsed (List Decorator)} (λ qs. Ok (more, qs)) end))))))))
     (λ none over. parts [] marks ps rest over (λ same left. subst (λ x. IsYield ps (marks_yield indent x) rest) same (ap (map level) left)))
 
 -- ---- over what reads the block at an indent
@@ -196,40 +196,40 @@ module _ (S : ℕ → Parser Stmts) (holds : Holds S) where
       bind (S inner ps) _ (body, rest) e (λ found later read made.
       parts (block found) body later rest made (λ same left.
       subst (λ x. (indent, line.header h colon no_item) ∷ map level ps ≡ suite_yield indent h colon x ++ map level rest) same
-      (ap {B = List Level} (λ ls. (indent, line.header h colon no_item) ∷ ls)
+      (ap {B = List IndentedLine} (λ ls. (indent, line.header h colon no_item) ∷ ls)
       (holds (indent + 1) ps found rest
-      (subst (λ n. S n ps ≡ Ok (found, rest)) (under_is indent inner ps is) (read ∙ ap {B = Outcome Stmts} (λ qs. Ok (found, qs)) left))))))
+      (subst (λ n. S n ps ≡ Ok (found, rest)) (under_is indent inner ps is) (read ∙ ap {B = BlocksParsed Stmts} (λ qs. Ok (found, qs)) left))))))
 
-  on_line : (indent : ℕ) (h : Header) (colon : Token) (found : Separated Statement) (ps : List Placed) (body : Suite) (rest : List Placed)
-      → ◌≡◌ {A = Outcome Suite} (Ok (inline found, ps)) (Ok (body, rest))
+  on_line : (indent : ℕ) (h : Header) (colon : Token) (found : Separated SimpleStatement) (ps : List Placed) (body : Suite) (rest : List Placed)
+      → ◌≡◌ {A = BlocksParsed Suite} (Ok (inline found, ps)) (Ok (body, rest))
       → (indent, line.header h colon found) ∷ map level ps ≡ suite_yield indent h colon body ++ map level rest
   unfolding suite_yield
   on_line indent h colon found ps body rest e =
       parts (inline found) body ps rest e (λ same left.
       subst (λ x. (indent, line.header h colon found) ∷ map level ps ≡ suite_yield indent h colon x ++ map level rest) same
-      (ap {B = List Level} (λ qs. (indent, line.header h colon found) ∷ map level qs) left))
+      (ap {B = List IndentedLine} (λ qs. (indent, line.header h colon found) ∷ map level qs) left))
 
-  suite_ok : (number indent : ℕ) (h : Header) (colon : Token) (found : Separated Statement) (ps : List Placed) (body : Suite) (rest : List Placed)
+  suite_ok : (number indent : ℕ) (h : Header) (colon : Token) (found : Separated SimpleStatement) (ps : List Placed) (body : Suite) (rest : List Placed)
       → suite S number indent found ps ≡ Ok (body, rest) → (indent, line.header h colon found) ∷ map level ps ≡ suite_yield indent h colon body ++ map level rest
   unfolding suite
   suite_ok number indent h colon no_item ps body rest e = block_under number indent h colon ps body rest (under indent ps) refl e
   suite_ok number indent h colon (last_item x) ps body rest e = on_line indent h colon (last_item x) ps body rest e
   suite_ok number indent h colon (item x t xs) ps body rest e = on_line indent h colon (item x t xs) ps body rest e
 
-  clause_by_line : (indent : ℕ) (p : Placed) (later : List Placed) (l : Line) (c : Clause) (rest : List Placed) → p.line ≡ l → p.indent ≡ indent
+  clause_by_line : (indent : ℕ) (p : Placed) (later : List Placed) (l : Line) (c : CompoundClause) (rest : List Placed) → p.line ≡ l → p.indent ≡ indent
       → clause_of S p indent l later ≡ Ok (c, rest) → IsYield (p ∷ later) (clause_yield indent c) rest
   unfolding clause_yield
   clause_by_line indent p later (line.header h colon found) c rest is at e =
       bind (suite S p.number indent found later) _ (c, rest) e (λ body left read made.
       parts (clause h colon body) c left rest made (λ same end.
       subst (λ x. IsYield (p ∷ later) (clause_yield indent x) rest) same
-      (ap {B = List Level} (λ n. (n, p.line) ∷ map level later) at
-      ∙ (ap {B = List Level} (λ l. (indent, l) ∷ map level later) is
-      ∙ suite_ok p.number indent h colon found later body rest (read ∙ ap {B = Outcome Suite} (λ qs. Ok (body, qs)) end)))))
+      (ap {B = List IndentedLine} (λ n. (n, p.line) ∷ map level later) at
+      ∙ (ap {B = List IndentedLine} (λ l. (indent, l) ∷ map level later) is
+      ∙ suite_ok p.number indent h colon found later body rest (read ∙ ap {B = BlocksParsed Suite} (λ qs. Ok (body, qs)) end)))))
   clause_by_line indent p later (line.simple found) c rest is at e = refused p.number (c, rest) e
   clause_by_line indent p later (line.decorator t v) c rest is at e = refused p.number (c, rest) e
 
-  clause_ok : (indent : ℕ) (p : Placed) (later ps : List Placed) (c : Clause) (rest : List Placed) → ps ≡ p ∷ later → p.indent ≡ indent
+  clause_ok : (indent : ℕ) (p : Placed) (later ps : List Placed) (c : CompoundClause) (rest : List Placed) → ps ≡ p ∷ later → p.indent ≡ indent
       → one_clause S indent ps ≡ Ok (c, rest) → IsYield ps (clause_yield indent c) rest
   unfolding one_clause take_one
   clause_ok indent p later ps c rest ps_is at e =
@@ -238,10 +238,10 @@ module _ (S : ℕ → Parser Stmts) (holds : Holds S) where
 
   -- what the turns after one hold
   abbrev More : ℕ → ℕ → Type 0
-  More n indent = (so : After) (ps : List Placed) (found : Clauses) (rest : List Placed) → clauses S n indent so ps ≡ Ok (found, rest)
+  More n indent = (so : After) (ps : List Placed) (found : CompoundClauses) (rest : List Placed) → clauses S n indent so ps ≡ Ok (found, rest)
       → IsYield ps (clauses_yield indent found) rest
 
-  clauses_step : (n indent : ℕ) (so : After) (ps : List Placed) (x : Option (Clause × After)) (later : List Placed) (found : Clauses) (rest : List Placed)
+  clauses_step : (n indent : ℕ) (so : After) (ps : List Placed) (x : Option (CompoundClause × After)) (later : List Placed) (found : CompoundClauses) (rest : List Placed)
       → More n indent → (o : Option After) → follower so indent ps ≡ o → clause_by S indent o ps ≡ Ok (x, later)
       → clauses_after (clauses S n indent) x later ≡ Ok (found, rest) → IsYield ps (clauses_yield indent found) rest
   unfolding clauses_yield
@@ -257,8 +257,8 @@ module _ (S : ℕ → Parser Stmts) (holds : Holds S) where
       subst (λ y. IsYield ps (clauses_yield indent y) rest) whole
       (follower_here so indent stood ps is (λ p after_p ps_is at.
       join ps later rest (clause_yield indent c) (clauses_yield indent others)
-      (clause_ok indent p after_p ps c later ps_is at (first ∙ ap {B = Outcome Clause} (λ qs. Ok (c, qs)) left))
-      (more stood later others rest (read_on ∙ ap {B = Outcome Clauses} (λ qs. Ok (others, qs)) ended))))))))
+      (clause_ok indent p after_p ps c later ps_is at (first ∙ ap {B = BlocksParsed CompoundClause} (λ qs. Ok (c, qs)) left))
+      (more stood later others rest (read_on ∙ ap {B = BlocksParsed CompoundClauses} (λ qs. Ok (others, qs)) ended))))))))
 
   clauses_ok : (n indent : ℕ) → More n indent
   unfolding clauses clauses_yield next_clause
@@ -279,7 +279,7 @@ module _ (S : ℕ → Parser Stmts) (holds : Holds S) where
       subst (λ x. marks_yield indent marks ++ map level ps ≡ stmt_yield indent x ++ map level rest) same
       (ap (λ ls. marks_yield indent marks ++ ls)
       (join ps mid rest (clause_yield indent c) (clauses_yield indent others) (clause_ok indent p later ps c mid ps_is at first)
-      (clauses_ok (length mid) indent so mid others rest (read ∙ ap {B = Outcome Clauses} (λ qs. Ok (others, qs)) end)))
+      (clauses_ok (length mid) indent so mid others rest (read ∙ ap {B = BlocksParsed CompoundClauses} (λ qs. Ok (others, qs)) end)))
       ∙ sym (append_assoc (marks_yield indent marks) (clause_yield indent c ++ clauses_yield indent others) (map level rest))))))
 
   definition_ok : (number indent : ℕ) (marks : List Decorator) (ps : List Placed) (s : Stmt) (rest : List Placed) → definition S number indent marks ps ≡ Ok (s, rest)
@@ -302,7 +302,7 @@ module _ (S : ℕ → Parser Stmts) (holds : Holds S) where
   OneHolds indent ps None rest = ps ≡ rest
   OneHolds indent ps (Some s) rest = IsYield ps (stmt_yield indent s) rest
 
-  some_statement : (indent : ℕ) (o : Outcome Stmt) (ps : List Placed) (x : Option Stmt) (rest : List Placed)
+  some_statement : (indent : ℕ) (o : BlocksParsed Stmt) (ps : List Placed) (x : Option Stmt) (rest : List Placed)
       → and_then o (λ found. pure (Some found)) ≡ Ok (x, rest) → ((s : Stmt) (later : List Placed) → o ≡ Ok (s, later) → IsYield ps (stmt_yield indent s) later)
       → OneHolds indent ps x rest
   some_statement indent o ps x rest e each =
@@ -336,7 +336,7 @@ module _ (S : ℕ → Parser Stmts) (holds : Holds S) where
       parts (statement s others) found left rest made (λ same end.
       subst (λ y. IsYield ps (stmts_yield indent y) rest) same
       (join ps later rest (stmt_yield indent s) (stmts_yield indent others) first
-      (more indent later others rest (read ∙ ap {B = Outcome Stmts} (λ qs. Ok (others, qs)) end)))))
+      (more indent later others rest (read ∙ ap {B = BlocksParsed Stmts} (λ qs. Ok (others, qs)) end)))))
 
   statements_ok : (n : ℕ) → Holds (statements S n)
   unfolding statements next_statement stmts_yield
@@ -356,7 +356,7 @@ block_holds (suc depth) indent ps found rest e = statements_ok (block_at depth) 
 
 -- ---- modules
 
-clause_some : (indent : ℕ) (c : Clause) → 1 ≤ length (clause_yield indent c)
+clause_some : (indent : ℕ) (c : CompoundClause) → 1 ≤ length (clause_yield indent c)
 unfolding clause_yield
 clause_some indent (clause h colon (inline found)) = omega arith
 clause_some indent (clause h colon (block inner)) = omega arith
@@ -414,7 +414,7 @@ empty : (ps : List Placed) → length ps ≤ 0 → ps ≡ []
 empty [] few = refl
 empty (p ∷ ps) few = absurd (omega (arith, few))
 
-none_left : {G : Type 0} (o : Outcome Stmt) (x : Option Stmt) (rest : List Placed) → and_then o (λ found. pure (Some found)) ≡ Ok (x, rest) → x ≡ None → G
+none_left : {G : Type 0} (o : BlocksParsed Stmt) (x : Option Stmt) (rest : List Placed) → and_then o (λ found. pure (Some found)) ≡ Ok (x, rest) → x ≡ None → G
 none_left (Ok p) x rest e none = parts (Some p.0) x p.1 rest e (λ same left. absurd (cc))
 none_left (Err number) x rest e none = refused number (x, rest) e
 
@@ -454,7 +454,7 @@ block_all : (depth : ℕ) (ps : List Placed) (found : Stmts) (rest : List Placed
 unfolding block_at all_statements
 block_all depth ps found rest e = statements_all (block_at depth) (block_holds depth) (length ps) ps found rest (omega arith) e
 
-whole : (depth : ℕ) (ps : List Placed) (o : Outcome Stmts) (found : Stmts) → block_at (suc depth) 0 ps ≡ o → module_of o ≡ Ok found → map level ps ≡ stmts_yield 0 found
+whole : (depth : ℕ) (ps : List Placed) (o : BlocksParsed Stmts) (found : Stmts) → block_at (suc depth) 0 ps ≡ o → module_of o ≡ Ok found → map level ps ≡ stmts_yield 0 found
 whole depth ps (Ok p) found is e =
     block_holds (suc depth) 0 ps p.0 p.1 is
     ∙ (ap (λ rest. stmts_yield 0 p.0 ++ map level rest) (block_all depth ps p.0 p.1 is)

@@ -2,17 +2,17 @@
 use Rattle.std.proofs.Common.{◌≡◌, refl, ap, sym, ◌∙◌, ℕ, List, [], ◌∷◌, map, Option, None, Some, Result, Ok, Err}
 use Rattle.pyc_lex.specs.Lines.{Lexis}
 use Rattle.pyc_lex.specs.Lines as lex
-use Rattle.pyc_parse.specs.declared.fault.ParseFault.{ParseFault}
-use Rattle.pyc_parse.specs.declared.fault.What.TheVariants as what
+use Rattle.pyc_line.specs.declared.fault.ParseFault.{ParseFault}
+use Rattle.pyc_line.specs.declared.fault.What.TheVariants as what
 use Rattle.pyc_parse.specs.BlockTrees.{Stmts}
 use Rattle.pyc_parse.specs.BlockYield.{held, lines_held, stmts_yield}
 use Rattle.pyc_parse.specs.Blocks.{Placed, blocks}
-use Rattle.pyc_parse.specs.Headers.{line_tree}
-use Rattle.pyc_parse.specs.LineFault.{fault_of, number_of}
-use Rattle.pyc_parse.specs.Lines.{Line, line_yield}
+use Rattle.pyc_tree.specs.Headers.{line_tree}
+use Rattle.pyc_line.specs.LineFault.{fault_of, number_of}
+use Rattle.pyc_tree.specs.Lines.{Line, line_yield}
 use Rattle.pyc_parse.specs.Modules.{Module, placed_before, placed_lines, of_blocks, of_lines, module_of}
 use Rattle.pyc_parse.proofs.SoundBlocks.{level, blocks_hold}
-use Rattle.pyc_parse.proofs.SoundLines.{line_sound}
+use Rattle.pyc_line.proofs.SoundLines.{line_sound}
 
 -- the logical lines that placed lines hold
 abbrev placed_held : List Placed → List lex.Line

@@ -1,10 +1,10 @@
 -- The statements of a module as plain values: every node keeps each of its tokens (Python reference 3.13,
 -- "Compound statements").
 use Rattle.std.specs.Prelude.{List}
-use Rattle.pyc_lex.specs.declared.tokens.Token.{Token}
-use Rattle.pyc_parse.specs.Lines.{Header}
-use Rattle.pyc_parse.specs.Statements.{Statement, Separated}
-use Rattle.pyc_parse.specs.Tree.{Tree}
+use Rattle.pyc_token.specs.declared.tokens.Token.{Token}
+use Rattle.pyc_tree.specs.Lines.{Header}
+use Rattle.pyc_tree.specs.Statements.{SimpleStatement, Separated}
+use Rattle.pyc_tree.specs.Tree.{Tree}
 
 -- `@` and an expression
 pub record Decorator : Type 0 where
@@ -15,21 +15,21 @@ mutual
   -- a statement of a block
   pub data Stmt : Type 0 where
     -- simple statements on one line
-    simple : Separated Statement → Stmt
+    simple : Separated SimpleStatement → Stmt
     -- decorators, the first clause, and those after it
-    compound : List Decorator → Clause → Clauses → Stmt
+    compound : List Decorator → CompoundClause → CompoundClauses → Stmt
 
   -- a header, its colon, and what it heads
-  pub data Clause : Type 0 where
-    clause : Header → Token → Suite → Clause
+  pub data CompoundClause : Type 0 where
+    clause : Header → Token → Suite → CompoundClause
 
-  pub data Clauses : Type 0 where
-    no_clause : Clauses
-    another : Clause → Clauses → Clauses
+  pub data CompoundClauses : Type 0 where
+    no_clause : CompoundClauses
+    another : CompoundClause → CompoundClauses → CompoundClauses
 
   -- what a header heads: simple statements on its line, or a deeper block
   pub data Suite : Type 0 where
-    inline : Separated Statement → Suite
+    inline : Separated SimpleStatement → Suite
     block : Stmts → Suite
 
   -- the statements of a block

@@ -1,21 +1,21 @@
 -- The plain lines and statements that those of the code are.
 use Rattle.std.specs.Prelude.{List, [], ◌∷◌, Option, None, Some, map}
 use Rattle.std.specs.Global.{Vec}
-use Rattle.pyc_parse.specs.declared.block.After.{After}
-use Rattle.pyc_parse.specs.declared.block.CompoundClause.{CompoundClause as ClauseOf}
-use Rattle.pyc_parse.specs.declared.block.Decorator.{Decorator as DecoratorOf}
-use Rattle.pyc_parse.specs.declared.block.Placed.{Placed as PlacedOf}
-use Rattle.pyc_parse.specs.declared.block.Stmt.{Stmt as StmtOf, Row_of-CompoundClause, end_of-CompoundClause, more_of-CompoundClause}
-use Rattle.pyc_parse.specs.declared.block.Stmt.TheVariants as s
-use Rattle.pyc_parse.specs.declared.block.Suite.{Suite as SuiteOf, Row_of-Stmt, end_of-Stmt, more_of-Stmt}
-use Rattle.pyc_parse.specs.declared.block.Suite.TheVariants as u
+use Rattle.pyc_tree.specs.declared.block.After.{After}
+use Rattle.pyc_tree.specs.declared.block.CompoundClause.{CompoundClause as ComprehensionOf}
+use Rattle.pyc_tree.specs.declared.block.Decorator.{Decorator as DecoratorOf}
+use Rattle.pyc_tree.specs.declared.block.Placed.{Placed as PlacedOf}
+use Rattle.pyc_tree.specs.declared.block.Stmt.{Stmt as StmtOf, Row_of-CompoundClause, end_of-CompoundClause, more_of-CompoundClause}
+use Rattle.pyc_tree.specs.declared.block.Stmt.TheVariants as s
+use Rattle.pyc_tree.specs.declared.block.Suite.{Suite as SuiteOf, Row_of-Stmt, end_of-Stmt, more_of-Stmt}
+use Rattle.pyc_tree.specs.declared.block.Suite.TheVariants as u
 use Rattle.pyc_parse.specs.declared.blocks.Lines.{Lines}
-use Rattle.pyc_parse.specs.BlockTrees.{Decorator, Stmt, Clause, Clauses, Suite, Stmts}
+use Rattle.pyc_parse.specs.BlockTrees.{Decorator, Stmt, CompoundClause, CompoundClauses, Suite, Stmts}
 use Rattle.pyc_parse.specs.BlockTrees as plain
 use Rattle.pyc_parse.specs.Blocks.{Placed}
-use Rattle.pyc_parse.specs.LineView.{header_of, line_of}
-use Rattle.pyc_parse.specs.StatementView.{separated_of, statement_of}
-use Rattle.pyc_parse.specs.View.{tree_of}
+use Rattle.pyc_tree.specs.LineView.{header_of, line_of}
+use Rattle.pyc_tree.specs.StatementView.{separated_of, statement_of}
+use Rattle.pyc_tree.specs.View.{tree_of}
 
 -- the line of one of the code
 abbrev pub placed_of : PlacedOf → Placed
@@ -42,7 +42,7 @@ unfoldable mutual
   suite_of (u.Inline found) = plain.inline (separated_of statement_of found)
   suite_of (u.Block' _ row) = plain.block (stmts_row row)
 
-  pub clauses_row : {n : _} → Row_of-CompoundClause n → Clauses
+  pub clauses_row : {n : _} → Row_of-CompoundClause n → CompoundClauses
   clauses_row end_of-CompoundClause = plain.no_clause
   clauses_row (more_of-CompoundClause h colon body rest) = plain.another (plain.clause (header_of h.value) colon (suite_of body)) (clauses_row rest)
 
@@ -53,20 +53,20 @@ unfoldable mutual
 -- ---- the same over lists, as contracts see a `Vec`
 
 -- a clause
-abbrev pub clause_of : ClauseOf → Clause
+abbrev pub clause_of : CompoundClauseOf → CompoundClause
 clause_of c = plain.clause (header_of c.header.value) c.colon (suite_of c.suite)
 
 -- a clause, and what it is to those after it
-abbrev pub follower_of : Option (ClauseOf × After) → Option (Clause × After)
+abbrev pub follower_of : Option (CompoundClauseOf × After) → Option (CompoundClause × After)
 follower_of None = None
 follower_of (Some found) = Some (clause_of found.0, found.1)
 
 -- clauses before others
-abbrev pub clauses_before : List ClauseOf → Clauses → Clauses
+abbrev pub clauses_before : List CompoundClauseOf → CompoundClauses → CompoundClauses
 clauses_before [] end = end
 clauses_before (c ∷ cs) end = plain.another (clause_of c) (clauses_before cs end)
 
-abbrev pub clauses_of : Vec ClauseOf → Clauses
+abbrev pub clauses_of : Vec CompoundClauseOf → CompoundClauses
 clauses_of found = clauses_before found.items plain.no_clause
 
 -- statements before others

@@ -1,18 +1,18 @@
 -- The blocks of a module, by the indents of its lines (Python reference 3.13, "Compound statements").
 use Rattle.std.specs.Prelude.{ℕ, suc, zero, ◌+◌, Bool, true, false, ◌&&◌, ◌==◌, nat_lt, if◌then◌else◌, List, [], ◌∷◌, length, Option, Some, None, Result, Ok, Err}
-use Rattle.pyc_lex.specs.declared.tokens.Keyword.TheVariants as keyword
-use Rattle.pyc_lex.specs.declared.tokens.Kind.{Kind}
-use Rattle.pyc_lex.specs.declared.tokens.Kind.TheVariants as kind
-use Rattle.pyc_parse.specs.declared.block.After.{After}
-use Rattle.pyc_parse.specs.declared.block.After.TheVariants as after
-use Rattle.pyc_parse.specs.declared.block.Form.{Form}
-use Rattle.pyc_parse.specs.declared.block.Form.TheVariants as form
-use Rattle.pyc_parse.specs.declared.block.Next.{Next}
-use Rattle.pyc_parse.specs.declared.block.Next.TheVariants as next
-use Rattle.pyc_parse.specs.BlockTrees.{Decorator, Stmt, simple, compound, Clause, clause, Clauses, no_clause, another, Suite, inline, block, Stmts, no_statement, statement}
-use Rattle.pyc_parse.specs.Lines.{Header, Line}
-use Rattle.pyc_parse.specs.Lines as line
-use Rattle.pyc_parse.specs.Statements.{Statement, Separated, no_item, last_item, item}
+use Rattle.pyc_token.specs.declared.tokens.Keyword.TheVariants as keyword
+use Rattle.pyc_token.specs.declared.tokens.Kind.{Kind}
+use Rattle.pyc_token.specs.declared.tokens.Kind.TheVariants as kind
+use Rattle.pyc_tree.specs.declared.block.After.{After}
+use Rattle.pyc_tree.specs.declared.block.After.TheVariants as after
+use Rattle.pyc_tree.specs.declared.block.Form.{Form}
+use Rattle.pyc_tree.specs.declared.block.Form.TheVariants as form
+use Rattle.pyc_tree.specs.declared.block.Next.{Next}
+use Rattle.pyc_tree.specs.declared.block.Next.TheVariants as next
+use Rattle.pyc_parse.specs.BlockTrees.{Decorator, Stmt, simple, compound, CompoundClause, clause, CompoundClauses, no_clause, another, Suite, inline, block, Stmts, no_statement, statement}
+use Rattle.pyc_tree.specs.Lines.{Header, Line}
+use Rattle.pyc_tree.specs.Lines as line
+use Rattle.pyc_tree.specs.Statements.{SimpleStatement, Separated, no_item, last_item, item}
 
 -- a logical line, how many levels above the first it stands, and the number of the physical line where it begins
 pub record Placed : Type 0 where
@@ -118,7 +118,7 @@ number_of [] = 0
 number_of (p ∷ ps) = p.number
 
 -- whether a header has no statements after it
-abbrev pub is_none : Separated Statement → Bool
+abbrev pub is_none : Separated SimpleStatement → Bool
 is_none no_item = true
 is_none (last_item _) = false
 is_none (item _ _ _) = false
@@ -126,13 +126,13 @@ is_none (item _ _ _) = false
 -- ---- parsers of lines
 
 -- what is read with the lines after it, or the physical line of the first fault
-abbrev pub Outcome : Type 0 → Type 0
-Outcome A = Result (A × List Placed) ℕ
+abbrev pub BlocksParsed : Type 0 → Type 0
+BlocksParsed A = Result (A × List Placed) ℕ
 
 abbrev pub Parser : Type 0 → Type 0
-Parser A = List Placed → Outcome A
+Parser A = List Placed → BlocksParsed A
 
-abbrev pub and_then : {A B : Type 0} → Outcome A → (A → Parser B) → Outcome B
+abbrev pub and_then : {A B : Type 0} → BlocksParsed A → (A → Parser B) → BlocksParsed B
 and_then (Ok p) f = f p.0 p.1
 and_then (Err number) f = Err number
 
@@ -155,7 +155,7 @@ take_one (p ∷ ps) = Ok (p, ps)
 
 -- ---- statements
 
-abbrev pub statements_of : Placed → Line → Parser (Separated Statement)
+abbrev pub statements_of : Placed → Line → Parser (Separated SimpleStatement)
 statements_of p (line.simple found) = pure found
 statements_of p _ = fault p.number
 
@@ -199,7 +199,7 @@ unfoldable pub all_decorators : ℕ → Parser (List Decorator)
 all_decorators indent = λ ps. decorators (length ps) indent ps
 
 -- a clause before those that follow it
-abbrev pub clauses_after : (After → Parser Clauses) → Option (Clause × After) → Parser Clauses
+abbrev pub clauses_after : (After → Parser CompoundClauses) → Option (CompoundClause × After) → Parser CompoundClauses
 clauses_after more None = pure no_clause
 clauses_after more (Some found) = do
   rest ← more found.1
@@ -221,37 +221,37 @@ module _ (self : ℕ → Parser Stmts) where
     pure (block found)
 
   -- the statements on the line of a header, or the block under it: a header without either is a fault
-  unfoldable pub suite : ℕ → ℕ → Separated Statement → Parser Suite
+  unfoldable pub suite : ℕ → ℕ → Separated SimpleStatement → Parser Suite
   suite number indent found = λ ps. if is_none found then suite_under number (under indent ps) ps else Ok (inline found, ps)
 
-  abbrev pub clause_of : Placed → ℕ → Line → Parser Clause
+  abbrev pub clause_of : Placed → ℕ → Line → Parser CompoundClause
   clause_of p indent (line.header h colon found) = do
     body ← suite p.number indent found
     pure (clause h colon body)
   clause_of p indent _ = fault p.number
 
   -- a clause
-  unfoldable pub one_clause : ℕ → Parser Clause
+  unfoldable pub one_clause : ℕ → Parser CompoundClause
   one_clause indent = do
     p ← take_one
     clause_of p indent p.line
 
   -- another clause of a statement, and what it is to those after it
-  abbrev pub clause_by : ℕ → Option After → Parser (Option (Clause × After))
+  abbrev pub clause_by : ℕ → Option After → Parser (Option (CompoundClause × After))
   clause_by indent None = pure None
   clause_by indent (Some so) = do
     found ← one_clause indent
     pure (Some (found, so))
 
-  unfoldable pub next_clause : After → ℕ → Parser (Option (Clause × After))
+  unfoldable pub next_clause : After → ℕ → Parser (Option (CompoundClause × After))
   next_clause so indent = λ ps. clause_by indent (follower so indent ps) ps
 
   -- the clauses that follow; the first number bounds the turns
-  unfoldable pub clauses : ℕ → ℕ → After → Parser Clauses
+  unfoldable pub clauses : ℕ → ℕ → After → Parser CompoundClauses
   clauses zero indent so = pure no_clause
   clauses (suc n) indent so = next_clause so indent >>= clauses_after (clauses n indent)
 
-  unfoldable pub all_clauses : ℕ → After → Parser Clauses
+  unfoldable pub all_clauses : ℕ → After → Parser CompoundClauses
   all_clauses indent so = λ ps. clauses (length ps) indent so ps
 
   -- a compound statement after its decorators
@@ -304,7 +304,7 @@ block_at zero indent = λ ps. Err (number_of ps)
 block_at (suc depth) indent = all_statements (block_at depth) indent
 
 -- the statements of a module, or the physical line of the first fault
-abbrev pub module_of : Outcome Stmts → Result Stmts ℕ
+abbrev pub module_of : BlocksParsed Stmts → Result Stmts ℕ
 module_of (Ok p) = Ok p.0
 module_of (Err number) = Err number
 

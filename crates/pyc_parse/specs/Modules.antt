@@ -4,15 +4,15 @@ use Rattle.pyc_lex.specs.Ignores.{IgnoreAt}
 use Rattle.pyc_lex.specs.Lines.{Lexis}
 use Rattle.pyc_lex.specs.Lines as lex
 use Rattle.pyc_lex.specs.View.{ignore_in}
-use Rattle.pyc_parse.specs.declared.fault.ParseFault.{ParseFault}
-use Rattle.pyc_parse.specs.declared.fault.What.TheVariants as what
+use Rattle.pyc_line.specs.declared.fault.ParseFault.{ParseFault}
+use Rattle.pyc_line.specs.declared.fault.What.TheVariants as what
 use Rattle.pyc_parse.specs.declared.module_tree.Module.{Module as ModuleOf}
 use Rattle.pyc_parse.specs.BlockTrees.{Stmts}
 use Rattle.pyc_parse.specs.Blocks.{Placed, blocks}
 use Rattle.pyc_parse.specs.BlockView.{stmts_of}
-use Rattle.pyc_parse.specs.Headers.{line_tree}
-use Rattle.pyc_parse.specs.LineFault.{fault_of, number_of}
-use Rattle.pyc_parse.specs.Lines.{Line}
+use Rattle.pyc_tree.specs.Headers.{line_tree}
+use Rattle.pyc_line.specs.LineFault.{fault_of, number_of}
+use Rattle.pyc_tree.specs.Lines.{Line}
 
 -- the tree of a module, with its ignore comments
 pub record Module : Type 0 where
@@ -50,6 +50,6 @@ abbrev pub module_in : ModuleOf → Module
 module_in m = record { statements = stmts_of m.statements; ignores = map ignore_in m.ignores.items; whole_file = m.whole_file }
 
 -- what is answered is the definition's; a want of memory says nothing
-abbrev pub Answers : {X A : Type 0} → (X → A) → Result A ParseFault → Result X ParseFault → Type 0
-Answers view expected (Ok x) = expected ≡ Ok (view x)
-Answers view expected (Err fault) = fault.what ≢ what.Memory → expected ≡ Err fault
+abbrev pub AnswersModule : {X A : Type 0} → (X → A) → Result A ParseFault → Result X ParseFault → Type 0
+AnswersModule view expected (Ok x) = expected ≡ Ok (view x)
+AnswersModule view expected (Err fault) = fault.what ≢ what.Memory → expected ≡ Err fault

@@ -2,11 +2,11 @@
 use Rattle.std.specs.Prelude.{ℕ, List, [], codes, Result, Ok, Err}
 use Rattle.pyc_lex.specs.declared.fault.LexFault.{LexFault}
 use Rattle.pyc_lex.specs.declared.fault.LexFault.TheVariants as lexical
-use Rattle.pyc_lex.specs.declared.tokens.Token.{Token}
+use Rattle.pyc_token.specs.declared.tokens.Token.{Token}
 use Rattle.pyc_lex.specs.Lines.{Lexis, lines_of}
-use Rattle.pyc_parse.specs.declared.fault.ParseFault.{ParseFault}
-use Rattle.pyc_parse.specs.declared.fault.What.{What}
-use Rattle.pyc_parse.specs.declared.fault.What.TheVariants as what
+use Rattle.pyc_line.specs.declared.fault.ParseFault.{ParseFault}
+use Rattle.pyc_line.specs.declared.fault.What.{What}
+use Rattle.pyc_line.specs.declared.fault.What.TheVariants as what
 use Rattle.pyc_parse.specs.declared.file_outcome.Outcome.{Outcome as OutcomeOf}
 use Rattle.pyc_parse.specs.declared.file_outcome.Outcome.TheVariants as declared
 use Rattle.pyc_parse.specs.BlockYield.{stmts_tokens}

@@ -2,20 +2,18 @@
 #![tactic(auto)]
 
 ghost use Rattle.std.specs.Prelude.{◌≡◌, ◌+◌, map, drop, length, nat_lt, Some, None, if◌then◌else◌};
-ghost use Rattle.pyc_parse.specs.BlockReads.{Reads, Answers};
+ghost use Rattle.pyc_parse.specs.ReadsLines.{ReadsLines, AnswersBlocks};
 ghost use Rattle.pyc_parse.specs.BlockView.{lines_of, placed_of, stmts_of};
 ghost use Rattle.pyc_parse.specs.Blocks as spec;
-ghost use Rattle.pyc_parse.specs.LineView.{header_of, line_of};
-ghost use Rattle.pyc_parse.specs.StatementView.{separated_of, statement_of};
+ghost use Rattle.pyc_tree.specs.LineView.{header_of, line_of};
+ghost use Rattle.pyc_tree.specs.StatementView.{separated_of, statement_of};
 
 mod rules;
 
-use crate::block::{After, Form, Next, Placed, Stmt};
+use crate::block_fault::BlockFault;
 use crate::blocks::rules::block_at;
-use crate::error::BlockFault;
-use crate::line::{Header, Line};
-use crate::statement::{Separated, Statement};
 use pyc_lex::{Keyword, Kind};
+use pyc_tree::{After, Form, Header, Line, Next, Placed, Separated, SimpleStatement, Stmt};
 use std::alloc::Global;
 use std::collections::VecDeque;
 
@@ -92,7 +90,7 @@ fn line_follows(after: After, line: &Line) -> Option<After>
 }
 
 /// Whether a header has no statements after it.
-pub fn is_none(statements: &Separated<Statement>) -> bool
+pub fn is_none(statements: &Separated<SimpleStatement>) -> bool
     ensures { result ≡ spec.is_none (separated_of statement_of statements.now) }
 {
     match statements.each.as_slice() {
@@ -227,7 +225,7 @@ impl Lines {
     /// The next line.
     #[tactic(auto, unfolding(crate::specs::Blocks::take_one))]
     pub fn take(&mut self) -> Result<Placed, BlockFault>
-        ensures { Reads placed_of (spec.take_one (lines_of self.old)) result (lines_of self.new) }
+        ensures { ReadsLines placed_of (spec.take_one (lines_of self.old)) result (lines_of self.new) }
     {
         match self.rest.pop_front() {
             Some(placed) => Ok(placed),
@@ -242,7 +240,7 @@ const MAX_BLOCKS: usize = 65;
 /// The statements of a module.
 #[tactic(auto, unfolding(crate::specs::Blocks::blocks))]
 pub fn read_blocks(alloc: Global, lines: Vec<Placed>) -> Result<Vec<Stmt>, BlockFault>
-    ensures { Answers stmts_of (spec.blocks (map placed_of lines.items)) result }
+    ensures { AnswersBlocks stmts_of (spec.blocks (map placed_of lines.items)) result }
 {
     let mut lines = Lines {
         rest: VecDeque::from(lines),

@@ -7,10 +7,10 @@ ghost use Rattle.pyc_parse.specs.Modules.{module_of};
 ghost use Rattle.pyc_parse.specs.Outcome as spec;
 ghost use Rattle.pyc_parse.specs.Outcome.{outcome_in, outcome_of, outcome_tokens, parse_text};
 
-use crate::fault::{ParseFault, What};
 use crate::file_outcome::{Fault, Outcome};
 use crate::module_tree::parse;
 use pyc_lex::{LexFault, Scan, scan};
+use pyc_line::{ParseFault, What};
 use std::alloc::{AllocError, Global};
 
 /// What is told of a line without a tree, or of a block.

@@ -4,14 +4,13 @@ ghost use Rattle.std.specs.Prelude.{◌≡◌, IfOk, map};
 ghost use Rattle.pyc_lex.specs.View.{line_in, lexis_in};
 ghost use Rattle.pyc_parse.specs.BlockView.{placed_of};
 ghost use Rattle.pyc_parse.specs.BlockYield.{lines_held};
-ghost use Rattle.pyc_parse.specs.Modules.{Answers, module_in, module_of, placed_lines as lines_with_trees};
+ghost use Rattle.pyc_parse.specs.Modules.{AnswersModule, module_in, module_of, placed_lines as lines_with_trees};
 
-use crate::block::{Placed, Stmt};
+use crate::block_fault::BlockFault;
 use crate::blocks::read_blocks;
-use crate::error::BlockFault;
-use crate::fault::{ParseFault, What, line_number};
-use crate::line_parser::parse_line;
 use pyc_lex::{Ignore, LogicalLine, Scan};
+use pyc_line::{ParseFault, What, line_number, parse_line};
+use pyc_tree::{Placed, Stmt};
 use std::alloc::Global;
 
 /// The tree of a module, with its ignore comments.
@@ -25,7 +24,7 @@ pub struct Module {
 
 /// The lines with their trees, or the first that has none.
 fn placed_lines(alloc: Global, lines: Vec<LogicalLine>) -> Result<Vec<Placed>, ParseFault>
-    ensures { Answers (λ found. map placed_of found.items) (lines_with_trees (map line_in lines.items)) result }
+    ensures { AnswersModule (λ found. map placed_of found.items) (lines_with_trees (map line_in lines.items)) result }
 {
     let mut found = Vec::new(alloc);
     for line in lines {
@@ -53,7 +52,7 @@ fn placed_lines(alloc: Global, lines: Vec<LogicalLine>) -> Result<Vec<Placed>, P
 /// each line of the scan once, in text order and at its level. `Memory` comes only from a growth that was refused.
 #[tactic(auto, unfolding(crate::specs::Modules::module_of))]
 pub fn parse(alloc: Global, scan: Scan) -> Result<Module, ParseFault>
-    ensures tree { Answers module_in (module_of (lexis_in scan)) result }
+    ensures tree { AnswersModule module_in (module_of (lexis_in scan)) result }
     ensures held { IfOk result (λ found. lines_held (module_in found).statements ≡ (lexis_in scan).lines) }
 {
     let lines = placed_lines(alloc, scan.lines)?;

@@ -5,14 +5,14 @@ use Rattle.pyc_types.specs.Order.{Orders, leads}
 use Rattle.pyc_types.specs.Shape.{T, none, inst}
 
 -- the type on the left is assignable to the one on the right, by exactly these rules
-pub data Goes (orders : Orders) : T → T → Type 0 where
-  -- None goes to None (typing specification, "Special types in annotations", `None`)
-  nothing : Goes orders none none
-  -- an instance of a class goes to each class in its order (typing specification, "Type system concepts": nominal types)
-  along : {c d : Id} → IsTrue (leads orders c d) → Goes orders (inst c) (inst d)
-  -- an instance with int in its order goes to float
+pub data Assignable (orders : Orders) : T → T → Type 0 where
+  -- None is assignable to None (typing specification, "Special types in annotations", `None`)
+  nothing : Assignable orders none none
+  -- an instance of a class is assignable to each class in its order (typing specification, "Type system concepts": nominal types)
+  along : {c d : Id} → IsTrue (leads orders c d) → Assignable orders (inst c) (inst d)
+  -- an instance with int in its order is assignable to float
   -- (typing specification, "Special types in annotations", "Special cases for float and complex")
-  to_float : {c d : Id} → IsTrue (leads orders c int_id) → IsTrue (same_id d float_id) → Goes orders (inst c) (inst d)
+  to_float : {c d : Id} → IsTrue (leads orders c int_id) → IsTrue (same_id d float_id) → Assignable orders (inst c) (inst d)
 
 -- the test of instances of two classes
 abbrev pub instance_assignable : Orders → Id → Id → Bool
@@ -27,4 +27,4 @@ assignable orders (inst c) (inst d) = instance_assignable orders c d
 
 -- the test answers yes exactly where the rules lead, for all orders and types
 abbrev pub MeetsTheRules : Type 0
-MeetsTheRules = (orders : Orders) (got want : T) → IsTrue (assignable orders got want) ↔ Goes orders got want
+MeetsTheRules = (orders : Orders) (got want : T) → IsTrue (assignable orders got want) ↔ Assignable orders got want

@@ -2,14 +2,14 @@
 ghost use Rattle.std.specs.Prelude.{◌≡◌, ◌↔◌, IsTrue};
 ghost use Rattle.pyc_types.specs.Class.{id_of};
 ghost use Rattle.pyc_types.specs.Shape.{shape};
-ghost use Rattle.pyc_types.specs.Assignable.{assignable, instance_assignable, Goes};
+ghost use Rattle.pyc_types.specs.Assignable.{assignable, instance_assignable, Assignable};
 
 use crate::{ClassId, Lins, Ty};
 
 /// Whether a value of type `got` may stand where `want` is wanted. Takes no memory.
 pub fn assignable<L: Lins>(lins: &L, got: &Ty, want: &Ty) -> bool
     ensures test { result ≡ assignable (L.orders lins.now) (shape got.now) (shape want.now) }
-    ensures rules { IsTrue result ↔ Goes (L.orders lins.now) (shape got.now) (shape want.now) }
+    ensures rules { IsTrue result ↔ Assignable (L.orders lins.now) (shape got.now) (shape want.now) }
 {
     is_assignable(lins, got, want)
 }

@@ -1,6 +1,6 @@
 //! Sources with the messages that are found in them.
 
-use pyc_daemon::found::{found, told};
+use pyc_daemon::found::{found, unsilenced};
 use pyc_daemon::message::Message;
 use pyc_parse::outcome;
 use pyc_types::Builtins;
@@ -33,7 +33,7 @@ fn lines_told(alloc: Global, source: &[u8]) -> Result<String, Fail> {
     let builtins = Builtins::new(alloc)?;
     let outcome = outcome(alloc, source)?;
     let mut lines = String::new(alloc);
-    for message in &told(alloc, &builtins, source, &outcome)? {
+    for message in &unsilenced(alloc, &builtins, source, &outcome)? {
         let line = message.line;
         write!(lines, "{line} ")?;
     }

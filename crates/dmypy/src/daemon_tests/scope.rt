@@ -2,7 +2,7 @@
 
 use pyc_daemon::scope::{ScopePart, scope_parts};
 use pyc_daemon::units::unit_clauses;
-use pyc_parse::{Expr, Module, Outcome, Statement, outcome};
+use pyc_parse::{Expr, Module, Outcome, SimpleStatement, outcome};
 use std::alloc::Global;
 use std::fmt::Write;
 use std::test::Fail;
@@ -16,8 +16,8 @@ fn module_of(alloc: Global, source: &str) -> Result<Module, Fail> {
 }
 
 /// The line of a statement that is a name alone, or 0.
-fn line_of(statement: &Statement) -> usize {
-    let Statement::Expression(expr) = statement else {
+fn line_of(statement: &SimpleStatement) -> usize {
+    let SimpleStatement::Expression(expr) = statement else {
         return 0;
     };
     match &**expr {

@@ -1,7 +1,7 @@
 //! The trees of lines.
 
 use super::{expression, parsed, statement};
-use pyc_parse::{Expr, Header, Line, Statement};
+use pyc_parse::{Expr, Header, Line, SimpleStatement};
 use std::test::Fail;
 
 #[test]
@@ -103,7 +103,7 @@ fn a_lambda_takes_all_that_follows(rt: HostRuntime) -> Result<(), Fail> {
 #[test]
 fn a_starred_target(rt: HostRuntime) -> Result<(), Fail> {
     let tree = statement(rt.alloc(), "*a, b = c")?;
-    let Statement::Assign(targets, value) = &*tree else {
+    let SimpleStatement::Assign(targets, value) = &*tree else {
         return Err("no assignment".into());
     };
     assert!(rt; matches!(&**value, Expr::Name(_)));

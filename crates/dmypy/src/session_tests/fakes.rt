@@ -20,17 +20,17 @@ pub const NEVER: usize = usize::MAX;
 
 /// A reader of known bytes: at most `most` of them a call, and a fault at the call of number `faulty`, from 0.
 #[derive(Drop)]
-pub struct Pieces<'a> {
+pub struct ShortReads<'a> {
     pub bytes: &'a [u8],
     pub most: usize,
     pub faulty: usize,
     pub calls: usize,
 }
 
-impl<'a> Pieces<'a> {
+impl<'a> ShortReads<'a> {
     /// All bytes in pieces of at most `most`, without a fault.
     pub fn new(bytes: &'a [u8], most: usize) -> Self {
-        Pieces {
+        ShortReads {
             bytes,
             most,
             faulty: NEVER,
@@ -39,7 +39,7 @@ impl<'a> Pieces<'a> {
     }
 }
 
-impl Read for Pieces<'_> {
+impl Read for ShortReads<'_> {
     fn read(&mut self, buf: &mut [u8]) -> io::Result<usize> {
         let call = self.calls;
         self.calls = call.saturating_add(1);
@@ -103,7 +103,7 @@ impl Write for Sink<'_> {
 /// The answer of a session over these streams, without a source of files, with at most so many reads.
 pub fn session(
     alloc: Global,
-    reader: Pieces<'_>,
+    reader: ShortReads<'_>,
     writer: Sink<'_>,
     turns: u64,
 ) -> Result<End, RunFault> {
@@ -123,7 +123,7 @@ pub fn assert_sessions(
     for (input, replies, end) in sessions {
         for most in &[NEVER, 1, 2, 3] {
             let mut kept = Vec::new(alloc);
-            let reader = Pieces::new(input.as_bytes(), *most);
+            let reader = ShortReads::new(input.as_bytes(), *most);
             let answer = session(alloc, reader, Sink::new(&mut kept), OPTIONS.turns);
             assert_eq!(rt;
                 kept.as_slice(),

@@ -1,4 +1,4 @@
-use super::fakes::{NEVER, OPTIONS, Pieces, Sink, Stop, assert_sessions, session};
+use super::fakes::{NEVER, OPTIONS, ShortReads, Sink, Stop, assert_sessions, session};
 use super::rows::{ONE_ERROR, ONE_ERROR_REPLIES};
 use pyc_daemon::daemon::Daemon;
 use pyc_daemon::ending::{End, RunFault};
@@ -99,9 +99,9 @@ const CHECK_END: usize = 31;
 fn a_reader_that_fails_at_each_call(rt: HostRuntime) -> Result<(), Fail> {
     for call in 0..12 {
         let mut kept = Vec::new(rt.alloc());
-        let reader = Pieces {
+        let reader = ShortReads {
             faulty: call,
-            ..Pieces::new(ONE_ERROR.as_bytes(), 3)
+            ..ShortReads::new(ONE_ERROR.as_bytes(), 3)
         };
         let answer = session(rt.alloc(), reader, Sink::new(&mut kept), 1_000_000);
         let read = 3 * call;
@@ -135,7 +135,7 @@ fn a_writer_that_stops_at_each_byte(rt: HostRuntime) -> Result<(), Fail> {
             };
             let answer = session(
                 rt.alloc(),
-                Pieces::new(ONE_ERROR.as_bytes(), NEVER),
+                ShortReads::new(ONE_ERROR.as_bytes(), NEVER),
                 writer,
                 1_000_000,
             );
@@ -158,7 +158,7 @@ fn as_many_reads_as_there_may_be(rt: HostRuntime) -> Result<(), Fail> {
         let mut kept = Vec::new(rt.alloc());
         let answer = session(
             rt.alloc(),
-            Pieces::new(b"check\ncheck\n", 3),
+            ShortReads::new(b"check\ncheck\n", 3),
             Sink::new(&mut kept),
             *turns,
         );
@@ -195,7 +195,7 @@ fn lines_and_paths_at_their_limits(rt: HostRuntime) -> Result<(), Fail> {
         let line = add_line(rt.alloc(), *path, end)?;
         let answer = session(
             rt.alloc(),
-            Pieces::new(&line, NEVER),
+            ShortReads::new(&line, NEVER),
             Sink::new(&mut kept),
             1_000_000,
         );

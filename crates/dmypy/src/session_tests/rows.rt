@@ -1,6 +1,6 @@
 //! Worked sessions: what comes in, and what goes out for it to the last byte.
 
-use super::fakes::{NEVER, OPTIONS, Pieces, Sink, assert_sessions, session};
+use super::fakes::{NEVER, OPTIONS, ShortReads, Sink, assert_sessions, session};
 use pyc_daemon::counted::Counted;
 use pyc_daemon::ending::End;
 use pyc_daemon::engine::run;
@@ -151,7 +151,7 @@ fn files_of_the_largest_size_are_taken(rt: HostRuntime) -> Result<(), Fail> {
     ] {
         let input = with_line_feeds(rt.alloc(), line, *count, rest)?;
         let mut kept = Vec::new(rt.alloc());
-        let reader = Pieces::new(&input, NEVER);
+        let reader = ShortReads::new(&input, NEVER);
         let answer = session(rt.alloc(), reader, Sink::new(&mut kept), OPTIONS.turns);
         assert_eq!(rt;
             kept.as_slice(),
@@ -181,7 +181,7 @@ fn files_of_a_source_are_fetched(rt: HostRuntime) -> Result<(), Fail> {
         let files = vec![in rt.alloc(); (String::from_str(rt.alloc(), "a.py")?, bytes)]?;
         let mut sources = MemorySource::new(files);
         let mut kept = Vec::new(rt.alloc());
-        let mut reader = Counted::new(Pieces::new(input.as_bytes(), NEVER));
+        let mut reader = Counted::new(ShortReads::new(input.as_bytes(), NEVER));
         let mut writer = Counted::new(Sink::new(&mut kept));
         let answer = run(rt.alloc(), &mut reader, &mut writer, &mut sources, &OPTIONS);
         assert_eq!(rt; kept.as_slice(), replies.as_bytes(), "{input:?}");

@@ -2,18 +2,18 @@
 #![tactic(auto, using(crate::proofs::BlockViewLemmas::block_views))]
 
 ghost use Rattle.std.specs.Prelude.{◌≡◌, [], option_map};
-ghost use Rattle.pyc_parse.specs.BlockNests.{Nests};
-ghost use Rattle.pyc_parse.specs.BlockReads.{Reads};
+ghost use Rattle.pyc_parse.specs.ReadsBlocks.{ReadsBlocks};
+ghost use Rattle.pyc_parse.specs.ReadsLines.{ReadsLines};
 ghost use Rattle.pyc_parse.specs.BlockView.{lines_of, decorator_of, decorators_of, stmt_of, stmts_of, clause_of, clauses_of, follower_of, suite_of};
 ghost use Rattle.pyc_parse.specs.Blocks as spec;
-ghost use Rattle.pyc_parse.specs.StatementView.{separated_of, statement_of};
+ghost use Rattle.pyc_tree.specs.StatementView.{separated_of, statement_of};
 
-use crate::block::{After, CompoundClause, Decorator, Next, Stmt, Suite};
+use crate::block_fault::BlockFault;
 use crate::blocks::{Lines, is_decorator, is_definition, is_none};
-use crate::error::BlockFault;
-use crate::growth::append;
-use crate::line::Line;
-use crate::statement::{Separated, Statement};
+use pyc_build::append;
+use pyc_tree::{
+    After, CompoundClause, Decorator, Line, Next, Separated, SimpleStatement, Stmt, Suite,
+};
 use std::alloc::Global;
 
 /// The rules, over a function that reads the block at an indent.
@@ -28,7 +28,7 @@ pub struct Rules<F> {
 /// A line of simple statements.
 #[tactic(auto, using(crate::proofs::BlockViewLemmas::block_views), unfolding(crate::specs::Blocks::simple_line))]
 fn simple_line(lines: &mut Lines) -> Result<Stmt, BlockFault>
-    ensures { Reads stmt_of (spec.simple_line (lines_of lines.old)) result (lines_of lines.new) }
+    ensures { ReadsLines stmt_of (spec.simple_line (lines_of lines.old)) result (lines_of lines.new) }
 {
     let placed = lines.take()?;
     match placed.line {
@@ -40,7 +40,7 @@ fn simple_line(lines: &mut Lines) -> Result<Stmt, BlockFault>
 /// A line that decorates.
 #[tactic(auto, unfolding(crate::specs::Blocks::decorator_line))]
 fn decorator_line(lines: &mut Lines) -> Result<Decorator, BlockFault>
-    ensures { Reads decorator_of (spec.decorator_line (lines_of lines.old)) result (lines_of lines.new) }
+    ensures { ReadsLines decorator_of (spec.decorator_line (lines_of lines.old)) result (lines_of lines.new) }
 {
     let placed = lines.take()?;
     match placed.line {
@@ -51,7 +51,7 @@ fn decorator_line(lines: &mut Lines) -> Result<Decorator, BlockFault>
 
 /// The decorators of a row.
 fn decorators(alloc: Global, lines: &mut Lines, indent: usize) -> Result<Vec<Decorator>, BlockFault>
-    ensures { Reads decorators_of (spec.all_decorators indent (lines_of lines.old)) result (lines_of lines.new) }
+    ensures { ReadsLines decorators_of (spec.all_decorators indent (lines_of lines.old)) result (lines_of lines.new) }
 {
     let mut found = Vec::new(alloc);
     for _turn in 0..lines.len() {
@@ -67,8 +67,8 @@ fn decorators(alloc: Global, lines: &mut Lines, indent: usize) -> Result<Vec<Dec
 impl<F: Fn(Global, &mut Lines, usize, usize) -> Result<Vec<Stmt>, BlockFault>> Rules<F> {
     /// The block at an indent.
     fn block(&self, lines: &mut Lines, indent: usize) -> Result<Vec<Stmt>, BlockFault>
-        requires { Nests self.now.depth (F.pre self.now.block) (F.post self.now.block) }
-        ensures { Reads stmts_of (spec.block_at self.now.depth indent (lines_of lines.old)) result (lines_of lines.new) }
+        requires { ReadsBlocks self.now.depth (F.pre self.now.block) (F.post self.now.block) }
+        ensures { ReadsLines stmts_of (spec.block_at self.now.depth indent (lines_of lines.old)) result (lines_of lines.new) }
     {
         (self.block)(self.alloc, lines, self.depth, indent)
     }
@@ -80,10 +80,10 @@ impl<F: Fn(Global, &mut Lines, usize, usize) -> Result<Vec<Stmt>, BlockFault>> R
         lines: &mut Lines,
         number: usize,
         indent: usize,
-        statements: Separated<Statement>,
+        statements: Separated<SimpleStatement>,
     ) -> Result<Suite, BlockFault>
-        requires { Nests self.now.depth (F.pre self.now.block) (F.post self.now.block) }
-        ensures { Reads suite_of (spec.suite (spec.block_at self.now.depth) number indent (separated_of statement_of statements) (lines_of lines.old)) result (lines_of lines.new) }
+        requires { ReadsBlocks self.now.depth (F.pre self.now.block) (F.post self.now.block) }
+        ensures { ReadsLines suite_of (spec.suite (spec.block_at self.now.depth) number indent (separated_of statement_of statements) (lines_of lines.old)) result (lines_of lines.new) }
     {
         if !is_none(&statements) {
             return Ok(Suite::Inline(statements));
@@ -100,8 +100,8 @@ impl<F: Fn(Global, &mut Lines, usize, usize) -> Result<Vec<Stmt>, BlockFault>> R
     /// A clause.
     #[tactic(auto, unfolding(crate::specs::Blocks::one_clause))]
     fn one_clause(&self, lines: &mut Lines, indent: usize) -> Result<CompoundClause, BlockFault>
-        requires { Nests self.now.depth (F.pre self.now.block) (F.post self.now.block) }
-        ensures { Reads clause_of (spec.one_clause (spec.block_at self.now.depth) indent (lines_of lines.old)) result (lines_of lines.new) }
+        requires { ReadsBlocks self.now.depth (F.pre self.now.block) (F.post self.now.block) }
+        ensures { ReadsLines clause_of (spec.one_clause (spec.block_at self.now.depth) indent (lines_of lines.old)) result (lines_of lines.new) }
     {
         let placed = lines.take()?;
         let number = placed.number;
@@ -126,8 +126,8 @@ impl<F: Fn(Global, &mut Lines, usize, usize) -> Result<Vec<Stmt>, BlockFault>> R
         after: After,
         indent: usize,
     ) -> Result<Option<(CompoundClause, After)>, BlockFault>
-        requires { Nests self.now.depth (F.pre self.now.block) (F.post self.now.block) }
-        ensures { Reads follower_of (spec.next_clause (spec.block_at self.now.depth) after indent (lines_of lines.old)) result (lines_of lines.new) }
+        requires { ReadsBlocks self.now.depth (F.pre self.now.block) (F.post self.now.block) }
+        ensures { ReadsLines follower_of (spec.next_clause (spec.block_at self.now.depth) after indent (lines_of lines.old)) result (lines_of lines.new) }
     {
         match lines.follower(after, indent) {
             None => Ok(None),
@@ -145,8 +145,8 @@ impl<F: Fn(Global, &mut Lines, usize, usize) -> Result<Vec<Stmt>, BlockFault>> R
         indent: usize,
         after: After,
     ) -> Result<Vec<CompoundClause>, BlockFault>
-        requires { Nests self.now.depth (F.pre self.now.block) (F.post self.now.block) }
-        ensures { Reads clauses_of (spec.all_clauses (spec.block_at self.now.depth) indent after (lines_of lines.old)) result (lines_of lines.new) }
+        requires { ReadsBlocks self.now.depth (F.pre self.now.block) (F.post self.now.block) }
+        ensures { ReadsLines clauses_of (spec.all_clauses (spec.block_at self.now.depth) indent after (lines_of lines.old)) result (lines_of lines.new) }
     {
         let mut found = Vec::new(self.alloc);
         let mut so = after;
@@ -172,8 +172,8 @@ impl<F: Fn(Global, &mut Lines, usize, usize) -> Result<Vec<Stmt>, BlockFault>> R
         marks: Vec<Decorator>,
         after: After,
     ) -> Result<Stmt, BlockFault>
-        requires { Nests self.now.depth (F.pre self.now.block) (F.post self.now.block) }
-        ensures { Reads stmt_of (spec.compound_statement (spec.block_at self.now.depth) indent (decorators_of marks) after (lines_of lines.old)) result (lines_of lines.new) }
+        requires { ReadsBlocks self.now.depth (F.pre self.now.block) (F.post self.now.block) }
+        ensures { ReadsLines stmt_of (spec.compound_statement (spec.block_at self.now.depth) indent (decorators_of marks) after (lines_of lines.old)) result (lines_of lines.new) }
     {
         let first = self.one_clause(lines, indent)?;
         let first = Box::new(self.alloc, first)?;
@@ -188,8 +188,8 @@ impl<F: Fn(Global, &mut Lines, usize, usize) -> Result<Vec<Stmt>, BlockFault>> R
         indent: usize,
         after: After,
     ) -> Result<Stmt, BlockFault>
-        requires { Nests self.now.depth (F.pre self.now.block) (F.post self.now.block) }
-        ensures { Reads stmt_of (spec.compound_statement (spec.block_at self.now.depth) indent [] after (lines_of lines.old)) result (lines_of lines.new) }
+        requires { ReadsBlocks self.now.depth (F.pre self.now.block) (F.post self.now.block) }
+        ensures { ReadsLines stmt_of (spec.compound_statement (spec.block_at self.now.depth) indent [] after (lines_of lines.old)) result (lines_of lines.new) }
     {
         self.compound(lines, indent, Vec::new(self.alloc), after)
     }
@@ -203,8 +203,8 @@ impl<F: Fn(Global, &mut Lines, usize, usize) -> Result<Vec<Stmt>, BlockFault>> R
         indent: usize,
         marks: Vec<Decorator>,
     ) -> Result<Stmt, BlockFault>
-        requires { Nests self.now.depth (F.pre self.now.block) (F.post self.now.block) }
-        ensures { Reads stmt_of (spec.definition (spec.block_at self.now.depth) number indent (decorators_of marks) (lines_of lines.old)) result (lines_of lines.new) }
+        requires { ReadsBlocks self.now.depth (F.pre self.now.block) (F.post self.now.block) }
+        ensures { ReadsLines stmt_of (spec.definition (spec.block_at self.now.depth) number indent (decorators_of marks) (lines_of lines.old)) result (lines_of lines.new) }
     {
         if is_definition(lines.next(indent)) {
             self.compound(lines, indent, marks, After::Nothing)
@@ -216,8 +216,8 @@ impl<F: Fn(Global, &mut Lines, usize, usize) -> Result<Vec<Stmt>, BlockFault>> R
     /// A row of decorators and a definition.
     #[tactic(auto, unfolding(crate::specs::Blocks::decorated))]
     fn decorated(&self, lines: &mut Lines, indent: usize) -> Result<Stmt, BlockFault>
-        requires { Nests self.now.depth (F.pre self.now.block) (F.post self.now.block) }
-        ensures { Reads stmt_of (spec.decorated (spec.block_at self.now.depth) indent (lines_of lines.old)) result (lines_of lines.new) }
+        requires { ReadsBlocks self.now.depth (F.pre self.now.block) (F.post self.now.block) }
+        ensures { ReadsLines stmt_of (spec.decorated (spec.block_at self.now.depth) indent (lines_of lines.old)) result (lines_of lines.new) }
     {
         let number = lines.number();
         let marks = decorators(self.alloc, lines, indent)?;
@@ -227,8 +227,8 @@ impl<F: Fn(Global, &mut Lines, usize, usize) -> Result<Vec<Stmt>, BlockFault>> R
     /// The statement that the next line begins, or none where the block ends.
     #[tactic(auto, unfolding(crate::specs::Blocks::next_statement))]
     fn next_statement(&self, lines: &mut Lines, indent: usize) -> Result<Option<Stmt>, BlockFault>
-        requires { Nests self.now.depth (F.pre self.now.block) (F.post self.now.block) }
-        ensures { Reads (option_map stmt_of) (spec.next_statement (spec.block_at self.now.depth) indent (lines_of lines.old)) result (lines_of lines.new) }
+        requires { ReadsBlocks self.now.depth (F.pre self.now.block) (F.post self.now.block) }
+        ensures { ReadsLines (option_map stmt_of) (spec.next_statement (spec.block_at self.now.depth) indent (lines_of lines.old)) result (lines_of lines.new) }
     {
         let found = match lines.next(indent) {
             Next::End => return Ok(None),
@@ -243,8 +243,8 @@ impl<F: Fn(Global, &mut Lines, usize, usize) -> Result<Vec<Stmt>, BlockFault>> R
 
     /// The statements of a block.
     fn statements(&self, lines: &mut Lines, indent: usize) -> Result<Vec<Stmt>, BlockFault>
-        requires { Nests self.now.depth (F.pre self.now.block) (F.post self.now.block) }
-        ensures { Reads stmts_of (spec.all_statements (spec.block_at self.now.depth) indent (lines_of lines.old)) result (lines_of lines.new) }
+        requires { ReadsBlocks self.now.depth (F.pre self.now.block) (F.post self.now.block) }
+        ensures { ReadsLines stmts_of (spec.all_statements (spec.block_at self.now.depth) indent (lines_of lines.old)) result (lines_of lines.new) }
     {
         let mut found = Vec::new(self.alloc);
         for _turn in 0..lines.len() {
@@ -265,7 +265,7 @@ pub fn block_at(
     depth: usize,
     indent: usize,
 ) -> Result<Vec<Stmt>, BlockFault>
-    ensures { Reads stmts_of (spec.block_at depth indent (lines_of lines.old)) result (lines_of lines.new) }
+    ensures { ReadsLines stmts_of (spec.block_at depth indent (lines_of lines.old)) result (lines_of lines.new) }
 {
     if depth == 0 {
         return Err(BlockFault::Block(lines.number()));

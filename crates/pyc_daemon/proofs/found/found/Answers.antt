@@ -1,7 +1,7 @@
 use Rattle.std.proofs.Common.{◌≡◌, All, sym, subst, rules}
 use Rattle.pyc_lex.specs.Texts.{IsTextSpan}
-use Rattle.pyc_lex.specs.declared.tokens.Token.{Token}
-use Rattle.pyc_parse.specs.declared.block.Stmt.{Stmt}
+use Rattle.pyc_token.specs.declared.tokens.Token.{Token}
+use Rattle.pyc_tree.specs.declared.block.Stmt.{Stmt}
 use Rattle.pyc_parse.specs.BlockTrees.{no_statement}
 use Rattle.pyc_parse.specs.BlockView.{stmts_before}
 use Rattle.pyc_parse.specs.BlockYield.{stmts_tokens}

@@ -1,5 +1,5 @@
 use Rattle.std.proofs.Common.{◌∙◌, ap, sym}
-use Rattle.pyc_lex.proofs.NameLemmas.{nfkc_text-ascii}
+use Rattle.pyc_token.proofs.NameLemmas.{nfkc_text-ascii}
 use Rattle.pyc_daemon.specs.LiteralForms.{builtin_named}
 use Rattle.pyc_daemon.proofs.literal_forms.named_type.Goals as goal
 

@@ -1,5 +1,5 @@
 use Rattle.std.proofs.Common.{◌+◌, ◌-◌, length}
-use Rattle.pyc_lex.specs.Cuts.{cuts}
+use Rattle.pyc_token.specs.Cuts.{cuts}
 use Rattle.pyc_lex.specs.Lines.{read, start_at}
 use Rattle.pyc_lex.specs.Reader.{reading_of}
 use Rattle.pyc_lex.proofs.ReadLemmas.{IsOnTheWay}

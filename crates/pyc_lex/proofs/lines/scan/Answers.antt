@@ -1,7 +1,7 @@
 use Rattle.std.proofs.Common.{◌≡◌, drop, ap, ◌∙◌}
-use Rattle.pyc_lex.specs.Cuts.{cuts}
+use Rattle.pyc_token.specs.Cuts.{cuts}
 use Rattle.pyc_lex.specs.Lines.{start_at, and_then, read, finished, lines_of}
-use Rattle.pyc_lex.proofs.BoundaryLemmas.{mark_boundary}
+use Rattle.pyc_lex.proofs.MarkLemmas.{mark_boundary}
 use Rattle.pyc_lex.proofs.ScanLemmas.{lines_of-no_utf8, lines_of-text, lines_answer, fault_answer, texts_answer, spans_answer, order_answer, limits_answer}
 use Rattle.pyc_lex.proofs.lines.scan.Goals as goal
 

@@ -1,13 +1,13 @@
 use Rattle.std.proofs.Common.{◌≡◌, ◌∙◌, ◌∷◌, [], List, length, map, ap, sym, arith}
 use Rattle.std.specs.Vec.Iter.{into_iter_items}
-use Rattle.pyc_lex.specs.declared.tokens.LogicalLine.{LogicalLine}
+use Rattle.pyc_lex.specs.declared.logical_lines.LogicalLine.{LogicalLine}
 use Rattle.pyc_lex.specs.View.{line_in}
-use Rattle.pyc_parse.specs.declared.block.Placed.{Placed as PlacedOf}
-use Rattle.pyc_parse.specs.declared.fault.ParseFault.{ParseFault}
+use Rattle.pyc_tree.specs.declared.block.Placed.{Placed as PlacedOf}
+use Rattle.pyc_line.specs.declared.fault.ParseFault.{ParseFault}
 use Rattle.pyc_parse.specs.Blocks.{Placed}
 use Rattle.pyc_parse.specs.BlockView.{placed_of}
-use Rattle.pyc_parse.specs.LineFault.{number_of}
-use Rattle.pyc_parse.specs.LineView.{line_of}
+use Rattle.pyc_line.specs.LineFault.{number_of}
+use Rattle.pyc_tree.specs.LineView.{line_of}
 use Rattle.pyc_parse.specs.Modules.{placed_lines}
 use Rattle.pyc_parse.proofs.ModuleLemmas.{with_placed, no_line_left, placed_push, placed_step, placed_bad, placed_end, answers_err}
 use Rattle.pyc_parse.proofs.module_tree.placed_lines.Goals as goal
@@ -21,7 +21,7 @@ returns-in_err-tree c =
     sym c.loop-line.invariant.0
     ∙ (ap (λ (ls : List LogicalLine). with_placed (map placed_of c.loop-line.found.items) (placed_lines (map line_in ls))) next
     ∙ placed_bad (map placed_of c.loop-line.found.items) (line_in c.in-Some.line) rest c.deref.result.now fault c.deref.ensures.value
-    (c.in_err-tree.ensures.refused some) c.in_err-tree.ensures.place (c.in_err-tree.ensures.what some)))
+    (c.in_err-tree.ensures.refused some) c.in_err-tree.ensures.line (c.in_err-tree.ensures.what some)))
 
 pub loop-line-preserved : goal.loop-line-preserved
 loop-line-preserved c =

@@ -1,6 +1,6 @@
 use Rattle.std.proofs.Common.{◌≡◌, All, ap, ◌∙◌, subst}
 use Rattle.pyc_lex.specs.Texts.{IsTextSpan}
-use Rattle.pyc_lex.specs.declared.tokens.Token.{Token}
+use Rattle.pyc_token.specs.declared.tokens.Token.{Token}
 use Rattle.pyc_parse.specs.Outcome.{outcome_in, outcome_of, outcome_tokens}
 use Rattle.pyc_daemon.specs.Fresh.{unit_count}
 use Rattle.pyc_daemon.proofs.file.File.new.Goals as goal

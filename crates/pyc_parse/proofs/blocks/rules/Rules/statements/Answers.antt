@@ -1,5 +1,5 @@
 use Rattle.std.proofs.Common.{arith, Option, option_map}
-use Rattle.pyc_parse.specs.declared.block.Stmt.{Stmt}
+use Rattle.pyc_tree.specs.declared.block.Stmt.{Stmt}
 use Rattle.pyc_parse.specs.Blocks.{block_at, statements, all_statements}
 use Rattle.pyc_parse.specs.BlockView.{lines_of, stmt_of}
 use Rattle.pyc_parse.proofs.BlockSteps.{read_err, statements_start, statements_over, statements_fault, statements_end, statements_on}

@@ -1,0 +1,3 @@
+pub mod ReadsTokens
+pub mod Parted
+pub mod Turns

@@ -1,0 +1,9 @@
+use Rattle.std.proofs.Common.{◌≡◌}
+use Rattle.pyc_tree.specs.Expressions.{expr}
+use Rattle.pyc_tree.specs.Items.{displayed}
+use Rattle.pyc_tree.specs.View.{tree_of}
+use Rattle.pyc_expression.proofs.rules.ExpressionRules.displayed_round.Goals as goal
+
+pub returns : goal.returns
+unfolding displayed
+returns g c = rw (c.in_ok-found.ensures, c.in_ok-closing.ensures) (c.in_parentheses.ensures (expr c.args.self.now.rules.depth) (tree_of c.args.first.expr.value) c.expect.new.self.rest.now)

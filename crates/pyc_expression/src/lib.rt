@@ -1,0 +1,11 @@
+//! The grammar of expressions.
+#![tactic(auto)]
+
+mod calls;
+mod comparisons;
+mod displays;
+mod operands;
+mod operators;
+mod rules;
+
+pub use rules::{ExpressionRules, expr};

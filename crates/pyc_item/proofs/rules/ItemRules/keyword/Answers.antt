@@ -1,0 +1,12 @@
+use Rattle.std.proofs.Common.{◌≡◌, ◌∙◌, ap, sym}
+use Rattle.pyc_tree.specs.declared.tree.Expr.{Expr}
+use Rattle.pyc_tree.specs.Expressions as spec
+use Rattle.pyc_tree.specs.Items as items
+use Rattle.pyc_tree.specs.View.{tree_of}
+use Rattle.pyc_tree.proofs.FormLemmas.{keyword_other}
+use Rattle.pyc_item.proofs.rules.ItemRules.keyword.Goals as goal
+
+pub returns : goal.returns
+returns g c =
+    ap (λ (x : Expr). items.keyword (spec.expr c.args.self.now.depth) (tree_of x) c.args.tokens.now.rest.now) (sym c.deref.ensures)
+    ∙ keyword_other (spec.expr c.args.self.now.depth) _ c.in_default.not-Name c.args.tokens.now.rest.now

@@ -1,7 +1,0 @@
-use Rattle.std.proofs.Common.{◌≡◌, drop}
-use Rattle.pyc_lex.specs.Strings.{has_open_field}
-use Rattle.pyc_lex.proofs.StringLemmas.{left_open}
-use Rattle.pyc_lex.proofs.strings.has_open_field.Given as goal
-
-abbrev pub invariant-loop-byte : goal.invariant-loop-byte
-invariant-loop-byte l = left_open l.is_open l.follows_brace (drop l.byte-index l.text) ≡ has_open_field l.text

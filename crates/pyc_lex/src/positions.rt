@@ -1,0 +1,54 @@
+//! Physical lines and columns.
+
+ghost use Rattle.std.specs.Prelude.{◌≡◌, ◌<◌, ◌≤◌, ◌+◌, ◌^◌, length};
+
+use pyc_token::byte_at;
+
+/// A physical line and a column in characters, both from 1.
+#[derive(Clone, Copy, Debug, PartialEq, Eq)]
+pub(crate) struct Position {
+    pub line: usize,
+    pub column: usize,
+}
+
+impl Position {
+    ghost use Rattle.pyc_lex.specs.Positions as spec;
+
+    /// The position after a byte, before another one.
+    fn past(self, byte: u8, next: u8) -> Position
+        requires line { self.line + 1 < 2 ^ 64 }
+        requires column { self.column + 1 < 2 ^ 64 }
+        ensures { result ≡ spec.position_past self byte next }
+    {
+        if byte == b'\n' || byte == b'\r' && next != b'\n' {
+            Position {
+                line: self.line + 1,
+                column: 1,
+            }
+        } else if !(128..=191).contains(&byte) {
+            Position {
+                line: self.line,
+                column: self.column + 1,
+            }
+        } else {
+            self
+        }
+    }
+
+    /// The position after a text.
+    pub fn after(self, text: &[u8]) -> Position
+        requires line { self.line + length text.now < 2 ^ 64 }
+        requires column { self.column + length text.now < 2 ^ 64 }
+        requires from_one { 1 ≤ self.column }
+        ensures value { result ≡ spec.position_after self text.now }
+        ensures line { result.line ≤ self.line + length text.now }
+        ensures column { result.column ≤ self.column + length text.now }
+        ensures from_one { 1 ≤ result.column }
+    {
+        let mut position = self;
+        for index in 0..text.len() {
+            position = position.past(text[index], byte_at(text, index + 1));
+        }
+        position
+    }
+}

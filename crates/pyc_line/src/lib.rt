@@ -1,0 +1,8 @@
+//! The tree of a logical line, or what is wrong with it.
+#![tactic(auto)]
+
+mod fault;
+mod line_parser;
+
+pub use fault::{ParseFault, What, line_fault, line_number};
+pub use line_parser::parse_line;

@@ -1,6 +1,0 @@
-use Rattle.std.proofs.Common.{◌≡◌, ◌∙◌}
-use Rattle.pyc_parse.proofs.FormLemmas.{argument_other}
-use Rattle.pyc_parse.proofs.forms.is_argument.Goals as goal
-
-pub returns-in_default : goal.returns-in_default
-returns-in_default c = c.is_keyword_argument.ensures ∙ argument_other c.args.item.now c.in_default.not-Argument

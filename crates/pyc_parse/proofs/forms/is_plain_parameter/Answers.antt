@@ -1,6 +1,0 @@
-use Rattle.std.proofs.Common.{◌≡◌}
-use Rattle.pyc_parse.proofs.FormLemmas.{plain_parameter_other}
-use Rattle.pyc_parse.proofs.forms.is_plain_parameter.Goals as goal
-
-pub returns-in_default : goal.returns-in_default
-returns-in_default c = plain_parameter_other c.args.is_annotated c.args.item.now c.in_default.not-Parameter

@@ -1,6 +1,0 @@
-use Rattle.std.proofs.Common.{◌≡◌}
-use Rattle.pyc_parse.proofs.FormLemmas.{unstarred}
-use Rattle.pyc_parse.proofs.front.is_starred.Goals as goal
-
-pub returns-in_default : goal.returns-in_default
-returns-in_default c = unstarred c.args.expr.now c.in_default.not-Starred

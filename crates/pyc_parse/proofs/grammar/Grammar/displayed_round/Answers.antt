@@ -1,9 +1,0 @@
-use Rattle.std.proofs.Common.{◌≡◌}
-use Rattle.pyc_parse.specs.Expressions.{expr}
-use Rattle.pyc_parse.specs.Items.{displayed}
-use Rattle.pyc_parse.specs.View.{tree_of}
-use Rattle.pyc_parse.proofs.grammar.Grammar.displayed_round.Goals as goal
-
-pub returns : goal.returns
-unfolding displayed
-returns g c = rw (c.in_ok-found.ensures, c.in_ok-closing.ensures) (c.in_parentheses.ensures (expr c.args.self.now.depth) (tree_of c.args.first.expr.value) c.expect.new.self.rest.now)

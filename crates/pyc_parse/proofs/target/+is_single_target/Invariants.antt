@@ -1,6 +1,0 @@
-use Rattle.pyc_parse.specs.Height.{height}
-use Rattle.pyc_parse.specs.View.{tree_of}
-use Rattle.pyc_parse.proofs.target.+is_single_target.Given as goal
-
-abbrev pub decreases-is_single_target : goal.decreases-is_single_target
-decreases-is_single_target l = height (tree_of l.expr.now)

@@ -1,0 +1,18 @@
+-- A function value that reads blocks to a depth.
+use Rattle.std.specs.Prelude.{ℕ, Result}
+use Rattle.std.specs.Global.{Vec}
+use Rattle.std.specs.declared.alloc.Global.{Global}
+use denote.Ref.{MutBor}
+use Rattle.pyc_tree.specs.declared.block.Stmt.{Stmt as StmtOf}
+use Rattle.pyc_parse.specs.declared.blocks.Lines.{Lines}
+use Rattle.pyc_parse.specs.declared.block_fault.BlockFault.{BlockFault}
+use Rattle.pyc_parse.specs.Blocks.{block_at}
+use Rattle.pyc_parse.specs.ReadsLines.{ReadsLines}
+use Rattle.pyc_parse.specs.BlockView.{lines_of, stmts_of}
+
+-- it may be called at this depth, and reads what the definition does
+pub record ReadsBlocks (depth : ℕ) (pre : Global → MutBor Lines → ℕ → ℕ → Type 0)
+    (post : Global → MutBor Lines → ℕ → ℕ → Result (Vec StmtOf) BlockFault → MutBor Lines → Type 0) : Type 0 where
+  pub callable : (alloc : Global) (old : MutBor Lines) (indent : ℕ) → pre alloc old depth indent
+  pub reads : (alloc : Global) (old new : MutBor Lines) (indent : ℕ) (r : Result (Vec StmtOf) BlockFault) → post alloc old depth indent r new
+      → ReadsLines stmts_of (block_at depth indent (lines_of old.now)) r (lines_of new.now)

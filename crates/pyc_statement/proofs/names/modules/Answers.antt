@@ -1,0 +1,25 @@
+use Rattle.std.proofs.Common.{◌≡◌, false, refl, sym, ap, ◌∙◌, length}
+use Rattle.pyc_tree.specs.SimpleStatements.{imported_module}
+use Rattle.pyc_tree.specs.StatementView.{module_of}
+use Rattle.pyc_statement.proofs.NameSteps.{read_err, with_items, items_refused, items_end, items_cut, items_on}
+use Rattle.pyc_statement.proofs.names.modules.Goals as goal
+
+pub returns-in_err-value : goal.returns-in_err-value
+returns-in_err-value c =
+    read_err module_of _ _ _ _ _ c.from_residual.result _ c.from_residual.ensures.1 c.in_err-value.ensures
+    (items_refused module_of imported_module false _ _ _ _ _ c.loop-turn-test.true c.loop-turn.invariant)
+
+pub returns-then-not-same_kind : goal.returns-then-not-same_kind
+returns-then-not-same_kind c =
+    rw c.in_ok-last.ensures.same
+    (items_end module_of imported_module false _ _ _ _ _ c.loop-turn-test.true c.loop-turn.invariant c.in_ok-value.value _ c.in_ok-value.ensures (cc))
+
+pub returns-in_err-separator : goal.returns-in_err-separator
+returns-in_err-separator c =
+    read_err (λ t. t) _ _ _ _ _ c.from_residual-in_err-separator.result _ c.from_residual-in_err-separator.ensures.1 c.in_err-separator.ensures
+    (items_cut module_of imported_module false _ _ _ _ _ c.loop-turn-test.true c.loop-turn.invariant c.in_ok-value.value _ c.in_ok-value.ensures (cc))
+
+pub loop-turn-preserved : goal.loop-turn-preserved
+loop-turn-preserved c =
+    rw c.in_ok-push.ensures.items
+    (items_on module_of imported_module false _ _ _ _ _ c.loop-turn-test.true c.loop-turn.invariant c.in_ok-value.value _ c.in_ok-value.ensures c.in_ok-separator.separator _ (cc) c.in_ok-separator.ensures refl)

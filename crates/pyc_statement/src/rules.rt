@@ -1,0 +1,9 @@
+//! The rules of statements, headers and lines: each over the function that reads expressions.
+
+use pyc_item::ItemRules;
+
+/// The rules, over a function that reads expressions.
+#[derive(Clone, Copy)]
+pub struct StatementRules<F> {
+    pub rules: ItemRules<F>,
+}

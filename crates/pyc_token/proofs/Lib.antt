@@ -1,0 +1,6 @@
+pub mod BoundaryLemmas
+pub mod CutLemmas
+pub mod KeywordLemmas
+pub mod NameLemmas
+pub mod OperatorLemmas
+pub mod StringLemmas

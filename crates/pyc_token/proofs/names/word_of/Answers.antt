@@ -1,0 +1,9 @@
+use Rattle.std.proofs.Common.{◌∙◌, ap, sym}
+use Rattle.pyc_token.specs.Names.{word_of, word_in}
+use Rattle.pyc_token.proofs.NameLemmas.{nfkc_text-ascii}
+use Rattle.pyc_token.proofs.names.word_of.Goals as goal
+
+pub returns-then-is_ascii : goal.returns-then-is_ascii
+unfolding word_of
+returns-then-is_ascii c =
+    c.word_in.ensures ∙ ap word_in c.as_bytes.ensures.value ∙ sym (ap word_in (nfkc_text-ascii c.args.name.now c.if-is_ascii.ensures.cases))

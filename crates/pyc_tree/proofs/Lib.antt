@@ -1,0 +1,5 @@
+pub mod ViewLemmas
+pub mod HeightLemmas
+pub mod TargetLemmas
+pub mod FormLemmas
+pub mod Turns

@@ -1,0 +1,41 @@
+//! The tree of a logical line: simple statements, a header with its colon, or a decorator.
+
+use crate::statement::{Alias, Separated, SimpleStatement};
+use crate::tree::{Expr, Pieces, Tail};
+use pyc_token::Token;
+
+/// A header without its colon.
+#[derive(Drop)]
+pub enum Header {
+    /// `if`, `elif` or `while`, and a condition.
+    Condition(Token, Box<Expr>),
+    /// `else`, `try` or `finally`.
+    Word(Token),
+    /// Perhaps `async`, then `for`, targets, `in` and what is iterated.
+    For(Option<Token>, Token, Box<Expr>, Token, Box<Expr>),
+    /// `except` alone.
+    Except(Token),
+    /// `except`, what is caught, and perhaps a name.
+    ExceptOf(Token, Box<Expr>, Option<Alias>),
+    /// Perhaps `async`, then `with` and items.
+    With(Option<Token>, Token, Pieces),
+    /// The same with the items in parentheses.
+    WithEnclosed(Option<Token>, Token, Token, Pieces, Token),
+    /// Perhaps `async`, then `def`, a name, parameters in parentheses, and perhaps `->` and what is returned.
+    Def(Option<Token>, Token, Token, Token, Pieces, Token, Tail),
+    /// `class` and a name.
+    Class(Token, Token),
+    /// The same with bases and keywords in parentheses.
+    ClassOf(Token, Token, Token, Pieces, Token),
+}
+
+/// The tree of a logical line.
+#[derive(Drop)]
+pub enum Line {
+    /// Statements, joined by semicolons.
+    Simple(Separated<SimpleStatement>),
+    /// A header, its colon, and perhaps statements.
+    Header(Box<Header>, Token, Separated<SimpleStatement>),
+    /// `@` and an expression.
+    Decorator(Token, Box<Expr>),
+}

@@ -1,0 +1,107 @@
+//! The trees of simple statements: every node keeps each of its tokens.
+
+use crate::tree::{Expr, Tail};
+use pyc_token::Token;
+
+/// Items with a token after each, and perhaps a last one without.
+#[derive(Drop)]
+pub struct Separated<T> {
+    pub each: Vec<Item<T>>,
+    pub last: Option<Box<T>>,
+}
+
+/// An item and the token after it.
+#[derive(Drop)]
+pub struct Item<T> {
+    pub value: T,
+    pub separator: Token,
+}
+
+/// `as` and a name.
+#[derive(Clone, Copy, Debug, PartialEq, Eq)]
+pub struct Alias {
+    pub word: Token,
+    pub name: Token,
+}
+
+/// A dot and a name.
+#[derive(Clone, Copy, Debug, PartialEq, Eq)]
+pub struct DottedPart {
+    pub dot: Token,
+    pub name: Token,
+}
+
+/// A dotted name.
+#[derive(Drop)]
+pub struct Dotted {
+    pub first: Token,
+    pub parts: Vec<DottedPart>,
+}
+
+/// A module that is imported, perhaps under another name.
+#[derive(Drop)]
+pub struct ImportedModule {
+    pub path: Dotted,
+    pub alias: Option<Alias>,
+}
+
+/// A name that is imported, perhaps under another name.
+#[derive(Drop)]
+pub struct ImportedName {
+    pub name: Token,
+    pub alias: Option<Alias>,
+}
+
+/// A target and the `=` after it.
+#[derive(Drop)]
+pub struct Assigned {
+    pub target: Box<Expr>,
+    pub equal: Token,
+}
+
+/// The module of a from-import: the dots before it, and its dotted name, where it has one.
+#[derive(Drop)]
+pub struct Source {
+    pub dots: Vec<Token>,
+    pub path: Option<Dotted>,
+}
+
+/// `from`, a module, `import`, and names, perhaps in parentheses.
+#[derive(Drop)]
+pub struct ImportFrom {
+    pub word: Token,
+    pub source: Source,
+    pub word_import: Token,
+    pub opening: Option<Token>,
+    pub names: Separated<ImportedName>,
+    pub closing: Option<Token>,
+}
+
+/// A simple statement.
+#[derive(Drop)]
+pub enum SimpleStatement {
+    /// An expression, a tuple without brackets or a `yield`.
+    Expression(Box<Expr>),
+    /// Targets, each with its `=`, and a value.
+    Assign(Vec<Assigned>, Box<Expr>),
+    /// A target, `:`, an annotation, and perhaps `=` and a value.
+    Annotate(Box<Expr>, Token, Box<Expr>, Tail),
+    /// A target, an operator as `+=`, and a value.
+    Augment(Box<Expr>, Token, Box<Expr>),
+    /// `pass`, `break` or `continue`.
+    Word(Token),
+    /// `return`, perhaps with a value.
+    Return(Token, Option<Box<Expr>>),
+    /// `raise`, perhaps an exception, perhaps `from` and its cause.
+    Raise(Token, Option<Box<Expr>>, Tail),
+    /// `assert`, a test, and perhaps a comma and a message.
+    Assert(Token, Box<Expr>, Tail),
+    /// `del` and targets.
+    Delete(Token, Box<Expr>),
+    /// `global` or `nonlocal`, and names.
+    Declare(Token, Box<Separated<Token>>),
+    /// `import` and modules.
+    Import(Token, Box<Separated<ImportedModule>>),
+    /// Names of a module.
+    ImportFrom(Box<ImportFrom>),
+}
