@@ -1,5 +1,6 @@
 -- What a check of files prints, and the status that it ends with.
-use Rattle.std.specs.Prelude.{◌≡◌, ℕ, Bool, false, not, ◌||◌, bytes_eq, if◌then◌else◌, List, [], ◌∷◌, ◌++◌, drop, codes, Option, Result, Ok, Err}
+use Rattle.std.specs.Prelude.{◌≡◌, ℕ, Bool, false, not, ◌||◌, bytes_eq, if◌then◌else◌, List, [], ◌∷◌, ◌++◌, drop, codes}
+use Rattle.std.specs.Prelude.{Option, Result, Ok, Err}
 use Rattle.std.specs.Io.KnownBytes.{Appends}
 use Rattle.pyc_daemon.specs.declared.ending.RunFault.{RunFault}
 use Rattle.pyc_daemon.specs.declared.refusal.Refusal.TheVariants as refusal
@@ -31,7 +32,8 @@ refusal_line path turn = if is_refused turn then program_line (path ++ (codes ":
 -- the state after updates of these files in order, with what each met
 abbrev pub after_updates : State → List (List ℕ) → List Event → State
 after_updates s [] events = s
-after_updates s (path ∷ paths) events = after_updates (file_update s path (first_event events)).state paths (drop 1 events)
+after_updates s (path ∷ paths) events =
+    after_updates (file_update s path (first_event events)).state paths (drop 1 events)
 
 -- the lines on the files that are refused
 abbrev pub refusal_lines : State → List (List ℕ) → List Event → List ℕ
@@ -73,7 +75,8 @@ err_text options paths events wanting = refusal_lines (start options) paths even
 
 -- the status
 abbrev pub check_status : Options → List (List ℕ) → List Event → Bool → ℕ
-check_status options paths events wanting = report_status (report_on options paths events) (is_any_refused (start options) paths events) wanting
+check_status options paths events wanting =
+    report_status (report_on options paths events) (is_any_refused (start options) paths events) wanting
 
 -- a text begins with these bytes
 abbrev pub BeginsWith : List ℕ → List ℕ → Type 0
@@ -82,22 +85,25 @@ BeginsWith text written = (later : List ℕ) × (text ≡ written ++ later)
 -- a check that was not broken off wrote both texts whole, and has their status
 abbrev pub WroteAll : Options → List (List ℕ) → List Event → Bool → List ℕ → List ℕ → ℕ → Type 0
 WroteAll options paths events wanting written told status =
-    (written ≡ out_text options paths events wanting) × (told ≡ err_text options paths events wanting) × (status ≡ check_status options paths events wanting)
+    (written ≡ out_text options paths events wanting) × (told ≡ err_text options paths events wanting)
+    × (status ≡ check_status options paths events wanting)
 
 -- one that was broken off by a write wrote what both texts begin with, for all that the other files may meet
 abbrev pub WrotePart : Options → List (List ℕ) → List Event → Bool → List ℕ → List ℕ → Type 0
 WrotePart options paths events wanting written told =
-    (more : List Event) → BeginsWith (out_text options paths (events ++ more) wanting) written × BeginsWith (err_text options paths (events ++ more) wanting) told
+    (more : List Event) → BeginsWith (out_text options paths (events ++ more) wanting) written
+    × BeginsWith (err_text options paths (events ++ more) wanting) told
 
 -- what was written by a check that answered so: its status, or the fault of a write
 abbrev pub Wrote : Result ℕ RunFault → Options → List (List ℕ) → List Event → Bool → List ℕ → List ℕ → Type 0
 Wrote (Ok status) options paths events wanting written told = WroteAll options paths events wanting written told status
 Wrote (Err fault) options paths events wanting written told = WrotePart options paths events wanting written told
 
--- A check of files, from a source to a source by what a fetch does to it (`step`), and from known bytes of the output and of
--- the error output to known bytes: `events` is what the updates met, `wanting` whether the check wanted memory, and `written`
--- and `told` were written.
-pub record Checks {S : Type 0} (step : S → List ℕ → Entry → S → Type 0) (options : Options) (source source' : S) (out out' err err' : Option (List ℕ)) (paths : List (List ℕ)) (result : Result ℕ RunFault) : Type 0 where
+-- A check of files, from a source to a source by what a fetch does to it (`step`), and from known bytes of the output
+-- and of the error output to known bytes: `events` is what the updates met, `wanting` whether the check wanted memory,
+-- and `written` and `told` were written.
+pub record Checks {S : Type 0} (step : S → List ℕ → Entry → S → Type 0) (options : Options) (source source' : S)
+    (out out' err err' : Option (List ℕ)) (paths : List (List ℕ)) (result : Result ℕ RunFault) : Type 0 where
   pub events : List Event
   pub wanting : Bool
   pub written : List ℕ

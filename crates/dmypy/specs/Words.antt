@@ -1,6 +1,8 @@
 -- The command line of the program.
-use Rattle.std.specs.Prelude.{◌≡◌, Bool, true, false, List, [], ◌∷◌, Option, Some, Result, Ok, Err, bytes_eq, codes, map, option_and_then, option_map, string_bytes, unwrap_or, ⊤}
-use Rattle.clap.specs.Words.{App, all_of, Row, Rule, Text, new_app, new_rule, one_of, kind_of, subcommand_of, with_rule, with_subcommand, HasKind}
+use Rattle.std.specs.Prelude.{◌≡◌, Bool, true, false, List, [], ◌∷◌, Option, Some, Result, Ok, Err, bytes_eq, codes}
+use Rattle.std.specs.Prelude.{map, option_and_then, option_map, string_bytes, unwrap_or, ⊤}
+use Rattle.clap.specs.Words.{App, all_of, Row, Rule, Text, new_app, new_rule, one_of, kind_of, subcommand_of, with_rule}
+use Rattle.clap.specs.Words.{with_subcommand, HasKind}
 use Rattle.clap.specs.declared.builder.action.ArgAction.TheVariants.{Append, SetTrue}
 use Rattle.clap.specs.declared.error.kind.ErrorKind.{ErrorKind}
 use Rattle.clap.specs.declared.error.kind.ErrorKind.TheVariants.{OutOfMemory}
@@ -64,7 +66,8 @@ IsFlag text flag = (text ≡ Some (codes "true") → flag ≡ true) × (text ≡
 
 -- a session's options; the program reads its input 1,000,000,000 times at most
 abbrev pub session_options : Bool → Bool → Options
-session_options ignore_missing check_untyped = record { ignore_missing = ignore_missing; check_untyped = check_untyped; turns = 1000000000 }
+session_options ignore_missing check_untyped =
+    record { ignore_missing = ignore_missing; check_untyped = check_untyped; turns = 1000000000 }
 
 -- the options of a job
 abbrev pub options_of : Job → Options
@@ -99,8 +102,16 @@ session_rows =
     (codes "session" ∷ [], session_options false false)
     ∷ (codes "session" ∷ codes "--ignore-missing-imports" ∷ [], session_options true false)
     ∷ (codes "session" ∷ codes "--check-untyped-defs" ∷ [], session_options false true)
-    ∷ (codes "session" ∷ codes "--ignore-missing-imports" ∷ codes "--check-untyped-defs" ∷ [], session_options true true)
-    ∷ (codes "session" ∷ codes "--check-untyped-defs" ∷ codes "--ignore-missing-imports" ∷ [], session_options true true)
+    ∷ (
+      codes "session" ∷ codes "--ignore-missing-imports" ∷ codes "--check-untyped-defs"
+          ∷ [],
+      session_options true true,
+    )
+    ∷ (
+      codes "session" ∷ codes "--check-untyped-defs" ∷ codes "--ignore-missing-imports"
+          ∷ [],
+      session_options true true,
+    )
     ∷ []
 
 -- the answer is a session with these options, unless memory ran out

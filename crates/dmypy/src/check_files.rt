@@ -1,6 +1,7 @@
 //! One check of the files that the command line names.
 
-ghost use Rattle.std.specs.Prelude.{◌≡◌, ◌+◌, ◌<◌, [], ℕ, Bool, List, Result, map, string_bytes, if◌then◌else◌, IfOk, OnErr, OnOk};
+ghost use Rattle.std.specs.Prelude.{◌≡◌, ◌+◌, ◌<◌, [], ℕ, Bool, List, Result, map, string_bytes, if◌then◌else◌, IfOk};
+ghost use Rattle.std.specs.Prelude.{OnErr, OnOk};
 ghost use Rattle.std.specs.Io.KnownBytes.{Appends};
 ghost use Rattle.pyc_daemon.specs.Counted.{inner_of, faults_of, zeros_of};
 ghost use Rattle.pyc_daemon.specs.Event.{Event, FetchStep, Links};
@@ -23,9 +24,10 @@ use std::io::Write;
 #[cfg(test)]
 mod tests;
 
-/// Checks the files of these paths, whose bytes the source hands over, and prints the report to `out`. Each file that is
-/// refused is told on a line of `err`, and so is want of memory for the check. The status is 0 where all files are accepted
-/// and have no error, 1 where all are accepted and have one, else 2. A write that fails or takes no byte ends the check.
+/// Checks the files of these paths, whose bytes the source hands over, and prints the report to `out`. Each file that
+/// is refused is told on a line of `err`, and so is want of memory for the check. The status is 0 where all files are
+/// accepted and have no error, 1 where all are accepted and have one, else 2. A write that fails or takes no byte ends
+/// the check.
 pub fn check_files<S: Sources, O: Write, E: Write>(
     alloc: Global,
     sources: &mut S,
@@ -35,14 +37,18 @@ pub fn check_files<S: Sources, O: Write, E: Write>(
     files: &[String],
 ) -> u8
     // Where no write failed, all is written.
-    ensures whole { faults_of out.new + zeros_of out.new + (faults_of err.new + zeros_of err.new) ≡ 0 → (events : List Event) × (wanting : Bool)
+    ensures whole { faults_of out.new + zeros_of out.new + (faults_of err.new + zeros_of err.new) ≡ 0
+        → (events : List Event) × (wanting : Bool)
         × Links S.step sources.old events sources.new
-        × Appends (O.contents (inner_of out.old)) (O.contents (inner_of out.new)) (out_text options.now (map string_bytes files.now) events wanting)
-        × Appends (E.contents (inner_of err.old)) (E.contents (inner_of err.new)) (err_text options.now (map string_bytes files.now) events wanting)
+        × Appends (O.contents (inner_of out.old)) (O.contents (inner_of out.new))
+        (out_text options.now (map string_bytes files.now) events wanting)
+        × Appends (E.contents (inner_of err.old)) (E.contents (inner_of err.new))
+        (err_text options.now (map string_bytes files.now) events wanting)
         × (result ≡ check_status options.now (map string_bytes files.now) events wanting) }
     // In any case what is written begins what is to be written, and where that is not all of it a write failed.
     ensures checks { (answer : Result ℕ RunFault)
-        × Checks S.step options.now sources.old sources.new (O.contents (inner_of out.old)) (O.contents (inner_of out.new))
+        × Checks S.step options.now sources.old sources.new (O.contents (inner_of out.old))
+        (O.contents (inner_of out.new))
         (E.contents (inner_of err.old)) (E.contents (inner_of err.new)) (map string_bytes files.now) answer
         × (result ≡ exit_status answer)
         × OnErr answer (0 < faults_of out.new + zeros_of out.new + (faults_of err.new + zeros_of err.new)) }
@@ -62,7 +68,8 @@ fn check_and_tell<S: Sources, O: Write, E: Write>(
     options: &Options,
     files: &[String],
 ) -> Result<u8, RunFault>
-    ensures checks { Checks S.step options.now sources.old sources.new (O.contents (inner_of out.old)) (O.contents (inner_of out.new))
+    ensures checks { Checks S.step options.now sources.old sources.new (O.contents (inner_of out.old))
+        (O.contents (inner_of out.new))
         (E.contents (inner_of err.old)) (E.contents (inner_of err.new)) (map string_bytes files.now) result }
     ensures cause { OnErr result (0 < faults_of out.new + zeros_of out.new + (faults_of err.new + zeros_of err.new)) }
 {
@@ -78,9 +85,12 @@ fn update_all<S: Sources, E: Write>(
     err: &mut Counted<E>,
     files: &[String],
 ) -> Result<bool, RunFault>
-    ensures ok { IfOk result (λ refused. Updates S.step sources.old sources.new (E.contents (inner_of err.old)) (E.contents (inner_of err.new))
+    ensures ok { IfOk result
+        (λ refused. Updates S.step sources.old sources.new (E.contents (inner_of err.old))
+        (E.contents (inner_of err.new))
         daemon.old daemon.new (map string_bytes files.now) [] refused) }
-    ensures part { OnErr result (BeginsUpdates S.step sources.old sources.new (E.contents (inner_of err.old)) (E.contents (inner_of err.new))
+    ensures part { OnErr result
+        (BeginsUpdates S.step sources.old sources.new (E.contents (inner_of err.old)) (E.contents (inner_of err.new))
         daemon.old (map string_bytes files.now)) }
     ensures cause { OnErr result (0 < faults_of err.new + zeros_of err.new) }
 {
@@ -99,7 +109,8 @@ fn update_one<S: Sources, E: Write>(
     file: &str,
 ) -> Result<bool, RunFault>
     ensures update { (event : Event) × FetchStep S.step sources.old event.fetched sources.new
-        × UpdatesOne (E.contents (inner_of err.old)) (E.contents (inner_of err.new)) file.now (file_update daemon.old file.now event) daemon.new result }
+        × UpdatesOne (E.contents (inner_of err.old)) (E.contents (inner_of err.new)) file.now
+        (file_update daemon.old file.now event) daemon.new result }
     ensures cause { OnErr result (0 < faults_of err.new + zeros_of err.new) }
 {
     match daemon.update(sources, file.as_bytes()) {
@@ -113,8 +124,10 @@ fn update_one<S: Sources, E: Write>(
 
 // Writes the line on a file that is refused.
 fn tell_refusal<E: Write>(err: &mut Counted<E>, file: &str, why: Refusal) -> Result<(), RunFault>
-    ensures ok { OnOk result (Appends (E.contents (inner_of err.old)) (E.contents (inner_of err.new)) (told_refusal file.now why)) }
-    ensures part { OnErr result (WritesPart (E.contents (inner_of err.old)) (E.contents (inner_of err.new)) (told_refusal file.now why)) }
+    ensures ok { OnOk result
+        (Appends (E.contents (inner_of err.old)) (E.contents (inner_of err.new)) (told_refusal file.now why)) }
+    ensures part { OnErr result
+        (WritesPart (E.contents (inner_of err.old)) (E.contents (inner_of err.new)) (told_refusal file.now why)) }
     ensures cause { OnErr result (0 < faults_of err.new + zeros_of err.new) }
 {
     write_parts(err, &["dmypy: ", file, ": "])?;

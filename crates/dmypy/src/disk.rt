@@ -11,8 +11,8 @@ use std::rt::Files;
 #[cfg(test)]
 mod tests;
 
-/// The files of a file system. A path is taken from the current folder on, unless it begins with `/`; which paths may be
-/// fetched is for the caller to say. `R` is a runtime, or a reference to one.
+/// The files of a file system. A path is taken from the current folder on, unless it begins with `/`; which paths may
+/// be fetched is for the caller to say. `R` is a runtime, or a reference to one.
 #[derive(Drop)]
 pub struct Disk<R> {
     files: R,

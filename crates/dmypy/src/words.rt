@@ -1,8 +1,12 @@
 //! The words of the command line, and the status with which the program ends.
 
-ghost use Rattle.std.specs.Prelude.{◌≡◌, [], false, IfOk, IfErr, All, bytes_eq, codes, drop, map, string_bytes, unwrap_or};
-ghost use Rattle.clap.specs.Words.{all_of, app_of, fault_of, rule_of, found_of, one_of, rows_of, subcommand_of, FailsBy};
-ghost use Rattle.dmypy.specs.Words.{GivesSession, HasFiles, HasUsage, IsFlag, file_texts, files_id, files_rule, is_check, names_check, optioned_app, session_rows, command_line, flag_rule, option_text, ignore_missing_id, check_untyped_id, options_of};
+ghost use Rattle.std.specs.Prelude.{◌≡◌, [], false, IfOk, IfErr, All, bytes_eq, codes, drop, map, string_bytes};
+ghost use Rattle.std.specs.Prelude.{unwrap_or};
+ghost use Rattle.clap.specs.Words.{all_of, app_of, fault_of, rule_of, found_of, one_of, rows_of, subcommand_of};
+ghost use Rattle.clap.specs.Words.{FailsBy};
+ghost use Rattle.dmypy.specs.Words.{GivesSession, HasFiles, HasUsage, IsFlag, file_texts, files_id, files_rule};
+ghost use Rattle.dmypy.specs.Words.{is_check, names_check, optioned_app, session_rows, command_line, flag_rule};
+ghost use Rattle.dmypy.specs.Words.{option_text, ignore_missing_id, check_untyped_id, options_of};
 ghost use Rattle.dmypy.specs.Status.{status_of};
 
 use clap::{Arg, ArgAction, ArgMatches, Command};
@@ -29,8 +33,8 @@ pub enum Job {
     Check(Options, Vec<String>),
 }
 
-/// Why the words are no job: a mistake in them, a request for help, or want of memory. Its `Display` is the text for the
-/// user, with its line end.
+/// Why the words are no job: a mistake in them, a request for help, or want of memory. Its `Display` is the text for
+/// the user, with its line end.
 #[derive(Debug, Drop, Error)]
 #[error(transparent)]
 pub struct Usage(clap::Error);
@@ -38,7 +42,8 @@ pub struct Usage(clap::Error);
 /// What the words of the command line ask for. The first word is the program's name.
 pub fn read_words(alloc: Global, words: &[String]) -> Result<Job, Usage>
     // After the program's name: `session`, with either option, with both in either order, or with none.
-    ensures sessions { All (λ row. drop 1 (map string_bytes words.now) ≡ row.0 → GivesSession row.1 result) session_rows }
+    ensures sessions { All (λ row. drop 1 (map string_bytes words.now) ≡ row.0 → GivesSession row.1 result)
+        session_rows }
     // Words are a job only where the command line takes them, and an option is set where it is among them.
     ensures taken { IfOk result (λ _. fault_of command_line (map string_bytes words.now) ≡ []) }
     ensures turns { IfOk result (λ job. (options_of job).turns ≡ TURNS) }
@@ -47,7 +52,8 @@ pub fn read_words(alloc: Global, words: &[String]) -> Result<Job, Usage>
     ensures check_untyped { IfOk result (λ job.
         IsFlag (option_text check_untyped_id (map string_bytes words.now)) (options_of job).check_untyped) }
     // The job is a check where the subcommand is `check`, of the files that are among the words.
-    ensures check { IfOk result (λ job. is_check job ≡ names_check (subcommand_of command_line (map string_bytes words.now))) }
+    ensures check { IfOk result
+        (λ job. is_check job ≡ names_check (subcommand_of command_line (map string_bytes words.now))) }
     ensures files { IfOk result (HasFiles (file_texts (map string_bytes words.now))) }
     // What goes wrong is what the command line finds wrong with the words, or want of memory.
     ensures usage { IfErr result (HasUsage (fault_of command_line (map string_bytes words.now))) }
@@ -65,7 +71,8 @@ fn parse_words(alloc: Global, words: &[String]) -> Result<Job, clap::Error>
         IsFlag (option_text ignore_missing_id (map string_bytes words.now)) (options_of job).ignore_missing) }
     ensures check_untyped { IfOk result (λ job.
         IsFlag (option_text check_untyped_id (map string_bytes words.now)) (options_of job).check_untyped) }
-    ensures check { IfOk result (λ job. is_check job ≡ names_check (subcommand_of command_line (map string_bytes words.now))) }
+    ensures check { IfOk result
+        (λ job. is_check job ≡ names_check (subcommand_of command_line (map string_bytes words.now))) }
     ensures files { IfOk result (HasFiles (file_texts (map string_bytes words.now))) }
     ensures fault { FailsBy (fault_of command_line (map string_bytes words.now)) result }
 {
@@ -77,8 +84,10 @@ fn parse_words(alloc: Global, words: &[String]) -> Result<Job, clap::Error>
 // The job of a subcommand, from its name and its matches.
 fn job_of(alloc: Global, name: &str, found: &ArgMatches<'_>) -> Result<Job, AllocError>
     ensures turns { IfOk result (λ job. (options_of job).turns ≡ TURNS) }
-    ensures ignore_missing { IfOk result (λ job. IsFlag (one_of ignore_missing_id (rows_of (found_of found.now))) (options_of job).ignore_missing) }
-    ensures check_untyped { IfOk result (λ job. IsFlag (one_of check_untyped_id (rows_of (found_of found.now))) (options_of job).check_untyped) }
+    ensures ignore_missing { IfOk result
+        (λ job. IsFlag (one_of ignore_missing_id (rows_of (found_of found.now))) (options_of job).ignore_missing) }
+    ensures check_untyped { IfOk result
+        (λ job. IsFlag (one_of check_untyped_id (rows_of (found_of found.now))) (options_of job).check_untyped) }
     ensures check { IfOk result (λ job. is_check job ≡ bytes_eq name.now (codes "check")) }
     ensures files { IfOk result (HasFiles (all_of files_id (rows_of (found_of found.now)))) }
 {
@@ -92,7 +101,8 @@ fn job_of(alloc: Global, name: &str, found: &ArgMatches<'_>) -> Result<Job, Allo
 
 // The files among the matches of `check`.
 fn found_files(alloc: Global, found: &ArgMatches<'_>) -> Result<Vec<String>, AllocError>
-    ensures { IfOk result (λ files. map string_bytes files.items ≡ unwrap_or (all_of files_id (rows_of (found_of found.now))) []) }
+    ensures { IfOk result (λ files. map string_bytes files.items
+        ≡ unwrap_or (all_of files_id (rows_of (found_of found.now))) []) }
 {
     match found.get_strs(FILES) {
         Some(words) => owned(alloc, words),

@@ -17,7 +17,8 @@ comprehension_of (comprehension.For word_async word_for targets word_in iterated
 comprehension_of (comprehension.If word condition) rest = tree.if_clause word (tree_of condition.expr.value) rest
 
 -- the parser of a clause, where there is one
-abbrev pub comprehension_at : Option (Parser (Comprehensions → Comprehensions)) → Parser (Comprehensions → Comprehensions)
+abbrev pub comprehension_at : Option (Parser (Comprehensions → Comprehensions))
+    → Parser (Comprehensions → Comprehensions)
 comprehension_at None = fail
 comprehension_at (Some found) = found
 

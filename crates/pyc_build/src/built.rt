@@ -3,7 +3,8 @@
 
 ghost use Rattle.std.specs.Prelude.{◌≡◌, ◌≤◌, false, max, if◌then◌else◌, IfOk, IfErr};
 ghost use Rattle.pyc_build.specs.declared.error.ParseError.TheVariants.{Memory};
-ghost use Rattle.pyc_tree.specs.Height.{height as height_of, pieces_height, links_height, comprehensions_height, perhaps_height, tail_height};
+ghost use Rattle.pyc_tree.specs.Height.{height as height_of, pieces_height, links_height, comprehensions_height};
+ghost use Rattle.pyc_tree.specs.Height.{perhaps_height, tail_height};
 ghost use Rattle.pyc_tree.specs.ListContexts as list_contexts;
 ghost use Rattle.pyc_build.specs.ReadsTokens.{Makes};
 ghost use Rattle.pyc_tree.specs.Targets as targets;
@@ -50,7 +51,8 @@ pub struct BuiltLinks {
     pub links: Vec<Link>,
     pub height: usize,
     pub ghost height_is: { height ≡ links_height (links_before links.items tree.unlinked) },
-    pub ghost heights: { (end : tree.Links) → links_height (links_before links.items end) ≡ max height (links_height end) },
+    pub ghost heights: { (end : tree.Links) → links_height (links_before links.items end)
+        ≡ max height (links_height end) },
     pub ghost low: { height ≤ 1000 },
 }
 
@@ -59,8 +61,11 @@ pub struct BuiltLinks {
 pub struct BuiltComprehensions {
     pub comprehensions: Vec<Comprehension>,
     pub height: usize,
-    pub ghost height_is: { height ≡ comprehensions_height (comprehensions_before comprehensions.items tree.no_comprehension) },
-    pub ghost heights: { (end : tree.Comprehensions) → comprehensions_height (comprehensions_before comprehensions.items end) ≡ max height (comprehensions_height end) },
+    pub ghost height_is: { height
+        ≡ comprehensions_height (comprehensions_before comprehensions.items tree.no_comprehension) },
+    pub ghost heights: { (end : tree.Comprehensions)
+        → comprehensions_height (comprehensions_before comprehensions.items end)
+        ≡ max height (comprehensions_height end) },
     pub ghost low: { height ≤ 1001 },
 }
 
@@ -222,7 +227,8 @@ pub fn display(
     items: BuiltPieces,
     closing: Token,
 ) -> Result<Built, ParseError>
-    ensures { Makes (λ b. tree_of b.expr.value) (tree.display display_kind opening (pieces_of items.pieces) closing) result }
+    ensures { Makes (λ b. tree_of b.expr.value) (tree.display display_kind opening (pieces_of items.pieces) closing)
+        result }
 {
     let height = items.height + 1;
     let is_target = holds_targets(display_kind) && items.are_targets;
@@ -243,7 +249,9 @@ pub fn comprehension_display(
     comprehensions: BuiltComprehensions,
     closing: Token,
 ) -> Result<Built, ParseError>
-    ensures { Makes (λ b. tree_of b.expr.value) (tree.comprehension_display display_kind opening (tree_of element.expr.value) (comprehensions_before comprehensions.comprehensions.items tree.no_comprehension) closing) result }
+    ensures { Makes (λ b. tree_of b.expr.value)
+        (tree.comprehension_display display_kind opening (tree_of element.expr.value)
+        (comprehensions_before comprehensions.comprehensions.items tree.no_comprehension) closing) result }
 {
     let height = taller(element.height, comprehensions.height) + 1;
     made(
@@ -282,7 +290,8 @@ pub fn call(
     arguments: BuiltPieces,
     closing: Token,
 ) -> Result<Built, ParseError>
-    ensures { Makes (λ b. tree_of b.expr.value) (tree.call (tree_of callee.expr.value) opening (pieces_of arguments.pieces) closing) result }
+    ensures { Makes (λ b. tree_of b.expr.value)
+        (tree.call (tree_of callee.expr.value) opening (pieces_of arguments.pieces) closing) result }
 {
     let height = taller(callee.height, arguments.height) + 1;
     made(
@@ -301,7 +310,8 @@ pub fn subscript(
     indices: BuiltPieces,
     closing: Token,
 ) -> Result<Built, ParseError>
-    ensures { Makes (λ b. tree_of b.expr.value) (tree.subscript (tree_of object.expr.value) opening (pieces_of indices.pieces) closing) result }
+    ensures { Makes (λ b. tree_of b.expr.value)
+        (tree.subscript (tree_of object.expr.value) opening (pieces_of indices.pieces) closing) result }
 {
     let height = taller(
         object.height,
@@ -339,7 +349,8 @@ pub fn binary(
     operator: Token,
     right: Built,
 ) -> Result<Built, ParseError>
-    ensures { Makes (λ b. tree_of b.expr.value) (tree.binary (tree_of left.expr.value) operator (tree_of right.expr.value)) result }
+    ensures { Makes (λ b. tree_of b.expr.value)
+        (tree.binary (tree_of left.expr.value) operator (tree_of right.expr.value)) result }
 {
     let height = taller(left.height, right.height) + 1;
     made(
@@ -352,7 +363,8 @@ pub fn binary(
 
 /// A chain of comparisons.
 pub fn compare(alloc: Global, left: Built, links: BuiltLinks) -> Result<Built, ParseError>
-    ensures { Makes (λ b. tree_of b.expr.value) (tree.compare (tree_of left.expr.value) (links_before links.links.items tree.unlinked)) result }
+    ensures { Makes (λ b. tree_of b.expr.value)
+        (tree.compare (tree_of left.expr.value) (links_before links.links.items tree.unlinked)) result }
 {
     let height = taller(left.height, links.height) + 1;
     made(alloc, Expr::Compare(left.expr, links.links), height, false)
@@ -367,7 +379,9 @@ pub fn conditional(
     word_else: Token,
     other: Built,
 ) -> Result<Built, ParseError>
-    ensures { Makes (λ b. tree_of b.expr.value) (tree.conditional (tree_of value.expr.value) word_if (tree_of test.expr.value) word_else (tree_of other.expr.value)) result }
+    ensures { Makes (λ b. tree_of b.expr.value)
+        (tree.conditional (tree_of value.expr.value) word_if (tree_of test.expr.value) word_else
+        (tree_of other.expr.value)) result }
 {
     let height = taller(value.height, taller(test.height, other.height)) + 1;
     made(
@@ -386,7 +400,8 @@ pub fn lambda(
     colon: Token,
     body: Built,
 ) -> Result<Built, ParseError>
-    ensures { Makes (λ b. tree_of b.expr.value) (tree.lambda word (pieces_of parameters.pieces) colon (tree_of body.expr.value)) result }
+    ensures { Makes (λ b. tree_of b.expr.value)
+        (tree.lambda word (pieces_of parameters.pieces) colon (tree_of body.expr.value)) result }
 {
     let height = taller(parameters.height, body.height) + 1;
     made(
@@ -457,7 +472,8 @@ pub fn double_starred(alloc: Global, stars: Token, operand: Built) -> Result<Bui
 
 /// A key, `:` and a value, in a dictionary.
 pub fn entry(alloc: Global, key: Built, colon: Token, value: Built) -> Result<Built, ParseError>
-    ensures { Makes (λ b. tree_of b.expr.value) (tree.entry (tree_of key.expr.value) colon (tree_of value.expr.value)) result }
+    ensures { Makes (λ b. tree_of b.expr.value) (tree.entry (tree_of key.expr.value) colon (tree_of value.expr.value))
+        result }
 {
     let height = taller(key.height, value.height);
     made(
@@ -483,7 +499,8 @@ pub fn slice(
     colon: Token,
     upper: BuiltOption,
 ) -> Result<Built, ParseError>
-    ensures { Makes (λ b. tree_of b.expr.value) (tree.slice (perhaps_of lower.expr) colon (perhaps_of upper.expr)) result }
+    ensures { Makes (λ b. tree_of b.expr.value) (tree.slice (perhaps_of lower.expr) colon (perhaps_of upper.expr))
+        result }
 {
     let height = taller(lower.height, upper.height) + 1;
     made(
@@ -503,7 +520,8 @@ pub fn stride(
     second: Token,
     step: BuiltOption,
 ) -> Result<Built, ParseError>
-    ensures { Makes (λ b. tree_of b.expr.value) (tree.stride (perhaps_of lower.expr) colon (perhaps_of upper.expr) second (perhaps_of step.expr)) result }
+    ensures { Makes (λ b. tree_of b.expr.value)
+        (tree.stride (perhaps_of lower.expr) colon (perhaps_of upper.expr) second (perhaps_of step.expr)) result }
 {
     let height = taller(lower.height, taller(upper.height, step.height)) + 1;
     made(
@@ -539,7 +557,9 @@ pub fn generator(
 ) -> Result<Built, ParseError>
     requires height_is { height ≡ height_of (tree_of element.value) }
     requires low { height ≤ 1000 }
-    ensures { Makes (λ b. tree_of b.expr.value) (tree.generator (tree_of element.value) (comprehensions_before comprehensions.comprehensions.items tree.no_comprehension)) result }
+    ensures { Makes (λ b. tree_of b.expr.value)
+        (tree.generator (tree_of element.value)
+        (comprehensions_before comprehensions.comprehensions.items tree.no_comprehension)) result }
 {
     let height = taller(height, comprehensions.height) + 1;
     made(
@@ -557,7 +577,8 @@ pub fn parameter(
     annotation: BuiltTail,
     default: BuiltTail,
 ) -> Result<Built, ParseError>
-    ensures { Makes (λ b. tree_of b.expr.value) (tree.parameter name (tail_of annotation.tail) (tail_of default.tail)) result }
+    ensures { Makes (λ b. tree_of b.expr.value) (tree.parameter name (tail_of annotation.tail) (tail_of default.tail))
+        result }
 {
     let height = taller(annotation.height, default.height) + 1;
     made(
@@ -606,7 +627,8 @@ pub fn double_parameter(
 
 /// A context manager, perhaps with its target.
 pub fn with_item(alloc: Global, value: Built, target: BuiltTail) -> Result<Built, ParseError>
-    ensures { Makes (λ b. tree_of b.expr.value) (tree.with_item (tree_of value.expr.value) (tail_of target.tail)) result }
+    ensures { Makes (λ b. tree_of b.expr.value) (tree.with_item (tree_of value.expr.value) (tail_of target.tail))
+        result }
 {
     let height = taller(value.height, target.height) + 1;
     made(

@@ -73,7 +73,9 @@ pub fn for_each(
     word_in: Token,
     iterated: Built,
 ) -> Result<BuiltHeader, ParseError>
-    ensures made { IfOk result (λ b. header_of b.header.value ≡ line.for_each word_async word (tree_of targets.expr.value) word_in (tree_of iterated.expr.value)) }
+    ensures made { IfOk result
+        (λ b. header_of b.header.value
+        ≡ line.for_each word_async word (tree_of targets.expr.value) word_in (tree_of iterated.expr.value)) }
     ensures memory { IfErr result (λ e. e ≡ Memory) }
 {
     let height = taller(targets.height, iterated.height) + 1;
@@ -101,7 +103,9 @@ pub fn except_of(
     caught: Built,
     alias: Option<Alias>,
 ) -> Result<BuiltHeader, ParseError>
-    ensures made { IfOk result (λ b. header_of b.header.value ≡ line.except_of word (tree_of caught.expr.value) (option_map alias_of alias)) }
+    ensures made { IfOk result
+        (λ b. header_of b.header.value
+        ≡ line.except_of word (tree_of caught.expr.value) (option_map alias_of alias)) }
     ensures memory { IfErr result (λ e. e ≡ Memory) }
 {
     let height = caught.height + 1;
@@ -133,7 +137,9 @@ pub fn with_enclosed(
     items: BuiltPieces,
     closing: Token,
 ) -> Result<BuiltHeader, ParseError>
-    ensures made { IfOk result (λ b. header_of b.header.value ≡ line.with_enclosed word_async word opening (pieces_of items.pieces) closing) }
+    ensures made { IfOk result
+        (λ b. header_of b.header.value
+        ≡ line.with_enclosed word_async word opening (pieces_of items.pieces) closing) }
     ensures memory { IfErr result (λ e. e ≡ Memory) }
 {
     let height = items.height + 1;
@@ -156,7 +162,9 @@ pub fn def(
     closing: Token,
     returned: BuiltTail,
 ) -> Result<BuiltHeader, ParseError>
-    ensures made { IfOk result (λ b. header_of b.header.value ≡ line.def word_async word name opening (pieces_of parameters.pieces) closing (tail_of returned.tail)) }
+    ensures made { IfOk result
+        (λ b. header_of b.header.value
+        ≡ line.def word_async word name opening (pieces_of parameters.pieces) closing (tail_of returned.tail)) }
     ensures memory { IfErr result (λ e. e ≡ Memory) }
 {
     let height = taller(parameters.height, returned.height) + 1;
@@ -194,7 +202,8 @@ pub fn class_of(
     arguments: BuiltPieces,
     closing: Token,
 ) -> Result<BuiltHeader, ParseError>
-    ensures made { IfOk result (λ b. header_of b.header.value ≡ line.class_of word name opening (pieces_of arguments.pieces) closing) }
+    ensures made { IfOk result
+        (λ b. header_of b.header.value ≡ line.class_of word name opening (pieces_of arguments.pieces) closing) }
     ensures memory { IfErr result (λ e. e ≡ Memory) }
 {
     let height = arguments.height + 1;
@@ -219,7 +228,8 @@ pub fn simple(statements: BuiltSimpleStatements) -> BuiltLine
 /// A header, its colon, and perhaps statements.
 #[tactic(auto, unfolding(pyc_tree::specs::Lines::line_height))]
 pub fn header(header: BuiltHeader, colon: Token, statements: BuiltSimpleStatements) -> BuiltLine
-    ensures { line_of result.line ≡ line.header (header_of header.header.value) colon (separated_of statement_of statements.statements) }
+    ensures { line_of result.line
+        ≡ line.header (header_of header.header.value) colon (separated_of statement_of statements.statements) }
 {
     let height = taller(header.height, statements.height) + 1;
     BuiltLine {

@@ -5,7 +5,8 @@ ghost use Rattle.pyc_build.specs.declared.error.ParseError.TheVariants.{Memory};
 ghost use Rattle.pyc_tree.specs.Height.{height as height_of};
 ghost use Rattle.pyc_tree.specs.Parser.{Parser};
 ghost use Rattle.pyc_tree.specs.SimpleStatements.{chained as chained_of};
-ghost use Rattle.pyc_tree.specs.StatementView.{statement_of, separated_of, token_of, module_of, import_from_of, assigned_of};
+ghost use Rattle.pyc_tree.specs.StatementView.{statement_of, separated_of, token_of, module_of, import_from_of};
+ghost use Rattle.pyc_tree.specs.StatementView.{assigned_of};
 ghost use Rattle.pyc_tree.specs.Statements as statement;
 ghost use Rattle.pyc_tree.specs.Statements.{statement_height, targets_height};
 ghost use Rattle.pyc_tree.specs.Lines.{statements_height};
@@ -42,7 +43,8 @@ pub struct BuiltChain {
     pub targets: Vec<Assigned>,
     pub value: Box<Expr>,
     pub height: usize,
-    pub ghost height_is: { height ≡ max (targets_height (map assigned_of targets.items)) (height_of (tree_of value.value)) },
+    pub ghost height_is: { height
+        ≡ max (targets_height (map assigned_of targets.items)) (height_of (tree_of value.value)) },
     pub ghost low: { height ≤ 1000 },
 }
 
@@ -71,7 +73,8 @@ pub fn expression(value: Built) -> BuiltSimpleStatement
 /// A value alone, or an assignment to the targets before it.
 #[tactic(auto, unfolding(pyc_tree::specs::Statements::statement_height))]
 pub fn chained(chain: BuiltChain) -> BuiltSimpleStatement
-    ensures { (self : ℕ → Parser Tree) → statement_of result.statement ≡ chained_of self (map assigned_of chain.targets.items, tree_of chain.value.value) }
+    ensures { (self : ℕ → Parser Tree) → statement_of result.statement
+        ≡ chained_of self (map assigned_of chain.targets.items, tree_of chain.value.value) }
 {
     let height = chain.height + 1;
     let statement = if chain.targets.is_empty() {
@@ -90,7 +93,8 @@ pub fn annotate(
     annotation: Built,
     value: BuiltTail,
 ) -> BuiltSimpleStatement
-    ensures { statement_of result.statement ≡ statement.annotate (tree_of target.expr.value) colon (tree_of annotation.expr.value) (tail_of value.tail) }
+    ensures { statement_of result.statement
+        ≡ statement.annotate (tree_of target.expr.value) colon (tree_of annotation.expr.value) (tail_of value.tail) }
 {
     let height = taller(target.height, taller(annotation.height, value.height)) + 1;
     BuiltSimpleStatement {
@@ -102,7 +106,8 @@ pub fn annotate(
 /// A target, an operator as `+=`, and a value.
 #[tactic(auto, unfolding(pyc_tree::specs::Statements::statement_height))]
 pub fn augment(target: Built, sign: Token, value: Built) -> BuiltSimpleStatement
-    ensures { statement_of result.statement ≡ statement.augment (tree_of target.expr.value) sign (tree_of value.expr.value) }
+    ensures { statement_of result.statement
+        ≡ statement.augment (tree_of target.expr.value) sign (tree_of value.expr.value) }
 {
     let height = taller(target.height, value.height) + 1;
     BuiltSimpleStatement {
@@ -192,7 +197,8 @@ pub fn import(
     word: Token,
     modules: Separated<ImportedModule>,
 ) -> Result<BuiltSimpleStatement, ParseError>
-    ensures made { IfOk result (λ b. statement_of b.statement ≡ statement.import word (separated_of module_of modules)) }
+    ensures made { IfOk result
+        (λ b. statement_of b.statement ≡ statement.import word (separated_of module_of modules)) }
     ensures memory { IfErr result (λ e. e ≡ Memory) }
 {
     let modules = Box::new(alloc, modules)?;

@@ -45,7 +45,10 @@ impl BuiltLinks {
 
     /// One more comparison.
     pub fn push(&mut self, link: BuiltLink) -> Result<(), ParseError>
-        ensures pushed { IfOk result (λ _. (end : tree.Links) → links_before self.new.links.items end ≡ links_before self.old.links.items (tree.link link.first link.second (tree_of link.right.expr.value) end)) }
+        ensures pushed { IfOk result
+            (λ _. (end : tree.Links) → links_before self.new.links.items end
+            ≡ links_before self.old.links.items
+            (tree.link link.first link.second (tree_of link.right.expr.value) end)) }
         ensures memory { IfErr result (λ e. e ≡ Memory) }
     {
         let height = taller(self.height, link.right.height);
@@ -62,8 +65,10 @@ impl BuiltLinks {
 
 /// The clause as a part of a tree.
 fn part_of(comprehension: BuiltComprehension) -> (Comprehension, usize)
-    ensures part { (rest : tree.Comprehensions) → comprehension_before result.0 rest ≡ turns.comprehension_of comprehension rest }
-    ensures height { (rest : tree.Comprehensions) → comprehensions_height (turns.comprehension_of comprehension rest) ≡ max result.1 (comprehensions_height rest) }
+    ensures part { (rest : tree.Comprehensions) → comprehension_before result.0 rest
+        ≡ turns.comprehension_of comprehension rest }
+    ensures height { (rest : tree.Comprehensions) → comprehensions_height (turns.comprehension_of comprehension rest)
+        ≡ max result.1 (comprehensions_height rest) }
     ensures low { result.1 ≤ 1001 }
 {
     match comprehension {
@@ -98,7 +103,9 @@ impl BuiltComprehensions {
 
     /// One more clause.
     pub fn push(&mut self, comprehension: BuiltComprehension) -> Result<(), ParseError>
-        ensures pushed { IfOk result (λ _. (end : tree.Comprehensions) → comprehensions_before self.new.comprehensions.items end ≡ comprehensions_before self.old.comprehensions.items (turns.comprehension_of comprehension end)) }
+        ensures pushed { IfOk result
+            (λ _. (end : tree.Comprehensions) → comprehensions_before self.new.comprehensions.items end
+            ≡ comprehensions_before self.old.comprehensions.items (turns.comprehension_of comprehension end)) }
         ensures memory { IfErr result (λ e. e ≡ Memory) }
     {
         let (part, own) = part_of(comprehension);

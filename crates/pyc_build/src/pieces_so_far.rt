@@ -26,9 +26,12 @@ pub struct PiecesSoFar {
     pub are_targets: bool,
     pub was_starred: bool,
     pub ghost low: { height ≤ 1000 },
-    pub ghost heights: { (end : tree.Pieces) → pieces_height (pieces_before each.items end) ≡ max height (pieces_height end) },
-    pub ghost comma_is: { (end : tree.Pieces) → list_contexts.has_comma (pieces_before each.items end) ≡ has_comma || list_contexts.has_comma end },
-    pub ghost targets_are: { (end : tree.Pieces) → targets.are_targets false (pieces_before each.items end) ≡ are_targets && targets.are_targets was_starred end },
+    pub ghost heights: { (end : tree.Pieces) → pieces_height (pieces_before each.items end)
+        ≡ max height (pieces_height end) },
+    pub ghost comma_is: { (end : tree.Pieces) → list_contexts.has_comma (pieces_before each.items end) ≡ has_comma
+        || list_contexts.has_comma end },
+    pub ghost targets_are: { (end : tree.Pieces) → targets.are_targets false (pieces_before each.items end)
+        ≡ are_targets && targets.are_targets was_starred end },
 }
 
 /// Whether a tree is `*` and an operand.
@@ -40,7 +43,9 @@ fn is_starred(expr: &Expr) -> bool
 
 /// Whether items are still targets with this one, of which one may be starred.
 fn are_still_targets(are_targets: bool, was_starred: bool, item: &Built) -> bool
-    ensures { result ≡ are_targets && (targets.is_item_target (tree_of item.now.expr.value) && not (was_starred && targets.is_starred (tree_of item.now.expr.value))) }
+    ensures { result ≡ are_targets
+        && (targets.is_item_target (tree_of item.now.expr.value)
+        && not (was_starred && targets.is_starred (tree_of item.now.expr.value))) }
 {
     are_targets && item.is_item_target && !(was_starred && is_starred(&item.expr))
 }
@@ -61,7 +66,9 @@ impl PiecesSoFar {
 
     /// One more item with the comma after it.
     pub fn push(&mut self, item: Built, comma: Token) -> Result<(), ParseError>
-        ensures pushed { IfOk result (λ _. (end : tree.Pieces) → pieces_before self.new.each.items end ≡ pieces_before self.old.each.items (tree.piece (tree_of item.expr.value) comma end)) }
+        ensures pushed { IfOk result
+            (λ _. (end : tree.Pieces) → pieces_before self.new.each.items end
+            ≡ pieces_before self.old.each.items (tree.piece (tree_of item.expr.value) comma end)) }
         ensures memory { IfErr result (λ e. e ≡ Memory) }
     {
         let height = taller(self.height, item.height);

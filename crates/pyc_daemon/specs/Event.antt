@@ -29,4 +29,5 @@ FetchStep step before (Some fetch) after = step before fetch.path fetch.entry af
 -- the source at the fetches of all commands, one after another
 abbrev pub Links : {S : Type 0} → (S → List ℕ → Entry → S → Type 0) → S → List Event → S → Type 0
 Links step before [] after = after ≡ before
-Links {S} step before (event ∷ events) after = (between : S) × FetchStep step before event.fetched between × Links step between events after
+Links {S} step before (event ∷ events) after = (between : S) × FetchStep step before event.fetched between
+    × Links step between events after

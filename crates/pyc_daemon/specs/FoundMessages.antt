@@ -1,5 +1,5 @@
--- What is found in a file: a message for each annotated literal that is not assignable to its annotation, or one for the file's
--- fault.
+-- What is found in a file: a message for each annotated literal that is not assignable to its annotation, or one for
+-- the file's fault.
 use Rattle.std.specs.Prelude.{ℕ, List, [], ◌∷◌, ◌++◌, Option, None, Some, if◌then◌else◌, codes}
 use Rattle.std.specs.List.{filter_map}
 use Rattle.pyc_parse.specs.BlockTrees.{Stmts}
@@ -31,7 +31,8 @@ assignment_message form = record {
 -- the message on an annotated literal: none where its type is assignable to its annotation
 unfoldable pub form_message : LiteralForm → Option Message
 form_message form =
-    if assignable builtin_orders (ty_of form.value) (ty_of form.annotation) then None else Some (assignment_message form)
+    if assignable builtin_orders (ty_of form.value) (ty_of form.annotation) then None
+    else Some (assignment_message form)
 
 -- the message on a fault
 abbrev pub fault_message : ℕ → List ℕ → Message
@@ -68,4 +69,6 @@ pub data Reports : List LiteralForm → List Message → Type 0 where
 
 -- what is found in a module reports its annotated literals
 abbrev pub ReportsExactly : Type 0
-ReportsExactly = (source : List ℕ) (statements : Stmts) → Reports (literal_forms source statements) (module_messages source statements)
+ReportsExactly =
+    (source : List ℕ) (statements : Stmts)
+    → Reports (literal_forms source statements) (module_messages source statements)

@@ -15,8 +15,8 @@ checked file = record { path = file.path; messages = unsilenced_messages file.by
 unfoldable pub fresh : List File → Report
 fresh files = report_of (map checked files)
 
--- how many units a file with this outcome has: its header, the body of its module, and its classes, functions and methods;
--- a file with a fault has the header alone
+-- how many units a file with this outcome has: its header, the body of its module, and its classes, functions and
+-- methods; a file with a fault has the header alone
 abbrev pub unit_count : Outcome → ℕ
 unit_count (tree m) = length (unit_clauses m.statements) + 2
 unit_count (fault line text) = 1

@@ -1,5 +1,6 @@
 -- The input of a session as a sequence of lines.
-use Rattle.std.specs.Prelude.{ℕ, ◌-◌, Bool, true, false, ◌==◌, ◌&&◌, List, [], ◌∷◌, length, take, if◌then◌else◌, slice_index}
+use Rattle.std.specs.Prelude.{ℕ, ◌-◌, Bool, true, false, ◌==◌, ◌&&◌, List, [], ◌∷◌, length, take, if◌then◌else◌}
+use Rattle.std.specs.Prelude.{slice_index}
 
 -- whether a line feed stands in the input
 abbrev pub has_line_feed : List ℕ → Bool

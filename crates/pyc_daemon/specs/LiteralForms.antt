@@ -1,5 +1,5 @@
--- The annotated literals of a module: each simple statement `NAME: TYPE = VALUE` among its parts whose value is one literal
--- (Python reference, "Annotated assignment statements", "Literals").
+-- The annotated literals of a module: each simple statement `NAME: TYPE = VALUE` among its parts whose value is one
+-- literal (Python reference, "Annotated assignment statements", "Literals").
 use Rattle.std.specs.Prelude.{ℕ, Bool, true, false, bytes_eq, codes, if◌then◌else◌, List, Option, None, Some}
 use Rattle.std.specs.List.{filter_map}
 use Rattle.pyc_token.specs.declared.tokens.Keyword.TheVariants as keyword
@@ -37,8 +37,8 @@ builtin_named name =
     else if bytes_eq name (codes "float") then Some builtin.Float
     else None
 
--- the type that a constant means as an annotation: `None` is the type of itself (typing specification, "Special types in
--- annotations")
+-- the type that a constant means as an annotation: `None` is the type of itself (typing specification, "Special types
+-- in annotations")
 abbrev pub constant_annotation : Kind → Option Builtin
 constant_annotation (kind.Keyword keyword.None) = Some builtin.None
 constant_annotation _ = None
@@ -75,7 +75,8 @@ literal_type _ = None
 
 -- the annotated literal of an annotation, and of a literal by its first token and its type
 abbrev pub form_of : Token → Option Builtin → Option Builtin → Option LiteralForm
-form_of first (Some annotation) (Some value) = Some (record { annotation = annotation; value = value; line = first.line; column = first.column })
+form_of first (Some annotation) (Some value) =
+    Some (record { annotation = annotation; value = value; line = first.line; column = first.column })
 form_of first _ _ = None
 
 -- the annotated literal of an annotation and of what stands after it: `=` and a literal
@@ -93,7 +94,8 @@ is_name _ = false
 
 -- the annotated literal that a simple statement is
 unfoldable pub literal_form : List ℕ → SimpleStatement → Option LiteralForm
-literal_form source (annotate target colon annotation value) = if is_name target then valued_form (annotation_type source annotation) (value_token value) else None
+literal_form source (annotate target colon annotation value) =
+    if is_name target then valued_form (annotation_type source annotation) (value_token value) else None
 literal_form source _ = None
 
 -- that of a part; a definition is none

@@ -1,5 +1,6 @@
 -- The files of a source in memory, and what a fetch from it hands over.
-use Rattle.std.specs.Prelude.{◌≡◌, ℕ, bytes_eq, if◌then◌else◌, List, [], ◌∷◌, map, take, string_bytes, String, Vec, Option, None, Some}
+use Rattle.std.specs.Prelude.{◌≡◌, ℕ, bytes_eq, if◌then◌else◌, List, [], ◌∷◌, map, take, string_bytes, String, Vec}
+use Rattle.std.specs.Prelude.{Option, None, Some}
 use Rattle.std.specs.Global.{Global}
 use Rattle.std.specs.Option.{option_map}
 use Rattle.pyc_daemon.specs.declared.memory_source.MemorySource.{MemorySource}

@@ -18,4 +18,5 @@ code_name Syntax = codes "syntax"
 
 -- the message as plain values
 abbrev pub message_in : Declared → Message
-message_in message = record { line = message.line; column = message.column; code = message.code; text = string_bytes message.text }
+message_in message =
+    record { line = message.line; column = message.column; code = message.code; text = string_bytes message.text }

@@ -1,5 +1,6 @@
 -- The module that a path names.
-use Rattle.std.specs.Prelude.{ℕ, Bool, ◌-◌, if◌then◌else◌, nat_eq, bytes_eq, List, [], ◌∷◌, length, take, map, codes, chars, encode_utf8_all, string_bytes}
+use Rattle.std.specs.Prelude.{ℕ, Bool, ◌-◌, if◌then◌else◌, nat_eq, bytes_eq, List, [], ◌∷◌, length, take, map, codes}
+use Rattle.std.specs.Prelude.{chars, encode_utf8_all, string_bytes}
 use Rattle.std.specs.Cmp.Lexicographic.{pointwise}
 use Rattle.std.specs.List.{slice_split, ends_with}
 use Rattle.unicode_normalization.specs.Forms.{nfkc}

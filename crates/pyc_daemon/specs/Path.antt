@@ -16,7 +16,9 @@ is_path_part part = not (length part == 0) && not (bytes_eq part (codes ".")) &&
 
 -- the last part ends in `.py`, with something before it
 abbrev pub names_python_file : List ℕ → Bool
-names_python_file path = ends_with nat_eq path (codes ".py") && not (ends_with nat_eq path (codes "/.py")) && not (bytes_eq path (codes ".py"))
+names_python_file path =
+    ends_with nat_eq path (codes ".py") && not (ends_with nat_eq path (codes "/.py"))
+    && not (bytes_eq path (codes ".py"))
 
 -- a path that a file may have; `__init__.py` at the top would name no module
 unfoldable pub is_file_path : List ℕ → Bool

@@ -4,8 +4,10 @@ use Rattle.std.specs.Io.KnownBytes.{Consumes, IsAtEnd}
 use Rattle.pyc_daemon.specs.declared.ending.RunFault.{RunFault}
 use Rattle.pyc_daemon.specs.declared.ending.RunFault.TheVariants.{Read, Write, TooManyTurns, Memory}
 
--- From known bytes left in the reader and bytes held in the window to later ones: some were read, and `bytes` were used.
-pub record Advances (left : Option (List ℕ)) (held : List ℕ) (left' : Option (List ℕ)) (held' : List ℕ) (bytes : List ℕ) : Type 0 where
+-- From known bytes left in the reader and bytes held in the window to later ones: some were read, and `bytes` were
+-- used.
+pub record Advances (left : Option (List ℕ)) (held : List ℕ) (left' : Option (List ℕ)) (held' : List ℕ)
+    (bytes : List ℕ) : Type 0 where
   pub got : List ℕ
   pub consumes : Consumes left left' got
   pub seam : held ++ got ≡ bytes ++ held'

@@ -21,8 +21,8 @@ refusal_text refusal.Truncated = codes "refused 8 truncated\n"
 refusal_text refusal.Memory = codes "refused 9 memory\n"
 refusal_text refusal.Unreadable = codes "refused 10 unreadable\n"
 
--- why a file of this path and size is not added to these files, as far as it is told before the name of its module is formed;
--- the reasons stand in the order in which they are told, and a file has at most 1,048,576 bytes
+-- why a file of this path and size is not added to these files, as far as it is told before the name of its module is
+-- formed; the reasons stand in the order in which they are told, and a file has at most 1,048,576 bytes
 unfoldable pub add_refusal : List File → List ℕ → ℕ → Option Refusal
 add_refusal files path size =
     if not (is_file_path path) then Some refusal.Path
@@ -70,7 +70,8 @@ late_refusal keep.Change files path false = None
 
 -- what refuses to keep a file, where memory may be wanting
 abbrev pub keep_refusal : Keep → List File → List ℕ → ℕ → Bool → Option Refusal
-keep_refusal how files path size wanting = or_else (early_refusal how files path size) (late_refusal how files path wanting)
+keep_refusal how files path size wanting =
+    or_else (early_refusal how files path size) (late_refusal how files path wanting)
 
 -- how bytes that a source hands over are kept: a file that is present is changed, another added
 abbrev pub kept_as : List File → List ℕ → Keep

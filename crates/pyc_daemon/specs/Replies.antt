@@ -1,5 +1,6 @@
 -- Replies as the program holds them.
-use Rattle.std.specs.Prelude.{◌≡◌, ℕ, ◌<◌, Bool, IsTrue, List, [], ◌∷◌, ◌++◌, length, codes, decimal, Option, None, Some}
+use Rattle.std.specs.Prelude.{◌≡◌, ℕ, ◌<◌, Bool, IsTrue, List, [], ◌∷◌, ◌++◌, length, codes, decimal, Option, None}
+use Rattle.std.specs.Prelude.{Some}
 use Rattle.std.specs.Io.KnownBytes.{Appends}
 use denote.Ref.{Bor}
 use Rattle.pyc_daemon.specs.declared.ending.End.{End}
@@ -38,12 +39,13 @@ turn_after reply (Some end) s rest = record { reply = reply; state = s; onward =
 abbrev pub turn_of : Answer → State → List ℕ → Turn
 turn_of answer s rest = turn_after (reply_bytes answer.reply) answer.end s rest
 
--- What serving one command did, from a state to a state: with no answer the input is at its end; an answer is the turn of
--- the bytes that were used, whatever follows them.
+-- What serving one command did, from a state to a state: with no answer the input is at its end; an answer is the turn
+-- of the bytes that were used, whatever follows them.
 abbrev pub Serves : State → State → List ℕ → Event → Bool → Option Answer → Type 0
 Serves old new bytes event ended None = (bytes ≡ []) × IsTrue ended × (new ≡ old) × (event.fetched ≡ None)
 Serves old new bytes event ended (Some answer) =
-    (0 < length bytes) × ((rest : List ℕ) → IsLast ended rest → turn old (bytes ++ rest) event ≡ turn_of answer new rest)
+    (0 < length bytes) × ((rest : List ℕ) → IsLast ended rest → turn old (bytes ++ rest) event
+    ≡ turn_of answer new rest)
 
 -- what was written before a fault: a part of these bytes
 pub record WritesPart (told told' : Option (List ℕ)) (bytes : List ℕ) : Type 0 where

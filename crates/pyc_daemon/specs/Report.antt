@@ -1,5 +1,6 @@
 -- The report on checked files: the errors in order, each printed line once, and a summary.
-use Rattle.std.specs.Prelude.{ℕ, Bool, not, List, [], ◌∷◌, ◌++◌, map, filter, flat_map, length, codes, decimal, bytes_eq, ◌==◌, if◌then◌else◌, string_bytes}
+use Rattle.std.specs.Prelude.{ℕ, Bool, not, List, [], ◌∷◌, ◌++◌, map, filter, flat_map, length, codes, decimal}
+use Rattle.std.specs.Prelude.{bytes_eq, ◌==◌, if◌then◌else◌, string_bytes}
 use Rattle.std.specs.List.{concat}
 use Rattle.std.specs.declared.cmp.Ordering.{Ordering}
 use Rattle.std.specs.Ordering.{nat_cmp, ordering_then}
@@ -30,7 +31,14 @@ pub record Located : Type 0 where
 
 -- the error at its path
 abbrev pub located : List ℕ → Message → Located
-located path message = record { path = path; line = message.line; column = message.column; code = code_name message.code; text = message.text }
+located path message =
+    record {
+      path = path;
+      line = message.line;
+      column = message.column;
+      code = code_name message.code;
+      text = message.text;
+    }
 
 -- the errors of a file, each with its path
 abbrev pub located_messages : Found → List Located
@@ -55,7 +63,9 @@ errors_in_order founds = sorted error_cmp (flat_map located_messages founds)
 -- `PATH:LINE: error: TEXT  [CODE]`, and the line end
 unfoldable pub printed_line : Located → List ℕ
 printed_line error =
-    error.path ++ (codes ":" ++ (decimal error.line ++ (codes ": error: " ++ (error.text ++ (codes "  [" ++ (error.code ++ codes "]\n"))))))
+    error.path ++ (codes ":"
+    ++ (decimal error.line ++ (codes ": error: "
+    ++ (error.text ++ (codes "  [" ++ (error.code ++ codes "]\n"))))))
 
 -- the texts with each that stood before left out
 abbrev pub without_repeats : List (List ℕ) → List (List ℕ)
@@ -97,7 +107,14 @@ report_of founds =
 
 -- an error with its path, as plain values
 abbrev pub located_in : DeclaredLocated → Located
-located_in error = record { path = error.path.now; line = error.line; column = error.column; code = error.code.now; text = error.text.now }
+located_in error =
+    record {
+      path = error.path.now;
+      line = error.line;
+      column = error.column;
+      code = error.code.now;
+      text = error.text.now;
+    }
 
 -- what was found in a file, as plain values
 abbrev pub found_in : DeclaredFound → Found

@@ -23,7 +23,8 @@ Tells (Err why) written session = (later : List ℕ) × (session.text ≡ writte
 -- that are written, and from a source to a source by what a fetch does to it (`step`): `taken` were read, `ended` tells
 -- whether the reader told its end, `events` is what the commands met, `written` were written, and that is so for every
 -- input and events that go on from these.
-pub record Runs {S : Type 0} (step : S → List ℕ → Entry → S → Type 0) (options : Options) (source source' : S) (left left' told told' : Option (List ℕ)) (result : Result End RunFault) : Type 0 where
+pub record Runs {S : Type 0} (step : S → List ℕ → Entry → S → Type 0) (options : Options) (source source' : S)
+    (left left' told told' : Option (List ℕ)) (result : Result End RunFault) : Type 0 where
   pub taken : List ℕ
   pub ended : Bool
   pub events : List Event
@@ -32,7 +33,8 @@ pub record Runs {S : Type 0} (step : S → List ℕ → Entry → S → Type 0) 
   pub at_end : IsTrue ended → IsAtEnd left'
   pub appends : Appends told told' written
   pub links : Links step source events source'
-  pub tells : (rest : List ℕ) (more : List Event) → IsLast ended rest → Tells result written (session_from (start options) (taken ++ rest) (events ++ more))
+  pub tells : (rest : List ℕ) (more : List Event) → IsLast ended rest
+      → Tells result written (session_from (start options) (taken ++ rest) (events ++ more))
 
 -- what a fault of a run comes of, from the reader's faults and calls and the writer's faults and writes of no byte
 abbrev pub ComesOfRun : RunFault → ℕ → ℕ → ℕ → ℕ → Type 0

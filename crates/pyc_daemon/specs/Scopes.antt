@@ -1,8 +1,10 @@
--- The parts of a scope in text order: its simple statements and its definitions, with the blocks of `if`, `for`, `while`, `try`
--- and `with` opened. A function and a class are scopes of their own (Python reference, "Naming and binding").
+-- The parts of a scope in text order: its simple statements and its definitions, with the blocks of `if`, `for`,
+-- `while`, `try` and `with` opened. A function and a class are scopes of their own (Python reference, "Naming and
+-- binding").
 use Rattle.std.specs.Prelude.{Bool, true, false, ◌||◌, if◌then◌else◌, List, [], ◌∷◌, ◌++◌}
 use Rattle.pyc_token.specs.declared.tokens.Token.{Token}
-use Rattle.pyc_parse.specs.BlockTrees.{CompoundClause, clause, CompoundClauses, no_clause, another, Stmt, compound, Stmts, no_statement, statement, Suite, inline, block}
+use Rattle.pyc_parse.specs.BlockTrees.{CompoundClause, clause, CompoundClauses, no_clause, another, Stmt, compound}
+use Rattle.pyc_parse.specs.BlockTrees.{Stmts, no_statement, statement, Suite, inline, block}
 use Rattle.pyc_parse.specs.BlockTrees as tree
 use Rattle.pyc_parse.specs.BlockView.{clause_of}
 use Rattle.pyc_tree.specs.Lines.{Header, def, class, class_of}
@@ -46,7 +48,8 @@ unfoldable mutual
   -- a definition is one part; of any other compound statement the suites of all clauses are opened
   pub statement_parts : Stmt → List ScopePart
   statement_parts (tree.simple found) = line_parts found
-  statement_parts (compound _ first rest) = if is_definition first then definition first ∷ [] else clause_parts first ++ clauses_parts rest
+  statement_parts (compound _ first rest) =
+      if is_definition first then definition first ∷ [] else clause_parts first ++ clauses_parts rest
 
   pub clause_parts : CompoundClause → List ScopePart
   clause_parts (clause _ _ body) = suite_parts body

@@ -1,11 +1,13 @@
 -- What a session writes: the replies to the commands that its input spells, and how it ends.
-use Rattle.std.specs.Prelude.{ℕ, zero, suc, Bool, nat_lt, if◌then◌else◌, List, [], ◌∷◌, ◌++◌, length, take, drop, codes, decimal, bytes_eq, ◌&&◌, Option, None, Some, Result, Ok, Err}
+use Rattle.std.specs.Prelude.{ℕ, zero, suc, Bool, nat_lt, if◌then◌else◌, List, [], ◌∷◌, ◌++◌, length, take, drop, codes}
+use Rattle.std.specs.Prelude.{decimal, bytes_eq, ◌&&◌, Option, None, Some, Result, Ok, Err}
 use Rattle.pyc_daemon.specs.declared.ending.End.{End}
 use Rattle.pyc_daemon.specs.declared.ending.End.TheVariants.{Stopped, EndOfInput, Broken}
 use Rattle.pyc_daemon.specs.declared.options.Options.{Options}
 use Rattle.pyc_daemon.specs.declared.refusal.Refusal.{Refusal}
 use Rattle.pyc_daemon.specs.declared.refusal.Refusal.TheVariants as refusal
-use Rattle.pyc_daemon.specs.Command.{Spelled, add, change, endless, update, remove, check, status, stop, unknown, spelled}
+use Rattle.pyc_daemon.specs.Command.{Spelled, add, change, endless, update, remove, check, status, stop, unknown}
+use Rattle.pyc_daemon.specs.Command.{spelled}
 use Rattle.pyc_daemon.specs.Entry.{Entry, bytes, unreadable, no_memory}
 use Rattle.pyc_daemon.specs.Event.{Event, Fetch, first_event}
 use Rattle.pyc_daemon.specs.Fresh.{fresh, units_of}
@@ -110,7 +112,8 @@ no_turn s = last_turn [] s Broken
 
 -- `update PATH` with what the source handed over; an update whose fetch wanted memory is one that wants memory
 abbrev pub fetched_turn : State → List ℕ → Bool → Entry → List ℕ → Turn
-fetched_turn s path wanting (bytes handed) rest = keep_turn (keep_refusal (kept_as s.present path) s.present path (length handed) wanting) s path handed rest
+fetched_turn s path wanting (bytes handed) rest =
+    keep_turn (keep_refusal (kept_as s.present path) s.present path (length handed) wanting) s path handed rest
 fetched_turn s path wanting unreadable rest = refused refusal.Unreadable s rest
 fetched_turn s path wanting no_memory rest = if wanting then refused refusal.Memory s rest else no_turn s
 
@@ -145,7 +148,8 @@ act_with s said wanting (Some fetch) rest = act_fetched s said wanting fetch res
 -- the first command of an input that is not empty
 unfoldable pub turn : State → List ℕ → Event → Turn
 turn s input event =
-    act_with s (spelled (command_line (first_line input) (has_line_feed input))) event.wants_memory event.fetched (after_line input)
+    act_with s (spelled (command_line (first_line input) (has_line_feed input))) event.wants_memory event.fetched
+    (after_line input)
 
 -- what a session writes, and how it ends
 pub record Session : Type 0 where

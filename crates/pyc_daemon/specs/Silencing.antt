@@ -1,6 +1,7 @@
--- Which messages the ignore comments of a file silence (mypy documentation, "Error codes", "Silencing errors based on error
--- codes").
-use Rattle.std.specs.Prelude.{ℕ, Bool, true, false, not, ◌&&◌, ◌||◌, ◌==◌, nat_le, List, filter, length, bytes_eq, slice_range}
+-- Which messages the ignore comments of a file silence (mypy documentation, "Error codes", "Silencing errors based on
+-- error codes").
+use Rattle.std.specs.Prelude.{ℕ, Bool, true, false, not, ◌&&◌, ◌||◌, ◌==◌, nat_le, List, filter, length, bytes_eq}
+use Rattle.std.specs.Prelude.{slice_range}
 use Rattle.std.specs.List.{list_any}
 use Rattle.pyc_token.specs.declared.tokens.Span.{Span}
 use Rattle.pyc_lex.specs.Ignores.{Codes, all, listed, IgnoreAt}
@@ -12,7 +13,8 @@ use Rattle.pyc_daemon.specs.Message.{Message, code_name}
 -- whether the bytes of a source at a span are this code
 abbrev pub spells : List ℕ → List ℕ → Span → Bool
 spells source code span =
-    nat_le span.start span.end && (nat_le span.end (length source) && bytes_eq (slice_range source span.start span.end) code)
+    nat_le span.start span.end
+    && (nat_le span.end (length source) && bytes_eq (slice_range source span.start span.end) code)
 
 -- whether a comment with these codes is one on this code
 abbrev pub covers : List ℕ → List ℕ → Codes → Bool

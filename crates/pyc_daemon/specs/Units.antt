@@ -3,7 +3,8 @@
 use Rattle.std.specs.Prelude.{List, [], ◌∷◌, Option, None, Some, if◌then◌else◌}
 use Rattle.std.specs.List.{filter_map, flat_map}
 use Rattle.pyc_parse.specs.BlockTrees.{CompoundClause, clause, Stmts}
-use Rattle.pyc_daemon.specs.Scopes.{ScopePart, simple, definition, is_function_header, is_class_header, parts_of, suite_parts}
+use Rattle.pyc_daemon.specs.Scopes.{ScopePart, simple, definition, is_function_header, is_class_header, parts_of}
+use Rattle.pyc_daemon.specs.Scopes.{suite_parts}
 
 -- the function that a part is
 abbrev pub function_in : ScopePart → Option CompoundClause

@@ -33,7 +33,9 @@ is_module_taken files module_name = list_any (λ file. same_module (module_of fi
 -- the files with this one: in place of the file of its path, or else after those whose paths are below its own
 abbrev pub with_file : List File → File → List File
 with_file [] file = file ∷ []
-with_file (first ∷ files) file = match_ordering (path_cmp first.path file.path) (first ∷ with_file files file) (file ∷ files) (file ∷ first ∷ files)
+with_file (first ∷ files) file =
+    match_ordering (path_cmp first.path file.path) (first ∷ with_file files file) (file ∷ files)
+    (file ∷ first ∷ files)
 
 -- the files without the one of this path
 abbrev pub without_file : List File → List ℕ → List File
@@ -49,15 +51,16 @@ pub record IsPlaceOf (files : List File) (path : List ℕ) (place : ℕ) : Type 
 pub record IsGapFor (files : List File) (path : List ℕ) (place : ℕ) : Type 0 where
   pub in_range : place ≤ length files
   pub lower_before : (i : ℕ) (d : File) → i < place → path_cmp (slice_index_or files i d).path path ≡ Less
-  pub higher_after : (i : ℕ) (d : File) → place ≤ i → i < length files → path_cmp (slice_index_or files i d).path path ≡ Greater
+  pub higher_after : (i : ℕ) (d : File) → place ≤ i → i < length files → path_cmp (slice_index_or files i d).path path
+      ≡ Greater
 
 -- a part of a file that is examined by itself; the parts of a file are counted from 0
 pub record Unit : Type 0 where
   pub path : List ℕ
   pub index : ℕ
 
--- a session's state: the options that it is run with, the files that are present, the files at the last completed check, and
--- the units that it examined
+-- a session's state: the options that it is run with, the files that are present, the files at the last completed
+-- check, and the units that it examined
 pub record State : Type 0 where
   pub options : Options
   pub present : List File

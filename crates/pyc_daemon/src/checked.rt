@@ -1,3 +1,5 @@
+//! What was found in files, and what is printed of it.
+
 use crate::message::Message;
 
 /// What was found in one file: its path as it is printed, and its errors in any order.

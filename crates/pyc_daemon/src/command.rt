@@ -1,7 +1,10 @@
+//! What a command line spells.
+
 ghost use Rattle.std.specs.Prelude.{◌≡◌, ◌+◌, ◌≤◌, ◌<◌, ◌^◌, ◌∷◌, [], true, length, MatchOption, IfSome};
 ghost use Rattle.std.specs.List.{slice_split, position_from, list_all};
 ghost use Rattle.std.specs.Char.{is_ascii_digit};
-ghost use Rattle.pyc_daemon.specs.Command.{is_space, is_number, number_of, single_of, path_command_of, file_command_of, words_of, command_of, said, spelled};
+ghost use Rattle.pyc_daemon.specs.Command.{is_space, is_number, number_of, single_of, path_command_of, file_command_of};
+ghost use Rattle.pyc_daemon.specs.Command.{words_of, command_of, said, spelled};
 
 /// The most bytes that a command line may have, without its end.
 pub const LONGEST_LINE: usize = 512;

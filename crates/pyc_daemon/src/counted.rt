@@ -1,3 +1,5 @@
+//! A reader or a writer whose calls, faults and empty writes are counted.
+
 ghost use Rattle.std.specs.Prelude.{◌≡◌, is_ok, if◌then◌else◌};
 ghost use Rattle.std.specs.Io.{ReadsAtMost, WritesAtMost};
 ghost use Rattle.std.specs.Io.KnownBytes.{ReadConsumes, WriteAppends, Keeps};
@@ -60,9 +62,11 @@ impl<R: Read> Read for Counted<R> {
 
     fn read(&mut self, buf: &mut [u8]) -> io::Result<usize>
         ensures bound { ReadsAtMost result buf.new }
-        ensures bytes { ReadConsumes (R.remaining (inner_of self.old)) (R.remaining (inner_of self.new)) result buf.new }
+        ensures bytes { ReadConsumes (R.remaining (inner_of self.old)) (R.remaining (inner_of self.new)) result
+            buf.new }
         ensures calls { calls_of self.new ≡ one_more (calls_of self.old) }
-        ensures faults { faults_of self.new ≡ (if is_ok result then faults_of self.old else one_more (faults_of self.old)) }
+        ensures faults { faults_of self.new
+            ≡ (if is_ok result then faults_of self.old else one_more (faults_of self.old)) }
         ensures zeros { zeros_of self.new ≡ zeros_of self.old }
     {
         self.calls = self.calls.saturating_add(1);
@@ -83,8 +87,10 @@ impl<W: Write> Write for Counted<W> {
         ensures bound { WritesAtMost result buf.now }
         ensures bytes { WriteAppends (W.contents (inner_of self.old)) (W.contents (inner_of self.new)) result buf.now }
         ensures calls { calls_of self.new ≡ one_more (calls_of self.old) }
-        ensures faults { faults_of self.new ≡ (if is_ok result then faults_of self.old else one_more (faults_of self.old)) }
-        ensures zeros { zeros_of self.new ≡ (if is_zero result then one_more (zeros_of self.old) else zeros_of self.old) }
+        ensures faults { faults_of self.new
+            ≡ (if is_ok result then faults_of self.old else one_more (faults_of self.old)) }
+        ensures zeros { zeros_of self.new
+            ≡ (if is_zero result then one_more (zeros_of self.old) else zeros_of self.old) }
     {
         self.calls = self.calls.saturating_add(1);
         let answer = self.inner.write(buf);

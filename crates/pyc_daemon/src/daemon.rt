@@ -1,9 +1,13 @@
-ghost use Rattle.std.specs.Prelude.{◌≡◌, ℕ, Bool, List, Option, None, Some, true, false, length, IfOk, IfErr, OnOk, OnErr, vec_len, if◌then◌else◌};
+//! The files of a session, and what its last check left.
+
+ghost use Rattle.std.specs.Prelude.{◌≡◌, ℕ, Bool, List, Option, None, Some, true, false, length, IfOk, IfErr, OnOk};
+ghost use Rattle.std.specs.Prelude.{OnErr, vec_len, if◌then◌else◌};
 ghost use Rattle.pyc_daemon.specs.Event.{Fetch, FetchStep};
 ghost use Rattle.pyc_daemon.specs.Fresh.{fresh, units_of};
 ghost use Rattle.pyc_daemon.specs.ModuleName.{module_of, name_in};
 ghost use Rattle.pyc_daemon.specs.Path.{is_file_path};
-ghost use Rattle.pyc_daemon.specs.Refusal.{add_refusal, change_refusal, remove_refusal, early_refusal, late_refusal, keep_refusal, kept_as};
+ghost use Rattle.pyc_daemon.specs.Refusal.{add_refusal, change_refusal, remove_refusal, early_refusal, late_refusal};
+ghost use Rattle.pyc_daemon.specs.Refusal.{keep_refusal, kept_as};
 ghost use Rattle.pyc_daemon.specs.Report.{report_in};
 ghost use Rattle.pyc_daemon.specs.Session.{after_check, keeping, dropping, update_turn, told_turn};
 ghost use Rattle.pyc_daemon.specs.Workspace.{State, start, has_file};
@@ -43,7 +47,8 @@ pub struct Daemon {
 impl Model for Daemon {
     ghost Value = { State };
 
-    ghost view = { λ d. record { options = d.options; present = d.present; last = d.last; examined = units_of d.last } };
+    ghost view = { λ d.
+        record { options = d.options; present = d.present; last = d.last; examined = units_of d.last } };
 
     ghost invariant = { λ d. d.bodies ≡ length (units_of d.last) };
 }
@@ -76,7 +81,9 @@ impl Daemon {
     pub fn add(&mut self, path: &[u8], bytes: Vec<u8>) -> Result<(), Refusal>
         ensures ok { OnOk result (keep_refusal Keep.Add self.old.present path.now (vec_len bytes) false ≡ None) }
         ensures after { OnOk result (self.new ≡ keeping self.old (record { path = path.now; bytes = bytes.items })) }
-        ensures refusal { IfErr result (λ why. (wanting : Bool) × (keep_refusal Keep.Add self.old.present path.now (vec_len bytes) wanting ≡ Some why)) }
+        ensures refusal { IfErr result
+            (λ why. (wanting : Bool)
+            × (keep_refusal Keep.Add self.old.present path.now (vec_len bytes) wanting ≡ Some why)) }
         ensures same { OnErr result (self.new ≡ self.old) }
     {
         self.keep_unless(Keep::Add, path, bytes)
@@ -86,14 +93,16 @@ impl Daemon {
     pub fn change(&mut self, path: &[u8], bytes: Vec<u8>) -> Result<(), Refusal>
         ensures ok { OnOk result (keep_refusal Keep.Change self.old.present path.now (vec_len bytes) false ≡ None) }
         ensures after { OnOk result (self.new ≡ keeping self.old (record { path = path.now; bytes = bytes.items })) }
-        ensures refusal { IfErr result (λ why. (wanting : Bool) × (keep_refusal Keep.Change self.old.present path.now (vec_len bytes) wanting ≡ Some why)) }
+        ensures refusal { IfErr result
+            (λ why. (wanting : Bool)
+            × (keep_refusal Keep.Change self.old.present path.now (vec_len bytes) wanting ≡ Some why)) }
         ensures same { OnErr result (self.new ≡ self.old) }
     {
         self.keep_unless(Keep::Change, path, bytes)
     }
 
-    /// Adds the file whose bytes the source hands over at this path, or changes it if it is present. Where that is refused
-    /// all is as before.
+    /// Adds the file whose bytes the source hands over at this path, or changes it if it is present. Where that is
+    /// refused all is as before.
     pub fn update<S: Sources>(&mut self, sources: &mut S, path: &[u8]) -> Result<(), Refusal>
         ensures told { (wanting : Bool) × (fetched : Option Fetch) × FetchStep S.step sources.old fetched sources.new
             × ((rest : List ℕ) → update_turn self.old path.now wanting fetched rest ≡ told_turn result self.new rest) }
@@ -168,7 +177,9 @@ impl Daemon {
     fn keep_unless(&mut self, keep: Keep, path: &[u8], bytes: Vec<u8>) -> Result<(), Refusal>
         ensures ok { OnOk result (keep_refusal keep self.old.present path.now (vec_len bytes) false ≡ None) }
         ensures after { OnOk result (self.new ≡ keeping self.old (record { path = path.now; bytes = bytes.items })) }
-        ensures refusal { IfErr result (λ why. (wanting : Bool) × (keep_refusal keep self.old.present path.now (vec_len bytes) wanting ≡ Some why)) }
+        ensures refusal { IfErr result
+            (λ why. (wanting : Bool)
+            × (keep_refusal keep self.old.present path.now (vec_len bytes) wanting ≡ Some why)) }
         ensures same { OnErr result (self.new ≡ self.old) }
     {
         if let Some(why) = self.early_refusal(keep, path, bytes.len()) {
@@ -182,7 +193,8 @@ impl Daemon {
         requires { early_refusal keep self.old.present path.now (vec_len bytes) ≡ None }
         ensures ok { OnOk result (late_refusal keep self.old.present path.now false ≡ None) }
         ensures after { OnOk result (self.new ≡ keeping self.old (record { path = path.now; bytes = bytes.items })) }
-        ensures refusal { IfErr result (λ why. (wanting : Bool) × (late_refusal keep self.old.present path.now wanting ≡ Some why)) }
+        ensures refusal { IfErr result
+            (λ why. (wanting : Bool) × (late_refusal keep self.old.present path.now wanting ≡ Some why)) }
         ensures same { OnErr result (self.new ≡ self.old) }
     {
         let path = str::from_utf8(path).unwrap();

@@ -1,3 +1,5 @@
+//! How a session ends, or what stops it.
+
 ghost use Rattle.std.specs.Prelude.{Some};
 ghost use Rattle.pyc_daemon.specs.Ending.{run_fault_text};
 

@@ -1,3 +1,5 @@
+//! A session, from its first command to its end.
+
 ghost use Rattle.std.specs.Prelude.{◌≡◌, ◌+◌, ◌<◌, ◌≤◌, [], false, List, vec_capacity, IfOk, IfErr, IfSome, IsErrOf};
 ghost use Rattle.std.specs.Io.KnownBytes.{Appends};
 ghost use Rattle.pyc_daemon.specs.Counted.{inner_of, calls_of, faults_of, zeros_of};
@@ -35,16 +37,19 @@ pub fn run<R: Read, W: Write, S: Sources>(
     // A run that ends has written what a session writes for the input, and ends as that does.
     ensures replies { IfOk result (λ end. IfSome (R.remaining (inner_of reader.old)) (λ input. (events : List Event)
         × Links S.step sources.old events sources.new
-        × Appends (W.contents (inner_of writer.old)) (W.contents (inner_of writer.new)) (session_text options.now input events)
+        × Appends (W.contents (inner_of writer.old)) (W.contents (inner_of writer.new))
+        (session_text options.now input events)
         × (session_end options.now input events ≡ end))) }
     // In any case what is written begins what a session writes for each input that begins with what was read.
-    ensures runs { Runs S.step options.now sources.old sources.new (R.remaining (inner_of reader.old)) (R.remaining (inner_of reader.new))
+    ensures runs { Runs S.step options.now sources.old sources.new (R.remaining (inner_of reader.old))
+        (R.remaining (inner_of reader.new))
         (W.contents (inner_of writer.old)) (W.contents (inner_of writer.new)) result }
     // What each fault comes of.
     ensures read { IsErrOf result RunFault.Read → 0 < faults_of reader.new }
     ensures write { IsErrOf result RunFault.Write → 0 < faults_of writer.new + zeros_of writer.new }
     ensures turns { IsErrOf result RunFault.TooManyTurns → calls_of reader.new ≡ options.now.turns }
-    ensures memory { IsErrOf result RunFault.Memory → (reader.new ≡ reader.old) × (writer.new ≡ writer.old) × (sources.new ≡ sources.old) }
+    ensures memory { IsErrOf result RunFault.Memory → (reader.new ≡ reader.old) × (writer.new ≡ writer.old)
+        × (sources.new ≡ sources.old) }
 {
     let Ok(mut window) = Window::new(alloc) else {
         return Err(RunFault::Memory);
@@ -81,9 +86,12 @@ fn serve_all<R: Read, W: Write, S: Sources>(
     requires open { ended_of window.old ≡ false }
     requires begun { daemon.old ≡ start daemon.old.options }
     requires reading { IsReading (R.remaining (inner_of reader.old)) (ended_of window.old) (calls_of reader.old) turns }
-    ensures runs { Runs S.step daemon.old.options sources.old sources.new (R.remaining (inner_of reader.old)) (R.remaining (inner_of reader.new))
+    ensures runs { Runs S.step daemon.old.options sources.old sources.new (R.remaining (inner_of reader.old))
+        (R.remaining (inner_of reader.new))
         (W.contents (inner_of writer.old)) (W.contents (inner_of writer.new)) result }
-    ensures fault { IfErr result (λ e. ComesOfRun e (faults_of reader.new) (calls_of reader.new) (faults_of writer.new + zeros_of writer.new) turns) }
+    ensures fault { IfErr result
+        (λ e. ComesOfRun e (faults_of reader.new) (calls_of reader.new) (faults_of writer.new + zeros_of writer.new)
+        turns) }
 {
     'commands: while !window.is_ended() {
         let Some(answer) = serve(alloc, reader, window, line, sources, daemon, turns)? else {

@@ -1,3 +1,5 @@
+//! A file of a session.
+
 ghost use Rattle.std.specs.Prelude.{◌≡◌, All, IfOk, string_bytes};
 ghost use Rattle.std.proofs.Props.{props};
 ghost use Rattle.pyc_lex.specs.Texts.{IsTextSpan};
@@ -21,7 +23,8 @@ pub struct File {
     ghost module_is: { name_in module_name ≡ module_of (string_bytes path) },
     ghost outcome_is: { ∥ outcome_in outcome ≡ outcome_of bytes.items ∥₁ },
     ghost units_is: { units ≡ unit_count (outcome_of bytes.items) },
-    ghost spans: { All (λ token. IsTextSpan bytes.items token.span) (outcome_tokens (outcome_in outcome)) } by { Prim.hlevel props },
+    ghost spans: { All (λ token. IsTextSpan bytes.items token.span)
+        (outcome_tokens (outcome_in outcome)) } by { Prim.hlevel props },
 }
 
 impl File {
@@ -72,13 +75,14 @@ impl File {
     /// The outcome of the file's bytes, of which its tokens are spans.
     pub fn outcome(&self) -> &Outcome
         ensures outcome { ∥ outcome_in result.now ≡ outcome_of (file_in self.now).bytes ∥₁ }
-        ensures spans { All (λ token. IsTextSpan (file_in self.now).bytes token.span) (outcome_tokens (outcome_in result.now)) }
+        ensures spans { All (λ token. IsTextSpan (file_in self.now).bytes token.span)
+            (outcome_tokens (outcome_in result.now)) }
     {
         &self.outcome
     }
 
-    /// How many units the file has: a header, a module body, and its classes, functions and methods, or with a fault the
-    /// header alone.
+    /// How many units the file has: a header, a module body, and its classes, functions and methods, or with a fault
+    /// the header alone.
     pub fn count_units(&self) -> usize
         ensures { result ≡ unit_count (outcome_of (file_in self.now).bytes) }
     {

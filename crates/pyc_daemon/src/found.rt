@@ -17,8 +17,8 @@ use pyc_parse::{Fault, Outcome};
 use pyc_types::{Builtins, Ty, assignable, show};
 use std::alloc::{AllocError, Global};
 
-/// The unsilenced messages of a file with this source and outcome: what is found in it, without what its ignore comments silence. The
-/// only error is that memory runs out.
+/// The unsilenced messages of a file with this source and outcome: what is found in it, without what its ignore
+/// comments silence. The only error is that memory runs out.
 #[tactic(auto, unfolding(crate::specs::FoundMessages::unsilenced_messages))]
 pub fn unsilenced(
     alloc: Global,
@@ -27,7 +27,8 @@ pub fn unsilenced(
     outcome: &Outcome,
 ) -> Result<Vec<Message>, AllocError>
     requires spans { All (λ token. IsTextSpan bytes.now token.span) (outcome_tokens (outcome_in outcome.now)) }
-    ensures { IfOk result (λ messages. map message_in messages.items ≡ unsilenced_messages bytes.now (outcome_in outcome.now)) }
+    ensures { IfOk result (λ messages. map message_in messages.items
+        ≡ unsilenced_messages bytes.now (outcome_in outcome.now)) }
 {
     let mut messages = found(alloc, builtins, bytes, outcome)?;
     if let Outcome::Tree(module) = outcome {
@@ -62,7 +63,8 @@ fn form_messages(
     builtins: &Builtins,
     forms: &[LiteralForm],
 ) -> Result<Vec<Message>, AllocError>
-    ensures { IfOk result (λ messages. map message_in messages.items ≡ filter_map spec.form_message (map form_in forms.now)) }
+    ensures { IfOk result (λ messages. map message_in messages.items
+        ≡ filter_map spec.form_message (map form_in forms.now)) }
 {
     let mut messages = Vec::new(alloc);
     for form in forms {

@@ -1,3 +1,5 @@
+//! The report of a check from scratch.
+
 ghost use Rattle.std.specs.Prelude.{◌≡◌, IfOk, map};
 ghost use Rattle.pyc_daemon.specs.Daemon.{file_in, files_in};
 ghost use Rattle.pyc_daemon.specs.Fresh.{checked, fresh};

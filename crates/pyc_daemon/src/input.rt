@@ -1,4 +1,7 @@
-ghost use Rattle.std.specs.Prelude.{◌≡◌, ◌+◌, ◌-◌, ◌*◌, ◌<◌, ◌≤◌, ◌∷◌, ◌++◌, [], ℕ, List, length, true, false, vec_len, vec_capacity, IfOk, IfErr, OnErr, OnOk, take, drop, if◌then◌else◌};
+//! Lines and the bytes of files, off a reader.
+
+ghost use Rattle.std.specs.Prelude.{◌≡◌, ◌+◌, ◌-◌, ◌*◌, ◌<◌, ◌≤◌, ◌∷◌, ◌++◌, [], ℕ, List, length, true, false, vec_len};
+ghost use Rattle.std.specs.Prelude.{vec_capacity, IfOk, IfErr, OnErr, OnOk, take, drop, if◌then◌else◌};
 ghost use Rattle.pyc_daemon.specs.Counted.{inner_of, calls_of, faults_of};
 ghost use Rattle.pyc_daemon.specs.Reading.{Advances, IsReading, ComesOfReading, work_left};
 ghost use Rattle.pyc_daemon.specs.Window.{held_of, ended_of};
@@ -28,13 +31,16 @@ pub fn read_line<R: Read>(
     ensures room { KEPT ≤ vec_capacity line.new }
     ensures reading { IsReading (R.remaining (inner_of reader.new)) (ended_of window.new) (calls_of reader.new) turns }
     ensures line { IfOk result (λ fed. (raw : List ℕ)
-        × Advances (R.remaining (inner_of reader.old)) (held_of window.old) (R.remaining (inner_of reader.new)) (held_of window.new) (raw ++ (if fed then 10 ∷ [] else []))
+        × Advances (R.remaining (inner_of reader.old)) (held_of window.old) (R.remaining (inner_of reader.new))
+        (held_of window.new) (raw ++ (if fed then 10 ∷ [] else []))
         × (has_line_feed raw ≡ false) × (line.new.items ≡ take 514 raw)) }
     ensures last { IfOk result (λ fed. fed ≡ false → ended_of window.new ≡ true) }
     ensures err { OnErr result ((bytes : List ℕ)
-        × Advances (R.remaining (inner_of reader.old)) (held_of window.old) (R.remaining (inner_of reader.new)) (held_of window.new) bytes) }
+        × Advances (R.remaining (inner_of reader.old)) (held_of window.old) (R.remaining (inner_of reader.new))
+        (held_of window.new) bytes) }
     ensures open { OnErr result (ended_of window.new ≡ false) }
-    ensures work { OnOk result (work_left (ended_of window.new) (length (held_of window.new)) (calls_of reader.new) turns
+    ensures work { OnOk result
+        (work_left (ended_of window.new) (length (held_of window.new)) (calls_of reader.new) turns
         < work_left (ended_of window.old) (length (held_of window.old)) (calls_of reader.old) turns) }
     ensures fault { IfErr result (λ e. ComesOfReading e (faults_of reader.new) (calls_of reader.new) turns) }
 {
@@ -88,13 +94,16 @@ pub fn read_body<R: Read>(
     requires reading { IsReading (R.remaining (inner_of reader.old)) (ended_of window.old) (calls_of reader.old) turns }
     ensures reading { IsReading (R.remaining (inner_of reader.new)) (ended_of window.new) (calls_of reader.new) turns }
     ensures body { IfOk result (λ body. (bytes : List ℕ)
-        × Advances (R.remaining (inner_of reader.old)) (held_of window.old) (R.remaining (inner_of reader.new)) (held_of window.new) bytes
+        × Advances (R.remaining (inner_of reader.old)) (held_of window.old) (R.remaining (inner_of reader.new))
+        (held_of window.new) bytes
         × CameAs body bytes size wanted (ended_of window.new)
         × (ended_of window.old ≡ true → (bytes ≡ []) × (ended_of window.new ≡ true))) }
     ensures err { OnErr result ((bytes : List ℕ)
-        × Advances (R.remaining (inner_of reader.old)) (held_of window.old) (R.remaining (inner_of reader.new)) (held_of window.new) bytes) }
+        × Advances (R.remaining (inner_of reader.old)) (held_of window.old) (R.remaining (inner_of reader.new))
+        (held_of window.new) bytes) }
     ensures open { OnErr result (ended_of window.new ≡ false) }
-    ensures work { OnOk result (work_left (ended_of window.new) (length (held_of window.new)) (calls_of reader.new) turns
+    ensures work { OnOk result
+        (work_left (ended_of window.new) (length (held_of window.new)) (calls_of reader.new) turns
         ≤ work_left (ended_of window.old) (length (held_of window.old)) (calls_of reader.old) turns) }
     ensures fault { IfErr result (λ e. ComesOfReading e (faults_of reader.new) (calls_of reader.new) turns) }
 {

@@ -1,3 +1,5 @@
+//! Whether a file is added or changed.
+
 /// How a file is kept whose bytes come with the command.
 #[derive(Clone, Copy, Debug, PartialEq, Eq)]
 pub enum Keep {

@@ -38,8 +38,10 @@ pub fn literal_forms(
     bytes: &[u8],
     statements: &[Stmt],
 ) -> Result<Vec<LiteralForm>, AllocError>
-    requires spans { All (λ token. IsTextSpan bytes.now token.span) (stmts_tokens (stmts_before statements.now no_statement)) }
-    ensures { IfOk result (λ forms. map form_in forms.items ≡ literal_forms bytes.now (stmts_before statements.now no_statement)) }
+    requires spans { All (λ token. IsTextSpan bytes.now token.span)
+        (stmts_tokens (stmts_before statements.now no_statement)) }
+    ensures { IfOk result (λ forms. map form_in forms.items
+        ≡ literal_forms bytes.now (stmts_before statements.now no_statement)) }
 {
     let parts = scope_parts(alloc, statements)?;
     let mut forms = Vec::new(alloc);
@@ -95,7 +97,8 @@ fn valued_form(
 ) -> Result<Option<LiteralForm>, AllocError>
     requires spans { All (λ token. IsTextSpan bytes.now token.span) (yield_of (tree_of annotation.now)) }
     ensures { IfOk result (λ form. option_map form_in form
-        ≡ spec.valued_form (spec.annotation_type bytes.now (tree_of annotation.now)) (spec.value_token (tail_of value.now))) }
+        ≡ spec.valued_form (spec.annotation_type bytes.now (tree_of annotation.now))
+        (spec.value_token (tail_of value.now))) }
 {
     let Some(first) = value_token(value) else {
         return Ok(None);

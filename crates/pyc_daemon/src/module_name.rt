@@ -1,3 +1,5 @@
+//! The names of modules.
+
 ghost use Rattle.std.specs.Prelude.{◌≡◌, map, IfOk};
 ghost use Rattle.std.specs.List.{slice_split};
 ghost use Rattle.pyc_daemon.specs.ModuleName.{stem, spelled_parts, module_of, same_module, name_in};
@@ -37,7 +39,8 @@ impl ModuleName {
 
 // The parts of the module that a path names, as they are spelled.
 fn spelled_parts<'a>(alloc: Global, path: &'a str) -> Result<Vec<&'a str>, AllocError>
-    ensures { IfOk result (λ parts. map (λ part. part.now) parts.items ≡ spelled_parts (slice_split is_slash path.now)) }
+    ensures { IfOk result (λ parts. map (λ part. part.now) parts.items
+        ≡ spelled_parts (slice_split is_slash path.now)) }
 {
     let mut parts = path_parts(alloc, path)?;
     if let Some(name) = parts.pop() {

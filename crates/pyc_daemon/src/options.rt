@@ -1,3 +1,5 @@
+//! The options of a session.
+
 /// How often the program may read its input in one session.
 pub const TURNS: u64 = 1_000_000_000;
 

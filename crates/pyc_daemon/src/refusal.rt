@@ -1,3 +1,5 @@
+//! The reasons for which a command is refused.
+
 ghost use Rattle.std.specs.Prelude.{◌≡◌};
 
 /// Why a command is refused.

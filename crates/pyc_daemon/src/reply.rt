@@ -1,3 +1,5 @@
+//! Replies to commands.
+
 ghost use Rattle.std.specs.Prelude.{◌≡◌, None, Some};
 
 use crate::checked::Report;

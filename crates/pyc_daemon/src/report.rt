@@ -1,7 +1,9 @@
 //! The report on checked files: their errors in order, each printed line once, and a summary.
 
 ghost use Rattle.std.specs.Prelude.{◌≡◌, ◌++◌, map, length, IfOk, OnOk, string_bytes};
-ghost use Rattle.pyc_daemon.specs.Report.{found_in, report_in, report_of, located_in, located_messages, errors_in_order, printed_line, without_repeats, paths_with_error, counted, summary};
+ghost use Rattle.pyc_daemon.specs.Report.{found_in, report_in, report_of, located_in, located_messages};
+ghost use Rattle.pyc_daemon.specs.Report.{errors_in_order, printed_line, without_repeats, paths_with_error, counted};
+ghost use Rattle.pyc_daemon.specs.Report.{summary};
 
 use crate::checked::{Found, Report};
 use indexmap::IndexSet;
@@ -18,9 +20,9 @@ struct Located<'a> {
     text: &'a str,
 }
 
-/// The report on the files that were checked, one `Found` each. Its text has a line for each error, in the order of path, line,
-/// column, code and text, where of equal lines the first alone is printed, and then a summary. The only error is that memory runs
-/// out.
+/// The report on the files that were checked, one `Found` each. Its text has a line for each error, in the order of
+/// path, line, column, code and text, where of equal lines the first alone is printed, and then a summary. The only
+/// error is that memory runs out.
 pub fn report(alloc: Global, found: &[Found<'_>]) -> Result<Report, AllocError>
     ensures fresh { IfOk result (λ report. report_in report ≡ report_of (map found_in found.now)) }
 {

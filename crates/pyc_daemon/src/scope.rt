@@ -20,8 +20,8 @@ pub enum ScopePart<'a> {
     Definition(&'a CompoundClause),
 }
 
-/// The parts of the scope that has these statements, in text order: the blocks of `if`, `for`, `while`, `try` and `with` are
-/// opened, functions and classes are not. The only error is that memory runs out.
+/// The parts of the scope that has these statements, in text order: the blocks of `if`, `for`, `while`, `try` and
+/// `with` are opened, functions and classes are not. The only error is that memory runs out.
 pub fn scope_parts<'a>(
     alloc: Global,
     statements: &'a [Stmt],

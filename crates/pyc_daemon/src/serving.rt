@@ -1,4 +1,7 @@
-ghost use Rattle.std.specs.Prelude.{◌≡◌, ◌==◌, ◌&&◌, not, ◌<◌, ◌≤◌, ◌++◌, [], ℕ, Bool, List, true, false, length, vec_capacity, IfOk, IfErr, OnErr, OnOk};
+//! Reads one command and does it.
+
+ghost use Rattle.std.specs.Prelude.{◌≡◌, ◌==◌, ◌&&◌, not, ◌<◌, ◌≤◌, ◌++◌, [], ℕ, Bool, List, true, false, length};
+ghost use Rattle.std.specs.Prelude.{vec_capacity, IfOk, IfErr, OnErr, OnOk};
 ghost use Rattle.pyc_daemon.specs.Body.{CameAs, IsWanted};
 ghost use Rattle.pyc_daemon.specs.Command.{said};
 ghost use Rattle.pyc_daemon.specs.Counted.{inner_of, calls_of, faults_of};
@@ -40,14 +43,17 @@ pub fn serve<R: Read, S: Sources>(
     ensures room { KEPT ≤ vec_capacity line.new }
     ensures reading { IsReading (R.remaining (inner_of reader.new)) (ended_of window.new) (calls_of reader.new) turns }
     ensures served { IfOk result (λ answer. (bytes : List ℕ) × (event : Event)
-        × Advances (R.remaining (inner_of reader.old)) (held_of window.old) (R.remaining (inner_of reader.new)) (held_of window.new) bytes
+        × Advances (R.remaining (inner_of reader.old)) (held_of window.old) (R.remaining (inner_of reader.new))
+        (held_of window.new) bytes
         × Serves daemon.old daemon.new bytes event (ended_of window.new) answer
         × FetchStep S.step sources.old event.fetched sources.new) }
     ensures err { OnErr result ((bytes : List ℕ)
-        × Advances (R.remaining (inner_of reader.old)) (held_of window.old) (R.remaining (inner_of reader.new)) (held_of window.new) bytes) }
+        × Advances (R.remaining (inner_of reader.old)) (held_of window.old) (R.remaining (inner_of reader.new))
+        (held_of window.new) bytes) }
     ensures stopped { OnErr result (ended_of window.new ≡ false) }
     ensures untouched { OnErr result (sources.new ≡ sources.old) }
-    ensures work { OnOk result (work_left (ended_of window.new) (length (held_of window.new)) (calls_of reader.new) turns
+    ensures work { OnOk result
+        (work_left (ended_of window.new) (length (held_of window.new)) (calls_of reader.new) turns
         < work_left (ended_of window.old) (length (held_of window.old)) (calls_of reader.old) turns) }
     ensures fault { IfErr result (λ e. ComesOfReading e (faults_of reader.new) (calls_of reader.new) turns) }
 {
@@ -80,15 +86,20 @@ fn obey<R: Read, S: Sources>(
     requires reading { IsReading (R.remaining (inner_of reader.old)) (ended_of window.old) (calls_of reader.old) turns }
     ensures reading { IsReading (R.remaining (inner_of reader.new)) (ended_of window.new) (calls_of reader.new) turns }
     ensures obeyed { IfOk result (λ answer. (bytes : List ℕ) × (event : Event)
-        × Advances (R.remaining (inner_of reader.old)) (held_of window.old) (R.remaining (inner_of reader.new)) (held_of window.new) bytes
-        × ((rest : List ℕ) → IsLast (ended_of window.new) rest → act_with daemon.old (said command.entry) event.wants_memory event.fetched (bytes ++ rest) ≡ turn_of answer daemon.new rest)
+        × Advances (R.remaining (inner_of reader.old)) (held_of window.old) (R.remaining (inner_of reader.new))
+        (held_of window.new) bytes
+        × ((rest : List ℕ) → IsLast (ended_of window.new) rest
+        → act_with daemon.old (said command.entry) event.wants_memory event.fetched (bytes ++ rest)
+        ≡ turn_of answer daemon.new rest)
         × (ended_of window.old ≡ true → (bytes ≡ []) × (ended_of window.new ≡ true))
         × FetchStep S.step sources.old event.fetched sources.new) }
     ensures err { OnErr result ((bytes : List ℕ)
-        × Advances (R.remaining (inner_of reader.old)) (held_of window.old) (R.remaining (inner_of reader.new)) (held_of window.new) bytes) }
+        × Advances (R.remaining (inner_of reader.old)) (held_of window.old) (R.remaining (inner_of reader.new))
+        (held_of window.new) bytes) }
     ensures stopped { OnErr result (ended_of window.new ≡ false) }
     ensures untouched { OnErr result (sources.new ≡ sources.old) }
-    ensures work { OnOk result (work_left (ended_of window.new) (length (held_of window.new)) (calls_of reader.new) turns
+    ensures work { OnOk result
+        (work_left (ended_of window.new) (length (held_of window.new)) (calls_of reader.new) turns
         ≤ work_left (ended_of window.old) (length (held_of window.old)) (calls_of reader.old) turns) }
     ensures fault { IfErr result (λ e. ComesOfReading e (faults_of reader.new) (calls_of reader.new) turns) }
 {
@@ -155,14 +166,18 @@ fn keep_file<R: Read>(
     requires reading { IsReading (R.remaining (inner_of reader.old)) (ended_of window.old) (calls_of reader.old) turns }
     ensures reading { IsReading (R.remaining (inner_of reader.new)) (ended_of window.new) (calls_of reader.new) turns }
     ensures kept { IfOk result (λ answer. (bytes : List ℕ) × (mark : Bool)
-        × Advances (R.remaining (inner_of reader.old)) (held_of window.old) (R.remaining (inner_of reader.new)) (held_of window.new) bytes
+        × Advances (R.remaining (inner_of reader.old)) (held_of window.old) (R.remaining (inner_of reader.new))
+        (held_of window.new) bytes
         × ((rest : List ℕ) → IsLast (ended_of window.new) rest
-        → file_turn (keep_refusal keep daemon.old.present path.now size mark) daemon.old path.now size (bytes ++ rest) ≡ turn_of answer daemon.new rest)
+        → file_turn (keep_refusal keep daemon.old.present path.now size mark) daemon.old path.now size (bytes ++ rest)
+        ≡ turn_of answer daemon.new rest)
         × (ended_of window.old ≡ true → (bytes ≡ []) × (ended_of window.new ≡ true))) }
     ensures err { OnErr result ((bytes : List ℕ)
-        × Advances (R.remaining (inner_of reader.old)) (held_of window.old) (R.remaining (inner_of reader.new)) (held_of window.new) bytes) }
+        × Advances (R.remaining (inner_of reader.old)) (held_of window.old) (R.remaining (inner_of reader.new))
+        (held_of window.new) bytes) }
     ensures stopped { OnErr result (ended_of window.new ≡ false) }
-    ensures work { OnOk result (work_left (ended_of window.new) (length (held_of window.new)) (calls_of reader.new) turns
+    ensures work { OnOk result
+        (work_left (ended_of window.new) (length (held_of window.new)) (calls_of reader.new) turns
         ≤ work_left (ended_of window.old) (length (held_of window.old)) (calls_of reader.old) turns) }
     ensures fault { IfErr result (λ e. ComesOfReading e (faults_of reader.new) (calls_of reader.new) turns) }
 {
@@ -182,8 +197,10 @@ fn answer_body(
 ) -> Answer
     requires refusal { refusal ≡ early_refusal keep daemon.old.present path.now size }
     requires whole { IsWanted body size refusal }
-    ensures { (mark : Bool) × ((bytes : List ℕ) (wanted ended : Bool) (rest : List ℕ) → CameAs body bytes size wanted ended → IsLast ended rest
-        → file_turn (keep_refusal keep daemon.old.present path.now size mark) daemon.old path.now size (bytes ++ rest) ≡ turn_of result daemon.new rest) }
+    ensures { (mark : Bool) × ((bytes : List ℕ) (wanted ended : Bool) (rest : List ℕ)
+        → CameAs body bytes size wanted ended → IsLast ended rest
+        → file_turn (keep_refusal keep daemon.old.present path.now size mark) daemon.old path.now size (bytes ++ rest)
+        ≡ turn_of result daemon.new rest) }
 {
     match body {
         Body::Whole(bytes) => match daemon.keep(keep, path, bytes) {

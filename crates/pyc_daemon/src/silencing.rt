@@ -13,11 +13,13 @@ use pyc_parse::Module;
 
 /// Takes the messages away that the ignore comments of a module with this source silence. It takes no memory.
 pub fn drop_silenced(bytes: &[u8], tree: &Module, messages: &mut Vec<Message>)
-    ensures { map message_in messages.new.items ≡ spec.unsilenced bytes.now (module_in tree.now) (map message_in messages.old.items) }
+    ensures { map message_in messages.new.items
+        ≡ spec.unsilenced bytes.now (module_in tree.now) (map message_in messages.old.items) }
 {
     messages.retain(
         |message: &Message| -> bool
-            ensures { result ≡ not (spec.is_silenced bytes.entry.now (module_in tree.entry.now) (message_in message.now)) }
+            ensures { result ≡ not (spec.is_silenced bytes.entry.now (module_in tree.entry.now)
+                (message_in message.now)) }
         { !is_silenced(bytes, tree, message) },
     );
 }

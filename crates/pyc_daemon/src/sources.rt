@@ -57,7 +57,8 @@ pub trait Sources {
     fn fetch(&mut self, alloc: Global, path: &str) -> Result<Vec<u8>, FetchFault>
         ensures step { step self.old path.now (entry_of result) self.new }
         ensures most { IfOk result (λ bytes. vec_len bytes ≤ MOST_FETCHED) }
-        ensures unreadable { IsErrOf result FetchFault.Unreadable → failures self.new ≡ min (failures self.old + 1) (2 ^ 64 - 1) }
+        ensures unreadable { IsErrOf result FetchFault.Unreadable → failures self.new
+            ≡ min (failures self.old + 1) (2 ^ 64 - 1) }
         // No other answer is counted.
         ensures others { entry_of result ≢ unreadable → failures self.new ≡ failures self.old };
 }

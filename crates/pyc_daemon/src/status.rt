@@ -1,3 +1,5 @@
+//! What `status` answers with.
+
 /// What `status` tells of the last completed check.
 #[derive(Clone, Copy, Debug, PartialEq, Eq)]
 pub struct Status {

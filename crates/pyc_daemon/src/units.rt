@@ -12,14 +12,15 @@ use crate::scope::{ScopePart, is_class_header, is_function_header, scope_parts, 
 use pyc_parse::{CompoundClause, Stmt};
 use std::alloc::{AllocError, Global};
 
-/// The definitions among the units of a module that has these statements, in text order: each function and class, and after
-/// a class its methods. The only error is that memory runs out.
+/// The definitions among the units of a module that has these statements, in text order: each function and class, and
+/// after a class its methods. The only error is that memory runs out.
 #[tactic(auto, unfolding(crate::specs::Units::unit_clauses))]
 pub fn unit_clauses<'a>(
     alloc: Global,
     statements: &'a [Stmt],
 ) -> Result<Vec<&'a CompoundClause>, AllocError>
-    ensures { IfOk result (λ units. map (λ unit. clause_of unit.now) units.items ≡ unit_clauses (stmts_before statements.now no_statement)) }
+    ensures { IfOk result (λ units. map (λ unit. clause_of unit.now) units.items
+        ≡ unit_clauses (stmts_before statements.now no_statement)) }
 {
     let parts = scope_parts(alloc, statements)?;
     let mut units = Vec::new(alloc);

@@ -1,4 +1,7 @@
-ghost use Rattle.std.specs.Prelude.{◌≡◌, ◌+◌, ◌-◌, ◌*◌, ◌<◌, ◌≤◌, ◌∷◌, ◌++◌, [], length, true, vec_len, IfOk, IfSome, IfNone, IfErr, OnErr, OnOk, take, drop, min};
+//! The bytes that were read and not used yet.
+
+ghost use Rattle.std.specs.Prelude.{◌≡◌, ◌+◌, ◌-◌, ◌*◌, ◌<◌, ◌≤◌, ◌∷◌, ◌++◌, [], length, true, vec_len, IfOk, IfSome};
+ghost use Rattle.std.specs.Prelude.{IfNone, IfErr, OnErr, OnOk, take, drop, min};
 
 use crate::counted::Counted;
 use crate::ending::RunFault;
@@ -86,12 +89,17 @@ impl Window {
     pub fn refill<R: Read>(&mut self, reader: &mut Counted<R>, turns: u64) -> Result<(), RunFault>
         requires empty { held_of self.old ≡ [] }
         requires open { ended_of self.old ≡ false }
-        requires reading { IsReading (R.remaining (inner_of reader.old)) (ended_of self.old) (calls_of reader.old) turns }
-        ensures reading { IsReading (R.remaining (inner_of reader.new)) (ended_of self.new) (calls_of reader.new) turns }
-        ensures moved { Advances (R.remaining (inner_of reader.old)) [] (R.remaining (inner_of reader.new)) (held_of self.new) [] }
+        requires reading { IsReading (R.remaining (inner_of reader.old)) (ended_of self.old) (calls_of reader.old)
+            turns }
+        ensures reading { IsReading (R.remaining (inner_of reader.new)) (ended_of self.new) (calls_of reader.new)
+            turns }
+        ensures moved { Advances (R.remaining (inner_of reader.old)) [] (R.remaining (inner_of reader.new))
+            (held_of self.new) [] }
         ensures open { OnErr result (ended_of self.new ≡ false) }
         ensures fault { IfErr result (λ e. ComesOfReading e (faults_of reader.new) (calls_of reader.new) turns) }
-        ensures work { OnOk result (work_left (ended_of self.new) (length (held_of self.new)) (calls_of reader.new) turns < work_left false 0 (calls_of reader.old) turns) }
+        ensures work { OnOk result
+            (work_left (ended_of self.new) (length (held_of self.new)) (calls_of reader.new) turns
+            < work_left false 0 (calls_of reader.old) turns) }
     {
         if reader.calls() >= turns {
             return Err(RunFault::TooManyTurns);

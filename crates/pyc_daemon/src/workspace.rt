@@ -1,10 +1,13 @@
+//! The files of a session, in order.
+
 ghost use Rattle.std.specs.Prelude.{◌≡◌, ◌++◌, [], List, length, map, IfOk, IfErr, OnOk, OnErr};
 ghost use Rattle.std.specs.Cmp.Lexicographic.{slice_cmp};
 ghost use Rattle.std.specs.Ordering.{nat_cmp};
 ghost use Rattle.pyc_daemon.specs.Daemon.{file_in, files_in};
 ghost use Rattle.pyc_daemon.specs.Fresh.{numbered, unit_in, units_of};
 ghost use Rattle.pyc_daemon.specs.ModuleName.{module_of, name_in, same_module};
-ghost use Rattle.pyc_daemon.specs.Workspace.{File as PlainFile, IsInOrder, IsPlaceOf, IsGapFor, has_file, is_module_taken, with_file, without_file};
+ghost use Rattle.pyc_daemon.specs.Workspace.{File as PlainFile, IsInOrder, IsPlaceOf, IsGapFor, has_file};
+ghost use Rattle.pyc_daemon.specs.Workspace.{is_module_taken, with_file, without_file};
 
 use crate::file::File;
 use crate::module_name::ModuleName;

@@ -1,4 +1,7 @@
-ghost use Rattle.std.specs.Prelude.{◌≡◌, ◌+◌, ◌<◌, ◌≤◌, [], length, take, codes, if◌then◌else◌, IfOk, IfErr, OnErr, OnOk};
+//! Writes replies.
+
+ghost use Rattle.std.specs.Prelude.{◌≡◌, ◌+◌, ◌<◌, ◌≤◌, [], length, take, codes, if◌then◌else◌, IfOk, IfErr, OnErr};
+ghost use Rattle.std.specs.Prelude.{OnOk};
 ghost use Rattle.std.specs.Io.KnownBytes.{Appends};
 ghost use Rattle.pyc_daemon.specs.Counted.{inner_of, faults_of, zeros_of};
 ghost use Rattle.pyc_daemon.specs.Replies.{reply_bytes, status_text, joined, WritesPart};
@@ -15,8 +18,10 @@ use std::io::Write;
 
 /// Writes a reply whole.
 pub(crate) fn write_reply<W: Write>(writer: &mut Counted<W>, reply: Reply) -> Result<(), RunFault>
-    ensures ok { OnOk result (Appends (W.contents (inner_of writer.old)) (W.contents (inner_of writer.new)) (reply_bytes reply)) }
-    ensures part { OnErr result (WritesPart (W.contents (inner_of writer.old)) (W.contents (inner_of writer.new)) (reply_bytes reply)) }
+    ensures ok { OnOk result
+        (Appends (W.contents (inner_of writer.old)) (W.contents (inner_of writer.new)) (reply_bytes reply)) }
+    ensures part { OnErr result
+        (WritesPart (W.contents (inner_of writer.old)) (W.contents (inner_of writer.new)) (reply_bytes reply)) }
     ensures fault { IfErr result (λ e. e ≡ RunFault.Write) }
     ensures cause { OnErr result (0 < faults_of writer.new + zeros_of writer.new) }
 {
@@ -29,8 +34,12 @@ pub(crate) fn write_reply<W: Write>(writer: &mut Counted<W>, reply: Reply) -> Re
 
 // Writes a report and its status.
 fn write_report<W: Write>(writer: &mut Counted<W>, report: &Report) -> Result<(), RunFault>
-    ensures ok { OnOk result (Appends (W.contents (inner_of writer.old)) (W.contents (inner_of writer.new)) (check_reply (report_in report.now))) }
-    ensures part { OnErr result (WritesPart (W.contents (inner_of writer.old)) (W.contents (inner_of writer.new)) (check_reply (report_in report.now))) }
+    ensures ok { OnOk result
+        (Appends (W.contents (inner_of writer.old)) (W.contents (inner_of writer.new))
+        (check_reply (report_in report.now))) }
+    ensures part { OnErr result
+        (WritesPart (W.contents (inner_of writer.old)) (W.contents (inner_of writer.new))
+        (check_reply (report_in report.now))) }
     ensures fault { IfErr result (λ e. e ≡ RunFault.Write) }
     ensures cause { OnErr result (0 < faults_of writer.new + zeros_of writer.new) }
 {
@@ -47,8 +56,10 @@ fn status_line(clean: bool) -> &'static str
 
 // Writes the counts of the last check.
 fn write_counts<W: Write>(writer: &mut Counted<W>, counts: Status) -> Result<(), RunFault>
-    ensures ok { OnOk result (Appends (W.contents (inner_of writer.old)) (W.contents (inner_of writer.new)) (status_text counts)) }
-    ensures part { OnErr result (WritesPart (W.contents (inner_of writer.old)) (W.contents (inner_of writer.new)) (status_text counts)) }
+    ensures ok { OnOk result
+        (Appends (W.contents (inner_of writer.old)) (W.contents (inner_of writer.new)) (status_text counts)) }
+    ensures part { OnErr result
+        (WritesPart (W.contents (inner_of writer.old)) (W.contents (inner_of writer.new)) (status_text counts)) }
     ensures fault { IfErr result (λ e. e ≡ RunFault.Write) }
     ensures cause { OnErr result (0 < faults_of writer.new + zeros_of writer.new) }
 {
@@ -69,11 +80,13 @@ fn write_counts<W: Write>(writer: &mut Counted<W>, counts: Status) -> Result<(),
     )
 }
 
-/// Writes texts, one after another. The only error is `Write`: a write failed or took no byte, and what was written before it
-/// begins the texts.
+/// Writes texts, one after another. The only error is `Write`: a write failed or took no byte, and what was written
+/// before it begins the texts.
 pub fn write_parts<W: Write>(writer: &mut Counted<W>, parts: &[&str]) -> Result<(), RunFault>
-    ensures ok { OnOk result (Appends (W.contents (inner_of writer.old)) (W.contents (inner_of writer.new)) (joined parts.now)) }
-    ensures part { OnErr result (WritesPart (W.contents (inner_of writer.old)) (W.contents (inner_of writer.new)) (joined parts.now)) }
+    ensures ok { OnOk result
+        (Appends (W.contents (inner_of writer.old)) (W.contents (inner_of writer.new)) (joined parts.now)) }
+    ensures part { OnErr result
+        (WritesPart (W.contents (inner_of writer.old)) (W.contents (inner_of writer.new)) (joined parts.now)) }
     ensures fault { IfErr result (λ e. e ≡ RunFault.Write) }
     ensures cause { OnErr result (0 < faults_of writer.new + zeros_of writer.new) }
 {
@@ -83,11 +96,12 @@ pub fn write_parts<W: Write>(writer: &mut Counted<W>, parts: &[&str]) -> Result<
     Ok(())
 }
 
-/// Writes all bytes. The only error is `Write`: a write failed or took no byte, and what was written before it begins the
-/// bytes.
+/// Writes all bytes. The only error is `Write`: a write failed or took no byte, and what was written before it begins
+/// the bytes.
 pub fn write_bytes<W: Write>(writer: &mut Counted<W>, bytes: &[u8]) -> Result<(), RunFault>
     ensures ok { OnOk result (Appends (W.contents (inner_of writer.old)) (W.contents (inner_of writer.new)) bytes.now) }
-    ensures part { OnErr result (WritesPart (W.contents (inner_of writer.old)) (W.contents (inner_of writer.new)) bytes.now) }
+    ensures part { OnErr result
+        (WritesPart (W.contents (inner_of writer.old)) (W.contents (inner_of writer.new)) bytes.now) }
     ensures fault { IfErr result (λ e. e ≡ RunFault.Write) }
     ensures cause { OnErr result (0 < faults_of writer.new + zeros_of writer.new) }
 {
@@ -103,7 +117,9 @@ pub fn write_bytes<W: Write>(writer: &mut Counted<W>, bytes: &[u8]) -> Result<()
 fn write_some<W: Write>(writer: &mut Counted<W>, bytes: &[u8]) -> Result<usize, RunFault>
     requires { 0 < length bytes.now }
     ensures some { IfOk result (λ count. (0 < count) × (count ≤ length bytes.now)) }
-    ensures ok { IfOk result (λ count. Appends (W.contents (inner_of writer.old)) (W.contents (inner_of writer.new)) (take count bytes.now)) }
+    ensures ok { IfOk result
+        (λ count. Appends (W.contents (inner_of writer.old)) (W.contents (inner_of writer.new))
+        (take count bytes.now)) }
     ensures none { OnErr result (Appends (W.contents (inner_of writer.old)) (W.contents (inner_of writer.new)) []) }
     ensures fault { IfErr result (λ e. e ≡ RunFault.Write) }
     ensures cause { OnErr result (0 < faults_of writer.new + zeros_of writer.new) }

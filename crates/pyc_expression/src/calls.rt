@@ -28,10 +28,13 @@ impl<F: Fn(Global, &mut Cursor<'_>, usize, u8) -> Result<Built, ParseError>> Exp
         element: Box<Expr>,
         height: usize,
     ) -> Result<Built, ParseError>
-        requires nests { ReadsExpressions self.now.rules.depth (F.pre self.now.rules.expr) (F.post self.now.rules.expr) }
+        requires nests { ReadsExpressions self.now.rules.depth (F.pre self.now.rules.expr)
+            (F.post self.now.rules.expr) }
         requires height_is { height ≡ height_of (tree_of element.value) }
         requires low { height ≤ 1000 }
-        ensures { ReadsTokens (λ b. tree_of b.expr.value) (items.generated (spec.expr self.now.rules.depth) (tree_of callee.expr.value) opening (tree.argument (tree_of element.value)) tokens.old.rest.now) result tokens.new.rest.now }
+        ensures { ReadsTokens (λ b. tree_of b.expr.value)
+            (items.generated (spec.expr self.now.rules.depth) (tree_of callee.expr.value) opening
+            (tree.argument (tree_of element.value)) tokens.old.rest.now) result tokens.new.rest.now }
     {
         let comprehensions = self.rules.comprehensions(tokens)?;
         let closing = tokens.expect(Kind::Close(Bracket::Round))?;
@@ -51,7 +54,9 @@ impl<F: Fn(Global, &mut Cursor<'_>, usize, u8) -> Result<Built, ParseError>> Exp
         first: Built,
     ) -> Result<Built, ParseError>
         requires { ReadsExpressions self.now.rules.depth (F.pre self.now.rules.expr) (F.post self.now.rules.expr) }
-        ensures { ReadsTokens (λ b. tree_of b.expr.value) (items.generated (spec.expr self.now.rules.depth) (tree_of callee.expr.value) opening (tree_of first.expr.value) tokens.old.rest.now) result tokens.new.rest.now }
+        ensures { ReadsTokens (λ b. tree_of b.expr.value)
+            (items.generated (spec.expr self.now.rules.depth) (tree_of callee.expr.value) opening
+            (tree_of first.expr.value) tokens.old.rest.now) result tokens.new.rest.now }
     {
         let height = first.height;
         match Box::into_inner(first.expr) {
@@ -72,7 +77,9 @@ impl<F: Fn(Global, &mut Cursor<'_>, usize, u8) -> Result<Built, ParseError>> Exp
         first: Built,
     ) -> Result<Built, ParseError>
         requires { ReadsExpressions self.now.rules.depth (F.pre self.now.rules.expr) (F.post self.now.rules.expr) }
-        ensures { ReadsTokens (λ b. tree_of b.expr.value) (items.called_with (spec.expr self.now.rules.depth) (tree_of callee.expr.value) opening (tree_of first.expr.value) tokens.old.rest.now) result tokens.new.rest.now }
+        ensures { ReadsTokens (λ b. tree_of b.expr.value)
+            (items.called_with (spec.expr self.now.rules.depth) (tree_of callee.expr.value) opening
+            (tree_of first.expr.value) tokens.old.rest.now) result tokens.new.rest.now }
     {
         let arguments = self.rules.listed(tokens, ListContext::Arguments, first)?;
         let closing = tokens.expect(Kind::Close(Bracket::Round))?;
@@ -88,7 +95,9 @@ impl<F: Fn(Global, &mut Cursor<'_>, usize, u8) -> Result<Built, ParseError>> Exp
         opening: Token,
     ) -> Result<Built, ParseError>
         requires { ReadsExpressions self.now.rules.depth (F.pre self.now.rules.expr) (F.post self.now.rules.expr) }
-        ensures { ReadsTokens (λ b. tree_of b.expr.value) (items.call_filled (spec.expr self.now.rules.depth) (tree_of callee.expr.value) opening tokens.old.rest.now) result tokens.new.rest.now }
+        ensures { ReadsTokens (λ b. tree_of b.expr.value)
+            (items.call_filled (spec.expr self.now.rules.depth) (tree_of callee.expr.value) opening
+            tokens.old.rest.now) result tokens.new.rest.now }
     {
         let first = self.rules.item(tokens, ListContext::Arguments)?;
         if begins_comprehension(tokens.peek()) {
@@ -106,7 +115,9 @@ impl<F: Fn(Global, &mut Cursor<'_>, usize, u8) -> Result<Built, ParseError>> Exp
         callee: Built,
         opening: Token,
     ) -> Result<Built, ParseError>
-        ensures { ReadsTokens (λ b. tree_of b.expr.value) (items.call_empty (spec.expr self.now.rules.depth) (tree_of callee.expr.value) opening tokens.old.rest.now) result tokens.new.rest.now }
+        ensures { ReadsTokens (λ b. tree_of b.expr.value)
+            (items.call_empty (spec.expr self.now.rules.depth) (tree_of callee.expr.value) opening
+            tokens.old.rest.now) result tokens.new.rest.now }
     {
         let closing = tokens.take()?;
         let none = PiecesSoFar::new(self.rules.alloc).ended();
@@ -117,7 +128,9 @@ impl<F: Fn(Global, &mut Cursor<'_>, usize, u8) -> Result<Built, ParseError>> Exp
     #[tactic(auto, using(pyc_build::proofs::Steps::ReadsTokens_made), unfolding(pyc_tree::specs::Items::called))]
     pub fn called(&self, tokens: &mut Cursor<'_>, callee: Built) -> Result<Built, ParseError>
         requires { ReadsExpressions self.now.rules.depth (F.pre self.now.rules.expr) (F.post self.now.rules.expr) }
-        ensures { ReadsTokens (λ b. tree_of b.expr.value) (items.called (spec.expr self.now.rules.depth) (tree_of callee.expr.value) tokens.old.rest.now) result tokens.new.rest.now }
+        ensures { ReadsTokens (λ b. tree_of b.expr.value)
+            (items.called (spec.expr self.now.rules.depth) (tree_of callee.expr.value) tokens.old.rest.now) result
+            tokens.new.rest.now }
     {
         let opening = tokens.take()?;
         if same_kind(tokens.peek(), Kind::Close(Bracket::Round)) {
@@ -131,7 +144,9 @@ impl<F: Fn(Global, &mut Cursor<'_>, usize, u8) -> Result<Built, ParseError>> Exp
     #[tactic(auto, using(pyc_build::proofs::Steps::ReadsTokens_made), unfolding(pyc_tree::specs::Items::subscripted))]
     pub fn subscripted(&self, tokens: &mut Cursor<'_>, object: Built) -> Result<Built, ParseError>
         requires { ReadsExpressions self.now.rules.depth (F.pre self.now.rules.expr) (F.post self.now.rules.expr) }
-        ensures { ReadsTokens (λ b. tree_of b.expr.value) (items.subscripted (spec.expr self.now.rules.depth) (tree_of object.expr.value) tokens.old.rest.now) result tokens.new.rest.now }
+        ensures { ReadsTokens (λ b. tree_of b.expr.value)
+            (items.subscripted (spec.expr self.now.rules.depth) (tree_of object.expr.value) tokens.old.rest.now)
+            result tokens.new.rest.now }
     {
         let opening = tokens.take()?;
         let first = self.rules.item(tokens, ListContext::Subscript)?;

@@ -41,7 +41,8 @@ impl<F: Fn(Global, &mut Cursor<'_>, usize, u8) -> Result<Built, ParseError>> Exp
     #[tactic(auto, using(pyc_build::proofs::Steps::ReadsTokens_made), unfolding(pyc_tree::specs::Expressions::one_link))]
     fn one_link(&self, tokens: &mut Cursor<'_>) -> Result<BuiltLink, ParseError>
         requires { ReadsExpressions self.now.rules.depth (F.pre self.now.rules.expr) (F.post self.now.rules.expr) }
-        ensures { ReadsTokens (λ b rest. tree.link b.first b.second (tree_of b.right.expr.value) rest) (spec.one_link (spec.expr self.now.rules.depth) tokens.old.rest.now) result tokens.new.rest.now }
+        ensures { ReadsTokens (λ b rest. tree.link b.first b.second (tree_of b.right.expr.value) rest)
+            (spec.one_link (spec.expr self.now.rules.depth) tokens.old.rest.now) result tokens.new.rest.now }
     {
         let first = tokens.take()?;
         let second = second_word(tokens, first.kind)?;
@@ -56,7 +57,8 @@ impl<F: Fn(Global, &mut Cursor<'_>, usize, u8) -> Result<Built, ParseError>> Exp
     /// Comparisons, as long as one comes next.
     fn all_links(&self, tokens: &mut Cursor<'_>) -> Result<BuiltLinks, ParseError>
         requires { ReadsExpressions self.now.rules.depth (F.pre self.now.rules.expr) (F.post self.now.rules.expr) }
-        ensures { ReadsTokens (λ b. links_before b.links.items tree.unlinked) (spec.all_links (spec.expr self.now.rules.depth) tokens.old.rest.now) result tokens.new.rest.now }
+        ensures { ReadsTokens (λ b. links_before b.links.items tree.unlinked)
+            (spec.all_links (spec.expr self.now.rules.depth) tokens.old.rest.now) result tokens.new.rest.now }
     {
         let mut found = BuiltLinks::new(self.rules.alloc);
         for _turn in 0..tokens.rest.len() {
@@ -73,7 +75,9 @@ impl<F: Fn(Global, &mut Cursor<'_>, usize, u8) -> Result<Built, ParseError>> Exp
     #[tactic(auto, using(pyc_build::proofs::Steps::ReadsTokens_made), unfolding(pyc_tree::specs::Expressions::compared))]
     pub fn compared(&self, tokens: &mut Cursor<'_>, left: Built) -> Result<Built, ParseError>
         requires { ReadsExpressions self.now.rules.depth (F.pre self.now.rules.expr) (F.post self.now.rules.expr) }
-        ensures { ReadsTokens (λ b. tree_of b.expr.value) (spec.compared (spec.expr self.now.rules.depth) (tree_of left.expr.value) tokens.old.rest.now) result tokens.new.rest.now }
+        ensures { ReadsTokens (λ b. tree_of b.expr.value)
+            (spec.compared (spec.expr self.now.rules.depth) (tree_of left.expr.value) tokens.old.rest.now) result
+            tokens.new.rest.now }
     {
         let links = self.all_links(tokens)?;
         built::compare(self.rules.alloc, left, links)

@@ -16,7 +16,7 @@ ghost use Rattle.pyc_tree.specs.View.{tree_of, pieces_of};
 use crate::rules::ExpressionRules;
 use pyc_build::{Built, BuiltPieces, Listed, ParseError, PiecesSoFar, built, parted};
 use pyc_cursor::{
-    Cursor, begins, begins_comprehension, context_in, display_kind_of, empty_display_kind, is_at,
+    Cursor, begins_comprehension, context_in, display_kind_of, empty_display_kind, is_at,
     is_element, same_kind,
 };
 use pyc_token::{Bracket, Keyword, Kind, Token};
@@ -30,7 +30,9 @@ fn in_parentheses(
     found: BuiltPieces,
     closing: Token,
 ) -> Result<Built, ParseError>
-    ensures { (self : ℕ → Parser tree.Tree) (first : tree.Tree) (ts : List Token) → ReadsTokens (λ b. tree_of b.expr.value) (items.enclosed self Round first opening (pieces_of found.pieces) closing ts) result ts }
+    ensures { (self : ℕ → Parser tree.Tree) (first : tree.Tree) (ts : List Token)
+        → ReadsTokens (λ b. tree_of b.expr.value)
+        (items.enclosed self Round first opening (pieces_of found.pieces) closing ts) result ts }
 {
     match parted(found) {
         Listed::One(item) => {
@@ -55,7 +57,9 @@ impl<F: Fn(Global, &mut Cursor<'_>, usize, u8) -> Result<Built, ParseError>> Exp
         element: Built,
     ) -> Result<Built, ParseError>
         requires { ReadsExpressions self.now.rules.depth (F.pre self.now.rules.expr) (F.post self.now.rules.expr) }
-        ensures { ReadsTokens (λ b. tree_of b.expr.value) (items.comprehended (spec.expr self.now.rules.depth) bracket opening (tree_of element.expr.value) tokens.old.rest.now) result tokens.new.rest.now }
+        ensures { ReadsTokens (λ b. tree_of b.expr.value)
+            (items.comprehended (spec.expr self.now.rules.depth) bracket opening (tree_of element.expr.value)
+            tokens.old.rest.now) result tokens.new.rest.now }
     {
         let comprehensions = self.rules.comprehensions(tokens)?;
         let closing = tokens.expect(Kind::Close(bracket))?;
@@ -83,7 +87,9 @@ impl<F: Fn(Global, &mut Cursor<'_>, usize, u8) -> Result<Built, ParseError>> Exp
         first: Built,
     ) -> Result<Built, ParseError>
         requires { ReadsExpressions self.now.rules.depth (F.pre self.now.rules.expr) (F.post self.now.rules.expr) }
-        ensures { ReadsTokens (λ b. tree_of b.expr.value) (items.displayed (spec.expr self.now.rules.depth) Round opening (tree_of first.expr.value) tokens.old.rest.now) result tokens.new.rest.now }
+        ensures { ReadsTokens (λ b. tree_of b.expr.value)
+            (items.displayed (spec.expr self.now.rules.depth) Round opening (tree_of first.expr.value)
+            tokens.old.rest.now) result tokens.new.rest.now }
     {
         let found = self.rules.listed(tokens, ListContext::Items, first)?;
         let closing = tokens.expect(Kind::Close(Bracket::Round))?;
@@ -99,7 +105,9 @@ impl<F: Fn(Global, &mut Cursor<'_>, usize, u8) -> Result<Built, ParseError>> Exp
         first: Built,
     ) -> Result<Built, ParseError>
         requires { ReadsExpressions self.now.rules.depth (F.pre self.now.rules.expr) (F.post self.now.rules.expr) }
-        ensures { ReadsTokens (λ b. tree_of b.expr.value) (items.displayed (spec.expr self.now.rules.depth) Square opening (tree_of first.expr.value) tokens.old.rest.now) result tokens.new.rest.now }
+        ensures { ReadsTokens (λ b. tree_of b.expr.value)
+            (items.displayed (spec.expr self.now.rules.depth) Square opening (tree_of first.expr.value)
+            tokens.old.rest.now) result tokens.new.rest.now }
     {
         let found = self.rules.listed(tokens, ListContext::Items, first)?;
         let closing = tokens.expect(Kind::Close(Bracket::Square))?;
@@ -115,7 +123,9 @@ impl<F: Fn(Global, &mut Cursor<'_>, usize, u8) -> Result<Built, ParseError>> Exp
         first: Built,
     ) -> Result<Built, ParseError>
         requires { ReadsExpressions self.now.rules.depth (F.pre self.now.rules.expr) (F.post self.now.rules.expr) }
-        ensures { ReadsTokens (λ b. tree_of b.expr.value) (items.displayed (spec.expr self.now.rules.depth) Curly opening (tree_of first.expr.value) tokens.old.rest.now) result tokens.new.rest.now }
+        ensures { ReadsTokens (λ b. tree_of b.expr.value)
+            (items.displayed (spec.expr self.now.rules.depth) Curly opening (tree_of first.expr.value)
+            tokens.old.rest.now) result tokens.new.rest.now }
     {
         let display_kind = display_kind_of(Bracket::Curly, &first.expr);
         let found = self.rules.listed(tokens, ListContext::Braces, first)?;
@@ -133,7 +143,9 @@ impl<F: Fn(Global, &mut Cursor<'_>, usize, u8) -> Result<Built, ParseError>> Exp
         first: Built,
     ) -> Result<Built, ParseError>
         requires { ReadsExpressions self.now.rules.depth (F.pre self.now.rules.expr) (F.post self.now.rules.expr) }
-        ensures { ReadsTokens (λ b. tree_of b.expr.value) (items.displayed (spec.expr self.now.rules.depth) bracket opening (tree_of first.expr.value) tokens.old.rest.now) result tokens.new.rest.now }
+        ensures { ReadsTokens (λ b. tree_of b.expr.value)
+            (items.displayed (spec.expr self.now.rules.depth) bracket opening (tree_of first.expr.value)
+            tokens.old.rest.now) result tokens.new.rest.now }
     {
         match bracket {
             Bracket::Round => self.displayed_round(tokens, opening, first),
@@ -151,7 +163,9 @@ impl<F: Fn(Global, &mut Cursor<'_>, usize, u8) -> Result<Built, ParseError>> Exp
         opening: Token,
     ) -> Result<Built, ParseError>
         requires { ReadsExpressions self.now.rules.depth (F.pre self.now.rules.expr) (F.post self.now.rules.expr) }
-        ensures { ReadsTokens (λ b. tree_of b.expr.value) (items.filled (spec.expr self.now.rules.depth) bracket opening tokens.old.rest.now) result tokens.new.rest.now }
+        ensures { ReadsTokens (λ b. tree_of b.expr.value)
+            (items.filled (spec.expr self.now.rules.depth) bracket opening tokens.old.rest.now) result
+            tokens.new.rest.now }
     {
         let first = self.rules.item(tokens, context_in(bracket))?;
         if begins_comprehension(tokens.peek()) {
@@ -169,7 +183,9 @@ impl<F: Fn(Global, &mut Cursor<'_>, usize, u8) -> Result<Built, ParseError>> Exp
         bracket: Bracket,
         opening: Token,
     ) -> Result<Built, ParseError>
-        ensures { ReadsTokens (λ b. tree_of b.expr.value) (items.empty (spec.expr self.now.rules.depth) bracket opening tokens.old.rest.now) result tokens.new.rest.now }
+        ensures { ReadsTokens (λ b. tree_of b.expr.value)
+            (items.empty (spec.expr self.now.rules.depth) bracket opening tokens.old.rest.now) result
+            tokens.new.rest.now }
     {
         let closing = tokens.take()?;
         let none = PiecesSoFar::new(self.rules.alloc).ended();
@@ -186,7 +202,8 @@ impl<F: Fn(Global, &mut Cursor<'_>, usize, u8) -> Result<Built, ParseError>> Exp
     #[tactic(auto, using(pyc_build::proofs::Steps::ReadsTokens_made), unfolding(pyc_tree::specs::Expressions::parentheses))]
     pub fn parentheses(&self, tokens: &mut Cursor<'_>) -> Result<Built, ParseError>
         requires { ReadsExpressions self.now.rules.depth (F.pre self.now.rules.expr) (F.post self.now.rules.expr) }
-        ensures { ReadsTokens (λ b. tree_of b.expr.value) (spec.parentheses (spec.expr self.now.rules.depth) tokens.old.rest.now) result tokens.new.rest.now }
+        ensures { ReadsTokens (λ b. tree_of b.expr.value)
+            (spec.parentheses (spec.expr self.now.rules.depth) tokens.old.rest.now) result tokens.new.rest.now }
     {
         let opening = tokens.take()?;
         if same_kind(tokens.peek(), Kind::Close(Bracket::Round)) {
@@ -202,7 +219,8 @@ impl<F: Fn(Global, &mut Cursor<'_>, usize, u8) -> Result<Built, ParseError>> Exp
     #[tactic(auto, using(pyc_build::proofs::Steps::ReadsTokens_made), unfolding(pyc_tree::specs::Expressions::brackets))]
     pub fn brackets(&self, tokens: &mut Cursor<'_>, bracket: Bracket) -> Result<Built, ParseError>
         requires { ReadsExpressions self.now.rules.depth (F.pre self.now.rules.expr) (F.post self.now.rules.expr) }
-        ensures { ReadsTokens (λ b. tree_of b.expr.value) (spec.brackets (spec.expr self.now.rules.depth) bracket tokens.old.rest.now) result tokens.new.rest.now }
+        ensures { ReadsTokens (λ b. tree_of b.expr.value)
+            (spec.brackets (spec.expr self.now.rules.depth) bracket tokens.old.rest.now) result tokens.new.rest.now }
     {
         let opening = tokens.take()?;
         if same_kind(tokens.peek(), Kind::Close(bracket)) {

@@ -65,7 +65,8 @@ impl<F: Fn(Global, &mut Cursor<'_>, usize, u8) -> Result<Built, ParseError>> Exp
     /// An identifier.
     #[tactic(auto, using(pyc_build::proofs::Steps::ReadsTokens_made))]
     fn name(&self, tokens: &mut Cursor<'_>) -> Result<Built, ParseError>
-        ensures { ReadsTokens (λ b. tree_of b.expr.value) (spec.atom tree.name tokens.old.rest.now) result tokens.new.rest.now }
+        ensures { ReadsTokens (λ b. tree_of b.expr.value) (spec.atom tree.name tokens.old.rest.now) result
+            tokens.new.rest.now }
     {
         let token = tokens.take()?;
         built::name(self.rules.alloc, token)
@@ -74,7 +75,8 @@ impl<F: Fn(Global, &mut Cursor<'_>, usize, u8) -> Result<Built, ParseError>> Exp
     /// A number.
     #[tactic(auto, using(pyc_build::proofs::Steps::ReadsTokens_made))]
     fn number(&self, tokens: &mut Cursor<'_>) -> Result<Built, ParseError>
-        ensures { ReadsTokens (λ b. tree_of b.expr.value) (spec.atom tree.number tokens.old.rest.now) result tokens.new.rest.now }
+        ensures { ReadsTokens (λ b. tree_of b.expr.value) (spec.atom tree.number tokens.old.rest.now) result
+            tokens.new.rest.now }
     {
         let token = tokens.take()?;
         built::number(self.rules.alloc, token)
@@ -83,7 +85,8 @@ impl<F: Fn(Global, &mut Cursor<'_>, usize, u8) -> Result<Built, ParseError>> Exp
     /// `False`, `None`, `True` or `...`.
     #[tactic(auto, using(pyc_build::proofs::Steps::ReadsTokens_made))]
     fn constant(&self, tokens: &mut Cursor<'_>) -> Result<Built, ParseError>
-        ensures { ReadsTokens (λ b. tree_of b.expr.value) (spec.atom tree.constant tokens.old.rest.now) result tokens.new.rest.now }
+        ensures { ReadsTokens (λ b. tree_of b.expr.value) (spec.atom tree.constant tokens.old.rest.now) result
+            tokens.new.rest.now }
     {
         let token = tokens.take()?;
         built::constant(self.rules.alloc, token)
@@ -92,7 +95,8 @@ impl<F: Fn(Global, &mut Cursor<'_>, usize, u8) -> Result<Built, ParseError>> Exp
     /// String literals that join.
     #[tactic(auto, using(pyc_build::proofs::Steps::ReadsTokens_made), unfolding(pyc_tree::specs::Expressions::strings))]
     fn strings(&self, tokens: &mut Cursor<'_>) -> Result<Built, ParseError>
-        ensures { ReadsTokens (λ b. tree_of b.expr.value) (spec.strings tokens.old.rest.now) result tokens.new.rest.now }
+        ensures { ReadsTokens (λ b. tree_of b.expr.value) (spec.strings tokens.old.rest.now) result
+            tokens.new.rest.now }
     {
         let first = tokens.take()?;
         let more = literals(self.rules.alloc, tokens)?;
@@ -107,7 +111,8 @@ impl<F: Fn(Global, &mut Cursor<'_>, usize, u8) -> Result<Built, ParseError>> Exp
     #[tactic(auto, using(pyc_build::proofs::Steps::ReadsTokens_made), unfolding(pyc_tree::specs::Expressions::lambda))]
     fn lambda(&self, tokens: &mut Cursor<'_>, loosest: u8) -> Result<Built, ParseError>
         requires { ReadsExpressions self.now.rules.depth (F.pre self.now.rules.expr) (F.post self.now.rules.expr) }
-        ensures { ReadsTokens (λ b. tree_of b.expr.value) (spec.lambda (spec.expr self.now.rules.depth) loosest tokens.old.rest.now) result tokens.new.rest.now }
+        ensures { ReadsTokens (λ b. tree_of b.expr.value)
+            (spec.lambda (spec.expr self.now.rules.depth) loosest tokens.old.rest.now) result tokens.new.rest.now }
     {
         if 1 < loosest {
             return Err(ParseError::Refused);
@@ -130,7 +135,9 @@ impl<F: Fn(Global, &mut Cursor<'_>, usize, u8) -> Result<Built, ParseError>> Exp
         word: Keyword,
     ) -> Result<Built, ParseError>
         requires { ReadsExpressions self.now.rules.depth (F.pre self.now.rules.expr) (F.post self.now.rules.expr) }
-        ensures { ReadsTokens (λ b. tree_of b.expr.value) (spec.prefix_by (spec.expr self.now.rules.depth) loosest (kind.Keyword word) tokens.old.rest.now) result tokens.new.rest.now }
+        ensures { ReadsTokens (λ b. tree_of b.expr.value)
+            (spec.prefix_by (spec.expr self.now.rules.depth) loosest (kind.Keyword word) tokens.old.rest.now) result
+            tokens.new.rest.now }
     {
         match word {
             Keyword::False | Keyword::None | Keyword::True => self.constant(tokens),
@@ -150,7 +157,9 @@ impl<F: Fn(Global, &mut Cursor<'_>, usize, u8) -> Result<Built, ParseError>> Exp
         sign: Arithmetic,
     ) -> Result<Built, ParseError>
         requires { ReadsExpressions self.now.rules.depth (F.pre self.now.rules.expr) (F.post self.now.rules.expr) }
-        ensures { ReadsTokens (λ b. tree_of b.expr.value) (spec.prefix_by (spec.expr self.now.rules.depth) loosest (kind.Arithmetic sign) tokens.old.rest.now) result tokens.new.rest.now }
+        ensures { ReadsTokens (λ b. tree_of b.expr.value)
+            (spec.prefix_by (spec.expr self.now.rules.depth) loosest (kind.Arithmetic sign) tokens.old.rest.now)
+            result tokens.new.rest.now }
     {
         match sign {
             Arithmetic::Plus | Arithmetic::Minus => self.signed(tokens, loosest, 12),
@@ -167,7 +176,9 @@ impl<F: Fn(Global, &mut Cursor<'_>, usize, u8) -> Result<Built, ParseError>> Exp
         mark: Delimiter,
     ) -> Result<Built, ParseError>
         requires { ReadsExpressions self.now.rules.depth (F.pre self.now.rules.expr) (F.post self.now.rules.expr) }
-        ensures { ReadsTokens (λ b. tree_of b.expr.value) (spec.prefix_by (spec.expr self.now.rules.depth) loosest (kind.Delimiter mark) tokens.old.rest.now) result tokens.new.rest.now }
+        ensures { ReadsTokens (λ b. tree_of b.expr.value)
+            (spec.prefix_by (spec.expr self.now.rules.depth) loosest (kind.Delimiter mark) tokens.old.rest.now) result
+            tokens.new.rest.now }
     {
         match mark {
             Delimiter::Tilde => self.signed(tokens, loosest, 12),
@@ -180,7 +191,9 @@ impl<F: Fn(Global, &mut Cursor<'_>, usize, u8) -> Result<Built, ParseError>> Exp
     #[tactic(auto, using(pyc_build::proofs::Steps::ReadsTokens_made))]
     fn prefix_bracket(&self, tokens: &mut Cursor<'_>, bracket: Bracket) -> Result<Built, ParseError>
         requires { ReadsExpressions self.now.rules.depth (F.pre self.now.rules.expr) (F.post self.now.rules.expr) }
-        ensures { ReadsTokens (λ b. tree_of b.expr.value) (spec.prefix_by (spec.expr self.now.rules.depth) 1 (kind.Open bracket) tokens.old.rest.now) result tokens.new.rest.now }
+        ensures { ReadsTokens (λ b. tree_of b.expr.value)
+            (spec.prefix_by (spec.expr self.now.rules.depth) 1 (kind.Open bracket) tokens.old.rest.now) result
+            tokens.new.rest.now }
     {
         match bracket {
             Bracket::Round => self.parentheses(tokens),
@@ -193,7 +206,8 @@ impl<F: Fn(Global, &mut Cursor<'_>, usize, u8) -> Result<Built, ParseError>> Exp
     #[tactic(auto, using(pyc_build::proofs::Steps::ReadsTokens_made), unfolding(pyc_tree::specs::Expressions::prefix))]
     pub fn prefix(&self, tokens: &mut Cursor<'_>, loosest: u8) -> Result<Built, ParseError>
         requires { ReadsExpressions self.now.rules.depth (F.pre self.now.rules.expr) (F.post self.now.rules.expr) }
-        ensures { ReadsTokens (λ b. tree_of b.expr.value) (spec.prefix (spec.expr self.now.rules.depth) loosest tokens.old.rest.now) result tokens.new.rest.now }
+        ensures { ReadsTokens (λ b. tree_of b.expr.value)
+            (spec.prefix (spec.expr self.now.rules.depth) loosest tokens.old.rest.now) result tokens.new.rest.now }
     {
         match tokens.peek() {
             Kind::Name(_) => self.name(tokens),

@@ -19,7 +19,9 @@ impl<F: Fn(Global, &mut Cursor<'_>, usize, u8) -> Result<Built, ParseError>> Exp
     #[tactic(auto, using(pyc_build::proofs::Steps::ReadsTokens_made), unfolding(pyc_tree::specs::Expressions::signed))]
     pub fn signed(&self, tokens: &mut Cursor<'_>, loosest: u8, own: u8) -> Result<Built, ParseError>
         requires { ReadsExpressions self.now.rules.depth (F.pre self.now.rules.expr) (F.post self.now.rules.expr) }
-        ensures { ReadsTokens (λ b. tree_of b.expr.value) (spec.signed (spec.expr self.now.rules.depth) loosest own tokens.old.rest.now) result tokens.new.rest.now }
+        ensures { ReadsTokens (λ b. tree_of b.expr.value)
+            (spec.signed (spec.expr self.now.rules.depth) loosest own tokens.old.rest.now) result
+            tokens.new.rest.now }
     {
         if own < loosest {
             return Err(ParseError::Refused);
@@ -33,7 +35,9 @@ impl<F: Fn(Global, &mut Cursor<'_>, usize, u8) -> Result<Built, ParseError>> Exp
     #[tactic(auto, using(pyc_build::proofs::Steps::ReadsTokens_made), unfolding(pyc_tree::specs::Expressions::conditional))]
     pub fn conditional(&self, tokens: &mut Cursor<'_>, left: Built) -> Result<Built, ParseError>
         requires { ReadsExpressions self.now.rules.depth (F.pre self.now.rules.expr) (F.post self.now.rules.expr) }
-        ensures { ReadsTokens (λ b. tree_of b.expr.value) (spec.conditional (spec.expr self.now.rules.depth) (tree_of left.expr.value) tokens.old.rest.now) result tokens.new.rest.now }
+        ensures { ReadsTokens (λ b. tree_of b.expr.value)
+            (spec.conditional (spec.expr self.now.rules.depth) (tree_of left.expr.value) tokens.old.rest.now) result
+            tokens.new.rest.now }
     {
         let word_if = tokens.take()?;
         let test = self.rules.expr(tokens, 2)?;
@@ -46,7 +50,8 @@ impl<F: Fn(Global, &mut Cursor<'_>, usize, u8) -> Result<Built, ParseError>> Exp
     #[tactic(auto, using(pyc_build::proofs::Steps::ReadsTokens_made), unfolding(pyc_tree::specs::Expressions::awaited))]
     pub fn awaited(&self, tokens: &mut Cursor<'_>, loosest: u8) -> Result<Built, ParseError>
         requires { ReadsExpressions self.now.rules.depth (F.pre self.now.rules.expr) (F.post self.now.rules.expr) }
-        ensures { ReadsTokens (λ b. tree_of b.expr.value) (spec.awaited (spec.expr self.now.rules.depth) loosest tokens.old.rest.now) result tokens.new.rest.now }
+        ensures { ReadsTokens (λ b. tree_of b.expr.value)
+            (spec.awaited (spec.expr self.now.rules.depth) loosest tokens.old.rest.now) result tokens.new.rest.now }
     {
         if 14 < loosest {
             return Err(ParseError::Refused);
@@ -65,7 +70,9 @@ impl<F: Fn(Global, &mut Cursor<'_>, usize, u8) -> Result<Built, ParseError>> Exp
         precedence: u8,
     ) -> Result<Built, ParseError>
         requires { ReadsExpressions self.now.rules.depth (F.pre self.now.rules.expr) (F.post self.now.rules.expr) }
-        ensures { ReadsTokens (λ b. tree_of b.expr.value) (spec.operated (spec.expr self.now.rules.depth) (tree_of left.expr.value) precedence tokens.old.rest.now) result tokens.new.rest.now }
+        ensures { ReadsTokens (λ b. tree_of b.expr.value)
+            (spec.operated (spec.expr self.now.rules.depth) (tree_of left.expr.value) precedence tokens.old.rest.now)
+            result tokens.new.rest.now }
     {
         let operator = tokens.take()?;
         let right = self.rules.expr(tokens, precedence)?;
@@ -75,7 +82,9 @@ impl<F: Fn(Global, &mut Cursor<'_>, usize, u8) -> Result<Built, ParseError>> Exp
     /// `.` and a name, after an object.
     #[tactic(auto, using(pyc_build::proofs::Steps::ReadsTokens_made), unfolding(pyc_tree::specs::Expressions::attribute))]
     pub fn attribute(&self, tokens: &mut Cursor<'_>, object: Built) -> Result<Built, ParseError>
-        ensures { ReadsTokens (λ b. tree_of b.expr.value) (spec.attribute (spec.expr self.now.rules.depth) (tree_of object.expr.value) tokens.old.rest.now) result tokens.new.rest.now }
+        ensures { ReadsTokens (λ b. tree_of b.expr.value)
+            (spec.attribute (spec.expr self.now.rules.depth) (tree_of object.expr.value) tokens.old.rest.now) result
+            tokens.new.rest.now }
     {
         let dot = tokens.take()?;
         let name = tokens.expect_name()?;
@@ -86,7 +95,9 @@ impl<F: Fn(Global, &mut Cursor<'_>, usize, u8) -> Result<Built, ParseError>> Exp
     #[tactic(auto, using(pyc_build::proofs::Steps::ReadsTokens_made), unfolding(pyc_tree::specs::Expressions::operation))]
     fn operation(&self, tokens: &mut Cursor<'_>, left: Built) -> Result<Built, ParseError>
         requires { ReadsExpressions self.now.rules.depth (F.pre self.now.rules.expr) (F.post self.now.rules.expr) }
-        ensures { ReadsTokens (λ b. tree_of b.expr.value) (spec.operation (spec.expr self.now.rules.depth) (tree_of left.expr.value) tokens.old.rest.now) result tokens.new.rest.now }
+        ensures { ReadsTokens (λ b. tree_of b.expr.value)
+            (spec.operation (spec.expr self.now.rules.depth) (tree_of left.expr.value) tokens.old.rest.now) result
+            tokens.new.rest.now }
     {
         match tokens.peek() {
             Kind::Keyword(word) => self.word_operation(tokens, left, word),
@@ -106,7 +117,9 @@ impl<F: Fn(Global, &mut Cursor<'_>, usize, u8) -> Result<Built, ParseError>> Exp
         word: Keyword,
     ) -> Result<Built, ParseError>
         requires { ReadsExpressions self.now.rules.depth (F.pre self.now.rules.expr) (F.post self.now.rules.expr) }
-        ensures { ReadsTokens (λ b. tree_of b.expr.value) (spec.operation_by (spec.expr self.now.rules.depth) (tree_of left.expr.value) (kind.Keyword word) tokens.old.rest.now) result tokens.new.rest.now }
+        ensures { ReadsTokens (λ b. tree_of b.expr.value)
+            (spec.operation_by (spec.expr self.now.rules.depth) (tree_of left.expr.value) (kind.Keyword word)
+            tokens.old.rest.now) result tokens.new.rest.now }
     {
         match word {
             Keyword::If => self.conditional(tokens, left),
@@ -124,7 +137,9 @@ impl<F: Fn(Global, &mut Cursor<'_>, usize, u8) -> Result<Built, ParseError>> Exp
         bracket: Bracket,
     ) -> Result<Built, ParseError>
         requires { ReadsExpressions self.now.rules.depth (F.pre self.now.rules.expr) (F.post self.now.rules.expr) }
-        ensures { ReadsTokens (λ b. tree_of b.expr.value) (spec.operation_by (spec.expr self.now.rules.depth) (tree_of left.expr.value) (kind.Open bracket) tokens.old.rest.now) result tokens.new.rest.now }
+        ensures { ReadsTokens (λ b. tree_of b.expr.value)
+            (spec.operation_by (spec.expr self.now.rules.depth) (tree_of left.expr.value) (kind.Open bracket)
+            tokens.old.rest.now) result tokens.new.rest.now }
     {
         match bracket {
             Bracket::Round => self.called(tokens, left),
@@ -142,7 +157,9 @@ impl<F: Fn(Global, &mut Cursor<'_>, usize, u8) -> Result<Built, ParseError>> Exp
         mark: Delimiter,
     ) -> Result<Built, ParseError>
         requires { ReadsExpressions self.now.rules.depth (F.pre self.now.rules.expr) (F.post self.now.rules.expr) }
-        ensures { ReadsTokens (λ b. tree_of b.expr.value) (spec.operation_by (spec.expr self.now.rules.depth) (tree_of left.expr.value) (kind.Delimiter mark) tokens.old.rest.now) result tokens.new.rest.now }
+        ensures { ReadsTokens (λ b. tree_of b.expr.value)
+            (spec.operation_by (spec.expr self.now.rules.depth) (tree_of left.expr.value) (kind.Delimiter mark)
+            tokens.old.rest.now) result tokens.new.rest.now }
     {
         match mark {
             Delimiter::Dot => self.attribute(tokens, left),
@@ -158,7 +175,9 @@ impl<F: Fn(Global, &mut Cursor<'_>, usize, u8) -> Result<Built, ParseError>> Exp
         mut left: Built,
     ) -> Result<Built, ParseError>
         requires { ReadsExpressions self.now.rules.depth (F.pre self.now.rules.expr) (F.post self.now.rules.expr) }
-        ensures { ReadsTokens (λ b. tree_of b.expr.value) (spec.operations (spec.expr self.now.rules.depth) loosest (tree_of left.expr.value) tokens.old.rest.now) result tokens.new.rest.now }
+        ensures { ReadsTokens (λ b. tree_of b.expr.value)
+            (spec.operations (spec.expr self.now.rules.depth) loosest (tree_of left.expr.value) tokens.old.rest.now)
+            result tokens.new.rest.now }
     {
         for _turn in 0..tokens.rest.len() {
             if infix_precedence(tokens.peek()) < loosest {
@@ -173,7 +192,8 @@ impl<F: Fn(Global, &mut Cursor<'_>, usize, u8) -> Result<Built, ParseError>> Exp
     #[tactic(auto, using(pyc_build::proofs::Steps::ReadsTokens_made), unfolding(pyc_tree::specs::Expressions::whole))]
     pub fn whole(&self, tokens: &mut Cursor<'_>, loosest: u8) -> Result<Built, ParseError>
         requires { ReadsExpressions self.now.rules.depth (F.pre self.now.rules.expr) (F.post self.now.rules.expr) }
-        ensures { ReadsTokens (λ b. tree_of b.expr.value) (spec.whole (spec.expr self.now.rules.depth) loosest tokens.old.rest.now) result tokens.new.rest.now }
+        ensures { ReadsTokens (λ b. tree_of b.expr.value)
+            (spec.whole (spec.expr self.now.rules.depth) loosest tokens.old.rest.now) result tokens.new.rest.now }
     {
         let first = self.prefix(tokens, loosest)?;
         self.operations(tokens, loosest, first)

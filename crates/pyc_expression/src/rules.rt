@@ -24,7 +24,8 @@ pub fn expr(
     depth: usize,
     loosest: u8,
 ) -> Result<Built, ParseError>
-    ensures { ReadsTokens (λ b. tree_of b.expr.value) (spec.expr depth loosest tokens.old.rest.now) result tokens.new.rest.now }
+    ensures { ReadsTokens (λ b. tree_of b.expr.value) (spec.expr depth loosest tokens.old.rest.now) result
+        tokens.new.rest.now }
 {
     if depth == 0 {
         return Err(ParseError::Refused);

@@ -13,5 +13,6 @@ use Rattle.pyc_tree.specs.View.{tree_of}
 pub record ReadsExpressions (depth : ℕ) (pre : Global → MutBor Cursor → ℕ → ℕ → Type 0)
     (post : Global → MutBor Cursor → ℕ → ℕ → Result Built ParseError → MutBor Cursor → Type 0) : Type 0 where
   pub callable : (alloc : Global) (old : MutBor Cursor) (loosest : ℕ) → pre alloc old depth loosest
-  pub reads : (alloc : Global) (old new : MutBor Cursor) (loosest : ℕ) (r : Result Built ParseError) → post alloc old depth loosest r new
+  pub reads : (alloc : Global) (old new : MutBor Cursor) (loosest : ℕ) (r : Result Built ParseError)
+      → post alloc old depth loosest r new
       → ReadsTokens (λ b. tree_of b.expr.value) (expr depth loosest old.now.rest.now) r new.now.rest.now

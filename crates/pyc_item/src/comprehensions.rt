@@ -25,7 +25,8 @@ impl<F: Fn(Global, &mut Cursor<'_>, usize, u8) -> Result<Built, ParseError>> Ite
         word_async: Option<Token>,
     ) -> Result<BuiltComprehension, ParseError>
         requires { ReadsExpressions self.now.depth (F.pre self.now.expr) (F.post self.now.expr) }
-        ensures { ReadsTokens (λ b rest. turns.comprehension_of b rest) (items.for_clause (spec.expr self.now.depth) word_async tokens.old.rest.now) result tokens.new.rest.now }
+        ensures { ReadsTokens (λ b rest. turns.comprehension_of b rest)
+            (items.for_clause (spec.expr self.now.depth) word_async tokens.old.rest.now) result tokens.new.rest.now }
     {
         let word_for = tokens.expect(Kind::Keyword(Keyword::For))?;
         let targets = self.targets(tokens)?;
@@ -38,7 +39,8 @@ impl<F: Fn(Global, &mut Cursor<'_>, usize, u8) -> Result<Built, ParseError>> Ite
     #[tactic(auto, using(pyc_build::proofs::Steps::ReadsTokens_made), unfolding(pyc_tree::specs::Items::async_clause))]
     fn async_clause(&self, tokens: &mut Cursor<'_>) -> Result<BuiltComprehension, ParseError>
         requires { ReadsExpressions self.now.depth (F.pre self.now.expr) (F.post self.now.expr) }
-        ensures { ReadsTokens (λ b rest. turns.comprehension_of b rest) (items.async_clause (spec.expr self.now.depth) tokens.old.rest.now) result tokens.new.rest.now }
+        ensures { ReadsTokens (λ b rest. turns.comprehension_of b rest)
+            (items.async_clause (spec.expr self.now.depth) tokens.old.rest.now) result tokens.new.rest.now }
     {
         let word_async = tokens.take()?;
         self.for_clause(tokens, Some(word_async))
@@ -48,7 +50,8 @@ impl<F: Fn(Global, &mut Cursor<'_>, usize, u8) -> Result<Built, ParseError>> Ite
     #[tactic(auto, using(pyc_build::proofs::Steps::ReadsTokens_made), unfolding(pyc_tree::specs::Items::if_clause))]
     fn if_clause(&self, tokens: &mut Cursor<'_>) -> Result<BuiltComprehension, ParseError>
         requires { ReadsExpressions self.now.depth (F.pre self.now.expr) (F.post self.now.expr) }
-        ensures { ReadsTokens (λ b rest. turns.comprehension_of b rest) (items.if_clause (spec.expr self.now.depth) tokens.old.rest.now) result tokens.new.rest.now }
+        ensures { ReadsTokens (λ b rest. turns.comprehension_of b rest)
+            (items.if_clause (spec.expr self.now.depth) tokens.old.rest.now) result tokens.new.rest.now }
     {
         let word = tokens.take()?;
         let condition = self.expr(tokens, 2)?;
@@ -63,7 +66,9 @@ impl<F: Fn(Global, &mut Cursor<'_>, usize, u8) -> Result<Built, ParseError>> Ite
         kind: Kind,
     ) -> Result<BuiltComprehension, ParseError>
         requires { ReadsExpressions self.now.depth (F.pre self.now.expr) (F.post self.now.expr) }
-        ensures { ReadsTokens (λ b rest. turns.comprehension_of b rest) (turns.comprehension_at (items.comprehension_by (spec.expr self.now.depth) kind) tokens.old.rest.now) result tokens.new.rest.now }
+        ensures { ReadsTokens (λ b rest. turns.comprehension_of b rest)
+            (turns.comprehension_at (items.comprehension_by (spec.expr self.now.depth) kind) tokens.old.rest.now)
+            result tokens.new.rest.now }
     {
         match kind {
             Kind::Keyword(word) => match word {
@@ -79,7 +84,8 @@ impl<F: Fn(Global, &mut Cursor<'_>, usize, u8) -> Result<Built, ParseError>> Ite
     /// The clauses of a comprehension.
     pub fn comprehensions(&self, tokens: &mut Cursor<'_>) -> Result<BuiltComprehensions, ParseError>
         requires { ReadsExpressions self.now.depth (F.pre self.now.expr) (F.post self.now.expr) }
-        ensures { ReadsTokens (λ b. comprehensions_before b.comprehensions.items tree.no_comprehension) (items.comprehensions (spec.expr self.now.depth) tokens.old.rest.now) result tokens.new.rest.now }
+        ensures { ReadsTokens (λ b. comprehensions_before b.comprehensions.items tree.no_comprehension)
+            (items.comprehensions (spec.expr self.now.depth) tokens.old.rest.now) result tokens.new.rest.now }
     {
         let mut found = BuiltComprehensions::new(self.alloc);
         for _turn in 0..tokens.rest.len() {

@@ -20,7 +20,8 @@ impl<F: Fn(Global, &mut Cursor<'_>, usize, u8) -> Result<Built, ParseError>> Ite
     #[tactic(auto, using(pyc_build::proofs::Steps::ReadsTokens_made), unfolding(pyc_tree::specs::Items::tail))]
     pub fn tail(&self, tokens: &mut Cursor<'_>, kind: Kind) -> Result<BuiltTail, ParseError>
         requires { ReadsExpressions self.now.depth (F.pre self.now.expr) (F.post self.now.expr) }
-        ensures { ReadsTokens (λ b. tail_of b.tail) (items.tail (spec.expr self.now.depth) kind tokens.old.rest.now) result tokens.new.rest.now }
+        ensures { ReadsTokens (λ b. tail_of b.tail) (items.tail (spec.expr self.now.depth) kind tokens.old.rest.now)
+            result tokens.new.rest.now }
     {
         if same_kind(tokens.peek(), kind) {
             let mark = tokens.take()?;
@@ -35,7 +36,8 @@ impl<F: Fn(Global, &mut Cursor<'_>, usize, u8) -> Result<Built, ParseError>> Ite
     #[tactic(auto, using(pyc_build::proofs::Steps::ReadsTokens_made), unfolding(pyc_tree::specs::Items::bound))]
     pub fn bound(&self, tokens: &mut Cursor<'_>) -> Result<BuiltOption, ParseError>
         requires { ReadsExpressions self.now.depth (F.pre self.now.expr) (F.post self.now.expr) }
-        ensures { ReadsTokens (λ b. perhaps_of b.expr) (items.bound (spec.expr self.now.depth) tokens.old.rest.now) result tokens.new.rest.now }
+        ensures { ReadsTokens (λ b. perhaps_of b.expr) (items.bound (spec.expr self.now.depth) tokens.old.rest.now)
+            result tokens.new.rest.now }
     {
         if begins_expression(tokens.peek()) {
             let value = self.expr(tokens, 1)?;
@@ -49,7 +51,8 @@ impl<F: Fn(Global, &mut Cursor<'_>, usize, u8) -> Result<Built, ParseError>> Ite
     #[tactic(auto, using(pyc_build::proofs::Steps::ReadsTokens_made), unfolding(pyc_tree::specs::Items::starred))]
     pub fn starred(&self, tokens: &mut Cursor<'_>, loosest: u8) -> Result<Built, ParseError>
         requires { ReadsExpressions self.now.depth (F.pre self.now.expr) (F.post self.now.expr) }
-        ensures { ReadsTokens (λ b. tree_of b.expr.value) (items.starred (spec.expr self.now.depth) loosest tokens.old.rest.now) result tokens.new.rest.now }
+        ensures { ReadsTokens (λ b. tree_of b.expr.value)
+            (items.starred (spec.expr self.now.depth) loosest tokens.old.rest.now) result tokens.new.rest.now }
     {
         let star = tokens.take()?;
         let operand = self.expr(tokens, loosest)?;
@@ -60,7 +63,8 @@ impl<F: Fn(Global, &mut Cursor<'_>, usize, u8) -> Result<Built, ParseError>> Ite
     #[tactic(auto, using(pyc_build::proofs::Steps::ReadsTokens_made), unfolding(pyc_tree::specs::Items::mapping))]
     pub fn mapping(&self, tokens: &mut Cursor<'_>) -> Result<Built, ParseError>
         requires { ReadsExpressions self.now.depth (F.pre self.now.expr) (F.post self.now.expr) }
-        ensures { ReadsTokens (λ b. tree_of b.expr.value) (items.mapping (spec.expr self.now.depth) tokens.old.rest.now) result tokens.new.rest.now }
+        ensures { ReadsTokens (λ b. tree_of b.expr.value)
+            (items.mapping (spec.expr self.now.depth) tokens.old.rest.now) result tokens.new.rest.now }
     {
         let stars = tokens.take()?;
         let operand = self.expr(tokens, 6)?;
@@ -71,7 +75,8 @@ impl<F: Fn(Global, &mut Cursor<'_>, usize, u8) -> Result<Built, ParseError>> Ite
     #[tactic(auto, using(pyc_build::proofs::Steps::ReadsTokens_made), unfolding(pyc_tree::specs::Items::double_starred))]
     pub fn double_starred(&self, tokens: &mut Cursor<'_>) -> Result<Built, ParseError>
         requires { ReadsExpressions self.now.depth (F.pre self.now.expr) (F.post self.now.expr) }
-        ensures { ReadsTokens (λ b. tree_of b.expr.value) (items.double_starred (spec.expr self.now.depth) tokens.old.rest.now) result tokens.new.rest.now }
+        ensures { ReadsTokens (λ b. tree_of b.expr.value)
+            (items.double_starred (spec.expr self.now.depth) tokens.old.rest.now) result tokens.new.rest.now }
     {
         let stars = tokens.take()?;
         let operand = self.expr(tokens, 1)?;
@@ -82,7 +87,8 @@ impl<F: Fn(Global, &mut Cursor<'_>, usize, u8) -> Result<Built, ParseError>> Ite
     #[tactic(auto, using(pyc_build::proofs::Steps::ReadsTokens_made), unfolding(pyc_tree::specs::Items::keyed))]
     pub fn keyed(&self, tokens: &mut Cursor<'_>) -> Result<Built, ParseError>
         requires { ReadsExpressions self.now.depth (F.pre self.now.expr) (F.post self.now.expr) }
-        ensures { ReadsTokens (λ b. tree_of b.expr.value) (items.keyed (spec.expr self.now.depth) tokens.old.rest.now) result tokens.new.rest.now }
+        ensures { ReadsTokens (λ b. tree_of b.expr.value) (items.keyed (spec.expr self.now.depth) tokens.old.rest.now)
+            result tokens.new.rest.now }
     {
         let key = self.expr(tokens, 1)?;
         if is_colon(tokens.peek()) {
@@ -98,7 +104,9 @@ impl<F: Fn(Global, &mut Cursor<'_>, usize, u8) -> Result<Built, ParseError>> Ite
     #[tactic(auto, using(pyc_build::proofs::Steps::ReadsTokens_made), unfolding(pyc_tree::specs::Items::sliced))]
     pub fn sliced(&self, tokens: &mut Cursor<'_>, lower: BuiltOption) -> Result<Built, ParseError>
         requires { ReadsExpressions self.now.depth (F.pre self.now.expr) (F.post self.now.expr) }
-        ensures { ReadsTokens (λ b. tree_of b.expr.value) (items.sliced (spec.expr self.now.depth) (perhaps_of lower.expr) tokens.old.rest.now) result tokens.new.rest.now }
+        ensures { ReadsTokens (λ b. tree_of b.expr.value)
+            (items.sliced (spec.expr self.now.depth) (perhaps_of lower.expr) tokens.old.rest.now) result
+            tokens.new.rest.now }
     {
         let colon = tokens.take()?;
         let upper = self.bound(tokens)?;
@@ -115,7 +123,8 @@ impl<F: Fn(Global, &mut Cursor<'_>, usize, u8) -> Result<Built, ParseError>> Ite
     #[tactic(auto, using(pyc_build::proofs::Steps::ReadsTokens_made), unfolding(pyc_tree::specs::Items::index))]
     pub fn index(&self, tokens: &mut Cursor<'_>) -> Result<Built, ParseError>
         requires { ReadsExpressions self.now.depth (F.pre self.now.expr) (F.post self.now.expr) }
-        ensures { ReadsTokens (λ b. tree_of b.expr.value) (items.index (spec.expr self.now.depth) tokens.old.rest.now) result tokens.new.rest.now }
+        ensures { ReadsTokens (λ b. tree_of b.expr.value) (items.index (spec.expr self.now.depth) tokens.old.rest.now)
+            result tokens.new.rest.now }
     {
         if is_colon(tokens.peek()) {
             return self.sliced(tokens, built::absent());
@@ -132,7 +141,9 @@ impl<F: Fn(Global, &mut Cursor<'_>, usize, u8) -> Result<Built, ParseError>> Ite
     #[tactic(auto, using(pyc_build::proofs::Steps::ReadsTokens_made, pyc_tree::proofs::ViewLemmas::view_Name))]
     fn keyword(&self, tokens: &mut Cursor<'_>, key: Built) -> Result<Built, ParseError>
         requires { ReadsExpressions self.now.depth (F.pre self.now.expr) (F.post self.now.expr) }
-        ensures { ReadsTokens (λ b. tree_of b.expr.value) (items.keyword (spec.expr self.now.depth) (tree_of key.expr.value) tokens.old.rest.now) result tokens.new.rest.now }
+        ensures { ReadsTokens (λ b. tree_of b.expr.value)
+            (items.keyword (spec.expr self.now.depth) (tree_of key.expr.value) tokens.old.rest.now) result
+            tokens.new.rest.now }
     {
         match *key.expr {
             Expr::Name(name) => {
@@ -148,7 +159,8 @@ impl<F: Fn(Global, &mut Cursor<'_>, usize, u8) -> Result<Built, ParseError>> Ite
     #[tactic(auto, using(pyc_build::proofs::Steps::ReadsTokens_made), unfolding(pyc_tree::specs::Items::argument))]
     fn argument(&self, tokens: &mut Cursor<'_>) -> Result<Built, ParseError>
         requires { ReadsExpressions self.now.depth (F.pre self.now.expr) (F.post self.now.expr) }
-        ensures { ReadsTokens (λ b. tree_of b.expr.value) (items.argument (spec.expr self.now.depth) tokens.old.rest.now) result tokens.new.rest.now }
+        ensures { ReadsTokens (λ b. tree_of b.expr.value)
+            (items.argument (spec.expr self.now.depth) tokens.old.rest.now) result tokens.new.rest.now }
     {
         let value = self.expr(tokens, 1)?;
         if same_kind(tokens.peek(), Kind::Delimiter(Delimiter::Equal)) {
@@ -162,7 +174,9 @@ impl<F: Fn(Global, &mut Cursor<'_>, usize, u8) -> Result<Built, ParseError>> Ite
     #[tactic(auto, using(pyc_build::proofs::Steps::ReadsTokens_made), unfolding(pyc_tree::specs::Items::with_target))]
     fn with_target(&self, tokens: &mut Cursor<'_>, value: Built) -> Result<Built, ParseError>
         requires { ReadsExpressions self.now.depth (F.pre self.now.expr) (F.post self.now.expr) }
-        ensures { ReadsTokens (λ b. tree_of b.expr.value) (items.with_target (spec.expr self.now.depth) (tree_of value.expr.value) tokens.old.rest.now) result tokens.new.rest.now }
+        ensures { ReadsTokens (λ b. tree_of b.expr.value)
+            (items.with_target (spec.expr self.now.depth) (tree_of value.expr.value) tokens.old.rest.now) result
+            tokens.new.rest.now }
     {
         let word = tokens.take()?;
         let target = self.expr(tokens, 6)?;
@@ -177,7 +191,8 @@ impl<F: Fn(Global, &mut Cursor<'_>, usize, u8) -> Result<Built, ParseError>> Ite
     #[tactic(auto, using(pyc_build::proofs::Steps::ReadsTokens_made), unfolding(pyc_tree::specs::Items::with_item))]
     fn with_item(&self, tokens: &mut Cursor<'_>) -> Result<Built, ParseError>
         requires { ReadsExpressions self.now.depth (F.pre self.now.expr) (F.post self.now.expr) }
-        ensures { ReadsTokens (λ b. tree_of b.expr.value) (items.with_item (spec.expr self.now.depth) tokens.old.rest.now) result tokens.new.rest.now }
+        ensures { ReadsTokens (λ b. tree_of b.expr.value)
+            (items.with_item (spec.expr self.now.depth) tokens.old.rest.now) result tokens.new.rest.now }
     {
         let value = self.expr(tokens, 1)?;
         if same_kind(tokens.peek(), Kind::Keyword(Keyword::As)) {
@@ -196,7 +211,9 @@ impl<F: Fn(Global, &mut Cursor<'_>, usize, u8) -> Result<Built, ParseError>> Ite
         kind: Kind,
     ) -> Result<Built, ParseError>
         requires { ReadsExpressions self.now.depth (F.pre self.now.expr) (F.post self.now.expr) }
-        ensures { ReadsTokens (λ b. tree_of b.expr.value) (items.starred_or (spec.expr self.now.depth) loosest kind tokens.old.rest.now) result tokens.new.rest.now }
+        ensures { ReadsTokens (λ b. tree_of b.expr.value)
+            (items.starred_or (spec.expr self.now.depth) loosest kind tokens.old.rest.now) result
+            tokens.new.rest.now }
     {
         if is_star(kind) {
             self.starred(tokens, 6)
@@ -209,7 +226,8 @@ impl<F: Fn(Global, &mut Cursor<'_>, usize, u8) -> Result<Built, ParseError>> Ite
     #[tactic(auto, using(pyc_build::proofs::Steps::ReadsTokens_made))]
     fn brace_by(&self, tokens: &mut Cursor<'_>, kind: Kind) -> Result<Built, ParseError>
         requires { ReadsExpressions self.now.depth (F.pre self.now.expr) (F.post self.now.expr) }
-        ensures { ReadsTokens (λ b. tree_of b.expr.value) (items.brace_by (spec.expr self.now.depth) kind tokens.old.rest.now) result tokens.new.rest.now }
+        ensures { ReadsTokens (λ b. tree_of b.expr.value)
+            (items.brace_by (spec.expr self.now.depth) kind tokens.old.rest.now) result tokens.new.rest.now }
     {
         if is_star(kind) {
             self.starred(tokens, 6)
@@ -224,7 +242,8 @@ impl<F: Fn(Global, &mut Cursor<'_>, usize, u8) -> Result<Built, ParseError>> Ite
     #[tactic(auto, using(pyc_build::proofs::Steps::ReadsTokens_made))]
     fn argument_by(&self, tokens: &mut Cursor<'_>, kind: Kind) -> Result<Built, ParseError>
         requires { ReadsExpressions self.now.depth (F.pre self.now.expr) (F.post self.now.expr) }
-        ensures { ReadsTokens (λ b. tree_of b.expr.value) (items.argument_by (spec.expr self.now.depth) kind tokens.old.rest.now) result tokens.new.rest.now }
+        ensures { ReadsTokens (λ b. tree_of b.expr.value)
+            (items.argument_by (spec.expr self.now.depth) kind tokens.old.rest.now) result tokens.new.rest.now }
     {
         if is_star(kind) {
             self.starred(tokens, 1)
@@ -244,7 +263,9 @@ impl<F: Fn(Global, &mut Cursor<'_>, usize, u8) -> Result<Built, ParseError>> Ite
         kind: Kind,
     ) -> Result<Built, ParseError>
         requires { ReadsExpressions self.now.depth (F.pre self.now.expr) (F.post self.now.expr) }
-        ensures { ReadsTokens (λ b. tree_of b.expr.value) (items.parameter_by (spec.expr self.now.depth) is_annotated kind tokens.old.rest.now) result tokens.new.rest.now }
+        ensures { ReadsTokens (λ b. tree_of b.expr.value)
+            (items.parameter_by (spec.expr self.now.depth) is_annotated kind tokens.old.rest.now) result
+            tokens.new.rest.now }
     {
         if is_star(kind) {
             self.star_parameter(tokens, is_annotated)
@@ -264,7 +285,8 @@ impl<F: Fn(Global, &mut Cursor<'_>, usize, u8) -> Result<Built, ParseError>> Ite
         kind: Kind,
     ) -> Result<Built, ParseError>
         requires { ReadsExpressions self.now.depth (F.pre self.now.expr) (F.post self.now.expr) }
-        ensures { ReadsTokens (λ b. tree_of b.expr.value) (items.item_by (spec.expr self.now.depth) here kind tokens.old.rest.now) result tokens.new.rest.now }
+        ensures { ReadsTokens (λ b. tree_of b.expr.value)
+            (items.item_by (spec.expr self.now.depth) here kind tokens.old.rest.now) result tokens.new.rest.now }
     {
         match here {
             ListContext::Items => self.starred_or(tokens, 1, kind),
@@ -292,7 +314,8 @@ impl<F: Fn(Global, &mut Cursor<'_>, usize, u8) -> Result<Built, ParseError>> Ite
     #[tactic(auto, using(pyc_build::proofs::Steps::ReadsTokens_made), unfolding(pyc_tree::specs::Items::item))]
     pub fn item(&self, tokens: &mut Cursor<'_>, here: ListContext) -> Result<Built, ParseError>
         requires { ReadsExpressions self.now.depth (F.pre self.now.expr) (F.post self.now.expr) }
-        ensures { ReadsTokens (λ b. tree_of b.expr.value) (items.item (spec.expr self.now.depth) here tokens.old.rest.now) result tokens.new.rest.now }
+        ensures { ReadsTokens (λ b. tree_of b.expr.value)
+            (items.item (spec.expr self.now.depth) here tokens.old.rest.now) result tokens.new.rest.now }
     {
         let item = self.item_by(tokens, here, tokens.peek())?;
         if fits(here, &item.expr) {

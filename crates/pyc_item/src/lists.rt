@@ -23,7 +23,9 @@ fn ended(
     list_context: ListContext,
     so_far: PiecesSoFar,
 ) -> Result<BuiltPieces, ParseError>
-    ensures { ReadsTokens (λ b. pieces_of b.pieces) (items.checked (list_contexts.may_end list_context) (pieces_before so_far.each.items tree.none) tokens.now.rest.now) result tokens.now.rest.now }
+    ensures { ReadsTokens (λ b. pieces_of b.pieces)
+        (items.checked (list_contexts.may_end list_context) (pieces_before so_far.each.items tree.none)
+        tokens.now.rest.now) result tokens.now.rest.now }
 {
     if may_end(list_context) {
         Ok(so_far.ended())
@@ -39,7 +41,10 @@ fn closed(
     so_far: PiecesSoFar,
     item: Built,
 ) -> Result<BuiltPieces, ParseError>
-    ensures { ReadsTokens (λ b. pieces_of b.pieces) (items.checked (list_contexts.may_end list_context) (pieces_before so_far.each.items (tree.last (tree_of item.expr.value))) tokens.now.rest.now) result tokens.now.rest.now }
+    ensures { ReadsTokens (λ b. pieces_of b.pieces)
+        (items.checked (list_contexts.may_end list_context)
+        (pieces_before so_far.each.items (tree.last (tree_of item.expr.value))) tokens.now.rest.now) result
+        tokens.now.rest.now }
 {
     if may_end(list_context) {
         Ok(so_far.closed(item))
@@ -50,7 +55,8 @@ fn closed(
 
 /// Items without brackets: one alone is itself, and is not starred.
 fn untupled(alloc: Global, tokens: &Cursor<'_>, found: BuiltPieces) -> Result<Built, ParseError>
-    ensures { ReadsTokens (λ b. tree_of b.expr.value) (items.untupled (spec.expr 0) (pieces_of found.pieces) tokens.now.rest.now) result tokens.now.rest.now }
+    ensures { ReadsTokens (λ b. tree_of b.expr.value)
+        (items.untupled (spec.expr 0) (pieces_of found.pieces) tokens.now.rest.now) result tokens.now.rest.now }
 {
     match parted(found) {
         Listed::One(item) => {
@@ -73,7 +79,9 @@ impl<F: Fn(Global, &mut Cursor<'_>, usize, u8) -> Result<Built, ParseError>> Ite
         first: Built,
     ) -> Result<BuiltPieces, ParseError>
         requires { ReadsExpressions self.now.depth (F.pre self.now.expr) (F.post self.now.expr) }
-        ensures { ReadsTokens (λ b. pieces_of b.pieces) (items.listed (spec.expr self.now.depth) here (tree_of first.expr.value) tokens.old.rest.now) result tokens.new.rest.now }
+        ensures { ReadsTokens (λ b. pieces_of b.pieces)
+            (items.listed (spec.expr self.now.depth) here (tree_of first.expr.value) tokens.old.rest.now) result
+            tokens.new.rest.now }
     {
         let mut so_far = PiecesSoFar::new(self.alloc);
         let mut list_context = here;
@@ -101,7 +109,8 @@ impl<F: Fn(Global, &mut Cursor<'_>, usize, u8) -> Result<Built, ParseError>> Ite
         here: ListContext,
     ) -> Result<BuiltPieces, ParseError>
         requires { ReadsExpressions self.now.depth (F.pre self.now.expr) (F.post self.now.expr) }
-        ensures { ReadsTokens (λ b. pieces_of b.pieces) (items.some_items (spec.expr self.now.depth) here tokens.old.rest.now) result tokens.new.rest.now }
+        ensures { ReadsTokens (λ b. pieces_of b.pieces)
+            (items.some_items (spec.expr self.now.depth) here tokens.old.rest.now) result tokens.new.rest.now }
     {
         if begins(here, tokens.peek()) {
             let first = self.item(tokens, here)?;
@@ -119,7 +128,8 @@ impl<F: Fn(Global, &mut Cursor<'_>, usize, u8) -> Result<Built, ParseError>> Ite
         here: ListContext,
     ) -> Result<Built, ParseError>
         requires { ReadsExpressions self.now.depth (F.pre self.now.expr) (F.post self.now.expr) }
-        ensures { ReadsTokens (λ b. tree_of b.expr.value) (items.expressions (spec.expr self.now.depth) here tokens.old.rest.now) result tokens.new.rest.now }
+        ensures { ReadsTokens (λ b. tree_of b.expr.value)
+            (items.expressions (spec.expr self.now.depth) here tokens.old.rest.now) result tokens.new.rest.now }
     {
         let first = self.item(tokens, here)?;
         let found = self.listed(tokens, here, first)?;
@@ -130,7 +140,8 @@ impl<F: Fn(Global, &mut Cursor<'_>, usize, u8) -> Result<Built, ParseError>> Ite
     #[tactic(auto, using(pyc_build::proofs::Steps::ReadsTokens_made), unfolding(pyc_tree::specs::Items::targets))]
     pub fn targets(&self, tokens: &mut Cursor<'_>) -> Result<Built, ParseError>
         requires { ReadsExpressions self.now.depth (F.pre self.now.expr) (F.post self.now.expr) }
-        ensures { ReadsTokens (λ b. tree_of b.expr.value) (items.targets (spec.expr self.now.depth) tokens.old.rest.now) result tokens.new.rest.now }
+        ensures { ReadsTokens (λ b. tree_of b.expr.value)
+            (items.targets (spec.expr self.now.depth) tokens.old.rest.now) result tokens.new.rest.now }
     {
         let found = self.expressions(tokens, ListContext::Targets)?;
         if found.is_target {

@@ -11,7 +11,7 @@ ghost use Rattle.pyc_tree.specs.View.{tree_of, tail_of};
 use crate::rules::ItemRules;
 use pyc_build::{Built, BuiltTail, ParseError, built};
 use pyc_cursor::{Cursor, is_name};
-use pyc_token::{Delimiter, Kind, Token};
+use pyc_token::{Delimiter, Kind};
 use std::alloc::Global;
 
 impl<F: Fn(Global, &mut Cursor<'_>, usize, u8) -> Result<Built, ParseError>> ItemRules<F> {
@@ -23,7 +23,9 @@ impl<F: Fn(Global, &mut Cursor<'_>, usize, u8) -> Result<Built, ParseError>> Ite
         is_annotated: bool,
     ) -> Result<BuiltTail, ParseError>
         requires { ReadsExpressions self.now.depth (F.pre self.now.expr) (F.post self.now.expr) }
-        ensures { ReadsTokens (λ b. tail_of b.tail) (items.annotation (spec.expr self.now.depth) is_annotated tokens.old.rest.now) result tokens.new.rest.now }
+        ensures { ReadsTokens (λ b. tail_of b.tail)
+            (items.annotation (spec.expr self.now.depth) is_annotated tokens.old.rest.now) result
+            tokens.new.rest.now }
     {
         if is_annotated {
             self.tail(tokens, Kind::Delimiter(Delimiter::Colon))
@@ -40,7 +42,9 @@ impl<F: Fn(Global, &mut Cursor<'_>, usize, u8) -> Result<Built, ParseError>> Ite
         is_annotated: bool,
     ) -> Result<Built, ParseError>
         requires { ReadsExpressions self.now.depth (F.pre self.now.expr) (F.post self.now.expr) }
-        ensures { ReadsTokens (λ b. tree_of b.expr.value) (items.star_parameter (spec.expr self.now.depth) is_annotated tokens.old.rest.now) result tokens.new.rest.now }
+        ensures { ReadsTokens (λ b. tree_of b.expr.value)
+            (items.star_parameter (spec.expr self.now.depth) is_annotated tokens.old.rest.now) result
+            tokens.new.rest.now }
     {
         let star = tokens.take()?;
         if is_name(tokens.peek()) {
@@ -60,7 +64,9 @@ impl<F: Fn(Global, &mut Cursor<'_>, usize, u8) -> Result<Built, ParseError>> Ite
         is_annotated: bool,
     ) -> Result<Built, ParseError>
         requires { ReadsExpressions self.now.depth (F.pre self.now.expr) (F.post self.now.expr) }
-        ensures { ReadsTokens (λ b. tree_of b.expr.value) (items.double_parameter (spec.expr self.now.depth) is_annotated tokens.old.rest.now) result tokens.new.rest.now }
+        ensures { ReadsTokens (λ b. tree_of b.expr.value)
+            (items.double_parameter (spec.expr self.now.depth) is_annotated tokens.old.rest.now) result
+            tokens.new.rest.now }
     {
         let stars = tokens.take()?;
         let name = tokens.expect_name()?;
@@ -76,7 +82,9 @@ impl<F: Fn(Global, &mut Cursor<'_>, usize, u8) -> Result<Built, ParseError>> Ite
         is_annotated: bool,
     ) -> Result<Built, ParseError>
         requires { ReadsExpressions self.now.depth (F.pre self.now.expr) (F.post self.now.expr) }
-        ensures { ReadsTokens (λ b. tree_of b.expr.value) (items.plain_parameter (spec.expr self.now.depth) is_annotated tokens.old.rest.now) result tokens.new.rest.now }
+        ensures { ReadsTokens (λ b. tree_of b.expr.value)
+            (items.plain_parameter (spec.expr self.now.depth) is_annotated tokens.old.rest.now) result
+            tokens.new.rest.now }
     {
         let name = tokens.expect_name()?;
         let annotation = self.annotation(tokens, is_annotated)?;

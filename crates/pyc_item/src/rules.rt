@@ -1,4 +1,5 @@
-//! The rules of items and of lists of them: each over the function that reads expressions, so that each is proved by itself.
+//! The rules of items and of lists of them: each over the function that reads expressions, so that each is proved by
+//! itself.
 #![tactic(auto, using(pyc_build::proofs::Steps::ReadsTokens_made))]
 
 ghost use Rattle.std.specs.Prelude.{◌≡◌};
@@ -24,7 +25,8 @@ impl<F: Fn(Global, &mut Cursor<'_>, usize, u8) -> Result<Built, ParseError>> Ite
     /// An expression that goes on with operators of a precedence or tighter ones.
     pub fn expr(&self, tokens: &mut Cursor<'_>, loosest: u8) -> Result<Built, ParseError>
         requires { ReadsExpressions self.now.depth (F.pre self.now.expr) (F.post self.now.expr) }
-        ensures { ReadsTokens (λ b. tree_of b.expr.value) (spec.expr self.now.depth loosest tokens.old.rest.now) result tokens.new.rest.now }
+        ensures { ReadsTokens (λ b. tree_of b.expr.value) (spec.expr self.now.depth loosest tokens.old.rest.now)
+            result tokens.new.rest.now }
     {
         (self.expr)(self.alloc, tokens, self.depth, loosest)
     }

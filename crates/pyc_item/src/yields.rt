@@ -20,7 +20,8 @@ impl<F: Fn(Global, &mut Cursor<'_>, usize, u8) -> Result<Built, ParseError>> Ite
     #[tactic(auto, using(pyc_build::proofs::Steps::ReadsTokens_made), unfolding(pyc_tree::specs::Items::yield_from))]
     fn yield_from(&self, tokens: &mut Cursor<'_>, word: Token) -> Result<Built, ParseError>
         requires { ReadsExpressions self.now.depth (F.pre self.now.expr) (F.post self.now.expr) }
-        ensures { ReadsTokens (λ b. tree_of b.expr.value) (items.yield_from (spec.expr self.now.depth) word tokens.old.rest.now) result tokens.new.rest.now }
+        ensures { ReadsTokens (λ b. tree_of b.expr.value)
+            (items.yield_from (spec.expr self.now.depth) word tokens.old.rest.now) result tokens.new.rest.now }
     {
         let from = tokens.take()?;
         let value = self.expr(tokens, 1)?;
@@ -31,7 +32,8 @@ impl<F: Fn(Global, &mut Cursor<'_>, usize, u8) -> Result<Built, ParseError>> Ite
     #[tactic(auto, using(pyc_build::proofs::Steps::ReadsTokens_made), unfolding(pyc_tree::specs::Items::yield_value))]
     fn yield_value(&self, tokens: &mut Cursor<'_>, word: Token) -> Result<Built, ParseError>
         requires { ReadsExpressions self.now.depth (F.pre self.now.expr) (F.post self.now.expr) }
-        ensures { ReadsTokens (λ b. tree_of b.expr.value) (items.yield_value (spec.expr self.now.depth) word tokens.old.rest.now) result tokens.new.rest.now }
+        ensures { ReadsTokens (λ b. tree_of b.expr.value)
+            (items.yield_value (spec.expr self.now.depth) word tokens.old.rest.now) result tokens.new.rest.now }
     {
         let value = self.expressions(tokens, ListContext::Items)?;
         built::yielded(self.alloc, word, built::present(value))
@@ -41,7 +43,8 @@ impl<F: Fn(Global, &mut Cursor<'_>, usize, u8) -> Result<Built, ParseError>> Ite
     #[tactic(auto, using(pyc_build::proofs::Steps::ReadsTokens_made), unfolding(pyc_tree::specs::Items::yielded))]
     pub fn yielded(&self, tokens: &mut Cursor<'_>) -> Result<Built, ParseError>
         requires { ReadsExpressions self.now.depth (F.pre self.now.expr) (F.post self.now.expr) }
-        ensures { ReadsTokens (λ b. tree_of b.expr.value) (items.yielded (spec.expr self.now.depth) tokens.old.rest.now) result tokens.new.rest.now }
+        ensures { ReadsTokens (λ b. tree_of b.expr.value)
+            (items.yielded (spec.expr self.now.depth) tokens.old.rest.now) result tokens.new.rest.now }
     {
         let word = tokens.take()?;
         if same_kind(tokens.peek(), Kind::Keyword(Keyword::From)) {
@@ -61,7 +64,8 @@ impl<F: Fn(Global, &mut Cursor<'_>, usize, u8) -> Result<Built, ParseError>> Ite
         opening: Token,
     ) -> Result<Built, ParseError>
         requires { ReadsExpressions self.now.depth (F.pre self.now.expr) (F.post self.now.expr) }
-        ensures { ReadsTokens (λ b. tree_of b.expr.value) (items.yield_enclosed (spec.expr self.now.depth) opening tokens.old.rest.now) result tokens.new.rest.now }
+        ensures { ReadsTokens (λ b. tree_of b.expr.value)
+            (items.yield_enclosed (spec.expr self.now.depth) opening tokens.old.rest.now) result tokens.new.rest.now }
     {
         let value = self.yielded(tokens)?;
         let closing = tokens.expect(Kind::Close(Bracket::Round))?;

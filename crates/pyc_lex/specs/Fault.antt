@@ -2,7 +2,8 @@
 use Rattle.std.specs.Prelude.{ℕ, List, ◌++◌, codes}
 use Rattle.std.specs.Fmt.{decimal}
 use Rattle.pyc_lex.specs.declared.fault.LexFault.{LexFault}
-use Rattle.pyc_lex.specs.declared.fault.LexFault.TheVariants.{NotUtf8, BadCharacter, OpenString, Bracket, Dedent, Tabs, Deep, Memory}
+use Rattle.pyc_lex.specs.declared.fault.LexFault.TheVariants.{NotUtf8, BadCharacter, OpenString, Bracket, Dedent, Tabs}
+use Rattle.pyc_lex.specs.declared.fault.LexFault.TheVariants.{Deep, Memory}
 
 -- the text of a fault, with its line
 abbrev pub fault_text : LexFault → List ℕ

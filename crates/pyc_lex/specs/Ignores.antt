@@ -1,5 +1,7 @@
 -- Comments that silence errors (mypy documentation, "Error codes", "Silencing errors based on error codes").
-use Rattle.std.specs.Prelude.{ℕ, zero, suc, ◌+◌, ◌-◌, Bool, not, ◌||◌, ◌==◌, nat_eq, if◌then◌else◌, List, [], ◌∷◌, reverse, take, drop, length, slice_index, codes, Option, None, Some, option_map, option_and_then}
+use Rattle.std.specs.Prelude.{ℕ, zero, suc, ◌+◌, ◌-◌, Bool, not, ◌||◌, ◌==◌, nat_eq, if◌then◌else◌, List, [], ◌∷◌}
+use Rattle.std.specs.Prelude.{reverse, take, drop, length, slice_index, codes, Option, None, Some, option_map}
+use Rattle.std.specs.Prelude.{option_and_then}
 use Rattle.std.specs.List.{prefix_len, starts_with}
 use Rattle.pyc_token.specs.declared.tokens.Span.{Span}
 
@@ -25,7 +27,8 @@ is_list_byte byte = not (byte == 91 || byte == 93 || byte == 35)
 abbrev pub is_code_byte : ℕ → Bool
 is_code_byte byte = not (byte == 44)
 
--- the span of a text that begins at a byte of the source, without the spaces at its ends; none where nothing else is there
+-- the span of a text that begins at a byte of the source, without the spaces at its ends; none where nothing else is
+-- there
 abbrev pub trimmed : ℕ → List ℕ → Option Span
 trimmed from text =
     let lead = prefix_len is_space text in
@@ -53,7 +56,8 @@ listed_codes from text =
     let inside = drop 1 text in
     let len = prefix_len is_list_byte inside in
     if slice_index inside len == 93 then
-    (if ends_ignore (drop (len + 1) inside) then option_map listed (codes_at (len + 1) (from + 1) (take len inside)) else None)
+    (if ends_ignore (drop (len + 1) inside) then option_map listed (codes_at (len + 1) (from + 1) (take len inside))
+    else None)
     else None
 
 -- the codes that follow `ignore`: all, or those in brackets
@@ -71,7 +75,8 @@ after_word word at = if starts_with nat_eq at.1 word then Some (at.0 + length wo
 abbrev pub after_spaces : ℕ × List ℕ → ℕ × List ℕ
 after_spaces at = let len = prefix_len is_space at.1 in (at.0 + len, drop len at.1)
 
--- what a comment that begins at a byte of the source silences: `#`, spaces, `type:`, spaces, `ignore`, and perhaps codes
+-- what a comment that begins at a byte of the source silences: `#`, spaces, `type:`, spaces, `ignore`, and perhaps
+-- codes
 unfoldable pub silenced : ℕ → List ℕ → Option Codes
 silenced from comment =
     option_and_then (λ kind.

@@ -1,5 +1,7 @@
 -- The stack of indents (Python reference, lexical analysis, "Indentation").
-use Rattle.std.specs.Prelude.{ℕ, ◌+◌, ◌-◌, ◌*◌, ◌/◌, Bool, not, ◌&&◌, ◌==◌, nat_lt, if◌then◌else◌, List, [], ◌∷◌, ◌++◌, take, length, slice_get, slice_index_or, unwrap_or, position, Option, None, Some, Result, Ok, Err}
+use Rattle.std.specs.Prelude.{ℕ, ◌+◌, ◌-◌, ◌*◌, ◌/◌, Bool, not, ◌&&◌, ◌==◌, nat_lt, if◌then◌else◌, List, [], ◌∷◌, ◌++◌}
+use Rattle.std.specs.Prelude.{take, length, slice_get, slice_index_or, unwrap_or, position, Option, None, Some, Result}
+use Rattle.std.specs.Prelude.{Ok, Err}
 use Rattle.std.specs.Bool.{beq}
 use Rattle.pyc_lex.specs.declared.indents.Columns.{Columns}
 use Rattle.pyc_lex.specs.declared.fault.LexFault.{LexFault}
@@ -24,7 +26,8 @@ columns_after at (byte ∷ rest) = columns_after (columns_past at byte) rest
 
 -- whether both measures of two columns compare alike
 abbrev pub compare_alike : Columns → Columns → Bool
-compare_alike a b = beq (nat_lt a.wide b.wide) (nat_lt a.narrow b.narrow) && beq (nat_lt b.wide a.wide) (nat_lt b.narrow a.narrow)
+compare_alike a b =
+    beq (nat_lt a.wide b.wide) (nat_lt a.narrow b.narrow) && beq (nat_lt b.wide a.wide) (nat_lt b.narrow a.narrow)
 
 -- the last entry of a stack
 abbrev pub top_of : List Columns → Columns

@@ -24,7 +24,8 @@ depth_after depth (token ∷ tokens) = depth_after (depth_past depth token.kind)
 -- after no token are more brackets open than the limit
 abbrev pub NestsWithin : ℕ → List Token → Type 0
 NestsWithin depth [] = Unit {0}
-NestsWithin depth (token ∷ tokens) = (depth_past depth token.kind ≤ max_depth) × NestsWithin (depth_past depth token.kind) tokens
+NestsWithin depth (token ∷ tokens) =
+    (depth_past depth token.kind ≤ max_depth) × NestsWithin (depth_past depth token.kind) tokens
 
 -- a line has no more indents and no more open brackets than the limit
 pub record IsWithinLimits (line : Line) : Type 0 where

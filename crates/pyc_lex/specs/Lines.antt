@@ -1,5 +1,6 @@
 -- The logical lines of a source, read off the list of all its lexemes (Python reference, lexical analysis).
-use Rattle.std.specs.Prelude.{ℕ, ◌+◌, ◌-◌, Bool, true, false, ◌&&◌, ◌||◌, ◌==◌, nat_le, nat_eq, if◌then◌else◌, List, [], ◌∷◌, ◌++◌, take, drop, length, slice_get, Option, None, Some, Result, Ok, Err}
+use Rattle.std.specs.Prelude.{ℕ, ◌+◌, ◌-◌, Bool, true, false, ◌&&◌, ◌||◌, ◌==◌, nat_le, nat_eq, if◌then◌else◌, List, []}
+use Rattle.std.specs.Prelude.{◌∷◌, ◌++◌, take, drop, length, slice_get, Option, None, Some, Result, Ok, Err}
 use Rattle.std.specs.List.{starts_with}
 use Rattle.std.specs.Str.{is_utf8}
 use Rattle.pyc_token.specs.declared.tokens.Bracket.{Bracket}
@@ -27,15 +28,16 @@ pub record Line : Type 0 where
   pub indent : ℕ
   pub tokens : List Token
 
--- what a source is: its logical lines, its ignore comments, and whether one before the first line silences the whole file
+-- what a source is: its logical lines, its ignore comments, and whether one before the first line silences the whole
+-- file
 pub record Lexis : Type 0 where
   pub lines : List Line
   pub ignores : List IgnoreAt
   pub whole_file : Bool
 
 -- what is known between two lexemes: what the source is so far, the stack of indents, the brackets that are open,
--- the columns of the blanks at the line's front and whether they are still counted, the tokens of the line that is begun,
--- and the position, as a byte, a physical line and a column
+-- the columns of the blanks at the line's front and whether they are still counted, the tokens of the line that is
+-- begun, and the position, as a byte, a physical line and a column
 pub record Reading : Type 0 where
   pub lexis : Lexis
   pub indents : List Columns
@@ -136,7 +138,8 @@ pushed r kind text brackets =
 -- what is known after a token: the first of a line settles its indent
 abbrev pub with_token : Reading → Kind → List ℕ → Result Reading LexFault
 with_token r kind text =
-    and_then (line_settled r) (λ s. and_then (bracketed s.brackets kind s.position.line) (λ brackets. Ok (pushed s kind text brackets)))
+    and_then (line_settled r)
+    (λ s. and_then (bracketed s.brackets kind s.position.line) (λ brackets. Ok (pushed s kind text brackets)))
 
 -- these lines and one more of these tokens, where there is one: a line without tokens is no logical line
 abbrev pub with_line : List Line → ℕ → List Token → List Line
@@ -221,4 +224,5 @@ lexemes_of source = cuts (drop (mark_len source) source)
 -- the logical lines and ignore comments of a source, or its first lexical fault
 unfoldable pub lines_of : List ℕ → Result Lexis LexFault
 lines_of source =
-    if is_utf8 source then and_then (read (start_at (mark_len source)) (lexemes_of source)) finished else Err fault.NotUtf8
+    if is_utf8 source then and_then (read (start_at (mark_len source)) (lexemes_of source)) finished
+    else Err fault.NotUtf8

@@ -16,6 +16,7 @@ struct Rest<'a> {
     text: &'a [u8],
 }
 
+/// How many spaces a text begins with.
 fn space_len(text: &[u8]) -> usize
     ensures value { result ≡ prefix_len spec.is_space text.now }
     ensures within { result ≤ length text.now }
@@ -23,6 +24,7 @@ fn space_len(text: &[u8]) -> usize
     text.iter().take_while(|byte| **byte == b' ').count()
 }
 
+/// How many spaces a text ends with.
 fn end_space_len(text: &[u8]) -> usize
     ensures value { result ≡ prefix_len spec.is_space (reverse text.now) }
     ensures within { result ≤ length text.now }
@@ -30,6 +32,7 @@ fn end_space_len(text: &[u8]) -> usize
     text.iter().rev().take_while(|byte| **byte == b' ').count()
 }
 
+/// How many bytes a list of codes takes, up to a bracket or a `#`.
 fn list_len(text: &[u8]) -> usize
     ensures value { result ≡ prefix_len spec.is_list_byte text.now }
     ensures within { result ≤ length text.now }
@@ -39,6 +42,7 @@ fn list_len(text: &[u8]) -> usize
         .count()
 }
 
+/// How many bytes a code takes, up to a comma.
 fn code_len(text: &[u8]) -> usize
     ensures value { result ≡ prefix_len spec.is_code_byte text.now }
     ensures within { result ≤ length text.now }
@@ -134,7 +138,8 @@ fn codes_after(alloc: Global, from: usize, text: &[u8]) -> Result<Option<Codes>,
 fn after_word<'a>(word: &[u8], at: Rest<'a>) -> Option<Rest<'a>>
     requires { at.from + length at.text.now < 2 ^ 63 }
     ensures value { option_map rest_in result ≡ spec.after_word word.now (spec.after_spaces (rest_in at.entry)) }
-    ensures within { IfSome result (λ rest. rest.from + length rest.text.now ≤ at.entry.from + length at.entry.text.now) }
+    ensures within { IfSome result
+        (λ rest. rest.from + length rest.text.now ≤ at.entry.from + length at.entry.text.now) }
 {
     let len = space_len(at.text);
     let (_, text) = at.text.split_at(len);

@@ -14,6 +14,7 @@ pub(crate) struct Columns {
 impl Columns {
     ghost use Rattle.pyc_lex.specs.Indents as spec;
 
+    /// No blanks.
     pub const NONE: Columns = Columns { wide: 0, narrow: 0 };
 
     /// The columns after one more blank.

@@ -1,5 +1,5 @@
-//! The lexical analysis of a Python source text: its logical lines with their tokens and its ignore comments, or its first
-//! fault.
+//! The lexical analysis of a Python source text: its logical lines with their tokens and its ignore comments, or its
+//! first fault.
 #![tactic(auto)]
 
 mod brackets;

@@ -1,6 +1,7 @@
 //! Reads the logical lines of a source in one pass.
 
-ghost use Rattle.std.specs.Prelude.{◌≡◌, ◌≢◌, ◌<◌, ◌≤◌, ◌+◌, ◌^◌, length, map, All, AllPairs, IfOk, IfErr, Ok, Err, slice_range};
+ghost use Rattle.std.specs.Prelude.{◌≡◌, ◌≢◌, ◌<◌, ◌≤◌, ◌+◌, ◌^◌, length, map, All, AllPairs, IfOk, IfErr, Ok, Err};
+ghost use Rattle.std.specs.Prelude.{slice_range};
 ghost use Rattle.pyc_lex.specs.Lines as spec;
 ghost use Rattle.pyc_lex.specs.Lines.{lines_of};
 ghost use Rattle.pyc_lex.specs.View.{AnswersScan, lexis_in};
@@ -63,15 +64,17 @@ fn read(alloc: Global, from: usize, text: &str) -> Result<Scan, LexFault>
 }
 
 /// The logical lines of a source with their tokens and its ignore comments, or its first lexical fault in text order; a
-/// source that is not UTF-8 has that fault before all others, and a bracket that is left open comes last. `Memory` comes
-/// only from a growth that was refused.
+/// source that is not UTF-8 has that fault before all others, and a bracket that is left open comes last. `Memory`
+/// comes only from a growth that was refused.
 pub fn scan(alloc: Global, bytes: &[u8]) -> Result<Scan, LexFault>
     ensures lines { IfOk result (λ scan. lines_of bytes.now ≡ Ok (lexis_in scan)) }
     ensures fault { IfErr result (λ fault. fault ≢ LexFault.Memory → lines_of bytes.now ≡ Err fault) }
 
     // Each token's text is its slice of the source.
-    ensures texts { IfOk result (λ scan. map (slice_at bytes.now) (tokens_of (lexis_in scan).lines) ≡ token_texts bytes.now) }
-    ensures spans { IfOk result (λ scan. All (λ line. All (λ token. IsTextSpan bytes.now token.span) line.tokens.items) scan.lines.items) }
+    ensures texts { IfOk result
+        (λ scan. map (slice_at bytes.now) (tokens_of (lexis_in scan).lines) ≡ token_texts bytes.now) }
+    ensures spans { IfOk result
+        (λ scan. All (λ line. All (λ token. IsTextSpan bytes.now token.span) line.tokens.items) scan.lines.items) }
 
     // Lines and tokens are in text order, and no two tokens overlap.
     ensures order { IfOk result (λ scan. AllPairs IsBefore (tokens_of (lexis_in scan).lines)) }

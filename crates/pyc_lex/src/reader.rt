@@ -13,8 +13,8 @@ use crate::stack::{innermost, meet, settle};
 use pyc_token::{CutFault, Kind, Lexeme, Span, Token, kind_of_name};
 use std::alloc::{AllocError, Global};
 
-/// What the source is so far, the stack of indents, the open brackets, the columns of the blanks at the line's front and
-/// whether they are still counted, the tokens of the line that is begun, and the position.
+/// What the source is so far, the stack of indents, the open brackets, the columns of the blanks at the line's front
+/// and whether they are still counted, the tokens of the line that is begun, and the position.
 #[derive(Drop)]
 pub(crate) struct Reader {
     lines: Vec<LogicalLine>,
@@ -39,6 +39,7 @@ impl Reader {
     ghost use Rattle.pyc_lex.specs.Reader.{reading_of};
     ghost use Rattle.pyc_lex.specs.Ignores.{silenced};
 
+    /// The reader at the start of a text that begins at a byte of the source.
     pub fn new(alloc: Global, from: usize) -> Result<Reader, AllocError>
         ensures { IfOk result (λ reader. reading_of reader ≡ spec.start_at from) }
     {
@@ -80,7 +81,8 @@ impl Reader {
     /// Adds a token to the line that is begun.
     fn push_token(&mut self, kind: Kind, text: &[u8]) -> Result<(), AllocError>
         requires { self.old.from + length text.now < 2 ^ 63 }
-        ensures { OnOk result (reading_of self.new ≡ spec.pushed (reading_of self.old) kind text.now (reading_of self.old).brackets) }
+        ensures { OnOk result (reading_of self.new
+            ≡ spec.pushed (reading_of self.old) kind text.now (reading_of self.old).brackets) }
     {
         let span = Span {
             start: self.from,
@@ -97,6 +99,7 @@ impl Reader {
         Ok(())
     }
 
+    /// Adds a token, after the indent of its line is settled and its bracket opened or closed.
     fn add_token(&mut self, kind: Kind, text: &[u8]) -> Result<(), LexFault>
         requires { self.old.from + length text.now < 2 ^ 63 }
         ensures { Leads (spec.with_token (reading_of self.old) kind text.now) result (reading_of self.new) }
@@ -150,10 +153,12 @@ impl Reader {
         Ok(())
     }
 
+    /// Reads a comment, which may be an ignore comment.
     fn read_comment(&mut self, alloc: Global, text: &[u8]) -> Result<(), AllocError>
         requires within { self.old.from + length text.now < 2 ^ 63 }
         requires hash { 0 < length text.now }
-        ensures { OnOk result (reading_of self.new ≡ spec.moved (spec.with_ignore (reading_of self.old) (silenced self.old.from text.now)) text.now) }
+        ensures { OnOk result (reading_of self.new
+            ≡ spec.moved (spec.with_ignore (reading_of self.old) (silenced self.old.from text.now)) text.now) }
     {
         if let Some(codes) = silenced(alloc, self.from, text)? {
             self.add_ignore(codes)?;

@@ -38,7 +38,8 @@ fn add(stack: &mut Vec<Columns>, at: Columns) -> Result<(), AllocError>
 
 /// Pops to the entry with the wide measure of these columns.
 fn pop(stack: &mut Vec<Columns>, at: Columns, line: usize) -> Result<(), LexFault>
-    ensures { Leads (indents.popped_to stack.old.items at line (position (λ entry. entry.wide == at.wide) stack.old.items)) result stack.new.items }
+    ensures { Leads (indents.popped_to stack.old.items at line
+        (position (λ entry. entry.wide == at.wide) stack.old.items)) result stack.new.items }
 {
     let Some(index) = index_of(stack, at) else {
         return Err(LexFault::Dedent(line));
@@ -101,7 +102,8 @@ fn open(brackets: &mut Vec<Opened>, bracket: Opened) -> Result<(), AllocError>
 
 /// Closes the innermost bracket.
 fn close(brackets: &mut Vec<Opened>, sort: Bracket, line: usize) -> Result<(), LexFault>
-    ensures { Leads (lines.closed (lines.innermost brackets.old.items) sort line brackets.old.items) result brackets.new.items }
+    ensures { Leads (lines.closed (lines.innermost brackets.old.items) sort line brackets.old.items) result
+        brackets.new.items }
 {
     match innermost(brackets) {
         Some(last) if is_same(last.bracket, sort) => {

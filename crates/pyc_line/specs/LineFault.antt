@@ -26,13 +26,15 @@ has k ts = list_any (λ t. same_kind t.kind k) ts
 abbrev pub ends_with_star_import : List Token → Bool
 ends_with_star_import [] = false
 ends_with_star_import (t ∷ []) = false
-ends_with_star_import (a ∷ b ∷ []) = same_kind a.kind (kind.Keyword word.Import) && same_kind b.kind (kind.Arithmetic op.Star)
+ends_with_star_import (a ∷ b ∷ []) =
+    same_kind a.kind (kind.Keyword word.Import) && same_kind b.kind (kind.Arithmetic op.Star)
 ends_with_star_import (a ∷ b ∷ c ∷ ts) = ends_with_star_import (b ∷ c ∷ ts)
 
 -- whether a line begins with `def` or `async def`
 abbrev pub begins_function : List Token → Bool
 begins_function (a ∷ b ∷ ts) =
-    same_kind a.kind (kind.Keyword word.Def) || (same_kind a.kind (kind.Keyword word.Async) && same_kind b.kind (kind.Keyword word.Def))
+    same_kind a.kind (kind.Keyword word.Def)
+    || (same_kind a.kind (kind.Keyword word.Async) && same_kind b.kind (kind.Keyword word.Def))
 begins_function ts = begins_with (kind.Keyword word.Def) ts
 
 -- whether a word is a keyword in some places ("Soft Keywords")
@@ -49,8 +51,8 @@ abbrev pub begins_soft : List Token → Bool
 begins_soft [] = false
 begins_soft (t ∷ ts) = is_soft_keyword t.kind
 
--- whether a line without a tree is a form of Python that the profile leaves out: an assignment expression, a star import,
--- parameters by position alone, a `match` statement or a `type` statement
+-- whether a line without a tree is a form of Python that the profile leaves out: an assignment expression, a star
+-- import, parameters by position alone, a `match` statement or a `type` statement
 unfoldable pub is_outside_profile : List Token → Bool
 is_outside_profile ts =
     has (kind.Delimiter delimiter.ColonEqual) ts

@@ -93,8 +93,8 @@ fn begins_soft(tokens: &[Token]) -> bool
     }
 }
 
-/// Whether a line without a tree is a form of Python that is left out: an assignment expression, a star import, parameters
-/// by position alone, a `match` statement or a `type` statement.
+/// Whether a line without a tree is a form of Python that is left out: an assignment expression, a star import,
+/// parameters by position alone, a `match` statement or a `type` statement.
 #[tactic(auto, unfolding(crate::specs::LineFault::is_outside_profile))]
 fn is_outside_profile(tokens: &[Token]) -> bool
     ensures { result ≡ spec.is_outside_profile tokens.now }

@@ -4,5 +4,5 @@
 mod fault;
 mod line_parser;
 
-pub use fault::{ParseFault, What, line_fault, line_number};
+pub use fault::{ParseFault, What, line_number};
 pub use line_parser::parse_line;

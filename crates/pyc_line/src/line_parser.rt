@@ -42,9 +42,12 @@ pub fn parse_line(alloc: Global, tokens: &[Token]) -> Result<Line, ParseFault>
     ensures well { IfOk result (λ line. IsWellLine (line_of line)) }
     ensures tokens { IfOk result (λ line. line_yield (line_of line) ≡ tokens.now) }
     ensures low { IfOk result (λ line. line_height (line_of line) ≤ 1000) }
-    ensures complete { IfOk result (λ line. (other : spec.Line) → IsWellLine other → line_yield other ≡ tokens.now → line_of line ≡ other) }
+    ensures complete { IfOk result
+        (λ line. (other : spec.Line) → IsWellLine other → line_yield other ≡ tokens.now → line_of line ≡ other) }
     ensures refused { IfErr result (λ fault. fault.what ≢ What.Memory → line_tree tokens.now ≡ None) }
-    ensures none { IfErr result (λ fault. fault.what ≢ What.Memory → (other : spec.Line) → IsWellLine other → line_yield other ≡ tokens.now → ⊥) }
+    ensures none { IfErr result
+        (λ fault. fault.what ≢ What.Memory → (other : spec.Line) → IsWellLine other → line_yield other ≡ tokens.now
+        → ⊥) }
     ensures what { IfErr result (λ fault. fault.what ≢ What.Memory → fault.what ≡ fault_of tokens.now) }
     ensures line { IfErr result (λ fault. fault.line ≡ number_of tokens.now) }
 {

@@ -5,7 +5,8 @@ use Rattle.pyc_tree.specs.declared.block.After.{After}
 use Rattle.pyc_tree.specs.declared.block.CompoundClause.{CompoundClause as ComprehensionOf}
 use Rattle.pyc_tree.specs.declared.block.Decorator.{Decorator as DecoratorOf}
 use Rattle.pyc_tree.specs.declared.block.Placed.{Placed as PlacedOf}
-use Rattle.pyc_tree.specs.declared.block.Stmt.{Stmt as StmtOf, Row_of-CompoundClause, end_of-CompoundClause, more_of-CompoundClause}
+use Rattle.pyc_tree.specs.declared.block.Stmt.{Stmt as StmtOf, Row_of-CompoundClause, end_of-CompoundClause}
+use Rattle.pyc_tree.specs.declared.block.Stmt.{more_of-CompoundClause}
 use Rattle.pyc_tree.specs.declared.block.Stmt.TheVariants as s
 use Rattle.pyc_tree.specs.declared.block.Suite.{Suite as SuiteOf, Row_of-Stmt, end_of-Stmt, more_of-Stmt}
 use Rattle.pyc_tree.specs.declared.block.Suite.TheVariants as u
@@ -35,7 +36,8 @@ unfoldable mutual
   -- the statement of one of the code
   pub stmt_of : StmtOf → Stmt
   stmt_of (s.Simple found) = plain.simple (separated_of statement_of found)
-  stmt_of (s.Compound' marks _ h colon body _ row) = plain.compound (decorators_of marks) (plain.clause (header_of h.value) colon (suite_of body)) (clauses_row row)
+  stmt_of (s.Compound' marks _ h colon body _ row) =
+      plain.compound (decorators_of marks) (plain.clause (header_of h.value) colon (suite_of body)) (clauses_row row)
 
   -- what a header heads
   pub suite_of : SuiteOf → Suite
@@ -44,7 +46,8 @@ unfoldable mutual
 
   pub clauses_row : {n : _} → Row_of-CompoundClause n → CompoundClauses
   clauses_row end_of-CompoundClause = plain.no_clause
-  clauses_row (more_of-CompoundClause h colon body rest) = plain.another (plain.clause (header_of h.value) colon (suite_of body)) (clauses_row rest)
+  clauses_row (more_of-CompoundClause h colon body rest) =
+      plain.another (plain.clause (header_of h.value) colon (suite_of body)) (clauses_row rest)
 
   pub stmts_row : {n : _} → Row_of-Stmt n → Stmts
   stmts_row end_of-Stmt = plain.no_statement

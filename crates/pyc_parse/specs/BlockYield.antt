@@ -1,7 +1,8 @@
 -- The lines that statements hold, in text order, each with the level at which it stands.
 use Rattle.std.specs.Prelude.{ℕ, ◌+◌, List, [], ◌∷◌, ◌++◌, map}
 use Rattle.pyc_token.specs.declared.tokens.Token.{Token}
-use Rattle.pyc_parse.specs.BlockTrees.{Decorator, Stmt, simple, compound, CompoundClause, clause, CompoundClauses, no_clause, another, Suite, inline, block, Stmts, no_statement, statement}
+use Rattle.pyc_parse.specs.BlockTrees.{Decorator, Stmt, simple, compound, CompoundClause, clause, CompoundClauses}
+use Rattle.pyc_parse.specs.BlockTrees.{no_clause, another, Suite, inline, block, Stmts, no_statement, statement}
 use Rattle.pyc_lex.specs.Lines as lex
 use Rattle.pyc_lex.specs.Texts.{tokens_of}
 use Rattle.pyc_tree.specs.Lines.{Header, Line, line_yield}
@@ -19,7 +20,8 @@ marks_yield indent (d ∷ ds) = (indent, line.decorator d.mark d.value) ∷ mark
 unfoldable mutual
   pub stmt_yield : ℕ → Stmt → List IndentedLine
   stmt_yield indent (simple found) = (indent, line.simple found) ∷ []
-  stmt_yield indent (compound marks first more) = marks_yield indent marks ++ (clause_yield indent first ++ clauses_yield indent more)
+  stmt_yield indent (compound marks first more) =
+      marks_yield indent marks ++ (clause_yield indent first ++ clauses_yield indent more)
 
   pub clause_yield : ℕ → CompoundClause → List IndentedLine
   clause_yield indent (clause h colon body) = suite_yield indent h colon body

@@ -1,5 +1,6 @@
 -- The blocks of a module, by the indents of its lines (Python reference 3.13, "Compound statements").
-use Rattle.std.specs.Prelude.{ℕ, suc, zero, ◌+◌, Bool, true, false, ◌&&◌, ◌==◌, nat_lt, if◌then◌else◌, List, [], ◌∷◌, length, Option, Some, None, Result, Ok, Err}
+use Rattle.std.specs.Prelude.{ℕ, suc, zero, ◌+◌, Bool, true, false, ◌&&◌, ◌==◌, nat_lt, if◌then◌else◌, List, [], ◌∷◌}
+use Rattle.std.specs.Prelude.{length, Option, Some, None, Result, Ok, Err}
 use Rattle.pyc_token.specs.declared.tokens.Keyword.TheVariants as keyword
 use Rattle.pyc_token.specs.declared.tokens.Kind.{Kind}
 use Rattle.pyc_token.specs.declared.tokens.Kind.TheVariants as kind
@@ -9,7 +10,8 @@ use Rattle.pyc_tree.specs.declared.block.Form.{Form}
 use Rattle.pyc_tree.specs.declared.block.Form.TheVariants as form
 use Rattle.pyc_tree.specs.declared.block.Next.{Next}
 use Rattle.pyc_tree.specs.declared.block.Next.TheVariants as next
-use Rattle.pyc_parse.specs.BlockTrees.{Decorator, Stmt, simple, compound, CompoundClause, clause, CompoundClauses, no_clause, another, Suite, inline, block, Stmts, no_statement, statement}
+use Rattle.pyc_parse.specs.BlockTrees.{Decorator, Stmt, simple, compound, CompoundClause, clause, CompoundClauses}
+use Rattle.pyc_parse.specs.BlockTrees.{no_clause, another, Suite, inline, block, Stmts, no_statement, statement}
 use Rattle.pyc_tree.specs.Lines.{Header, Line}
 use Rattle.pyc_tree.specs.Lines as line
 use Rattle.pyc_tree.specs.Statements.{SimpleStatement, Separated, no_item, last_item, item}
@@ -73,7 +75,8 @@ is_handler _ = false
 -- whether the next of these lines that is no deeper stands at this indent and is an `except` or a `finally`
 abbrev pub handled : ℕ → List Placed → Bool
 handled indent [] = false
-handled indent (p ∷ ps) = if nat_lt indent p.indent then handled indent ps else (p.indent == indent && is_handler p.line)
+handled indent (p ∷ ps) =
+    if nat_lt indent p.indent then handled indent ps else (p.indent == indent && is_handler p.line)
 
 -- the header of a statement, before these lines: one that is no first clause is a fault, as is an unhandled `try`
 abbrev pub opening : ℕ → ℕ → List Placed → Form → Next
@@ -222,7 +225,8 @@ module _ (self : ℕ → Parser Stmts) where
 
   -- the statements on the line of a header, or the block under it: a header without either is a fault
   unfoldable pub suite : ℕ → ℕ → Separated SimpleStatement → Parser Suite
-  suite number indent found = λ ps. if is_none found then suite_under number (under indent ps) ps else Ok (inline found, ps)
+  suite number indent found =
+      λ ps. if is_none found then suite_under number (under indent ps) ps else Ok (inline found, ps)
 
   abbrev pub clause_of : Placed → ℕ → Line → Parser CompoundClause
   clause_of p indent (line.header h colon found) = do

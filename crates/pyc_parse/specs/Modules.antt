@@ -47,7 +47,8 @@ module_of lexis = of_lines lexis (placed_lines lexis.lines)
 
 -- the tree that a value of the code is
 abbrev pub module_in : ModuleOf → Module
-module_in m = record { statements = stmts_of m.statements; ignores = map ignore_in m.ignores.items; whole_file = m.whole_file }
+module_in m =
+    record { statements = stmts_of m.statements; ignores = map ignore_in m.ignores.items; whole_file = m.whole_file }
 
 -- what is answered is the definition's; a want of memory says nothing
 abbrev pub AnswersModule : {X A : Type 0} → (X → A) → Result A ParseFault → Result X ParseFault → Type 0

@@ -44,8 +44,8 @@ abbrev pub scanned : Result Lexis LexFault → Outcome
 scanned (Ok lexis) = parsed (module_of lexis)
 scanned (Err told) = lexical_outcome told
 
--- what a source is: its first lexical fault, else the first line without a tree, else the first fault of its blocks, else
--- the tree of its module
+-- what a source is: its first lexical fault, else the first line without a tree, else the first fault of its blocks,
+-- else the tree of its module
 unfoldable pub outcome_of : List ℕ → Outcome
 outcome_of source = scanned (lines_of source)
 

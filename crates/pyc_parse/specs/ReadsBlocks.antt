@@ -14,5 +14,6 @@ use Rattle.pyc_parse.specs.BlockView.{lines_of, stmts_of}
 pub record ReadsBlocks (depth : ℕ) (pre : Global → MutBor Lines → ℕ → ℕ → Type 0)
     (post : Global → MutBor Lines → ℕ → ℕ → Result (Vec StmtOf) BlockFault → MutBor Lines → Type 0) : Type 0 where
   pub callable : (alloc : Global) (old : MutBor Lines) (indent : ℕ) → pre alloc old depth indent
-  pub reads : (alloc : Global) (old new : MutBor Lines) (indent : ℕ) (r : Result (Vec StmtOf) BlockFault) → post alloc old depth indent r new
+  pub reads : (alloc : Global) (old new : MutBor Lines) (indent : ℕ) (r : Result (Vec StmtOf) BlockFault)
+      → post alloc old depth indent r new
       → ReadsLines stmts_of (block_at depth indent (lines_of old.now)) r (lines_of new.now)

@@ -200,7 +200,8 @@ impl Lines {
 
     /// What the first line is, at the indent of its block.
     fn beginning(&self, number: usize, indent: usize, line: &Line) -> Next
-        ensures { result ≡ spec.beginning number indent (map placed_of (drop 1 self.now.rest.items)) (line_of line.now) }
+        ensures { result ≡ spec.beginning number indent (map placed_of (drop 1 self.now.rest.items))
+            (line_of line.now) }
     {
         match line {
             Line::Simple(_) => Next::Simple,

@@ -71,12 +71,13 @@ fn parsed(alloc: Global, scan: Scan) -> Result<Outcome, AllocError>
     }
 }
 
-/// What a source is: its first lexical fault, else its first line without a tree, else the first fault of its blocks, else
-/// the tree of its module, whose tokens are spans of its text. The only error is that memory runs out.
+/// What a source is: its first lexical fault, else its first line without a tree, else the first fault of its blocks,
+/// else the tree of its module, whose tokens are spans of its text. The only error is that memory runs out.
 #[tactic(auto, unfolding(crate::specs::Outcome::outcome_of))]
 pub fn outcome(alloc: Global, bytes: &[u8]) -> Result<Outcome, AllocError>
     ensures outcome { IfOk result (λ outcome. outcome_in outcome ≡ outcome_of bytes.now) }
-    ensures spans { IfOk result (λ outcome. All (λ token. IsTextSpan bytes.now token.span) (outcome_tokens (outcome_in outcome))) }
+    ensures spans { IfOk result
+        (λ outcome. All (λ token. IsTextSpan bytes.now token.span) (outcome_tokens (outcome_in outcome))) }
 {
     match scan(alloc, bytes) {
         Ok(scan) => parsed(alloc, scan),

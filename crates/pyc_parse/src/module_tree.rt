@@ -48,8 +48,9 @@ fn placed_lines(alloc: Global, lines: Vec<LogicalLine>) -> Result<Vec<Placed>, P
     Ok(found)
 }
 
-/// The tree of a module, or the first line that has no tree, else the first that stands where it may not. The tree holds
-/// each line of the scan once, in text order and at its level. `Memory` comes only from a growth that was refused.
+/// The tree of a module, or the first line that has no tree, else the first that stands where it may not. The tree
+/// holds each line of the scan once, in text order and at its level. `Memory` comes only from a growth that was
+/// refused.
 #[tactic(auto, unfolding(crate::specs::Modules::module_of))]
 pub fn parse(alloc: Global, scan: Scan) -> Result<Module, ParseFault>
     ensures tree { AnswersModule module_in (module_of (lexis_in scan)) result }

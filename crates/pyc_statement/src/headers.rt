@@ -20,7 +20,8 @@ use std::alloc::Global;
 /// `else`, `try` or `finally`.
 #[tactic(auto, unfolding(pyc_tree::specs::Headers::word_header))]
 pub fn word_header(alloc: Global, tokens: &mut Cursor<'_>) -> Result<BuiltHeader, ParseError>
-    ensures { ReadsTokens (λ b. header_of b.header.value) (headers.word_header tokens.old.rest.now) result tokens.new.rest.now }
+    ensures { ReadsTokens (λ b. header_of b.header.value) (headers.word_header tokens.old.rest.now) result
+        tokens.new.rest.now }
 {
     let word = tokens.take()?;
     built_line::word(alloc, word)
@@ -31,7 +32,8 @@ impl<F: Fn(Global, &mut Cursor<'_>, usize, u8) -> Result<Built, ParseError>> Sta
     #[tactic(auto, using(pyc_build::proofs::Steps::ReadsTokens_made), unfolding(pyc_tree::specs::Headers::condition))]
     pub fn condition(&self, tokens: &mut Cursor<'_>) -> Result<BuiltHeader, ParseError>
         requires { ReadsExpressions self.now.rules.depth (F.pre self.now.rules.expr) (F.post self.now.rules.expr) }
-        ensures { ReadsTokens (λ b. header_of b.header.value) (headers.condition (spec.expr self.now.rules.depth) tokens.old.rest.now) result tokens.new.rest.now }
+        ensures { ReadsTokens (λ b. header_of b.header.value)
+            (headers.condition (spec.expr self.now.rules.depth) tokens.old.rest.now) result tokens.new.rest.now }
     {
         let word = tokens.take()?;
         let test = self.rules.expr(tokens, 1)?;
@@ -46,7 +48,9 @@ impl<F: Fn(Global, &mut Cursor<'_>, usize, u8) -> Result<Built, ParseError>> Sta
         word_async: Option<Token>,
     ) -> Result<BuiltHeader, ParseError>
         requires { ReadsExpressions self.now.rules.depth (F.pre self.now.rules.expr) (F.post self.now.rules.expr) }
-        ensures { ReadsTokens (λ b. header_of b.header.value) (headers.for_each (spec.expr self.now.rules.depth) word_async tokens.old.rest.now) result tokens.new.rest.now }
+        ensures { ReadsTokens (λ b. header_of b.header.value)
+            (headers.for_each (spec.expr self.now.rules.depth) word_async tokens.old.rest.now) result
+            tokens.new.rest.now }
     {
         let word = tokens.take()?;
         let targets = self.rules.targets(tokens)?;
@@ -66,7 +70,8 @@ impl<F: Fn(Global, &mut Cursor<'_>, usize, u8) -> Result<Built, ParseError>> Sta
     #[tactic(auto, using(pyc_build::proofs::Steps::ReadsTokens_made), unfolding(pyc_tree::specs::Headers::excepted))]
     pub fn excepted(&self, tokens: &mut Cursor<'_>) -> Result<BuiltHeader, ParseError>
         requires { ReadsExpressions self.now.rules.depth (F.pre self.now.rules.expr) (F.post self.now.rules.expr) }
-        ensures { ReadsTokens (λ b. header_of b.header.value) (headers.excepted (spec.expr self.now.rules.depth) tokens.old.rest.now) result tokens.new.rest.now }
+        ensures { ReadsTokens (λ b. header_of b.header.value)
+            (headers.excepted (spec.expr self.now.rules.depth) tokens.old.rest.now) result tokens.new.rest.now }
     {
         let word = tokens.take()?;
         if is_colon(tokens.peek()) {
@@ -81,7 +86,8 @@ impl<F: Fn(Global, &mut Cursor<'_>, usize, u8) -> Result<Built, ParseError>> Sta
     #[tactic(auto, using(pyc_build::proofs::Steps::ReadsTokens_made), unfolding(pyc_tree::specs::Headers::with_items))]
     fn with_items(&self, tokens: &mut Cursor<'_>) -> Result<BuiltPieces, ParseError>
         requires { ReadsExpressions self.now.rules.depth (F.pre self.now.rules.expr) (F.post self.now.rules.expr) }
-        ensures { ReadsTokens (λ b. pieces_of b.pieces) (headers.with_items (spec.expr self.now.rules.depth) tokens.old.rest.now) result tokens.new.rest.now }
+        ensures { ReadsTokens (λ b. pieces_of b.pieces)
+            (headers.with_items (spec.expr self.now.rules.depth) tokens.old.rest.now) result tokens.new.rest.now }
     {
         let first = self.rules.item(tokens, ListContext::WithItems)?;
         self.rules.listed(tokens, ListContext::WithItems, first)
@@ -96,7 +102,9 @@ impl<F: Fn(Global, &mut Cursor<'_>, usize, u8) -> Result<Built, ParseError>> Sta
         word: Token,
     ) -> Result<BuiltHeader, ParseError>
         requires { ReadsExpressions self.now.rules.depth (F.pre self.now.rules.expr) (F.post self.now.rules.expr) }
-        ensures { ReadsTokens (λ b. header_of b.header.value) (headers.with_enclosed (spec.expr self.now.rules.depth) word_async word tokens.old.rest.now) result tokens.new.rest.now }
+        ensures { ReadsTokens (λ b. header_of b.header.value)
+            (headers.with_enclosed (spec.expr self.now.rules.depth) word_async word tokens.old.rest.now) result
+            tokens.new.rest.now }
     {
         let opening = tokens.expect(Kind::Open(Bracket::Round))?;
         let items = self.with_items(tokens)?;
@@ -116,7 +124,9 @@ impl<F: Fn(Global, &mut Cursor<'_>, usize, u8) -> Result<Built, ParseError>> Sta
         word: Token,
     ) -> Result<BuiltHeader, ParseError>
         requires { ReadsExpressions self.now.rules.depth (F.pre self.now.rules.expr) (F.post self.now.rules.expr) }
-        ensures { ReadsTokens (λ b. header_of b.header.value) (headers.with_open (spec.expr self.now.rules.depth) word_async word tokens.old.rest.now) result tokens.new.rest.now }
+        ensures { ReadsTokens (λ b. header_of b.header.value)
+            (headers.with_open (spec.expr self.now.rules.depth) word_async word tokens.old.rest.now) result
+            tokens.new.rest.now }
     {
         let items = self.with_items(tokens)?;
         if !ends_without_comma(&items.pieces) {
@@ -133,7 +143,9 @@ impl<F: Fn(Global, &mut Cursor<'_>, usize, u8) -> Result<Built, ParseError>> Sta
         word_async: Option<Token>,
     ) -> Result<BuiltHeader, ParseError>
         requires { ReadsExpressions self.now.rules.depth (F.pre self.now.rules.expr) (F.post self.now.rules.expr) }
-        ensures { ReadsTokens (λ b. header_of b.header.value) (headers.with (spec.expr self.now.rules.depth) word_async tokens.old.rest.now) result tokens.new.rest.now }
+        ensures { ReadsTokens (λ b. header_of b.header.value)
+            (headers.with (spec.expr self.now.rules.depth) word_async tokens.old.rest.now) result
+            tokens.new.rest.now }
     {
         let word = tokens.take()?;
         let start = tokens.rest;
@@ -155,7 +167,9 @@ impl<F: Fn(Global, &mut Cursor<'_>, usize, u8) -> Result<Built, ParseError>> Sta
         word_async: Option<Token>,
     ) -> Result<BuiltHeader, ParseError>
         requires { ReadsExpressions self.now.rules.depth (F.pre self.now.rules.expr) (F.post self.now.rules.expr) }
-        ensures { ReadsTokens (λ b. header_of b.header.value) (headers.function (spec.expr self.now.rules.depth) word_async tokens.old.rest.now) result tokens.new.rest.now }
+        ensures { ReadsTokens (λ b. header_of b.header.value)
+            (headers.function (spec.expr self.now.rules.depth) word_async tokens.old.rest.now) result
+            tokens.new.rest.now }
     {
         let word = tokens.take()?;
         let name = tokens.expect_name()?;
@@ -186,7 +200,9 @@ impl<F: Fn(Global, &mut Cursor<'_>, usize, u8) -> Result<Built, ParseError>> Sta
         name: Token,
     ) -> Result<BuiltHeader, ParseError>
         requires { ReadsExpressions self.now.rules.depth (F.pre self.now.rules.expr) (F.post self.now.rules.expr) }
-        ensures { ReadsTokens (λ b. header_of b.header.value) (headers.class_of (spec.expr self.now.rules.depth) word name tokens.old.rest.now) result tokens.new.rest.now }
+        ensures { ReadsTokens (λ b. header_of b.header.value)
+            (headers.class_of (spec.expr self.now.rules.depth) word name tokens.old.rest.now) result
+            tokens.new.rest.now }
     {
         let opening = tokens.take()?;
         let arguments = self.rules.some_items(tokens, ListContext::Arguments)?;
@@ -198,7 +214,8 @@ impl<F: Fn(Global, &mut Cursor<'_>, usize, u8) -> Result<Built, ParseError>> Sta
     #[tactic(auto, using(pyc_build::proofs::Steps::ReadsTokens_made), unfolding(pyc_tree::specs::Headers::class))]
     pub fn class(&self, tokens: &mut Cursor<'_>) -> Result<BuiltHeader, ParseError>
         requires { ReadsExpressions self.now.rules.depth (F.pre self.now.rules.expr) (F.post self.now.rules.expr) }
-        ensures { ReadsTokens (λ b. header_of b.header.value) (headers.class (spec.expr self.now.rules.depth) tokens.old.rest.now) result tokens.new.rest.now }
+        ensures { ReadsTokens (λ b. header_of b.header.value)
+            (headers.class (spec.expr self.now.rules.depth) tokens.old.rest.now) result tokens.new.rest.now }
     {
         let word = tokens.take()?;
         let name = tokens.expect_name()?;
@@ -212,7 +229,8 @@ impl<F: Fn(Global, &mut Cursor<'_>, usize, u8) -> Result<Built, ParseError>> Sta
     /// A header after `async`.
     pub fn coroutine(&self, tokens: &mut Cursor<'_>) -> Result<BuiltHeader, ParseError>
         requires { ReadsExpressions self.now.rules.depth (F.pre self.now.rules.expr) (F.post self.now.rules.expr) }
-        ensures { ReadsTokens (λ b. header_of b.header.value) (headers.async (spec.expr self.now.rules.depth) tokens.old.rest.now) result tokens.new.rest.now }
+        ensures { ReadsTokens (λ b. header_of b.header.value)
+            (headers.async (spec.expr self.now.rules.depth) tokens.old.rest.now) result tokens.new.rest.now }
     {
         let word_async = tokens.take()?;
         match tokens.peek() {

@@ -20,7 +20,9 @@ fn path_after(
     tokens: &mut Cursor<'_>,
     dots: &[Token],
 ) -> Result<Option<Dotted>, ParseError>
-    ensures { ReadsTokens (option_map dotted_of) (spec.path_after dots.now (kinds.kind_of tokens.old.rest.now) tokens.old.rest.now) result tokens.new.rest.now }
+    ensures { ReadsTokens (option_map dotted_of)
+        (spec.path_after dots.now (kinds.kind_of tokens.old.rest.now) tokens.old.rest.now) result
+        tokens.new.rest.now }
 {
     match (dots, tokens.peek()) {
         ([_, ..], Kind::Keyword(Keyword::Import)) => Ok(None),
@@ -44,7 +46,8 @@ fn source(alloc: Global, tokens: &mut Cursor<'_>) -> Result<Source, ParseError>
 /// `import` and modules.
 #[tactic(auto, unfolding(pyc_tree::specs::SimpleStatements::imported))]
 pub fn imported(alloc: Global, tokens: &mut Cursor<'_>) -> Result<BuiltSimpleStatement, ParseError>
-    ensures { ReadsTokens (λ b. statement_of b.statement) (spec.imported tokens.old.rest.now) result tokens.new.rest.now }
+    ensures { ReadsTokens (λ b. statement_of b.statement) (spec.imported tokens.old.rest.now) result
+        tokens.new.rest.now }
 {
     let word = tokens.take()?;
     let modules = modules(alloc, tokens)?;
@@ -60,7 +63,8 @@ fn enclosed_names(
     from: Source,
     word_import: Token,
 ) -> Result<BuiltSimpleStatement, ParseError>
-    ensures { ReadsTokens (λ b. statement_of b.statement) (spec.enclosed_names word (source_of from) word_import tokens.old.rest.now) result tokens.new.rest.now }
+    ensures { ReadsTokens (λ b. statement_of b.statement)
+        (spec.enclosed_names word (source_of from) word_import tokens.old.rest.now) result tokens.new.rest.now }
 {
     let opening = tokens.take()?;
     let names = imported_names(alloc, tokens, true)?;
@@ -87,7 +91,8 @@ fn open_names(
     from: Source,
     word_import: Token,
 ) -> Result<BuiltSimpleStatement, ParseError>
-    ensures { ReadsTokens (λ b. statement_of b.statement) (spec.open_names word (source_of from) word_import tokens.old.rest.now) result tokens.new.rest.now }
+    ensures { ReadsTokens (λ b. statement_of b.statement)
+        (spec.open_names word (source_of from) word_import tokens.old.rest.now) result tokens.new.rest.now }
 {
     let names = imported_names(alloc, tokens, false)?;
     built_statement::import_from(
@@ -109,7 +114,8 @@ pub fn imported_from(
     alloc: Global,
     tokens: &mut Cursor<'_>,
 ) -> Result<BuiltSimpleStatement, ParseError>
-    ensures { ReadsTokens (λ b. statement_of b.statement) (spec.imported_from tokens.old.rest.now) result tokens.new.rest.now }
+    ensures { ReadsTokens (λ b. statement_of b.statement) (spec.imported_from tokens.old.rest.now) result
+        tokens.new.rest.now }
 {
     let word = tokens.take()?;
     let from = source(alloc, tokens)?;
@@ -124,7 +130,8 @@ pub fn imported_from(
 /// `pass`, `break` or `continue`.
 #[tactic(auto, unfolding(pyc_tree::specs::SimpleStatements::word_statement))]
 pub fn word_statement(tokens: &mut Cursor<'_>) -> Result<BuiltSimpleStatement, ParseError>
-    ensures { ReadsTokens (λ b. statement_of b.statement) (spec.word_statement tokens.old.rest.now) result tokens.new.rest.now }
+    ensures { ReadsTokens (λ b. statement_of b.statement) (spec.word_statement tokens.old.rest.now) result
+        tokens.new.rest.now }
 {
     let word = tokens.take()?;
     Ok(built_statement::word(word))
@@ -133,7 +140,8 @@ pub fn word_statement(tokens: &mut Cursor<'_>) -> Result<BuiltSimpleStatement, P
 /// `global` or `nonlocal`, and names.
 #[tactic(auto, unfolding(pyc_tree::specs::SimpleStatements::declared))]
 pub fn declared(alloc: Global, tokens: &mut Cursor<'_>) -> Result<BuiltSimpleStatement, ParseError>
-    ensures { ReadsTokens (λ b. statement_of b.statement) (spec.declared tokens.old.rest.now) result tokens.new.rest.now }
+    ensures { ReadsTokens (λ b. statement_of b.statement) (spec.declared tokens.old.rest.now) result
+        tokens.new.rest.now }
 {
     let word = tokens.take()?;
     let names = names(alloc, tokens)?;

@@ -24,7 +24,8 @@ impl<F: Fn(Global, &mut Cursor<'_>, usize, u8) -> Result<Built, ParseError>> Sta
     #[tactic(auto, using(pyc_build::proofs::Steps::ReadsTokens_made), unfolding(pyc_tree::specs::Headers::decorator))]
     fn decorator(&self, tokens: &mut Cursor<'_>) -> Result<BuiltLine, ParseError>
         requires { ReadsExpressions self.now.rules.depth (F.pre self.now.rules.expr) (F.post self.now.rules.expr) }
-        ensures { ReadsTokens (λ b. line_of b.line) (headers.decorator (spec.expr self.now.rules.depth) tokens.old.rest.now) result tokens.new.rest.now }
+        ensures { ReadsTokens (λ b. line_of b.line)
+            (headers.decorator (spec.expr self.now.rules.depth) tokens.old.rest.now) result tokens.new.rest.now }
     {
         let mark = tokens.take()?;
         let value = self.rules.expr(tokens, 1)?;
@@ -35,7 +36,9 @@ impl<F: Fn(Global, &mut Cursor<'_>, usize, u8) -> Result<Built, ParseError>> Sta
     #[tactic(auto, using(pyc_build::proofs::Steps::ReadsTokens_made), unfolding(pyc_tree::specs::Headers::suite))]
     fn suite(&self, tokens: &mut Cursor<'_>, header: BuiltHeader) -> Result<BuiltLine, ParseError>
         requires { ReadsExpressions self.now.rules.depth (F.pre self.now.rules.expr) (F.post self.now.rules.expr) }
-        ensures { ReadsTokens (λ b. line_of b.line) (headers.suite (spec.expr self.now.rules.depth) (header_of header.header.value) tokens.old.rest.now) result tokens.new.rest.now }
+        ensures { ReadsTokens (λ b. line_of b.line)
+            (headers.suite (spec.expr self.now.rules.depth) (header_of header.header.value) tokens.old.rest.now)
+            result tokens.new.rest.now }
     {
         let colon = tokens.expect(Kind::Delimiter(Delimiter::Colon))?;
         if tokens.at_end() {
@@ -50,7 +53,8 @@ impl<F: Fn(Global, &mut Cursor<'_>, usize, u8) -> Result<Built, ParseError>> Sta
     #[tactic(auto, using(pyc_build::proofs::Steps::ReadsTokens_made), unfolding(pyc_tree::specs::Headers::simple_line))]
     fn simple_line(&self, tokens: &mut Cursor<'_>) -> Result<BuiltLine, ParseError>
         requires { ReadsExpressions self.now.rules.depth (F.pre self.now.rules.expr) (F.post self.now.rules.expr) }
-        ensures { ReadsTokens (λ b. line_of b.line) (headers.simple_line (spec.expr self.now.rules.depth) tokens.old.rest.now) result tokens.new.rest.now }
+        ensures { ReadsTokens (λ b. line_of b.line)
+            (headers.simple_line (spec.expr self.now.rules.depth) tokens.old.rest.now) result tokens.new.rest.now }
     {
         let statements = self.statements(tokens)?;
         Ok(built_line::simple(statements))
@@ -60,7 +64,9 @@ impl<F: Fn(Global, &mut Cursor<'_>, usize, u8) -> Result<Built, ParseError>> Sta
     #[tactic(auto, using(pyc_build::proofs::Steps::ReadsTokens_made), unfolding(pyc_tree::specs::Headers::headed))]
     fn line_of_word(&self, tokens: &mut Cursor<'_>, word: Keyword) -> Result<BuiltLine, ParseError>
         requires { ReadsExpressions self.now.rules.depth (F.pre self.now.rules.expr) (F.post self.now.rules.expr) }
-        ensures { ReadsTokens (λ b. line_of b.line) (headers.line_by (spec.expr self.now.rules.depth) (kind.Keyword word) tokens.old.rest.now) result tokens.new.rest.now }
+        ensures { ReadsTokens (λ b. line_of b.line)
+            (headers.line_by (spec.expr self.now.rules.depth) (kind.Keyword word) tokens.old.rest.now) result
+            tokens.new.rest.now }
     {
         let header = match word {
             Keyword::If | Keyword::Elif | Keyword::While => self.condition(tokens)?,
@@ -83,7 +89,8 @@ impl<F: Fn(Global, &mut Cursor<'_>, usize, u8) -> Result<Built, ParseError>> Sta
     #[tactic(auto, using(pyc_build::proofs::Steps::ReadsTokens_made), unfolding(pyc_tree::specs::Headers::any_line))]
     fn any_line(&self, tokens: &mut Cursor<'_>) -> Result<BuiltLine, ParseError>
         requires { ReadsExpressions self.now.rules.depth (F.pre self.now.rules.expr) (F.post self.now.rules.expr) }
-        ensures { ReadsTokens (λ b. line_of b.line) (headers.any_line (spec.expr self.now.rules.depth) tokens.old.rest.now) result tokens.new.rest.now }
+        ensures { ReadsTokens (λ b. line_of b.line)
+            (headers.any_line (spec.expr self.now.rules.depth) tokens.old.rest.now) result tokens.new.rest.now }
     {
         match tokens.peek() {
             Kind::Arithmetic(Arithmetic::At) => self.decorator(tokens),
@@ -95,7 +102,8 @@ impl<F: Fn(Global, &mut Cursor<'_>, usize, u8) -> Result<Built, ParseError>> Sta
     /// The tree of a line, where no token is left and it is no higher than the profile allows.
     pub fn line(&self, tokens: &mut Cursor<'_>) -> Result<Line, ParseError>
         requires { ReadsExpressions self.now.rules.depth (F.pre self.now.rules.expr) (F.post self.now.rules.expr) }
-        ensures { AnswersLine line_of (headers.complete (headers.any_line (spec.expr self.now.rules.depth) tokens.old.rest.now)) result }
+        ensures { AnswersLine line_of
+            (headers.complete (headers.any_line (spec.expr self.now.rules.depth) tokens.old.rest.now)) result }
     {
         let found = self.any_line(tokens)?;
         if !tokens.at_end() || found.height > MAX_HEIGHT {

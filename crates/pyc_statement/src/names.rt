@@ -6,7 +6,8 @@ ghost use Rattle.pyc_tree.specs.Kinds as kinds;
 ghost use Rattle.pyc_tree.specs.Parser as parser;
 ghost use Rattle.pyc_build.specs.ReadsTokens.{ReadsTokens};
 ghost use Rattle.pyc_tree.specs.SimpleStatements as spec;
-ghost use Rattle.pyc_tree.specs.StatementView.{alias_of, part_of, dotted_of, module_of, name_of, token_of, separated_of};
+ghost use Rattle.pyc_tree.specs.StatementView.{alias_of, part_of, dotted_of, module_of, name_of, token_of};
+ghost use Rattle.pyc_tree.specs.StatementView.{separated_of};
 
 use pyc_build::{ParseError, boxed};
 use pyc_cursor::{Cursor, is_name, same_kind};
@@ -30,7 +31,8 @@ pub fn alias(tokens: &mut Cursor<'_>) -> Result<Option<Alias>, ParseError>
 
 /// Dots, each with a name.
 fn parts(alloc: Global, tokens: &mut Cursor<'_>) -> Result<Vec<DottedPart>, ParseError>
-    ensures { ReadsTokens (λ parts. map part_of parts.items) (spec.all_parts tokens.old.rest.now) result tokens.new.rest.now }
+    ensures { ReadsTokens (λ parts. map part_of parts.items) (spec.all_parts tokens.old.rest.now) result
+        tokens.new.rest.now }
 {
     let mut found = Vec::new(alloc);
     for _turn in 0..tokens.rest.len() {
@@ -76,7 +78,8 @@ fn imported_name(tokens: &mut Cursor<'_>) -> Result<ImportedName, ParseError>
 
 /// Names with commas between them.
 pub fn names(alloc: Global, tokens: &mut Cursor<'_>) -> Result<Separated<Token>, ParseError>
-    ensures { ReadsTokens (separated_of token_of) (spec.all_separated parser.expect_name false tokens.old.rest.now) result tokens.new.rest.now }
+    ensures { ReadsTokens (separated_of token_of) (spec.all_separated parser.expect_name false tokens.old.rest.now)
+        result tokens.new.rest.now }
 {
     let mut each = Vec::new(alloc);
     for _turn in 0..tokens.rest.len() {
@@ -99,7 +102,8 @@ pub fn modules(
     alloc: Global,
     tokens: &mut Cursor<'_>,
 ) -> Result<Separated<ImportedModule>, ParseError>
-    ensures { ReadsTokens (separated_of module_of) (spec.all_separated spec.imported_module false tokens.old.rest.now) result tokens.new.rest.now }
+    ensures { ReadsTokens (separated_of module_of) (spec.all_separated spec.imported_module false tokens.old.rest.now)
+        result tokens.new.rest.now }
 {
     let mut each = Vec::new(alloc);
     for _turn in 0..tokens.rest.len() {
@@ -130,7 +134,8 @@ pub fn imported_names(
     tokens: &mut Cursor<'_>,
     may_trail: bool,
 ) -> Result<Separated<ImportedName>, ParseError>
-    ensures { ReadsTokens (separated_of name_of) (spec.all_separated spec.imported_name may_trail tokens.old.rest.now) result tokens.new.rest.now }
+    ensures { ReadsTokens (separated_of name_of) (spec.all_separated spec.imported_name may_trail tokens.old.rest.now)
+        result tokens.new.rest.now }
 {
     let mut each = Vec::new(alloc);
     for _turn in 0..tokens.rest.len() {

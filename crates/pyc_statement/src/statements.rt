@@ -26,7 +26,8 @@ impl<F: Fn(Global, &mut Cursor<'_>, usize, u8) -> Result<Built, ParseError>> Sta
     #[tactic(auto, using(pyc_build::proofs::Steps::ReadsTokens_made), unfolding(pyc_tree::specs::SimpleStatements::value))]
     fn value(&self, tokens: &mut Cursor<'_>) -> Result<Built, ParseError>
         requires { ReadsExpressions self.now.rules.depth (F.pre self.now.rules.expr) (F.post self.now.rules.expr) }
-        ensures { ReadsTokens (λ b. tree_of b.expr.value) (statements.value (spec.expr self.now.rules.depth) tokens.old.rest.now) result tokens.new.rest.now }
+        ensures { ReadsTokens (λ b. tree_of b.expr.value)
+            (statements.value (spec.expr self.now.rules.depth) tokens.old.rest.now) result tokens.new.rest.now }
     {
         match tokens.peek() {
             Kind::Keyword(Keyword::Yield) => self.rules.yielded(tokens),
@@ -38,7 +39,8 @@ impl<F: Fn(Global, &mut Cursor<'_>, usize, u8) -> Result<Built, ParseError>> Sta
     #[tactic(auto, using(pyc_build::proofs::Steps::ReadsTokens_made), unfolding(pyc_tree::specs::SimpleStatements::given))]
     fn given(&self, tokens: &mut Cursor<'_>) -> Result<BuiltTail, ParseError>
         requires { ReadsExpressions self.now.rules.depth (F.pre self.now.rules.expr) (F.post self.now.rules.expr) }
-        ensures { ReadsTokens (λ b. tail_of b.tail) (statements.given (spec.expr self.now.rules.depth) tokens.old.rest.now) result tokens.new.rest.now }
+        ensures { ReadsTokens (λ b. tail_of b.tail)
+            (statements.given (spec.expr self.now.rules.depth) tokens.old.rest.now) result tokens.new.rest.now }
     {
         if same_kind(tokens.peek(), Kind::Delimiter(Delimiter::Equal)) {
             let mark = tokens.take()?;
@@ -52,7 +54,9 @@ impl<F: Fn(Global, &mut Cursor<'_>, usize, u8) -> Result<Built, ParseError>> Sta
     /// The targets before the last value of a chain, each with its `=`, and that value.
     fn chain(&self, tokens: &mut Cursor<'_>, first: Built) -> Result<BuiltChain, ParseError>
         requires { ReadsExpressions self.now.rules.depth (F.pre self.now.rules.expr) (F.post self.now.rules.expr) }
-        ensures { ReadsTokens (λ b. (map assigned_of b.targets.items, tree_of b.value.value)) (statements.chain (spec.expr self.now.rules.depth) (length tokens.old.rest.now) (tree_of first.expr.value) tokens.old.rest.now) result tokens.new.rest.now }
+        ensures { ReadsTokens (λ b. (map assigned_of b.targets.items, tree_of b.value.value))
+            (statements.chain (spec.expr self.now.rules.depth) (length tokens.old.rest.now) (tree_of first.expr.value)
+            tokens.old.rest.now) result tokens.new.rest.now }
     {
         let mut targets = Vec::new(self.rules.alloc);
         let mut value = first;
@@ -87,7 +91,9 @@ impl<F: Fn(Global, &mut Cursor<'_>, usize, u8) -> Result<Built, ParseError>> Sta
         first: Built,
     ) -> Result<BuiltSimpleStatement, ParseError>
         requires { ReadsExpressions self.now.rules.depth (F.pre self.now.rules.expr) (F.post self.now.rules.expr) }
-        ensures { ReadsTokens (λ b. statement_of b.statement) (statements.assigned (spec.expr self.now.rules.depth) (tree_of first.expr.value) tokens.old.rest.now) result tokens.new.rest.now }
+        ensures { ReadsTokens (λ b. statement_of b.statement)
+            (statements.assigned (spec.expr self.now.rules.depth) (tree_of first.expr.value) tokens.old.rest.now)
+            result tokens.new.rest.now }
     {
         let chain = self.chain(tokens, first)?;
         Ok(built_statement::chained(chain))
@@ -101,7 +107,9 @@ impl<F: Fn(Global, &mut Cursor<'_>, usize, u8) -> Result<Built, ParseError>> Sta
         target: Built,
     ) -> Result<BuiltSimpleStatement, ParseError>
         requires { ReadsExpressions self.now.rules.depth (F.pre self.now.rules.expr) (F.post self.now.rules.expr) }
-        ensures { ReadsTokens (λ b. statement_of b.statement) (statements.annotated (spec.expr self.now.rules.depth) (tree_of target.expr.value) tokens.old.rest.now) result tokens.new.rest.now }
+        ensures { ReadsTokens (λ b. statement_of b.statement)
+            (statements.annotated (spec.expr self.now.rules.depth) (tree_of target.expr.value) tokens.old.rest.now)
+            result tokens.new.rest.now }
     {
         if !is_single_target(&target.expr) {
             return Err(ParseError::Refused);
@@ -120,7 +128,9 @@ impl<F: Fn(Global, &mut Cursor<'_>, usize, u8) -> Result<Built, ParseError>> Sta
         target: Built,
     ) -> Result<BuiltSimpleStatement, ParseError>
         requires { ReadsExpressions self.now.rules.depth (F.pre self.now.rules.expr) (F.post self.now.rules.expr) }
-        ensures { ReadsTokens (λ b. statement_of b.statement) (statements.augmented (spec.expr self.now.rules.depth) (tree_of target.expr.value) tokens.old.rest.now) result tokens.new.rest.now }
+        ensures { ReadsTokens (λ b. statement_of b.statement)
+            (statements.augmented (spec.expr self.now.rules.depth) (tree_of target.expr.value) tokens.old.rest.now)
+            result tokens.new.rest.now }
     {
         if !is_single_target(&target.expr) {
             return Err(ParseError::Refused);
@@ -134,7 +144,9 @@ impl<F: Fn(Global, &mut Cursor<'_>, usize, u8) -> Result<Built, ParseError>> Sta
     #[tactic(auto, using(pyc_build::proofs::Steps::ReadsTokens_made), unfolding(pyc_tree::specs::SimpleStatements::of_expression))]
     fn of_expression(&self, tokens: &mut Cursor<'_>) -> Result<BuiltSimpleStatement, ParseError>
         requires { ReadsExpressions self.now.rules.depth (F.pre self.now.rules.expr) (F.post self.now.rules.expr) }
-        ensures { ReadsTokens (λ b. statement_of b.statement) (statements.of_expression (spec.expr self.now.rules.depth) tokens.old.rest.now) result tokens.new.rest.now }
+        ensures { ReadsTokens (λ b. statement_of b.statement)
+            (statements.of_expression (spec.expr self.now.rules.depth) tokens.old.rest.now) result
+            tokens.new.rest.now }
     {
         let first = self.rules.expressions(tokens, ListContext::Items)?;
         let next = tokens.peek();
@@ -151,7 +163,8 @@ impl<F: Fn(Global, &mut Cursor<'_>, usize, u8) -> Result<Built, ParseError>> Sta
     #[tactic(auto, using(pyc_build::proofs::Steps::ReadsTokens_made), unfolding(pyc_tree::specs::SimpleStatements::of_yield))]
     fn of_yield(&self, tokens: &mut Cursor<'_>) -> Result<BuiltSimpleStatement, ParseError>
         requires { ReadsExpressions self.now.rules.depth (F.pre self.now.rules.expr) (F.post self.now.rules.expr) }
-        ensures { ReadsTokens (λ b. statement_of b.statement) (statements.of_yield (spec.expr self.now.rules.depth) tokens.old.rest.now) result tokens.new.rest.now }
+        ensures { ReadsTokens (λ b. statement_of b.statement)
+            (statements.of_yield (spec.expr self.now.rules.depth) tokens.old.rest.now) result tokens.new.rest.now }
     {
         let value = self.rules.yielded(tokens)?;
         Ok(built_statement::expression(value))
@@ -161,7 +174,8 @@ impl<F: Fn(Global, &mut Cursor<'_>, usize, u8) -> Result<Built, ParseError>> Sta
     #[tactic(auto, using(pyc_build::proofs::Steps::ReadsTokens_made), unfolding(pyc_tree::specs::SimpleStatements::returned))]
     fn returned(&self, tokens: &mut Cursor<'_>) -> Result<BuiltSimpleStatement, ParseError>
         requires { ReadsExpressions self.now.rules.depth (F.pre self.now.rules.expr) (F.post self.now.rules.expr) }
-        ensures { ReadsTokens (λ b. statement_of b.statement) (statements.returned (spec.expr self.now.rules.depth) tokens.old.rest.now) result tokens.new.rest.now }
+        ensures { ReadsTokens (λ b. statement_of b.statement)
+            (statements.returned (spec.expr self.now.rules.depth) tokens.old.rest.now) result tokens.new.rest.now }
     {
         let word = tokens.take()?;
         if ends_statement(tokens) {
@@ -175,7 +189,8 @@ impl<F: Fn(Global, &mut Cursor<'_>, usize, u8) -> Result<Built, ParseError>> Sta
     #[tactic(auto, using(pyc_build::proofs::Steps::ReadsTokens_made), unfolding(pyc_tree::specs::SimpleStatements::raised))]
     fn raised(&self, tokens: &mut Cursor<'_>) -> Result<BuiltSimpleStatement, ParseError>
         requires { ReadsExpressions self.now.rules.depth (F.pre self.now.rules.expr) (F.post self.now.rules.expr) }
-        ensures { ReadsTokens (λ b. statement_of b.statement) (statements.raised (spec.expr self.now.rules.depth) tokens.old.rest.now) result tokens.new.rest.now }
+        ensures { ReadsTokens (λ b. statement_of b.statement)
+            (statements.raised (spec.expr self.now.rules.depth) tokens.old.rest.now) result tokens.new.rest.now }
     {
         let word = tokens.take()?;
         if ends_statement(tokens) {
@@ -190,7 +205,8 @@ impl<F: Fn(Global, &mut Cursor<'_>, usize, u8) -> Result<Built, ParseError>> Sta
     #[tactic(auto, using(pyc_build::proofs::Steps::ReadsTokens_made), unfolding(pyc_tree::specs::SimpleStatements::asserted))]
     fn asserted(&self, tokens: &mut Cursor<'_>) -> Result<BuiltSimpleStatement, ParseError>
         requires { ReadsExpressions self.now.rules.depth (F.pre self.now.rules.expr) (F.post self.now.rules.expr) }
-        ensures { ReadsTokens (λ b. statement_of b.statement) (statements.asserted (spec.expr self.now.rules.depth) tokens.old.rest.now) result tokens.new.rest.now }
+        ensures { ReadsTokens (λ b. statement_of b.statement)
+            (statements.asserted (spec.expr self.now.rules.depth) tokens.old.rest.now) result tokens.new.rest.now }
     {
         let word = tokens.take()?;
         let test = self.rules.expr(tokens, 1)?;
@@ -202,7 +218,8 @@ impl<F: Fn(Global, &mut Cursor<'_>, usize, u8) -> Result<Built, ParseError>> Sta
     #[tactic(auto, using(pyc_build::proofs::Steps::ReadsTokens_made), unfolding(pyc_tree::specs::SimpleStatements::deleted))]
     fn deleted(&self, tokens: &mut Cursor<'_>) -> Result<BuiltSimpleStatement, ParseError>
         requires { ReadsExpressions self.now.rules.depth (F.pre self.now.rules.expr) (F.post self.now.rules.expr) }
-        ensures { ReadsTokens (λ b. statement_of b.statement) (statements.deleted (spec.expr self.now.rules.depth) tokens.old.rest.now) result tokens.new.rest.now }
+        ensures { ReadsTokens (λ b. statement_of b.statement)
+            (statements.deleted (spec.expr self.now.rules.depth) tokens.old.rest.now) result tokens.new.rest.now }
     {
         let word = tokens.take()?;
         let targets = self.rules.targets(tokens)?;
@@ -213,7 +230,8 @@ impl<F: Fn(Global, &mut Cursor<'_>, usize, u8) -> Result<Built, ParseError>> Sta
     #[tactic(auto, using(pyc_build::proofs::Steps::ReadsTokens_made), unfolding(pyc_tree::specs::SimpleStatements::simple))]
     pub fn simple(&self, tokens: &mut Cursor<'_>) -> Result<BuiltSimpleStatement, ParseError>
         requires { ReadsExpressions self.now.rules.depth (F.pre self.now.rules.expr) (F.post self.now.rules.expr) }
-        ensures { ReadsTokens (λ b. statement_of b.statement) (statements.simple (spec.expr self.now.rules.depth) tokens.old.rest.now) result tokens.new.rest.now }
+        ensures { ReadsTokens (λ b. statement_of b.statement)
+            (statements.simple (spec.expr self.now.rules.depth) tokens.old.rest.now) result tokens.new.rest.now }
     {
         match tokens.peek() {
             Kind::Keyword(Keyword::Pass | Keyword::Break | Keyword::Continue) => {
@@ -237,7 +255,9 @@ impl<F: Fn(Global, &mut Cursor<'_>, usize, u8) -> Result<Built, ParseError>> Sta
     /// Statements to the end of the line, joined by semicolons, of which one may follow the last.
     pub fn statements(&self, tokens: &mut Cursor<'_>) -> Result<BuiltSimpleStatements, ParseError>
         requires { ReadsExpressions self.now.rules.depth (F.pre self.now.rules.expr) (F.post self.now.rules.expr) }
-        ensures { ReadsTokens (λ b. separated_of statement_of b.statements) (statements.all_statements (spec.expr self.now.rules.depth) tokens.old.rest.now) result tokens.new.rest.now }
+        ensures { ReadsTokens (λ b. separated_of statement_of b.statements)
+            (statements.all_statements (spec.expr self.now.rules.depth) tokens.old.rest.now) result
+            tokens.new.rest.now }
     {
         let mut each = Vec::new(self.rules.alloc);
         let mut height = 0;

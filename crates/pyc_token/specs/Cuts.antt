@@ -1,6 +1,7 @@
 -- A source text as lexemes: the longest lexeme is cut off the front of what is left, again and again
 -- (Python reference, lexical analysis, "Other tokens").
-use Rattle.std.specs.Prelude.{ℕ, zero, suc, ◌+◌, Bool, ◌||◌, ◌&&◌, ◌==◌, if◌then◌else◌, List, [], ◌∷◌, take, drop, length, slice_index, Option, None, Some, Result, Ok, Err}
+use Rattle.std.specs.Prelude.{ℕ, zero, suc, ◌+◌, Bool, ◌||◌, ◌&&◌, ◌==◌, if◌then◌else◌, List, [], ◌∷◌, take, drop}
+use Rattle.std.specs.Prelude.{length, slice_index, Option, None, Some, Result, Ok, Err}
 use Rattle.std.specs.List.{prefix_len}
 use Rattle.std.specs.Str.{chars}
 use Rattle.pyc_token.specs.declared.tokens.Prefix.{Prefix}
@@ -12,7 +13,8 @@ use Rattle.pyc_token.specs.declared.lexeme.Lexeme.{Lexeme}
 use Rattle.pyc_token.specs.declared.lexeme.Lexeme.TheVariants.{Name, Token, Blank, Comment, LineEnd, Joined}
 use Rattle.pyc_token.specs.declared.lexeme.CutFault.{CutFault}
 use Rattle.pyc_token.specs.declared.lexeme.CutFault.TheVariants as fault
-use Rattle.pyc_token.specs.Characters.{is_blank, is_line_end, line_end_len, is_comment_byte, is_quote, is_digit, is_name_start}
+use Rattle.pyc_token.specs.Characters.{is_blank, is_line_end, line_end_len, is_comment_byte, is_quote, is_digit}
+use Rattle.pyc_token.specs.Characters.{is_name_start}
 use Rattle.pyc_token.specs.Names.{name_len}
 use Rattle.pyc_token.specs.Numbers.{number_at}
 use Rattle.pyc_token.specs.Operators.{operator_at}
@@ -27,7 +29,8 @@ FirstLexeme = Result (Lexeme × ℕ) CutFault
 -- a string whose token has this text; an f-string with an open field is an open string
 abbrev pub string_token : Prefix → ℕ → List ℕ → FirstLexeme
 string_token prefix len text =
-    if is_format prefix && has_open_field (take len text) then Err fault.OpenString else Ok (Token (kind.String prefix), len)
+    if is_format prefix && has_open_field (take len text) then Err fault.OpenString
+    else Ok (Token (kind.String prefix), len)
 
 -- a string whose prefix takes so many bytes, and the rest of it so many, if it is closed
 abbrev pub string_of : Prefix → ℕ → Option ℕ → List ℕ → FirstLexeme

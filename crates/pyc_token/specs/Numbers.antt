@@ -1,5 +1,6 @@
 -- Numbers (Python reference, lexical analysis, "Numeric literals").
-use Rattle.std.specs.Prelude.{ℕ, ◌+◌, Bool, ◌||◌, ◌&&◌, ◌==◌, nat_le, nat_lt, if◌then◌else◌, List, [], ◌∷◌, drop, slice_index, Option, None, Some}
+use Rattle.std.specs.Prelude.{ℕ, ◌+◌, Bool, ◌||◌, ◌&&◌, ◌==◌, nat_le, nat_lt, if◌then◌else◌, List, [], ◌∷◌, drop}
+use Rattle.std.specs.Prelude.{slice_index, Option, None, Some}
 use Rattle.std.specs.Char.{is_ascii_hexdigit}
 use Rattle.pyc_token.specs.declared.numbers.Base.{Base}
 use Rattle.pyc_token.specs.declared.numbers.Base.TheVariants as base
@@ -18,7 +19,8 @@ is_digit_of base.Sixteen byte = is_ascii_hexdigit byte
 abbrev pub grouped_len : Base → List ℕ → ℕ
 grouped_len base [] = 0
 grouped_len base (byte ∷ rest) =
-    if is_digit_of base byte || byte == 95 && is_digit_of base (slice_index rest 0) then 1 + grouped_len base rest else 0
+    if is_digit_of base byte || byte == 95 && is_digit_of base (slice_index rest 0) then 1 + grouped_len base rest
+    else 0
 
 -- how many bytes decimal digits take, with single underscores between them
 abbrev pub digits_len : List ℕ → ℕ
@@ -57,7 +59,8 @@ imaginary_len text = if slice_index text 0 == 106 || slice_index text 0 == 74 th
 
 -- what a number is, from the lengths of its fraction and exponent and of its letter
 abbrev pub number_of : ℕ → ℕ → Number
-number_of part letter = if nat_lt 0 letter then number.Imaginary else if nat_lt 0 part then number.Float else number.Integer
+number_of part letter =
+    if nat_lt 0 letter then number.Imaginary else if nat_lt 0 part then number.Float else number.Integer
 
 -- a decimal number at the front and its length: digits, a fraction, an exponent and a letter, where they are there
 unfoldable pub decimal : List ℕ → Number × ℕ
@@ -73,7 +76,8 @@ decimal text =
 -- a number of a named base and its length, where digits follow
 abbrev pub number_in : Base → List ℕ → Number × ℕ
 number_in base text =
-    let digits = grouped_len base (drop 2 text) in if nat_lt 0 digits then (number.Integer, 2 + digits) else decimal text
+    let digits = grouped_len base (drop 2 text) in if nat_lt 0 digits then (number.Integer, 2 + digits)
+    else decimal text
 
 -- the number at the front, by the base that its second byte names
 abbrev pub number_by : Option Base → List ℕ → Number × ℕ

@@ -1,7 +1,9 @@
 -- Operators and delimiters (Python reference, lexical analysis, "Operators" and "Delimiters").
 use Rattle.std.specs.Prelude.{ℕ, nat_eq, if◌then◌else◌, List, [], ◌∷◌, length, codes, Option, None, Some}
 use Rattle.std.specs.List.{starts_with}
-use Rattle.pyc_token.specs.declared.tokens.Arithmetic.TheVariants.{Plus, Minus, Star, Slash, DoubleSlash, Percent, At, Ampersand, Bar, Caret, LeftShift, RightShift, DoubleStar}
+use Rattle.pyc_token.specs.declared.tokens.Arithmetic.TheVariants.{Plus, Minus, Star, Slash, DoubleSlash, Percent, At}
+use Rattle.pyc_token.specs.declared.tokens.Arithmetic.TheVariants.{Ampersand, Bar, Caret, LeftShift, RightShift}
+use Rattle.pyc_token.specs.declared.tokens.Arithmetic.TheVariants.{DoubleStar}
 use Rattle.pyc_token.specs.declared.tokens.Comparison.TheVariants as comparison
 use Rattle.pyc_token.specs.declared.tokens.Bracket.TheVariants.{Round, Square, Curly}
 use Rattle.pyc_token.specs.declared.tokens.Delimiter.TheVariants as delimiter

@@ -1,5 +1,6 @@
 -- Strings (Python reference, lexical analysis, "String and Bytes literals" and "Formatted string literals").
-use Rattle.std.specs.Prelude.{ℕ, zero, suc, ◌+◌, Bool, true, false, not, ◌||◌, ◌&&◌, ◌==◌, nat_eq, if◌then◌else◌, List, [], ◌∷◌, map, take, drop, length, slice_index, codes, Option, None, Some, option_map}
+use Rattle.std.specs.Prelude.{ℕ, zero, suc, ◌+◌, Bool, true, false, not, ◌||◌, ◌&&◌, ◌==◌, nat_eq, if◌then◌else◌, List}
+use Rattle.std.specs.Prelude.{[], ◌∷◌, map, take, drop, length, slice_index, codes, Option, None, Some, option_map}
 use Rattle.std.specs.Char.{to_ascii_lowercase}
 use Rattle.std.specs.List.{starts_with, list_any}
 use Rattle.std.specs.Str.{bytes_eq}
@@ -48,7 +49,8 @@ closed_len (suc count) quotes [] = None
 closed_len (suc count) quotes (byte ∷ rest) =
     if starts_with nat_eq (byte ∷ rest) quotes then Some (length quotes)
     else if is_cut_off quotes byte then None
-    else let len = unit_len (byte ∷ rest) in option_map (λ more. len + more) (closed_len count quotes (drop len (byte ∷ rest)))
+    else let len = unit_len (byte ∷ rest)
+    in option_map (λ more. len + more) (closed_len count quotes (drop len (byte ∷ rest)))
 
 -- how many bytes the string at the front takes, or none where it is open
 unfoldable pub string_len : List ℕ → Option ℕ

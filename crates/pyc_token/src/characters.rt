@@ -11,26 +11,29 @@ pub fn byte_at(text: &[u8], index: usize) -> u8
     if index < text.len() { text[index] } else { 0 }
 }
 
-pub fn is_blank(byte: u8) -> bool
+/// Whether a byte is a space, a tab or a form feed.
+pub(crate) fn is_blank(byte: u8) -> bool
     ensures { result ≡ spec.is_blank byte }
 {
     byte == b' ' || byte == b'\t' || byte == b'\x0c'
 }
 
-pub fn is_line_end(byte: u8) -> bool
+/// Whether a byte is a line feed or a carriage return.
+pub(crate) fn is_line_end(byte: u8) -> bool
     ensures { result ≡ spec.is_line_end byte }
 {
     byte == b'\n' || byte == b'\r'
 }
 
-pub fn is_quote(byte: u8) -> bool
+/// Whether a byte is a quote of either sort.
+pub(crate) fn is_quote(byte: u8) -> bool
     ensures { result ≡ spec.is_quote byte }
 {
     byte == b'\'' || byte == b'"'
 }
 
 /// How many bytes a line end takes.
-pub fn line_end_len(text: &[u8]) -> usize
+pub(crate) fn line_end_len(text: &[u8]) -> usize
     ensures { result ≡ spec.line_end_len text.now }
 {
     if byte_at(text, 0) == b'\r' && byte_at(text, 1) == b'\n' {
@@ -40,14 +43,16 @@ pub fn line_end_len(text: &[u8]) -> usize
     }
 }
 
-pub fn blank_len(text: &[u8]) -> usize
+/// How many blanks a text begins with.
+pub(crate) fn blank_len(text: &[u8]) -> usize
     ensures value { result ≡ prefix_len spec.is_blank text.now }
     ensures within { result ≤ length text.now }
 {
     text.iter().take_while(|byte| is_blank(**byte)).count()
 }
 
-pub fn comment_len(text: &[u8]) -> usize
+/// How many bytes a comment takes, up to the end of its line.
+pub(crate) fn comment_len(text: &[u8]) -> usize
     ensures value { result ≡ prefix_len spec.is_comment_byte text.now }
     ensures within { result ≤ length text.now }
 {

@@ -10,6 +10,7 @@ use std::alloc::{AllocError, Global};
 use unicode_ident::is_xid_continue;
 use unicode_normalization::to_nfkc;
 
+/// The keywords of two letters.
 const OF_TWO: [(&[u8], Keyword); 5] = [
     (b"as", Keyword::As),
     (b"if", Keyword::If),
@@ -18,6 +19,7 @@ const OF_TWO: [(&[u8], Keyword); 5] = [
     (b"or", Keyword::Or),
 ];
 
+/// The keywords of three letters.
 const OF_THREE: [(&[u8], Keyword); 6] = [
     (b"and", Keyword::And),
     (b"def", Keyword::Def),
@@ -27,6 +29,7 @@ const OF_THREE: [(&[u8], Keyword); 6] = [
     (b"try", Keyword::Try),
 ];
 
+/// The keywords of four letters.
 const OF_FOUR: [(&[u8], Keyword); 7] = [
     (b"None", Keyword::None),
     (b"True", Keyword::True),
@@ -37,6 +40,7 @@ const OF_FOUR: [(&[u8], Keyword); 7] = [
     (b"with", Keyword::With),
 ];
 
+/// The keywords of five letters.
 const OF_FIVE: [(&[u8], Keyword); 8] = [
     (b"False", Keyword::False),
     (b"async", Keyword::Async),
@@ -48,6 +52,7 @@ const OF_FIVE: [(&[u8], Keyword); 8] = [
     (b"yield", Keyword::Yield),
 ];
 
+/// The keywords of six letters.
 const OF_SIX: [(&[u8], Keyword); 6] = [
     (b"assert", Keyword::Assert),
     (b"except", Keyword::Except),
@@ -57,8 +62,10 @@ const OF_SIX: [(&[u8], Keyword); 6] = [
     (b"return", Keyword::Return),
 ];
 
+/// The keywords of seven letters.
 const OF_SEVEN: [(&[u8], Keyword); 1] = [(b"finally", Keyword::Finally)];
 
+/// The keywords of eight letters.
 const OF_EIGHT: [(&[u8], Keyword); 2] = [
     (b"continue", Keyword::Continue),
     (b"nonlocal", Keyword::Nonlocal),
@@ -89,7 +96,7 @@ fn character_name_len(text: &str) -> usize
 }
 
 /// How many bytes the name at the front takes.
-pub fn name_len(text: &str) -> usize
+pub(crate) fn name_len(text: &str) -> usize
     ensures value { result ≡ spec.name_len text.now }
     ensures within { result ≤ length text.now }
 {

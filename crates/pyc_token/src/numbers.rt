@@ -8,13 +8,14 @@ use crate::tokens::Number;
 
 /// The base of a number.
 #[derive(Clone, Copy, Debug, PartialEq, Eq)]
-pub enum Base {
+pub(crate) enum Base {
     Two,
     Eight,
     Ten,
     Sixteen,
 }
 
+/// Whether a byte is a digit of a base.
 fn is_digit_of(base: Base, byte: u8) -> bool
     ensures { result ≡ spec.is_digit_of base byte }
 {
@@ -54,6 +55,7 @@ fn digits_len(text: &[u8]) -> usize
     }
 }
 
+/// The base that a letter after `0` names.
 fn base_named(byte: u8) -> Option<Base>
     ensures { result ≡ spec.base_named byte }
 {
@@ -165,7 +167,7 @@ fn number_in(base: Base, text: &[u8]) -> (Number, usize)
 
 /// The number at the front and its length in bytes.
 #[tactic(auto, unfolding(crate::specs::Numbers::number_at))]
-pub fn number_at(text: &[u8]) -> (Number, usize)
+pub(crate) fn number_at(text: &[u8]) -> (Number, usize)
     ensures value { result ≡ spec.number_at text.now }
     ensures within { result.1 ≤ length text.now }
 {

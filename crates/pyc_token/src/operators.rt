@@ -6,6 +6,7 @@ ghost use Rattle.pyc_token.specs.Operators as spec;
 use crate::characters::byte_at;
 use crate::tokens::{Arithmetic, Bracket, Comparison, Delimiter, Kind};
 
+/// The operators that begin with `*`, longest first.
 const STAR: [(&[u8], Kind); 4] = [
     (b"**=", Kind::Augmented(Arithmetic::DoubleStar)),
     (b"**", Kind::Arithmetic(Arithmetic::DoubleStar)),
@@ -13,6 +14,7 @@ const STAR: [(&[u8], Kind); 4] = [
     (b"*", Kind::Arithmetic(Arithmetic::Star)),
 ];
 
+/// The operators that begin with `/`, longest first.
 const SLASH: [(&[u8], Kind); 4] = [
     (b"//=", Kind::Augmented(Arithmetic::DoubleSlash)),
     (b"//", Kind::Arithmetic(Arithmetic::DoubleSlash)),
@@ -20,6 +22,7 @@ const SLASH: [(&[u8], Kind); 4] = [
     (b"/", Kind::Arithmetic(Arithmetic::Slash)),
 ];
 
+/// The operators that begin with `>`, longest first.
 const GREATER: [(&[u8], Kind); 4] = [
     (b">>=", Kind::Augmented(Arithmetic::RightShift)),
     (b">>", Kind::Arithmetic(Arithmetic::RightShift)),
@@ -27,6 +30,7 @@ const GREATER: [(&[u8], Kind); 4] = [
     (b">", Kind::Comparison(Comparison::Greater)),
 ];
 
+/// The operators that begin with `<`, longest first.
 const LESS: [(&[u8], Kind); 4] = [
     (b"<<=", Kind::Augmented(Arithmetic::LeftShift)),
     (b"<<", Kind::Arithmetic(Arithmetic::LeftShift)),
@@ -34,75 +38,95 @@ const LESS: [(&[u8], Kind); 4] = [
     (b"<", Kind::Comparison(Comparison::Less)),
 ];
 
+/// The operators that begin with `.`, longest first.
 const DOT: [(&[u8], Kind); 2] = [
     (b"...", Kind::Delimiter(Delimiter::Ellipsis)),
     (b".", Kind::Delimiter(Delimiter::Dot)),
 ];
 
+/// The operators that begin with `-`, longest first.
 const MINUS: [(&[u8], Kind); 3] = [
     (b"->", Kind::Delimiter(Delimiter::Arrow)),
     (b"-=", Kind::Augmented(Arithmetic::Minus)),
     (b"-", Kind::Arithmetic(Arithmetic::Minus)),
 ];
 
+/// The operators that begin with `:`, longest first.
 const COLON: [(&[u8], Kind); 2] = [
     (b":=", Kind::Delimiter(Delimiter::ColonEqual)),
     (b":", Kind::Delimiter(Delimiter::Colon)),
 ];
 
+/// The operators that begin with `=`, longest first.
 const EQUAL: [(&[u8], Kind); 2] = [
     (b"==", Kind::Comparison(Comparison::Equal)),
     (b"=", Kind::Delimiter(Delimiter::Equal)),
 ];
 
+/// The operators that begin with `!`, longest first.
 const EXCLAMATION: [(&[u8], Kind); 1] = [(b"!=", Kind::Comparison(Comparison::NotEqual))];
 
+/// The operators that begin with `+`, longest first.
 const PLUS: [(&[u8], Kind); 2] = [
     (b"+=", Kind::Augmented(Arithmetic::Plus)),
     (b"+", Kind::Arithmetic(Arithmetic::Plus)),
 ];
 
+/// The operators that begin with `%`, longest first.
 const PERCENT: [(&[u8], Kind); 2] = [
     (b"%=", Kind::Augmented(Arithmetic::Percent)),
     (b"%", Kind::Arithmetic(Arithmetic::Percent)),
 ];
 
+/// The operators that begin with `@`, longest first.
 const AT: [(&[u8], Kind); 2] = [
     (b"@=", Kind::Augmented(Arithmetic::At)),
     (b"@", Kind::Arithmetic(Arithmetic::At)),
 ];
 
+/// The operators that begin with `&`, longest first.
 const AMPERSAND: [(&[u8], Kind); 2] = [
     (b"&=", Kind::Augmented(Arithmetic::Ampersand)),
     (b"&", Kind::Arithmetic(Arithmetic::Ampersand)),
 ];
 
+/// The operators that begin with `|`, longest first.
 const BAR: [(&[u8], Kind); 2] = [
     (b"|=", Kind::Augmented(Arithmetic::Bar)),
     (b"|", Kind::Arithmetic(Arithmetic::Bar)),
 ];
 
+/// The operators that begin with `^`, longest first.
 const CARET: [(&[u8], Kind); 2] = [
     (b"^=", Kind::Augmented(Arithmetic::Caret)),
     (b"^", Kind::Arithmetic(Arithmetic::Caret)),
 ];
 
+/// The operators that begin with `~`, longest first.
 const TILDE: [(&[u8], Kind); 1] = [(b"~", Kind::Delimiter(Delimiter::Tilde))];
 
+/// The operators that begin with `(`, longest first.
 const OPEN_ROUND: [(&[u8], Kind); 1] = [(b"(", Kind::Open(Bracket::Round))];
 
+/// The operators that begin with `)`, longest first.
 const CLOSE_ROUND: [(&[u8], Kind); 1] = [(b")", Kind::Close(Bracket::Round))];
 
+/// The operators that begin with `[`, longest first.
 const OPEN_SQUARE: [(&[u8], Kind); 1] = [(b"[", Kind::Open(Bracket::Square))];
 
+/// The operators that begin with `]`, longest first.
 const CLOSE_SQUARE: [(&[u8], Kind); 1] = [(b"]", Kind::Close(Bracket::Square))];
 
+/// The operators that begin with `{`, longest first.
 const OPEN_CURLY: [(&[u8], Kind); 1] = [(b"{", Kind::Open(Bracket::Curly))];
 
+/// The operators that begin with `}`, longest first.
 const CLOSE_CURLY: [(&[u8], Kind); 1] = [(b"}", Kind::Close(Bracket::Curly))];
 
+/// The operators that begin with `,`, longest first.
 const COMMA: [(&[u8], Kind); 1] = [(b",", Kind::Delimiter(Delimiter::Comma))];
 
+/// The operators that begin with `;`, longest first.
 const SEMICOLON: [(&[u8], Kind); 1] = [(b";", Kind::Delimiter(Delimiter::Semicolon))];
 
 /// The first operator of the table whose spelling begins a text, and its length.
@@ -120,7 +144,7 @@ fn operator_in(mut table: &[(&[u8], Kind)], text: &[u8]) -> Option<(Kind, usize)
 }
 
 /// The longest operator at the front of a text, and its length.
-pub fn operator_at(text: &[u8]) -> Option<(Kind, usize)>
+pub(crate) fn operator_at(text: &[u8]) -> Option<(Kind, usize)>
     ensures value { result ≡ spec.operator_at text.now }
     ensures within { IfSome result (λ found. found.1 ≤ length text.now) }
 {

@@ -15,7 +15,7 @@ fn is_spelled(name: &[u8], word: &[u8]) -> bool
 }
 
 /// The prefix that is spelled so, in either case.
-pub fn prefix_of(name: &[u8]) -> Option<Prefix>
+pub(crate) fn prefix_of(name: &[u8]) -> Option<Prefix>
     ensures { result ≡ spec.prefix_of name.now }
 {
     if is_spelled(name, b"r") {
@@ -36,7 +36,7 @@ pub fn prefix_of(name: &[u8]) -> Option<Prefix>
 }
 
 /// Whether a string with this prefix is an f-string.
-pub fn is_format(prefix: Prefix) -> bool
+pub(crate) fn is_format(prefix: Prefix) -> bool
     ensures { result ≡ spec.is_format prefix }
 {
     matches!(prefix, Prefix::Format | Prefix::RawFormat)
@@ -105,7 +105,7 @@ fn closed_len(quotes: &[u8], text: &[u8]) -> Option<usize>
 
 /// How many bytes the string at the front takes, or none where it is open.
 #[tactic(auto, unfolding(crate::specs::Strings::string_len))]
-pub fn string_len(text: &[u8]) -> Option<usize>
+pub(crate) fn string_len(text: &[u8]) -> Option<usize>
     requires { is_quote (slice_index text.now 0) ≡ true }
     ensures value { result ≡ spec.string_len text.now }
     ensures within { IfSome result (λ len. (1 ≤ len) × (len ≤ length text.now)) }
@@ -116,7 +116,7 @@ pub fn string_len(text: &[u8]) -> Option<usize>
 
 /// Whether a field of the f-string with this text is left open: a `{` that is none of a `{{` and has no `}` after it.
 #[tactic(auto, unfolding(crate::specs::Strings::has_open_field))]
-pub fn has_open_field(text: &[u8]) -> bool
+pub(crate) fn has_open_field(text: &[u8]) -> bool
     ensures { result ≡ spec.has_open_field text.now }
 {
     let mut is_open = false;

@@ -1,6 +1,7 @@
 -- Expressions: an operand, then operators of a precedence or tighter ones
 -- (Python reference 3.13, "Expressions" and "Operator precedence").
-use Rattle.std.specs.Prelude.{ℕ, zero, suc, Bool, true, false, not, nat_lt, if◌then◌else◌, List, [], ◌∷◌, length, drop, Option, None, Some}
+use Rattle.std.specs.Prelude.{ℕ, zero, suc, Bool, true, false, not, nat_lt, if◌then◌else◌, List, [], ◌∷◌, length, drop}
+use Rattle.std.specs.Prelude.{Option, None, Some}
 use Rattle.std.specs.List.{take_while}
 use Rattle.pyc_token.specs.declared.tokens.Arithmetic.TheVariants as op
 use Rattle.pyc_token.specs.declared.tokens.Bracket.{Bracket}
@@ -61,7 +62,8 @@ second_word _ = pure None
 module _ (self : ℕ → Parser Tree) where
   -- ---- operands
 
-  -- an operator and its operand, both of this precedence ("Unary arithmetic and bitwise operations", "Boolean operations")
+  -- an operator and its operand, both of this precedence ("Unary arithmetic and bitwise operations", "Boolean
+  -- operations")
   unfoldable pub signed : ℕ → ℕ → Parser Tree
   signed loosest own = if nat_lt own loosest then fail else (do
     sign ← take_one
@@ -90,7 +92,8 @@ module _ (self : ℕ → Parser Tree) where
     opening ← take_one
     next ← peek
     if same_kind next (kind.Close bracket.Round) then rule.empty self bracket.Round opening
-        else (if same_kind next (kind.Keyword word.Yield) then rule.yield_enclosed self opening else rule.filled self bracket.Round opening)
+        else (if same_kind next (kind.Keyword word.Yield) then rule.yield_enclosed self opening
+        else rule.filled self bracket.Round opening)
 
   -- square or curly brackets and what is between them
   unfoldable pub brackets : Bracket → Parser Tree

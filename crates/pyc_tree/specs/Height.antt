@@ -1,5 +1,6 @@
--- The height of a tree in nodes: an atom is 1; each expression, argument, parameter, clause of a comprehension and item of
--- a `with` adds 1; joined strings and a chain of comparisons are one node, and an entry of a dictionary is none.
+-- The height of a tree in nodes: an atom is 1; each expression, argument, parameter, clause of a comprehension and
+-- item of a `with` adds 1; joined strings and a chain of comparisons are one node, and an entry of a dictionary is
+-- none.
 use Rattle.std.specs.Prelude.{ℕ, ◌+◌, max, if◌then◌else◌}
 use Rattle.pyc_tree.specs.Tree.{Tree, Pieces, Links, Comprehensions, Perhaps, Tail}
 use Rattle.pyc_tree.specs.Tree as tree
@@ -40,7 +41,8 @@ unfoldable mutual
   height (tree.entry key _ value) = max (height key) (height value)
   height (tree.mapping _ e) = height e
   height (tree.slice lower _ upper) = max (perhaps_height lower) (perhaps_height upper) + 1
-  height (tree.stride lower _ upper _ step) = max (perhaps_height lower) (max (perhaps_height upper) (perhaps_height step)) + 1
+  height (tree.stride lower _ upper _ step) =
+      max (perhaps_height lower) (max (perhaps_height upper) (perhaps_height step)) + 1
   height (tree.argument e) = height e + 1
   height (tree.keyword _ _ e) = height e + 1
   height (tree.generator e comprehensions) = max (height e) (comprehensions_height comprehensions) + 1
@@ -64,7 +66,8 @@ unfoldable mutual
   -- the height of the highest clause
   pub comprehensions_height : Comprehensions → ℕ
   comprehensions_height tree.no_comprehension = 0
-  comprehensions_height (tree.for_clause _ _ targets _ e rest) = max (max (height targets) (height e) + 1) (comprehensions_height rest)
+  comprehensions_height (tree.for_clause _ _ targets _ e rest) =
+      max (max (height targets) (height e) + 1) (comprehensions_height rest)
   comprehensions_height (tree.if_clause _ e rest) = max (height e + 1) (comprehensions_height rest)
 
   -- the height of an expression, 0 where there is none

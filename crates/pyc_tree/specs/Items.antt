@@ -1,6 +1,7 @@
 -- Lists with commas, displays, comprehensions, arguments, slices, parameters and targets
 -- (Python reference 3.13, "Expressions" and "Function definitions").
-use Rattle.std.specs.Prelude.{ℕ, zero, suc, Bool, true, false, ◌&&◌, nat_lt, if◌then◌else◌, List, length, Option, None, Some}
+use Rattle.std.specs.Prelude.{ℕ, zero, suc, Bool, true, false, ◌&&◌, nat_lt, if◌then◌else◌, List, length, Option, None}
+use Rattle.std.specs.Prelude.{Some}
 use Rattle.pyc_token.specs.declared.tokens.Arithmetic.TheVariants as op
 use Rattle.pyc_token.specs.declared.tokens.Bracket.{Bracket}
 use Rattle.pyc_token.specs.declared.tokens.Bracket.TheVariants as bracket
@@ -15,7 +16,8 @@ use Rattle.pyc_tree.specs.declared.display_kind.DisplayKind.TheVariants as displ
 use Rattle.pyc_tree.specs.Tree.{Tree, Pieces, Comprehensions, Perhaps, Tail}
 use Rattle.pyc_tree.specs.Tree as tree
 use Rattle.pyc_tree.specs.Kinds.{same_kind, is_name, begins_expression, begins_comprehension}
-use Rattle.pyc_tree.specs.ListContexts.{is_at, fits, next_context, may_end, begins, is_star, is_double_star, is_colon, context_in, display_kind_of, empty_display_kind}
+use Rattle.pyc_tree.specs.ListContexts.{is_at, fits, next_context, may_end, begins, is_star, is_double_star, is_colon}
+use Rattle.pyc_tree.specs.ListContexts.{context_in, display_kind_of, empty_display_kind}
 use Rattle.pyc_tree.specs.Targets.{is_target}
 use Rattle.pyc_tree.specs.Well.{is_element}
 use Rattle.pyc_tree.specs.Parser.{Parser, ◌>>=◌, pure, fail, peek, take_one, expect, expect_name, made}
@@ -112,8 +114,11 @@ module _ (self : ℕ → Parser Tree) where
   star_parameter is_annotated = do
     star ← take_one
     next ← peek
-    if is_name next then (do name ← take_one; its_annotation ← annotation is_annotated; made (tree.star_parameter star name its_annotation))
-        else made (tree.bare_star star)
+    if is_name next then (do
+      name ← take_one
+      its_annotation ← annotation is_annotated
+      made (tree.star_parameter star name its_annotation))
+    else made (tree.bare_star star)
 
   -- `**` and a parameter
   unfoldable pub double_parameter : Bool → Parser Tree
@@ -289,11 +294,13 @@ module _ (self : ℕ → Parser Tree) where
   comprehended sign opening e = do
     found ← comprehensions
     closing ← expect (kind.Close sign)
-    if is_element (display_kind_of sign e) e then made (tree.comprehension_display (display_kind_of sign e) opening e found closing) else fail
+    if is_element (display_kind_of sign e) e
+        then made (tree.comprehension_display (display_kind_of sign e) opening e found closing) else fail
 
   -- what the brackets make of their items: an expression alone in parentheses is itself
   abbrev pub enclosed : Bracket → Tree → Token → Pieces → Token → Parser Tree
-  enclosed bracket.Round first opening (tree.last e) closing = if is_at 1 e then made (tree.parenthesized opening e closing) else fail
+  enclosed bracket.Round first opening (tree.last e) closing =
+      if is_at 1 e then made (tree.parenthesized opening e closing) else fail
   enclosed sign first opening found closing = made (tree.display (display_kind_of sign first) opening found closing)
 
   -- a display after its first item

@@ -13,11 +13,13 @@ use Rattle.pyc_tree.specs.StatementView.{alias_of, separated_of, statement_of}
 abbrev pub header_of : HeaderOf → Header
 header_of (h.Condition t x) = plain.condition t (tree_of x.value)
 header_of (h.Word t) = plain.word t
-header_of (h.For word_async t targets word_in x) = plain.for_each word_async t (tree_of targets.value) word_in (tree_of x.value)
+header_of (h.For word_async t targets word_in x) =
+    plain.for_each word_async t (tree_of targets.value) word_in (tree_of x.value)
 header_of (h.Except t) = plain.except t
 header_of (h.ExceptOf t x alias) = plain.except_of t (tree_of x.value) (option_map alias_of alias)
 header_of (h.With word_async t items) = plain.with word_async t (pieces_of items)
-header_of (h.WithEnclosed word_async t opening items closing) = plain.with_enclosed word_async t opening (pieces_of items) closing
+header_of (h.WithEnclosed word_async t opening items closing) =
+    plain.with_enclosed word_async t opening (pieces_of items) closing
 header_of (h.Def word_async t name opening parameters closing result) =
     plain.def word_async t name opening (pieces_of parameters) closing (tail_of result)
 header_of (h.Class t name) = plain.class t name

@@ -6,7 +6,8 @@ use Rattle.pyc_tree.specs.Tree.{Tree, Pieces, Tail}
 use Rattle.pyc_tree.specs.Tree as tree
 use Rattle.pyc_tree.specs.Yield.{yield_of, pieces_yield, tail_yield, optional_token}
 use Rattle.pyc_tree.specs.Height.{height, pieces_height, tail_height}
-use Rattle.pyc_tree.specs.Statements.{SimpleStatement, statement_yield, statement_height, Separated, no_item, last_item, item, separated_yield, Alias, alias_yield}
+use Rattle.pyc_tree.specs.Statements.{SimpleStatement, statement_yield, statement_height, Separated, no_item, last_item}
+use Rattle.pyc_tree.specs.Statements.{item, separated_yield, Alias, alias_yield}
 
 -- a header without its colon
 pub data Header : Type 0 where
@@ -45,11 +46,13 @@ pub data Line : Type 0 where
 unfoldable pub header_yield : Header → List Token
 header_yield (condition t e) = t ∷ yield_of e
 header_yield (word t) = t ∷ []
-header_yield (for_each word_async t targets word_in e) = optional_token word_async ++ t ∷ (yield_of targets ++ word_in ∷ yield_of e)
+header_yield (for_each word_async t targets word_in e) =
+    optional_token word_async ++ t ∷ (yield_of targets ++ word_in ∷ yield_of e)
 header_yield (except t) = t ∷ []
 header_yield (except_of t e alias) = t ∷ (yield_of e ++ alias_yield alias)
 header_yield (with word_async t items) = optional_token word_async ++ t ∷ pieces_yield items
-header_yield (with_enclosed word_async t opening items closing) = optional_token word_async ++ t ∷ opening ∷ (pieces_yield items ++ closing ∷ [])
+header_yield (with_enclosed word_async t opening items closing) =
+    optional_token word_async ++ t ∷ opening ∷ (pieces_yield items ++ closing ∷ [])
 header_yield (def word_async t name opening parameters closing result) =
     optional_token word_async ++ t ∷ name ∷ opening ∷ (pieces_yield parameters ++ closing ∷ tail_yield result)
 header_yield (class t name) = t ∷ name ∷ []

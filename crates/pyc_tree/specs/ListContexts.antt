@@ -1,5 +1,5 @@
--- Lists with commas: which items may stand where (Python reference 3.13, "Expression lists", "Displays for lists, sets and
--- dictionaries", "Calls", "Subscriptions", "Slicings", "Function definitions").
+-- Lists with commas: which items may stand where (Python reference 3.13, "Expression lists", "Displays for lists, sets
+-- and dictionaries", "Calls", "Subscriptions", "Slicings", "Function definitions").
 use Rattle.std.specs.Prelude.{ℕ, Bool, true, false, not, ◌&&◌, ◌||◌, nat_le, if◌then◌else◌}
 use Rattle.pyc_token.specs.declared.tokens.Arithmetic.TheVariants as op
 use Rattle.pyc_token.specs.declared.tokens.Bracket.{Bracket}
@@ -128,9 +128,11 @@ abbrev pub next_context : ListContext → Tree → ListContext
 next_context list_context.Braces e = after_brace e
 next_context list_context.Arguments e = after_argument list_context.Arguments e
 next_context list_context.KeywordArguments e = after_argument list_context.KeywordArguments e
-next_context (list_context.Parameters is_annotated) e = after_parameter (list_context.Parameters is_annotated) is_annotated e
+next_context (list_context.Parameters is_annotated) e =
+    after_parameter (list_context.Parameters is_annotated) is_annotated e
 next_context (list_context.AfterStar is_annotated) e = list_context.KeywordOnly is_annotated
-next_context (list_context.KeywordOnly is_annotated) e = after_parameter (list_context.KeywordOnly is_annotated) is_annotated e
+next_context (list_context.KeywordOnly is_annotated) e =
+    after_parameter (list_context.KeywordOnly is_annotated) is_annotated e
 next_context here _ = here
 
 -- whether the list may end in a context: a parameter follows a bare `*`

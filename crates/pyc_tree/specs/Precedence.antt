@@ -1,7 +1,7 @@
 -- How tightly operators bind, from 1 for the loosest to 16 for an atom
 -- (Python reference 3.13, "Operator precedence"):
--- 1 lambda and conditional; 2 or; 3 and; 4 not; 5 comparisons; 6 `|`; 7 `^`; 8 `&`; 9 shifts; 10 `+ -`; 11 `* @ / // %`;
--- 12 unary `+ - ~`; 13 `**`; 14 await; 15 calls, attributes, subscripts; 16 atoms.
+-- 1 lambda and conditional; 2 or; 3 and; 4 not; 5 comparisons; 6 `|`; 7 `^`; 8 `&`; 9 shifts; 10 `+ -`;
+-- 11 `* @ / // %`; 12 unary `+ - ~`; 13 `**`; 14 await; 15 calls, attributes, subscripts; 16 atoms.
 use Rattle.std.specs.Prelude.{ℕ}
 use Rattle.pyc_token.specs.declared.tokens.Arithmetic.{Arithmetic}
 use Rattle.pyc_token.specs.declared.tokens.Arithmetic.TheVariants as op

@@ -1,5 +1,6 @@
 -- The grammar of simple statements (Python reference 3.13, "Simple statements").
-use Rattle.std.specs.Prelude.{ℕ, zero, suc, Bool, true, false, not, ◌&&◌, if◌then◌else◌, List, [], ◌∷◌, length, drop, Option, None, Some}
+use Rattle.std.specs.Prelude.{ℕ, zero, suc, Bool, true, false, not, ◌&&◌, if◌then◌else◌, List, [], ◌∷◌, length, drop}
+use Rattle.std.specs.Prelude.{Option, None, Some}
 use Rattle.std.specs.List.{take_while}
 use Rattle.pyc_token.specs.declared.tokens.Bracket.TheVariants as bracket
 use Rattle.pyc_token.specs.declared.tokens.Delimiter.TheVariants as delimiter
@@ -14,7 +15,8 @@ use Rattle.pyc_tree.specs.Kinds.{kind_of, same_kind, is_name, end_of_line}
 use Rattle.pyc_tree.specs.ListContexts.{is_colon}
 use Rattle.pyc_tree.specs.Targets.{is_target, is_single_target}
 use Rattle.pyc_tree.specs.WellLines.{is_augmented, is_dot}
-use Rattle.pyc_tree.specs.Statements.{SimpleStatement, Separated, no_item, last_item, item, Alias, DottedPart, Dotted, Source, Assigned, ImportedModule, ImportedName}
+use Rattle.pyc_tree.specs.Statements.{SimpleStatement, Separated, no_item, last_item, item, Alias, DottedPart, Dotted}
+use Rattle.pyc_tree.specs.Statements.{Source, Assigned, ImportedModule, ImportedName}
 use Rattle.pyc_tree.specs.Statements as statement
 use Rattle.pyc_tree.specs.Parser.{Parser, and_then, ◌>>=◌, pure, fail, peek, take_one, expect, expect_name}
 use Rattle.pyc_tree.specs.Items as rule
@@ -42,7 +44,8 @@ all_separated one may_trail = λ ts. separated one may_trail (length ts) ts
 unfoldable pub alias : Parser (Option Alias)
 alias = do
   next ← peek
-  if same_kind next (kind.Keyword word.As) then (do t ← take_one; name ← expect_name; pure (Some (record { word = t; name = name })))
+  if same_kind next (kind.Keyword word.As)
+      then (do t ← take_one; name ← expect_name; pure (Some (record { word = t; name = name })))
       else pure None
 
 -- dots, each with a name; the number bounds them
@@ -128,7 +131,8 @@ imported_from = do
   next ← peek
   if same_kind next (kind.Open bracket.Round) then enclosed_names t from word_import else open_names t from word_import
 
--- ---- statements of a word ("The pass statement", "The break statement", "The continue statement", "The global statement")
+-- ---- statements of a word ("The pass statement", "The break statement", "The continue statement", "The global
+-- statement")
 
 unfoldable pub word_statement : Parser SimpleStatement
 word_statement = do
@@ -163,7 +167,8 @@ module _ (self : ℕ → Parser Tree) where
   unfoldable pub given : Parser Tail
   given = do
     next ← peek
-    if same_kind next (kind.Delimiter delimiter.Equal) then (do t ← take_one; e ← value; pure (tree.after t e)) else pure tree.nothing
+    if same_kind next (kind.Delimiter delimiter.Equal) then (do t ← take_one; e ← value; pure (tree.after t e))
+        else pure tree.nothing
 
   -- the targets before the last value of a chain, each with its `=`, and that value; the number bounds them
   unfoldable pub chain : ℕ → Tree → Parser (List Assigned × Tree)

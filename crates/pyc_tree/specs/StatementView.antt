@@ -15,7 +15,8 @@ use Rattle.pyc_tree.specs.declared.statement.Separated.{Separated as SeparatedOf
 use Rattle.pyc_tree.specs.declared.statement.Source.{Source as SourceOf}
 use Rattle.pyc_tree.specs.declared.statement.SimpleStatement.{SimpleStatement as SimpleStatementOf}
 use Rattle.pyc_tree.specs.declared.statement.SimpleStatement.TheVariants as s
-use Rattle.pyc_tree.specs.Statements.{SimpleStatement, Separated, no_item, last_item, item, Alias, DottedPart, Dotted, Source, Assigned, ImportedModule, ImportedName}
+use Rattle.pyc_tree.specs.Statements.{SimpleStatement, Separated, no_item, last_item, item, Alias, DottedPart, Dotted}
+use Rattle.pyc_tree.specs.Statements.{Source, Assigned, ImportedModule, ImportedName}
 use Rattle.pyc_tree.specs.Statements as plain
 use Rattle.pyc_tree.specs.View.{tree_of, tail_of, perhaps_of}
 
@@ -64,13 +65,16 @@ abbrev pub assigned_of : AssignedOf → Assigned
 assigned_of found = record { target = tree_of found.target.value; equal = found.equal }
 
 abbrev pub import_from_of : ImportFromOf → SimpleStatement
-import_from_of found = plain.import_from found.word (source_of found.source) found.word_import found.opening (separated_of name_of found.names) found.closing
+import_from_of found =
+    plain.import_from found.word (source_of found.source) found.word_import found.opening
+    (separated_of name_of found.names) found.closing
 
 -- the statement of one of the code
 abbrev pub statement_of : SimpleStatementOf → SimpleStatement
 statement_of (s.Expression x) = plain.expression (tree_of x.value)
 statement_of (s.Assign targets x) = plain.assign (map assigned_of targets.items) (tree_of x.value)
-statement_of (s.Annotate x colon annotation value) = plain.annotate (tree_of x.value) colon (tree_of annotation.value) (tail_of value)
+statement_of (s.Annotate x colon annotation value) =
+    plain.annotate (tree_of x.value) colon (tree_of annotation.value) (tail_of value)
 statement_of (s.Augment x sign y) = plain.augment (tree_of x.value) sign (tree_of y.value)
 statement_of (s.Word t) = plain.word t
 statement_of (s.Return t value) = plain.return t (perhaps_of value)

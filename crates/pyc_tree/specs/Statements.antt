@@ -109,7 +109,8 @@ separated_yield of_item (item x between rest) = of_item x ++ between ∷ separat
 unfoldable pub statement_yield : SimpleStatement → List Token
 statement_yield (expression e) = yield_of e
 statement_yield (assign targets e) = targets_yield targets ++ yield_of e
-statement_yield (annotate target colon annotation value) = yield_of target ++ colon ∷ (yield_of annotation ++ tail_yield value)
+statement_yield (annotate target colon annotation value) =
+    yield_of target ++ colon ∷ (yield_of annotation ++ tail_yield value)
 statement_yield (augment target sign e) = yield_of target ++ sign ∷ yield_of e
 statement_yield (word t) = t ∷ []
 statement_yield (return t value) = t ∷ perhaps_yield value
@@ -119,7 +120,8 @@ statement_yield (delete t targets) = t ∷ yield_of targets
 statement_yield (declare t names) = t ∷ separated_yield (λ name. name ∷ []) names
 statement_yield (import t modules) = t ∷ separated_yield module_yield modules
 statement_yield (import_from t source word_import opening names closing) =
-    t ∷ (source.dots ++ (optional_path source.path ++ word_import ∷ (optional_token opening ++ (separated_yield name_yield names ++ optional_token closing))))
+    t ∷ (source.dots ++ (optional_path source.path ++ word_import
+    ∷ (optional_token opening ++ (separated_yield name_yield names ++ optional_token closing))))
 
 -- ---- heights
 
@@ -131,7 +133,8 @@ targets_height (assigned ∷ more) = max (height assigned.target) (targets_heigh
 unfoldable pub statement_height : SimpleStatement → ℕ
 statement_height (expression e) = height e + 1
 statement_height (assign targets e) = max (targets_height targets) (height e) + 1
-statement_height (annotate target _ annotation value) = max (height target) (max (height annotation) (tail_height value)) + 1
+statement_height (annotate target _ annotation value) =
+    max (height target) (max (height annotation) (tail_height value)) + 1
 statement_height (augment target _ e) = max (height target) (height e) + 1
 statement_height (return _ value) = perhaps_height value + 1
 statement_height (raise _ value cause) = max (perhaps_height value) (tail_height cause) + 1

@@ -17,7 +17,8 @@ is_starred (tree.starred _ _) = true
 is_starred _ = false
 
 unfoldable mutual
-  -- whether a tree is a target: a name, an attribute, a subscript, a target in parentheses, or a tuple or list of targets
+  -- whether a tree is a target: a name, an attribute, a subscript, a target in parentheses, or a tuple or list of
+  -- targets
   pub is_target : Tree → Bool
   is_target (tree.name _) = true
   is_target (tree.attribute _ _ _) = true

@@ -3,7 +3,8 @@ use Rattle.std.specs.Prelude.{List, [], ◌∷◌, Option, None, Some}
 use Rattle.std.specs.declared.alloc.Global.{Global}
 use Rattle.std.specs.declared.boxed.Box.{Box}
 use Rattle.pyc_token.specs.declared.tokens.Token.{Token}
-use Rattle.pyc_tree.specs.declared.tree.Expr.{Expr, Row_of-Comprehension, end_of-Comprehension, more_of-Comprehension, Row_of-Link, end_of-Link, more_of-Link, Held-Expr-Yield-1, None', Some'}
+use Rattle.pyc_tree.specs.declared.tree.Expr.{Expr, Row_of-Comprehension, end_of-Comprehension, more_of-Comprehension}
+use Rattle.pyc_tree.specs.declared.tree.Expr.{Row_of-Link, end_of-Link, more_of-Link, Held-Expr-Yield-1, None', Some'}
 use Rattle.pyc_tree.specs.declared.tree.Expr.TheVariants as e
 use Rattle.pyc_tree.specs.declared.tree.Pieces.{Pieces as Items, Pieces', Row_of-Piece, end_of-Piece, more_of-Piece}
 use Rattle.pyc_tree.specs.declared.tree.Piece.{Piece}
@@ -24,7 +25,8 @@ unfoldable mutual
   tree_of (e.Strings t more) = tree.strings t more.items
   tree_of (e.Parenthesized' opening _ x closing) = tree.parenthesized opening (tree_of x) closing
   tree_of (e.Display display_kind opening items closing) = tree.display display_kind opening (pieces_of items) closing
-  tree_of (e.ComprehensionDisplay' display_kind opening _ x _ comprehensions closing) = tree.comprehension_display display_kind opening (tree_of x) (comprehensions_row comprehensions) closing
+  tree_of (e.ComprehensionDisplay' display_kind opening _ x _ comprehensions closing) =
+      tree.comprehension_display display_kind opening (tree_of x) (comprehensions_row comprehensions) closing
   tree_of (e.Attribute' _ x dot name) = tree.attribute (tree_of x) dot name
   tree_of (e.Call' _ x opening items closing) = tree.call (tree_of x) opening (pieces_of items) closing
   tree_of (e.Subscript' _ x opening items closing) = tree.subscript (tree_of x) opening (pieces_of items) closing
@@ -32,7 +34,8 @@ unfoldable mutual
   tree_of (e.Unary' sign _ x) = tree.unary sign (tree_of x)
   tree_of (e.Binary' _ x sign _ y) = tree.binary (tree_of x) sign (tree_of y)
   tree_of (e.Compare' _ x _ links) = tree.compare (tree_of x) (links_row links)
-  tree_of (e.Conditional' _ x word_if _ test word_else _ y) = tree.conditional (tree_of x) word_if (tree_of test) word_else (tree_of y)
+  tree_of (e.Conditional' _ x word_if _ test word_else _ y) =
+      tree.conditional (tree_of x) word_if (tree_of test) word_else (tree_of y)
   tree_of (e.Lambda' word items colon _ body) = tree.lambda word (pieces_of items) colon (tree_of body)
   tree_of (e.Bare items) = tree.bare (pieces_of items)
   tree_of (e.Yield' word value) = tree.yield word (held value)
@@ -78,13 +81,15 @@ unfoldable mutual
 
   -- a clause before others
   pub comprehension_before : Comprehension → Comprehensions → Comprehensions
-  comprehension_before (c.For' word_async word_for _ targets word_in _ x) rest = tree.for_clause word_async word_for (tree_of targets) word_in (tree_of x) rest
+  comprehension_before (c.For' word_async word_for _ targets word_in _ x) rest =
+      tree.for_clause word_async word_for (tree_of targets) word_in (tree_of x) rest
   comprehension_before (c.If' word _ x) rest = tree.if_clause word (tree_of x) rest
 
   -- the clauses of a comprehension
   pub comprehensions_row : {n : _} → Row_of-Comprehension n → Comprehensions
   comprehensions_row end_of-Comprehension = tree.no_comprehension
-  comprehensions_row (more_of-Comprehension comprehension rest) = comprehension_before comprehension (comprehensions_row rest)
+  comprehensions_row (more_of-Comprehension comprehension rest) =
+      comprehension_before comprehension (comprehensions_row rest)
 
   -- a token and the expression after it, or nothing
   pub tail_of : Ending → Tail
@@ -116,4 +121,5 @@ links_before (l ∷ ls) end = tree.link l.first l.second (tree_of l.right.value)
 -- clauses before others
 abbrev pub comprehensions_before : List Comprehension → Comprehensions → Comprehensions
 comprehensions_before [] end = end
-comprehensions_before (comprehension ∷ comprehensions) end = comprehension_before comprehension (comprehensions_before comprehensions end)
+comprehensions_before (comprehension ∷ comprehensions) end =
+    comprehension_before comprehension (comprehensions_before comprehensions end)

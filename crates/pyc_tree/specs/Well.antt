@@ -1,6 +1,8 @@
--- Well-formed trees: each operand stands at a precedence that its place allows, each token is of the kind that its place asks
--- for, and targets, joined strings, arguments and parameters have their forms (Python reference 3.13, "Expressions").
-use Rattle.std.specs.Prelude.{◌≡◌, ◌≤◌, ℕ, Bool, true, false, not, ◌&&◌, ◌||◌, nat_le, if◌then◌else◌, List, [], ◌∷◌, Option, None, Some}
+-- Well-formed trees: each operand stands at a precedence that its place allows, each token is of the kind that its
+-- place asks for, and targets, joined strings, arguments and parameters have their forms (Python reference 3.13,
+-- "Expressions").
+use Rattle.std.specs.Prelude.{◌≡◌, ◌≤◌, ℕ, Bool, true, false, not, ◌&&◌, ◌||◌, nat_le, if◌then◌else◌, List, [], ◌∷◌}
+use Rattle.std.specs.Prelude.{Option, None, Some}
 use Rattle.pyc_token.specs.declared.tokens.Bracket.{Bracket}
 use Rattle.pyc_token.specs.declared.tokens.Bracket.TheVariants as bracket
 use Rattle.pyc_token.specs.declared.tokens.Delimiter.TheVariants as delimiter
@@ -18,7 +20,8 @@ use Rattle.pyc_tree.specs.declared.display_kind.DisplayKind.TheVariants as displ
 use Rattle.pyc_tree.specs.Tree.{Tree, Pieces, Links, Comprehensions, Perhaps, Tail}
 use Rattle.pyc_tree.specs.Tree as tree
 use Rattle.pyc_tree.specs.Kinds.{is_name, is_number, is_string, is_constant, is_comparison}
-use Rattle.pyc_tree.specs.Precedence.{precedence, infix_precedence, left_precedence, right_precedence, prefix_precedence}
+use Rattle.pyc_tree.specs.Precedence.{precedence, infix_precedence, left_precedence, right_precedence}
+use Rattle.pyc_tree.specs.Precedence.{prefix_precedence}
 use Rattle.pyc_tree.specs.ListContexts.{is_at, fits, next_context, may_end, has_comma}
 use Rattle.pyc_tree.specs.Targets.{is_target}
 
@@ -38,7 +41,8 @@ is_bytes _ = false
 -- whether string literals join: all are bytes, or none is ("String literal concatenation")
 abbrev pub are_joined : Bool → List Token → Bool
 are_joined of_bytes [] = true
-are_joined of_bytes (t ∷ more) = is_string t.kind && (if of_bytes then is_bytes t.kind else not (is_bytes t.kind)) && are_joined of_bytes more
+are_joined of_bytes (t ∷ more) =
+    is_string t.kind && (if of_bytes then is_bytes t.kind else not (is_bytes t.kind)) && are_joined of_bytes more
 
 -- whether a tree is a `yield`
 abbrev pub is_yield : Tree → Bool
@@ -60,8 +64,8 @@ abbrev pub has_item : Pieces → Bool
 has_item tree.none = false
 has_item _ = true
 
--- whether items make a display: one in parentheses needs a comma for its only item, and no item between curly brackets makes
--- a dictionary ("Parenthesized forms", "Set displays", "Dictionary displays")
+-- whether items make a display: one in parentheses needs a comma for its only item, and no item between curly brackets
+-- makes a dictionary ("Parenthesized forms", "Set displays", "Dictionary displays")
 abbrev pub is_display : DisplayKind → Pieces → Bool
 is_display display_kind.Tuple items = has_comma items || not (has_item items)
 is_display display_kind.Set items = has_item items
@@ -118,46 +122,69 @@ unfoldable mutual
   IsWell (tree.constant t) = is_constant t.kind ≡ true
   IsWell (tree.strings t more) = (is_string t.kind ≡ true) × (are_joined (is_bytes t.kind) more ≡ true)
   IsWell (tree.parenthesized opening e closing) =
-      (opening.kind ≡ kind.Open bracket.Round) × (closing.kind ≡ kind.Close bracket.Round) × (is_enclosed e ≡ true) × IsWell e
+      (opening.kind ≡ kind.Open bracket.Round) × (closing.kind ≡ kind.Close bracket.Round) × (is_enclosed e ≡ true)
+      × IsWell e
   IsWell (tree.display display_kind opening items closing) =
-      (opening.kind ≡ kind.Open (bracket_of display_kind)) × (closing.kind ≡ kind.Close (bracket_of display_kind)) × (is_display display_kind items ≡ true) × ArePieces (context_of display_kind) items
+      (opening.kind ≡ kind.Open (bracket_of display_kind)) × (closing.kind ≡ kind.Close (bracket_of display_kind))
+      × (is_display display_kind items ≡ true) × ArePieces (context_of display_kind) items
   IsWell (tree.comprehension_display display_kind opening e comprehensions closing) =
-      (opening.kind ≡ kind.Open (bracket_of display_kind)) × (closing.kind ≡ kind.Close (bracket_of display_kind)) × (is_element display_kind e ≡ true) × IsWell e × (has_for comprehensions ≡ true) × AreComprehensions comprehensions
-  IsWell (tree.attribute e dot name) = (15 ≤ precedence e) × IsWell e × (dot.kind ≡ kind.Delimiter delimiter.Dot) × (is_name name.kind ≡ true)
+      (opening.kind ≡ kind.Open (bracket_of display_kind)) × (closing.kind ≡ kind.Close (bracket_of display_kind))
+      × (is_element display_kind e ≡ true) × IsWell e × (has_for comprehensions ≡ true)
+      × AreComprehensions comprehensions
+  IsWell (tree.attribute e dot name) =
+      (15 ≤ precedence e) × IsWell e × (dot.kind ≡ kind.Delimiter delimiter.Dot) × (is_name name.kind ≡ true)
   IsWell (tree.call e opening arguments closing) =
-      (15 ≤ precedence e) × IsWell e × (opening.kind ≡ kind.Open bracket.Round) × (closing.kind ≡ kind.Close bracket.Round) × AreArguments arguments
+      (15 ≤ precedence e) × IsWell e × (opening.kind ≡ kind.Open bracket.Round)
+      × (closing.kind ≡ kind.Close bracket.Round) × AreArguments arguments
   IsWell (tree.subscript e opening index closing) =
-      (15 ≤ precedence e) × IsWell e × (opening.kind ≡ kind.Open bracket.Square) × (closing.kind ≡ kind.Close bracket.Square) × (has_item index ≡ true) × ArePieces list_context.Subscript index
+      (15 ≤ precedence e) × IsWell e × (opening.kind ≡ kind.Open bracket.Square)
+      × (closing.kind ≡ kind.Close bracket.Square) × (has_item index ≡ true)
+      × ArePieces list_context.Subscript index
   IsWell (tree.await t e) = (t.kind ≡ kind.Keyword word.Await) × (15 ≤ precedence e) × IsWell e
-  IsWell (tree.unary sign e) = (1 ≤ prefix_precedence sign.kind) × (prefix_precedence sign.kind ≤ precedence e) × IsWell e
+  IsWell (tree.unary sign e) =
+      (1 ≤ prefix_precedence sign.kind) × (prefix_precedence sign.kind ≤ precedence e) × IsWell e
   IsWell (tree.binary a sign b) =
-      (1 ≤ right_precedence sign.kind) × (left_precedence sign.kind ≤ precedence a) × (right_precedence sign.kind ≤ precedence b) × IsWell a × IsWell b
+      (1 ≤ right_precedence sign.kind) × (left_precedence sign.kind ≤ precedence a)
+      × (right_precedence sign.kind ≤ precedence b) × IsWell a × IsWell b
   IsWell (tree.compare a tree.unlinked) = ⊥
-  IsWell (tree.compare a (tree.link first second b rest)) = (6 ≤ precedence a) × IsWell a × IsLink first second b × IsWell b × AreLinks rest
+  IsWell (tree.compare a (tree.link first second b rest)) =
+      (6 ≤ precedence a) × IsWell a × IsLink first second b × IsWell b × AreLinks rest
   IsWell (tree.conditional a word_if test word_else b) =
-      (2 ≤ precedence a) × IsWell a × (word_if.kind ≡ kind.Keyword word.If) × (2 ≤ precedence test) × IsWell test × (word_else.kind ≡ kind.Keyword word.Else) × (1 ≤ precedence b) × IsWell b
+      (2 ≤ precedence a) × IsWell a × (word_if.kind ≡ kind.Keyword word.If) × (2 ≤ precedence test) × IsWell test
+      × (word_else.kind ≡ kind.Keyword word.Else) × (1 ≤ precedence b) × IsWell b
   IsWell (tree.lambda t parameters colon body) =
-      (t.kind ≡ kind.Keyword word.Lambda) × ArePieces (list_context.Parameters false) parameters × (colon.kind ≡ kind.Delimiter delimiter.Colon) × (1 ≤ precedence body) × IsWell body
+      (t.kind ≡ kind.Keyword word.Lambda) × ArePieces (list_context.Parameters false) parameters
+      × (colon.kind ≡ kind.Delimiter delimiter.Colon) × (1 ≤ precedence body) × IsWell body
   IsWell (tree.bare items) = (has_comma items ≡ true) × ArePieces list_context.Items items
   IsWell (tree.yield t value) = (t.kind ≡ kind.Keyword word.Yield) × MayBe is_expression_list value
-  IsWell (tree.yield_from t from e) = (t.kind ≡ kind.Keyword word.Yield) × (from.kind ≡ kind.Keyword word.From) × (1 ≤ precedence e) × IsWell e
+  IsWell (tree.yield_from t from e) =
+      (t.kind ≡ kind.Keyword word.Yield) × (from.kind ≡ kind.Keyword word.From) × (1 ≤ precedence e) × IsWell e
   IsWell (tree.starred star e) = (star.kind ≡ kind.Arithmetic op.Star) × (1 ≤ precedence e) × IsWell e
   IsWell (tree.double_starred stars e) = (stars.kind ≡ kind.Arithmetic op.DoubleStar) × (1 ≤ precedence e) × IsWell e
-  IsWell (tree.entry key colon value) = (1 ≤ precedence key) × IsWell key × (colon.kind ≡ kind.Delimiter delimiter.Colon) × (1 ≤ precedence value) × IsWell value
+  IsWell (tree.entry key colon value) =
+      (1 ≤ precedence key) × IsWell key × (colon.kind ≡ kind.Delimiter delimiter.Colon) × (1 ≤ precedence value)
+      × IsWell value
   IsWell (tree.mapping stars e) = (stars.kind ≡ kind.Arithmetic op.DoubleStar) × (6 ≤ precedence e) × IsWell e
-  IsWell (tree.slice lower colon upper) = MayBe (is_at 1) lower × (colon.kind ≡ kind.Delimiter delimiter.Colon) × MayBe (is_at 1) upper
+  IsWell (tree.slice lower colon upper) =
+      MayBe (is_at 1) lower × (colon.kind ≡ kind.Delimiter delimiter.Colon) × MayBe (is_at 1) upper
   IsWell (tree.stride lower colon upper second step) =
-      MayBe (is_at 1) lower × (colon.kind ≡ kind.Delimiter delimiter.Colon) × MayBe (is_at 1) upper × (second.kind ≡ kind.Delimiter delimiter.Colon) × MayBe (is_at 1) step
+      MayBe (is_at 1) lower × (colon.kind ≡ kind.Delimiter delimiter.Colon) × MayBe (is_at 1) upper
+      × (second.kind ≡ kind.Delimiter delimiter.Colon) × MayBe (is_at 1) step
   IsWell (tree.argument e) = (1 ≤ precedence e) × IsWell e
-  IsWell (tree.keyword name equal e) = (is_name name.kind ≡ true) × (equal.kind ≡ kind.Delimiter delimiter.Equal) × (1 ≤ precedence e) × IsWell e
-  IsWell (tree.generator e comprehensions) = (1 ≤ precedence e) × IsWell e × (has_for comprehensions ≡ true) × AreComprehensions comprehensions
+  IsWell (tree.keyword name equal e) =
+      (is_name name.kind ≡ true) × (equal.kind ≡ kind.Delimiter delimiter.Equal) × (1 ≤ precedence e) × IsWell e
+  IsWell (tree.generator e comprehensions) =
+      (1 ≤ precedence e) × IsWell e × (has_for comprehensions ≡ true) × AreComprehensions comprehensions
   IsWell (tree.parameter name annotation default) =
-      (is_name name.kind ≡ true) × MayFollow (kind.Delimiter delimiter.Colon) (is_at 1) annotation × MayFollow (kind.Delimiter delimiter.Equal) (is_at 1) default
+      (is_name name.kind ≡ true) × MayFollow (kind.Delimiter delimiter.Colon) (is_at 1) annotation
+      × MayFollow (kind.Delimiter delimiter.Equal) (is_at 1) default
   IsWell (tree.star_parameter star name annotation) =
-      (star.kind ≡ kind.Arithmetic op.Star) × (is_name name.kind ≡ true) × MayFollow (kind.Delimiter delimiter.Colon) (is_at 1) annotation
+      (star.kind ≡ kind.Arithmetic op.Star) × (is_name name.kind ≡ true)
+      × MayFollow (kind.Delimiter delimiter.Colon) (is_at 1) annotation
   IsWell (tree.bare_star star) = star.kind ≡ kind.Arithmetic op.Star
   IsWell (tree.double_parameter stars name annotation) =
-      (stars.kind ≡ kind.Arithmetic op.DoubleStar) × (is_name name.kind ≡ true) × MayFollow (kind.Delimiter delimiter.Colon) (is_at 1) annotation
+      (stars.kind ≡ kind.Arithmetic op.DoubleStar) × (is_name name.kind ≡ true)
+      × MayFollow (kind.Delimiter delimiter.Colon) (is_at 1) annotation
   IsWell (tree.with_item e target) =
       (1 ≤ precedence e) × IsWell e × MayFollow (kind.Keyword word.As) (λ to. is_at 6 to && is_target to) target
 
@@ -166,15 +193,18 @@ unfoldable mutual
   ArePieces here tree.none = may_end here ≡ true
   ArePieces here (tree.last e) = (fits here e ≡ true) × IsWell e × (may_end (next_context here e) ≡ true)
   ArePieces here (tree.piece e comma rest) =
-      (fits here e ≡ true) × IsWell e × (comma.kind ≡ kind.Delimiter delimiter.Comma) × ArePieces (next_context here e) rest
+      (fits here e ≡ true) × IsWell e × (comma.kind ≡ kind.Delimiter delimiter.Comma)
+      × ArePieces (next_context here e) rest
 
   -- well-formed arguments of a call: a generator without parentheses is the only one
   pub AreArguments : Pieces → Type 0
-  AreArguments (tree.last (tree.argument (tree.generator e comprehensions))) = (1 ≤ precedence e) × IsWell e × (has_for comprehensions ≡ true) × AreComprehensions comprehensions
+  AreArguments (tree.last (tree.argument (tree.generator e comprehensions))) =
+      (1 ≤ precedence e) × IsWell e × (has_for comprehensions ≡ true) × AreComprehensions comprehensions
   AreArguments tree.none = Unit {0}
   AreArguments (tree.last e) = (fits list_context.Arguments e ≡ true) × IsWell e
   AreArguments (tree.piece e comma rest) =
-      (fits list_context.Arguments e ≡ true) × IsWell e × (comma.kind ≡ kind.Delimiter delimiter.Comma) × ArePieces (next_context list_context.Arguments e) rest
+      (fits list_context.Arguments e ≡ true) × IsWell e × (comma.kind ≡ kind.Delimiter delimiter.Comma)
+      × ArePieces (next_context list_context.Arguments e) rest
 
   -- well-formed comparisons
   pub AreLinks : Links → Type 0
@@ -185,8 +215,10 @@ unfoldable mutual
   pub AreComprehensions : Comprehensions → Type 0
   AreComprehensions tree.no_comprehension = Unit {0}
   AreComprehensions (tree.for_clause word_async word_for targets word_in e rest) =
-      IsAsync word_async × (word_for.kind ≡ kind.Keyword word.For) × (is_target targets ≡ true) × IsWell targets × (word_in.kind ≡ kind.Keyword word.In) × (2 ≤ precedence e) × IsWell e × AreComprehensions rest
-  AreComprehensions (tree.if_clause t e rest) = (t.kind ≡ kind.Keyword word.If) × (2 ≤ precedence e) × IsWell e × AreComprehensions rest
+      IsAsync word_async × (word_for.kind ≡ kind.Keyword word.For) × (is_target targets ≡ true) × IsWell targets
+      × (word_in.kind ≡ kind.Keyword word.In) × (2 ≤ precedence e) × IsWell e × AreComprehensions rest
+  AreComprehensions (tree.if_clause t e rest) =
+      (t.kind ≡ kind.Keyword word.If) × (2 ≤ precedence e) × IsWell e × AreComprehensions rest
 
   -- none, or a well-formed tree that passes a test
   pub MayBe : (Tree → Bool) → Perhaps → Type 0

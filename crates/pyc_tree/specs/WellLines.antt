@@ -18,7 +18,8 @@ use Rattle.pyc_tree.specs.ListContexts.{is_at}
 use Rattle.pyc_tree.specs.Targets.{is_target, is_single_target, is_starred}
 use Rattle.pyc_tree.specs.Well.{IsWell, ArePieces, MayBe, MayFollow, IsAsync, is_yield, is_expression_list, has_item}
 use Rattle.pyc_tree.specs.Statements as statement
-use Rattle.pyc_tree.specs.Statements.{SimpleStatement, Separated, no_item, last_item, item, Alias, DottedPart, Dotted, Source, Assigned, ImportedModule, ImportedName}
+use Rattle.pyc_tree.specs.Statements.{SimpleStatement, Separated, no_item, last_item, item, Alias, DottedPart, Dotted}
+use Rattle.pyc_tree.specs.Statements.{Source, Assigned, ImportedModule, ImportedName}
 use Rattle.pyc_tree.specs.Lines as line
 use Rattle.pyc_tree.specs.Lines.{Header, Line, line_height}
 
@@ -79,11 +80,12 @@ has_no_star tree.none = true
 has_no_star (tree.last e) = not (is_starred e)
 has_no_star (tree.piece e _ rest) = not (is_starred e) && has_no_star rest
 
--- whether parentheses round the only item of a `with` belong to the header: they hold an expression, no `yield`, or a tuple
--- with items, of which none is starred ("The with statement")
+-- whether parentheses round the only item of a `with` belong to the header: they hold an expression, no `yield`, or a
+-- tuple with items, of which none is starred ("The with statement")
 abbrev pub is_enclosed_item : Tree → Bool
 is_enclosed_item (tree.with_item (tree.parenthesized _ e _) tree.nothing) = not (is_yield e)
-is_enclosed_item (tree.with_item (tree.display display_kind.Tuple _ items _) tree.nothing) = has_item items && has_no_star items
+is_enclosed_item (tree.with_item (tree.display display_kind.Tuple _ items _) tree.nothing) =
+    has_item items && has_no_star items
 is_enclosed_item _ = false
 
 -- whether items of a `with` have no parentheses that belong to the header
@@ -99,7 +101,8 @@ IsAlias (Some alias) = (alias.word.kind ≡ kind.Keyword word.As) × (is_name al
 
 abbrev pub AreParts : List DottedPart → Type 0
 AreParts [] = Unit {0}
-AreParts (part ∷ parts) = (part.dot.kind ≡ kind.Delimiter delimiter.Dot) × (is_name part.name.kind ≡ true) × AreParts parts
+AreParts (part ∷ parts) =
+    (part.dot.kind ≡ kind.Delimiter delimiter.Dot) × (is_name part.name.kind ≡ true) × AreParts parts
 
 abbrev pub IsDotted : Dotted → Type 0
 IsDotted path = (is_name path.first.kind ≡ true) × AreParts path.parts
@@ -119,7 +122,8 @@ abbrev pub AreSeparated : {A : Type 0} → (A → Type 0) → Kind → Bool → 
 AreSeparated IsItem k may_trail no_item = ⊥
 AreSeparated IsItem k may_trail (last_item x) = IsItem x
 AreSeparated IsItem k may_trail (item x between no_item) = (may_trail ≡ true) × IsItem x × (between.kind ≡ k)
-AreSeparated IsItem k may_trail (item x between rest) = IsItem x × (between.kind ≡ k) × AreSeparated IsItem k may_trail rest
+AreSeparated IsItem k may_trail (item x between rest) =
+    IsItem x × (between.kind ≡ k) × AreSeparated IsItem k may_trail rest
 
 abbrev pub IsImportedModule : ImportedModule → Type 0
 IsImportedModule m = IsDotted m.path × IsAlias m.alias
@@ -131,7 +135,8 @@ IsImportedName n = (is_name n.name.kind ≡ true) × IsAlias n.alias
 abbrev pub AreImportedNames : Option Token → Separated ImportedName → Option Token → Type 0
 AreImportedNames None names None = AreSeparated IsImportedName (kind.Delimiter delimiter.Comma) false names
 AreImportedNames (Some opening) names (Some closing) =
-    (opening.kind ≡ kind.Open bracket.Round) × (closing.kind ≡ kind.Close bracket.Round) × AreSeparated IsImportedName (kind.Delimiter delimiter.Comma) true names
+    (opening.kind ≡ kind.Open bracket.Round) × (closing.kind ≡ kind.Close bracket.Round)
+    × AreSeparated IsImportedName (kind.Delimiter delimiter.Comma) true names
 AreImportedNames _ names _ = ⊥
 
 -- ---- statements
@@ -139,7 +144,8 @@ AreImportedNames _ names _ = ⊥
 abbrev pub AreAssigned : List Assigned → Type 0
 AreAssigned [] = Unit {0}
 AreAssigned (assigned ∷ more) =
-    (is_target assigned.target ≡ true) × IsWell assigned.target × (assigned.equal.kind ≡ kind.Delimiter delimiter.Equal) × AreAssigned more
+    (is_target assigned.target ≡ true) × IsWell assigned.target
+    × (assigned.equal.kind ≡ kind.Delimiter delimiter.Equal) × AreAssigned more
 
 -- a cause stands only behind an exception
 abbrev pub IsRaised : Perhaps → Tail → Type 0
@@ -153,21 +159,26 @@ IsStatement (statement.expression e) = (is_value e ≡ true) × IsWell e
 IsStatement (statement.assign [] e) = ⊥
 IsStatement (statement.assign (assigned ∷ more) e) = AreAssigned (assigned ∷ more) × (is_value e ≡ true) × IsWell e
 IsStatement (statement.annotate target colon annotation value) =
-    (is_single_target target ≡ true) × IsWell target × (colon.kind ≡ kind.Delimiter delimiter.Colon) × (1 ≤ precedence annotation) × IsWell annotation × MayFollow (kind.Delimiter delimiter.Equal) is_value value
+    (is_single_target target ≡ true) × IsWell target × (colon.kind ≡ kind.Delimiter delimiter.Colon)
+    × (1 ≤ precedence annotation) × IsWell annotation × MayFollow (kind.Delimiter delimiter.Equal) is_value value
 IsStatement (statement.augment target sign e) =
     (is_single_target target ≡ true) × IsWell target × (is_augmented sign.kind ≡ true) × (is_value e ≡ true) × IsWell e
 IsStatement (statement.word t) = is_word_statement t.kind ≡ true
 IsStatement (statement.return t value) = (t.kind ≡ kind.Keyword word.Return) × MayBe is_expression_list value
 IsStatement (statement.raise t value cause) = (t.kind ≡ kind.Keyword word.Raise) × IsRaised value cause
 IsStatement (statement.assert t test message) =
-    (t.kind ≡ kind.Keyword word.Assert) × (1 ≤ precedence test) × IsWell test × MayFollow (kind.Delimiter delimiter.Comma) (is_at 1) message
-IsStatement (statement.delete t targets) = (t.kind ≡ kind.Keyword word.Del) × (is_target targets ≡ true) × IsWell targets
+    (t.kind ≡ kind.Keyword word.Assert) × (1 ≤ precedence test) × IsWell test
+    × MayFollow (kind.Delimiter delimiter.Comma) (is_at 1) message
+IsStatement (statement.delete t targets) =
+    (t.kind ≡ kind.Keyword word.Del) × (is_target targets ≡ true) × IsWell targets
 IsStatement (statement.declare t names) =
-    (is_declaration t.kind ≡ true) × AreSeparated (λ name. is_name name.kind ≡ true) (kind.Delimiter delimiter.Comma) false names
+    (is_declaration t.kind ≡ true)
+    × AreSeparated (λ name. is_name name.kind ≡ true) (kind.Delimiter delimiter.Comma) false names
 IsStatement (statement.import t modules) =
     (t.kind ≡ kind.Keyword word.Import) × AreSeparated IsImportedModule (kind.Delimiter delimiter.Comma) false modules
 IsStatement (statement.import_from t source word_import opening names closing) =
-    (t.kind ≡ kind.Keyword word.From) × IsSourceOf source.dots source.path × (word_import.kind ≡ kind.Keyword word.Import) × AreImportedNames opening names closing
+    (t.kind ≡ kind.Keyword word.From) × IsSourceOf source.dots source.path
+    × (word_import.kind ≡ kind.Keyword word.Import) × AreImportedNames opening names closing
 
 -- ---- lines
 
@@ -176,18 +187,26 @@ unfoldable pub IsHeader : Header → Type 0
 IsHeader (line.condition t e) = (is_condition t.kind ≡ true) × (1 ≤ precedence e) × IsWell e
 IsHeader (line.word t) = is_word_header t.kind ≡ true
 IsHeader (line.for_each word_async t targets word_in e) =
-    IsAsync word_async × (t.kind ≡ kind.Keyword word.For) × (is_target targets ≡ true) × IsWell targets × (word_in.kind ≡ kind.Keyword word.In) × (is_expression_list e ≡ true) × IsWell e
+    IsAsync word_async × (t.kind ≡ kind.Keyword word.For) × (is_target targets ≡ true) × IsWell targets
+    × (word_in.kind ≡ kind.Keyword word.In) × (is_expression_list e ≡ true) × IsWell e
 IsHeader (line.except t) = t.kind ≡ kind.Keyword word.Except
-IsHeader (line.except_of t e alias) = (t.kind ≡ kind.Keyword word.Except) × (1 ≤ precedence e) × IsWell e × IsAlias alias
+IsHeader (line.except_of t e alias) =
+    (t.kind ≡ kind.Keyword word.Except) × (1 ≤ precedence e) × IsWell e × IsAlias alias
 IsHeader (line.with word_async t items) =
-    IsAsync word_async × (t.kind ≡ kind.Keyword word.With) × (has_item items ≡ true) × (ends_without_comma items ≡ true) × (is_open_with items ≡ true) × ArePieces list_context.WithItems items
+    IsAsync word_async × (t.kind ≡ kind.Keyword word.With) × (has_item items ≡ true)
+    × (ends_without_comma items ≡ true) × (is_open_with items ≡ true) × ArePieces list_context.WithItems items
 IsHeader (line.with_enclosed word_async t opening items closing) =
-    IsAsync word_async × (t.kind ≡ kind.Keyword word.With) × (opening.kind ≡ kind.Open bracket.Round) × (closing.kind ≡ kind.Close bracket.Round) × (has_item items ≡ true) × ArePieces list_context.WithItems items
+    IsAsync word_async × (t.kind ≡ kind.Keyword word.With) × (opening.kind ≡ kind.Open bracket.Round)
+    × (closing.kind ≡ kind.Close bracket.Round) × (has_item items ≡ true) × ArePieces list_context.WithItems items
 IsHeader (line.def word_async t name opening parameters closing result) =
-    IsAsync word_async × (t.kind ≡ kind.Keyword word.Def) × (is_name name.kind ≡ true) × (opening.kind ≡ kind.Open bracket.Round) × (closing.kind ≡ kind.Close bracket.Round) × ArePieces (list_context.Parameters true) parameters × MayFollow (kind.Delimiter delimiter.Arrow) (is_at 1) result
+    IsAsync word_async × (t.kind ≡ kind.Keyword word.Def) × (is_name name.kind ≡ true)
+    × (opening.kind ≡ kind.Open bracket.Round) × (closing.kind ≡ kind.Close bracket.Round)
+    × ArePieces (list_context.Parameters true) parameters
+    × MayFollow (kind.Delimiter delimiter.Arrow) (is_at 1) result
 IsHeader (line.class t name) = (t.kind ≡ kind.Keyword word.Class) × (is_name name.kind ≡ true)
 IsHeader (line.class_of t name opening arguments closing) =
-    (t.kind ≡ kind.Keyword word.Class) × (is_name name.kind ≡ true) × (opening.kind ≡ kind.Open bracket.Round) × (closing.kind ≡ kind.Close bracket.Round) × ArePieces list_context.Arguments arguments
+    (t.kind ≡ kind.Keyword word.Class) × (is_name name.kind ≡ true) × (opening.kind ≡ kind.Open bracket.Round)
+    × (closing.kind ≡ kind.Close bracket.Round) × ArePieces list_context.Arguments arguments
 
 -- statements joined by semicolons, of which one may follow the last
 abbrev pub AreStatements : Separated SimpleStatement → Type 0
@@ -201,7 +220,8 @@ MayBeStatements statements = AreStatements statements
 -- a line of well-formed parts
 abbrev pub IsLine : Line → Type 0
 IsLine (line.simple statements) = AreStatements statements
-IsLine (line.header h colon statements) = IsHeader h × (colon.kind ≡ kind.Delimiter delimiter.Colon) × MayBeStatements statements
+IsLine (line.header h colon statements) =
+    IsHeader h × (colon.kind ≡ kind.Delimiter delimiter.Colon) × MayBeStatements statements
 IsLine (line.decorator t e) = (t.kind ≡ kind.Arithmetic op.At) × (1 ≤ precedence e) × IsWell e
 
 -- a well-formed line of the profile

@@ -18,7 +18,8 @@ unfoldable mutual
   yield_of (tree.strings t more) = t ∷ more
   yield_of (tree.parenthesized opening e closing) = opening ∷ (yield_of e ++ closing ∷ [])
   yield_of (tree.display display_kind opening items closing) = opening ∷ (pieces_yield items ++ closing ∷ [])
-  yield_of (tree.comprehension_display display_kind opening e comprehensions closing) = opening ∷ (yield_of e ++ (comprehensions_yield comprehensions ++ closing ∷ []))
+  yield_of (tree.comprehension_display display_kind opening e comprehensions closing) =
+      opening ∷ (yield_of e ++ (comprehensions_yield comprehensions ++ closing ∷ []))
   yield_of (tree.attribute e dot name) = yield_of e ++ dot ∷ name ∷ []
   yield_of (tree.call e opening arguments closing) = yield_of e ++ opening ∷ (pieces_yield arguments ++ closing ∷ [])
   yield_of (tree.subscript e opening index closing) = yield_of e ++ opening ∷ (pieces_yield index ++ closing ∷ [])
@@ -26,7 +27,8 @@ unfoldable mutual
   yield_of (tree.unary sign e) = sign ∷ yield_of e
   yield_of (tree.binary a sign b) = yield_of a ++ sign ∷ yield_of b
   yield_of (tree.compare a links) = yield_of a ++ links_yield links
-  yield_of (tree.conditional a word_if test word_else b) = yield_of a ++ word_if ∷ (yield_of test ++ word_else ∷ yield_of b)
+  yield_of (tree.conditional a word_if test word_else b) =
+      yield_of a ++ word_if ∷ (yield_of test ++ word_else ∷ yield_of b)
   yield_of (tree.lambda word parameters colon body) = word ∷ (pieces_yield parameters ++ colon ∷ yield_of body)
   yield_of (tree.bare items) = pieces_yield items
   yield_of (tree.yield word value) = word ∷ perhaps_yield value
@@ -36,7 +38,8 @@ unfoldable mutual
   yield_of (tree.entry key colon value) = yield_of key ++ colon ∷ yield_of value
   yield_of (tree.mapping stars e) = stars ∷ yield_of e
   yield_of (tree.slice lower colon upper) = perhaps_yield lower ++ colon ∷ perhaps_yield upper
-  yield_of (tree.stride lower colon upper second step) = perhaps_yield lower ++ colon ∷ (perhaps_yield upper ++ second ∷ perhaps_yield step)
+  yield_of (tree.stride lower colon upper second step) =
+      perhaps_yield lower ++ colon ∷ (perhaps_yield upper ++ second ∷ perhaps_yield step)
   yield_of (tree.argument e) = yield_of e
   yield_of (tree.keyword name equal e) = name ∷ equal ∷ yield_of e
   yield_of (tree.generator e comprehensions) = yield_of e ++ comprehensions_yield comprehensions

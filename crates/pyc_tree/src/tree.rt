@@ -1,5 +1,5 @@
-//! The trees of expressions, as a logical line has them: every node keeps each of its tokens, and an identifier is named by
-//! its token's span.
+//! The trees of expressions, as a logical line has them: every node keeps each of its tokens, and an identifier is
+//! named by its token's span.
 
 use crate::display_kind::DisplayKind;
 use pyc_token::Token;

@@ -8,11 +8,13 @@ use Rattle.pyc_types.specs.Shape.{T, none, inst}
 pub data Assignable (orders : Orders) : T → T → Type 0 where
   -- None is assignable to None (typing specification, "Special types in annotations", `None`)
   nothing : Assignable orders none none
-  -- an instance of a class is assignable to each class in its order (typing specification, "Type system concepts": nominal types)
+  -- an instance of a class is assignable to each class in its order (typing specification, "Type system concepts":
+  -- nominal types)
   along : {c d : Id} → IsTrue (leads orders c d) → Assignable orders (inst c) (inst d)
   -- an instance with int in its order is assignable to float
   -- (typing specification, "Special types in annotations", "Special cases for float and complex")
-  to_float : {c d : Id} → IsTrue (leads orders c int_id) → IsTrue (same_id d float_id) → Assignable orders (inst c) (inst d)
+  to_float : {c d : Id} → IsTrue (leads orders c int_id) → IsTrue (same_id d float_id)
+      → Assignable orders (inst c) (inst d)
 
 -- the test of instances of two classes
 abbrev pub instance_assignable : Orders → Id → Id → Bool

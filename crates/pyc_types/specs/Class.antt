@@ -20,7 +20,8 @@ same_id a b = pointwise bytes_eq a.module_name b.module_name && bytes_eq a.own_n
 -- being one class is an equivalence
 pub same_id_equiv : IsEquivalence same_id
 same_id_equiv =
-    and_equiv (on_equiv (λ a. a.module_name) (lists_equiv nat_list_eq_equiv)) (on_equiv (λ a. a.own_name) nat_list_eq_equiv)
+    and_equiv (on_equiv (λ a. a.module_name) (lists_equiv nat_list_eq_equiv))
+    (on_equiv (λ a. a.own_name) nat_list_eq_equiv)
 
 -- the builtin class of this name: it has no module
 abbrev pub builtin_id : List ℕ → Id

@@ -14,6 +14,7 @@ pub fn assignable<L: Lins>(lins: &L, got: &Ty, want: &Ty) -> bool
     is_assignable(lins, got, want)
 }
 
+/// Whether a value of type `got` may stand where `want` is wanted, by the forms of both.
 fn is_assignable<L: Lins>(lins: &L, got: &Ty, want: &Ty) -> bool
     ensures { result ≡ assignable (L.orders lins.now) (shape got.now) (shape want.now) }
 {
@@ -26,6 +27,7 @@ fn is_assignable<L: Lins>(lins: &L, got: &Ty, want: &Ty) -> bool
     }
 }
 
+/// Whether an instance of one class may stand where one of another is wanted.
 fn is_instance_assignable<L: Lins>(lins: &L, got: &ClassId, want: &ClassId) -> bool
     ensures { result ≡ instance_assignable (L.orders lins.now) (id_of got.now) (id_of want.now) }
 {

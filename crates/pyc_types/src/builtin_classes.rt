@@ -107,6 +107,7 @@ impl Lins for Builtins {
     }
 }
 
+/// A class of the module `builtins`.
 fn builtin_class(alloc: Global, name: &str) -> Result<ClassId, AllocError>
     ensures { IfOk result (λ class. id_of class ≡ builtin_id name.now) }
 {
@@ -116,6 +117,7 @@ fn builtin_class(alloc: Global, name: &str) -> Result<ClassId, AllocError>
     })
 }
 
+/// Classes of the module `builtins`, in order.
 fn classes_of(alloc: Global, names: &[&str]) -> Result<Vec<ClassId>, AllocError>
     ensures { IfOk result (λ classes. map id_of classes.items ≡ map (λ name. builtin_id name.now) names.now) }
 {

@@ -65,12 +65,14 @@ impl Lin<'_> {
     }
 }
 
+/// Whether a class is one of some classes.
 fn is_among(classes: &[ClassId], class: &ClassId) -> bool
     ensures { result ≡ list_any (λ other. same_id (id_of other) (id_of class.now)) classes.now }
 {
     classes.iter().any(|other| other == class)
 }
 
+/// Whether the class of the module `builtins` with this name is one of some classes.
 fn is_builtin_among(classes: &[ClassId], name: &str) -> bool
     ensures { result ≡ list_any (λ other. same_id (id_of other) (builtin_id name.now)) classes.now }
 {

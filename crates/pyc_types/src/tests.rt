@@ -1,3 +1,5 @@
+//! Builtin classes: what is assignable, and how types print.
+
 use super::*;
 use std::test::Fail;
 

@@ -1,3 +1,5 @@
+//! What a check of files writes, and its status.
+
 use super::*;
 use pyc_daemon::memory_source::MemorySource;
 use std::alloc::AllocError;

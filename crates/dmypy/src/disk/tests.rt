@@ -1,3 +1,5 @@
+//! Fetches from a folder of the disk, and from readers that fail.
+
 use super::*;
 use std::test::Fail;
 use std::{env, process};

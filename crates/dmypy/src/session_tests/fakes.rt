@@ -1,3 +1,5 @@
+//! Readers and writers for the tests of sessions.
+
 use pyc_daemon::counted::Counted;
 use pyc_daemon::ending::{End, RunFault};
 use pyc_daemon::engine::run;

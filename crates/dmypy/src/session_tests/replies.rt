@@ -1,3 +1,5 @@
+//! Replies, refusals and ends of sessions.
+
 use super::fakes::{NEVER, OPTIONS, ShortReads, Sink, Stop, assert_sessions, session};
 use super::rows::{ONE_ERROR, ONE_ERROR_REPLIES};
 use pyc_daemon::daemon::Daemon;

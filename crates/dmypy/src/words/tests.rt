@@ -1,3 +1,5 @@
+//! Command lines, and what their words ask for.
+
 use super::*;
 use std::test::Fail;
 

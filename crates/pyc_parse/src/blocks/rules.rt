@@ -4,7 +4,8 @@
 ghost use Rattle.std.specs.Prelude.{◌≡◌, [], option_map};
 ghost use Rattle.pyc_parse.specs.ReadsBlocks.{ReadsBlocks};
 ghost use Rattle.pyc_parse.specs.ReadsLines.{ReadsLines};
-ghost use Rattle.pyc_parse.specs.BlockView.{lines_of, decorator_of, decorators_of, stmt_of, stmts_of, clause_of, clauses_of, follower_of, suite_of};
+ghost use Rattle.pyc_parse.specs.BlockView.{lines_of, decorator_of, decorators_of, stmt_of, stmts_of, clause_of};
+ghost use Rattle.pyc_parse.specs.BlockView.{clauses_of, follower_of, suite_of};
 ghost use Rattle.pyc_parse.specs.Blocks as spec;
 ghost use Rattle.pyc_tree.specs.StatementView.{separated_of, statement_of};
 
@@ -68,7 +69,8 @@ impl<F: Fn(Global, &mut Lines, usize, usize) -> Result<Vec<Stmt>, BlockFault>> R
     /// The block at an indent.
     fn block(&self, lines: &mut Lines, indent: usize) -> Result<Vec<Stmt>, BlockFault>
         requires { ReadsBlocks self.now.depth (F.pre self.now.block) (F.post self.now.block) }
-        ensures { ReadsLines stmts_of (spec.block_at self.now.depth indent (lines_of lines.old)) result (lines_of lines.new) }
+        ensures { ReadsLines stmts_of (spec.block_at self.now.depth indent (lines_of lines.old)) result
+            (lines_of lines.new) }
     {
         (self.block)(self.alloc, lines, self.depth, indent)
     }
@@ -83,7 +85,9 @@ impl<F: Fn(Global, &mut Lines, usize, usize) -> Result<Vec<Stmt>, BlockFault>> R
         statements: Separated<SimpleStatement>,
     ) -> Result<Suite, BlockFault>
         requires { ReadsBlocks self.now.depth (F.pre self.now.block) (F.post self.now.block) }
-        ensures { ReadsLines suite_of (spec.suite (spec.block_at self.now.depth) number indent (separated_of statement_of statements) (lines_of lines.old)) result (lines_of lines.new) }
+        ensures { ReadsLines suite_of
+            (spec.suite (spec.block_at self.now.depth) number indent (separated_of statement_of statements)
+            (lines_of lines.old)) result (lines_of lines.new) }
     {
         if !is_none(&statements) {
             return Ok(Suite::Inline(statements));
@@ -101,7 +105,8 @@ impl<F: Fn(Global, &mut Lines, usize, usize) -> Result<Vec<Stmt>, BlockFault>> R
     #[tactic(auto, unfolding(crate::specs::Blocks::one_clause))]
     fn one_clause(&self, lines: &mut Lines, indent: usize) -> Result<CompoundClause, BlockFault>
         requires { ReadsBlocks self.now.depth (F.pre self.now.block) (F.post self.now.block) }
-        ensures { ReadsLines clause_of (spec.one_clause (spec.block_at self.now.depth) indent (lines_of lines.old)) result (lines_of lines.new) }
+        ensures { ReadsLines clause_of (spec.one_clause (spec.block_at self.now.depth) indent (lines_of lines.old))
+            result (lines_of lines.new) }
     {
         let placed = lines.take()?;
         let number = placed.number;
@@ -127,7 +132,9 @@ impl<F: Fn(Global, &mut Lines, usize, usize) -> Result<Vec<Stmt>, BlockFault>> R
         indent: usize,
     ) -> Result<Option<(CompoundClause, After)>, BlockFault>
         requires { ReadsBlocks self.now.depth (F.pre self.now.block) (F.post self.now.block) }
-        ensures { ReadsLines follower_of (spec.next_clause (spec.block_at self.now.depth) after indent (lines_of lines.old)) result (lines_of lines.new) }
+        ensures { ReadsLines follower_of
+            (spec.next_clause (spec.block_at self.now.depth) after indent (lines_of lines.old)) result
+            (lines_of lines.new) }
     {
         match lines.follower(after, indent) {
             None => Ok(None),
@@ -146,7 +153,9 @@ impl<F: Fn(Global, &mut Lines, usize, usize) -> Result<Vec<Stmt>, BlockFault>> R
         after: After,
     ) -> Result<Vec<CompoundClause>, BlockFault>
         requires { ReadsBlocks self.now.depth (F.pre self.now.block) (F.post self.now.block) }
-        ensures { ReadsLines clauses_of (spec.all_clauses (spec.block_at self.now.depth) indent after (lines_of lines.old)) result (lines_of lines.new) }
+        ensures { ReadsLines clauses_of
+            (spec.all_clauses (spec.block_at self.now.depth) indent after (lines_of lines.old)) result
+            (lines_of lines.new) }
     {
         let mut found = Vec::new(self.alloc);
         let mut so = after;
@@ -173,7 +182,9 @@ impl<F: Fn(Global, &mut Lines, usize, usize) -> Result<Vec<Stmt>, BlockFault>> R
         after: After,
     ) -> Result<Stmt, BlockFault>
         requires { ReadsBlocks self.now.depth (F.pre self.now.block) (F.post self.now.block) }
-        ensures { ReadsLines stmt_of (spec.compound_statement (spec.block_at self.now.depth) indent (decorators_of marks) after (lines_of lines.old)) result (lines_of lines.new) }
+        ensures { ReadsLines stmt_of
+            (spec.compound_statement (spec.block_at self.now.depth) indent (decorators_of marks) after
+            (lines_of lines.old)) result (lines_of lines.new) }
     {
         let first = self.one_clause(lines, indent)?;
         let first = Box::new(self.alloc, first)?;
@@ -189,7 +200,9 @@ impl<F: Fn(Global, &mut Lines, usize, usize) -> Result<Vec<Stmt>, BlockFault>> R
         after: After,
     ) -> Result<Stmt, BlockFault>
         requires { ReadsBlocks self.now.depth (F.pre self.now.block) (F.post self.now.block) }
-        ensures { ReadsLines stmt_of (spec.compound_statement (spec.block_at self.now.depth) indent [] after (lines_of lines.old)) result (lines_of lines.new) }
+        ensures { ReadsLines stmt_of
+            (spec.compound_statement (spec.block_at self.now.depth) indent [] after (lines_of lines.old)) result
+            (lines_of lines.new) }
     {
         self.compound(lines, indent, Vec::new(self.alloc), after)
     }
@@ -204,7 +217,9 @@ impl<F: Fn(Global, &mut Lines, usize, usize) -> Result<Vec<Stmt>, BlockFault>> R
         marks: Vec<Decorator>,
     ) -> Result<Stmt, BlockFault>
         requires { ReadsBlocks self.now.depth (F.pre self.now.block) (F.post self.now.block) }
-        ensures { ReadsLines stmt_of (spec.definition (spec.block_at self.now.depth) number indent (decorators_of marks) (lines_of lines.old)) result (lines_of lines.new) }
+        ensures { ReadsLines stmt_of
+            (spec.definition (spec.block_at self.now.depth) number indent (decorators_of marks) (lines_of lines.old))
+            result (lines_of lines.new) }
     {
         if is_definition(lines.next(indent)) {
             self.compound(lines, indent, marks, After::Nothing)
@@ -217,7 +232,8 @@ impl<F: Fn(Global, &mut Lines, usize, usize) -> Result<Vec<Stmt>, BlockFault>> R
     #[tactic(auto, unfolding(crate::specs::Blocks::decorated))]
     fn decorated(&self, lines: &mut Lines, indent: usize) -> Result<Stmt, BlockFault>
         requires { ReadsBlocks self.now.depth (F.pre self.now.block) (F.post self.now.block) }
-        ensures { ReadsLines stmt_of (spec.decorated (spec.block_at self.now.depth) indent (lines_of lines.old)) result (lines_of lines.new) }
+        ensures { ReadsLines stmt_of (spec.decorated (spec.block_at self.now.depth) indent (lines_of lines.old))
+            result (lines_of lines.new) }
     {
         let number = lines.number();
         let marks = decorators(self.alloc, lines, indent)?;
@@ -228,7 +244,9 @@ impl<F: Fn(Global, &mut Lines, usize, usize) -> Result<Vec<Stmt>, BlockFault>> R
     #[tactic(auto, unfolding(crate::specs::Blocks::next_statement))]
     fn next_statement(&self, lines: &mut Lines, indent: usize) -> Result<Option<Stmt>, BlockFault>
         requires { ReadsBlocks self.now.depth (F.pre self.now.block) (F.post self.now.block) }
-        ensures { ReadsLines (option_map stmt_of) (spec.next_statement (spec.block_at self.now.depth) indent (lines_of lines.old)) result (lines_of lines.new) }
+        ensures { ReadsLines (option_map stmt_of)
+            (spec.next_statement (spec.block_at self.now.depth) indent (lines_of lines.old)) result
+            (lines_of lines.new) }
     {
         let found = match lines.next(indent) {
             Next::End => return Ok(None),
@@ -244,7 +262,8 @@ impl<F: Fn(Global, &mut Lines, usize, usize) -> Result<Vec<Stmt>, BlockFault>> R
     /// The statements of a block.
     fn statements(&self, lines: &mut Lines, indent: usize) -> Result<Vec<Stmt>, BlockFault>
         requires { ReadsBlocks self.now.depth (F.pre self.now.block) (F.post self.now.block) }
-        ensures { ReadsLines stmts_of (spec.all_statements (spec.block_at self.now.depth) indent (lines_of lines.old)) result (lines_of lines.new) }
+        ensures { ReadsLines stmts_of (spec.all_statements (spec.block_at self.now.depth) indent (lines_of lines.old))
+            result (lines_of lines.new) }
     {
         let mut found = Vec::new(self.alloc);
         for _turn in 0..lines.len() {
