@@ -1,9 +1,7 @@
-//! Builds trees, each with its height, which is refused past the limit.
+//! Builds trees of expressions, each with its height, which is refused past the limit.
 #![tactic(auto)]
 
 pub mod built;
-pub mod built_line;
-pub mod built_statement;
 mod chains;
 mod error;
 mod growth;
@@ -15,8 +13,6 @@ pub use built::{
     Built, BuiltComprehensions, BuiltLinks, BuiltOption, BuiltPieces, BuiltTail, MAX_HEIGHT, boxed,
     taller,
 };
-pub use built_line::{BuiltHeader, BuiltLine};
-pub use built_statement::{BuiltChain, BuiltSimpleStatement, BuiltSimpleStatements};
 pub use chains::{BuiltComprehension, BuiltLink};
 pub use error::ParseError;
 pub use growth::append;

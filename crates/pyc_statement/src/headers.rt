@@ -11,7 +11,8 @@ ghost use Rattle.pyc_tree.specs.View.{pieces_of};
 
 use crate::names::alias;
 use crate::rules::StatementRules;
-use pyc_build::{Built, BuiltHeader, BuiltPieces, ParseError, built_line, ends_without_comma};
+use pyc_build::{Built, BuiltPieces, ParseError, ends_without_comma};
+use pyc_build_line::{BuiltHeader, built_line};
 use pyc_cursor::{Cursor, is_colon, same_kind};
 use pyc_token::{Bracket, Delimiter, Keyword, Kind, Token};
 use pyc_tree::ListContext;

@@ -8,7 +8,8 @@ ghost use Rattle.pyc_tree.specs.SimpleStatements as spec;
 ghost use Rattle.pyc_tree.specs.StatementView.{dotted_of, source_of, statement_of};
 
 use crate::names::{dotted, imported_names, modules, names};
-use pyc_build::{BuiltSimpleStatement, ParseError, built_statement};
+use pyc_build::ParseError;
+use pyc_build_line::{BuiltSimpleStatement, built_statement};
 use pyc_cursor::{Cursor, same_kind};
 use pyc_token::{Bracket, Keyword, Kind, Token};
 use pyc_tree::{Dotted, ImportFrom, Source};

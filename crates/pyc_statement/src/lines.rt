@@ -11,9 +11,8 @@ ghost use Rattle.pyc_build.specs.ReadsTokens.{ReadsTokens, AnswersLine};
 
 use crate::headers::word_header;
 use crate::rules::StatementRules;
-use pyc_build::{
-    Built, BuiltHeader, BuiltLine, MAX_HEIGHT, ParseError, built_line, built_statement,
-};
+use pyc_build::{Built, MAX_HEIGHT, ParseError};
+use pyc_build_line::{BuiltHeader, BuiltLine, built_line, built_statement};
 use pyc_cursor::Cursor;
 use pyc_token::{Arithmetic, Delimiter, Keyword, Kind};
 use pyc_tree::Line;

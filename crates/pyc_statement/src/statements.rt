@@ -12,10 +12,8 @@ ghost use Rattle.pyc_tree.specs.View.{tree_of, tail_of};
 
 use crate::imports::{declared, imported, imported_from, word_statement};
 use crate::rules::StatementRules;
-use pyc_build::{
-    Built, BuiltChain, BuiltSimpleStatement, BuiltSimpleStatements, BuiltTail, ParseError, append,
-    boxed, built, built_statement, is_single_target, taller,
-};
+use pyc_build::{Built, BuiltTail, ParseError, append, boxed, built, is_single_target, taller};
+use pyc_build_line::{BuiltChain, BuiltSimpleStatement, BuiltSimpleStatements, built_statement};
 use pyc_cursor::{Cursor, is_augmented, is_colon, same_kind};
 use pyc_token::{Delimiter, Keyword, Kind};
 use pyc_tree::{Assigned, Item, ListContext, Separated};

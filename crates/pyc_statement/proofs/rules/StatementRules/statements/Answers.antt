@@ -1,5 +1,5 @@
 use Rattle.std.proofs.Common.{◌≡◌, ◌-◌, ◌≤◌, refl, sym, ap, ◌∙◌, length, arith, List, []}
-use Rattle.pyc_build.specs.declared.built_statement.BuiltSimpleStatement.{BuiltSimpleStatement}
+use Rattle.pyc_build_line.specs.declared.built_statement.BuiltSimpleStatement.{BuiltSimpleStatement}
 use Rattle.pyc_tree.specs.Expressions.{expr}
 use Rattle.pyc_tree.specs.SimpleStatements.{all_statements, statements}
 use Rattle.pyc_tree.specs.StatementView.{statement_of}

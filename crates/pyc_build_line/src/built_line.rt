@@ -8,9 +8,8 @@ ghost use Rattle.pyc_tree.specs.LineView.{header_of, line_of};
 ghost use Rattle.pyc_tree.specs.StatementView.{alias_of, separated_of, statement_of};
 ghost use Rattle.pyc_tree.specs.View.{tree_of, pieces_of, tail_of};
 
-use crate::built::{Built, BuiltPieces, BuiltTail, taller};
 use crate::built_statement::BuiltSimpleStatements;
-use crate::error::ParseError;
+use pyc_build::{Built, BuiltPieces, BuiltTail, ParseError, taller};
 use pyc_token::Token;
 use pyc_tree::{Alias, Header, Line};
 use std::alloc::Global;

@@ -13,8 +13,7 @@ ghost use Rattle.pyc_tree.specs.Lines.{statements_height};
 ghost use Rattle.pyc_tree.specs.Tree.{Tree};
 ghost use Rattle.pyc_tree.specs.View.{tree_of, tail_of, perhaps_of};
 
-use crate::built::{Built, BuiltOption, BuiltTail, taller};
-use crate::error::ParseError;
+use pyc_build::{Built, BuiltOption, BuiltTail, ParseError, taller};
 use pyc_token::Token;
 use pyc_tree::{Assigned, Expr, ImportFrom, ImportedModule, Separated, SimpleStatement};
 use std::alloc::Global;
