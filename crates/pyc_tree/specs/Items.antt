@@ -114,11 +114,12 @@ module _ (self : ℕ → Parser Tree) where
   star_parameter is_annotated = do
     star ← take_one
     next ← peek
-    if is_name next then (do
-      name ← take_one
-      its_annotation ← annotation is_annotated
-      made (tree.star_parameter star name its_annotation))
-    else made (tree.bare_star star)
+    if is_name next
+        then (do
+          name ← take_one
+          its_annotation ← annotation is_annotated
+          made (tree.star_parameter star name its_annotation))
+        else made (tree.bare_star star)
 
   -- `**` and a parameter
   unfoldable pub double_parameter : Bool → Parser Tree
