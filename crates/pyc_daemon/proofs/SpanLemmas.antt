@@ -13,12 +13,12 @@ use Rattle.pyc_daemon.specs.declared.scope.ScopePart.{ScopePart as ScopePartOf}
 use Rattle.pyc_daemon.specs.Scopes.{ScopePart, simple, definition, is_definition, line_parts, parts_of, statement_parts, clause_parts, clauses_parts, suite_parts, part_in, part_tokens}
 
 -- the tokens of some lines
-abbrev level_tokens : List IndentedLine → List Token
-level_tokens levels = tokens_of (map held levels)
+abbrev indented_tokens : List IndentedLine → List Token
+indented_tokens levels = tokens_of (map held levels)
 
-levels_append : (xs ys : List IndentedLine) → level_tokens (xs ++ ys) ≡ level_tokens xs ++ level_tokens ys
-levels_append [] ys = refl
-levels_append (x ∷ xs) ys = ap (λ some. line_yield x.1 ++ some) (levels_append xs ys) ∙ sym (append_assoc (line_yield x.1) (level_tokens xs) (level_tokens ys))
+indented_append : (xs ys : List IndentedLine) → indented_tokens (xs ++ ys) ≡ indented_tokens xs ++ indented_tokens ys
+indented_append [] ys = refl
+indented_append (x ∷ xs) ys = ap (λ some. line_yield x.1 ++ some) (indented_append xs ys) ∙ sym (append_assoc (line_yield x.1) (indented_tokens xs) (indented_tokens ys))
 
 -- what holds of each element of two lists holds of each of the first, and of each of the second
 All-front : {X : Type 0} (P : X → Type 0) (xs ys : List X) → All P (xs ++ ys) → All P xs
@@ -62,43 +62,43 @@ module _ (P : Token → Type 0) where
   mutual
     unfolding stmts_yield parts_of line_yield
 
-    stmts_spans : (indent : ℕ) (ss : Stmts) → All P (level_tokens (stmts_yield indent ss)) → All Holds (parts_of ss)
+    stmts_spans : (indent : ℕ) (ss : Stmts) → All P (indented_tokens (stmts_yield indent ss)) → All Holds (parts_of ss)
     stmts_spans indent no_statement all = All-nil Holds
     stmts_spans indent (statement s ss) all =
-        let split = subst (All P) (levels_append (stmt_yield indent s) (stmts_yield indent ss)) all in
+        let split = subst (All P) (indented_append (stmt_yield indent s) (stmts_yield indent ss)) all in
         All-append Holds (statement_parts s) (parts_of ss)
-        (stmt_spans indent s (All-front P (level_tokens (stmt_yield indent s)) (level_tokens (stmts_yield indent ss)) split))
-        (stmts_spans indent ss (All-back P (level_tokens (stmt_yield indent s)) (level_tokens (stmts_yield indent ss)) split))
+        (stmt_spans indent s (All-front P (indented_tokens (stmt_yield indent s)) (indented_tokens (stmts_yield indent ss)) split))
+        (stmts_spans indent ss (All-back P (indented_tokens (stmt_yield indent s)) (indented_tokens (stmts_yield indent ss)) split))
 
-    stmt_spans : (indent : ℕ) (s : Stmt) → All P (level_tokens (stmt_yield indent s)) → All Holds (statement_parts s)
+    stmt_spans : (indent : ℕ) (s : Stmt) → All P (indented_tokens (stmt_yield indent s)) → All Holds (statement_parts s)
     stmt_spans indent (tree.simple found) all = simple_spans found all
     stmt_spans indent (compound marks first more) all =
         let front = marks_yield indent marks in
         let one = clause_yield indent first in
         let others = clauses_yield indent more in
-        let split = subst (All P) (levels_append front (one ++ others)) all in
-        let clauses = subst (All P) (levels_append one others) (All-back P (level_tokens front) (level_tokens (one ++ others)) split) in
+        let split = subst (All P) (indented_append front (one ++ others)) all in
+        let clauses = subst (All P) (indented_append one others) (All-back P (indented_tokens front) (indented_tokens (one ++ others)) split) in
         All-chosen Holds (is_definition first) (definition first ∷ []) (clause_parts first ++ clauses_parts more)
         (All-cons Holds (definition first) [] (All-nil P) (All-nil Holds))
         (All-append Holds (clause_parts first) (clauses_parts more)
-        (clause_spans indent first (All-front P (level_tokens one) (level_tokens others) clauses))
-        (clauses_spans indent more (All-back P (level_tokens one) (level_tokens others) clauses)))
+        (clause_spans indent first (All-front P (indented_tokens one) (indented_tokens others) clauses))
+        (clauses_spans indent more (All-back P (indented_tokens one) (indented_tokens others) clauses)))
 
-    clause_spans : (indent : ℕ) (c : CompoundClause) → All P (level_tokens (clause_yield indent c)) → All Holds (clause_parts c)
+    clause_spans : (indent : ℕ) (c : CompoundClause) → All P (indented_tokens (clause_yield indent c)) → All Holds (clause_parts c)
     clause_spans indent (clause h colon body) all = suite_spans indent h colon body all
 
-    clauses_spans : (indent : ℕ) (cs : CompoundClauses) → All P (level_tokens (clauses_yield indent cs)) → All Holds (clauses_parts cs)
+    clauses_spans : (indent : ℕ) (cs : CompoundClauses) → All P (indented_tokens (clauses_yield indent cs)) → All Holds (clauses_parts cs)
     clauses_spans indent no_clause all = All-nil Holds
     clauses_spans indent (another c cs) all =
-        let split = subst (All P) (levels_append (clause_yield indent c) (clauses_yield indent cs)) all in
+        let split = subst (All P) (indented_append (clause_yield indent c) (clauses_yield indent cs)) all in
         All-append Holds (clause_parts c) (clauses_parts cs)
-        (clause_spans indent c (All-front P (level_tokens (clause_yield indent c)) (level_tokens (clauses_yield indent cs)) split))
-        (clauses_spans indent cs (All-back P (level_tokens (clause_yield indent c)) (level_tokens (clauses_yield indent cs)) split))
+        (clause_spans indent c (All-front P (indented_tokens (clause_yield indent c)) (indented_tokens (clauses_yield indent cs)) split))
+        (clauses_spans indent cs (All-back P (indented_tokens (clause_yield indent c)) (indented_tokens (clauses_yield indent cs)) split))
 
-    suite_spans : (indent : ℕ) (h : Header) (colon : Token) (body : Suite) → All P (level_tokens (suite_yield indent h colon body)) → All Holds (suite_parts body)
+    suite_spans : (indent : ℕ) (h : Header) (colon : Token) (body : Suite) → All P (indented_tokens (suite_yield indent h colon body)) → All Holds (suite_parts body)
     suite_spans indent h colon (inline found) all = headed_spans (header_yield h) colon found all
     suite_spans indent h colon (block inner) all =
-        stmts_spans (indent + 1) inner (All-back P (header_yield h ++ colon ∷ []) (level_tokens (stmts_yield (indent + 1) inner)) all)
+        stmts_spans (indent + 1) inner (All-back P (header_yield h ++ colon ∷ []) (indented_tokens (stmts_yield (indent + 1) inner)) all)
 
   -- what holds of each token of the statements holds of each token of the simple statements of their scope
   pub parts_spans : (ss : Stmts) → All P (stmts_tokens ss) → All Holds (parts_of ss)

@@ -17,12 +17,12 @@ use Rattle.pyc_tree.specs.Lines as line
 use Rattle.pyc_tree.specs.Statements.{SimpleStatement, Separated, no_item, last_item, item}
 
 -- a line and its level
-abbrev pub level : Placed → IndentedLine
-level p = (p.indent, p.line)
+abbrev pub indented : Placed → IndentedLine
+indented p = (p.indent, p.line)
 
 -- lines are those that were taken, before those that are left
 abbrev pub IsYield : List Placed → List IndentedLine → List Placed → Type 0
-IsYield ps taken rest = map level ps ≡ taken ++ map level rest
+IsYield ps taken rest = map indented ps ≡ taken ++ map indented rest
 
 -- ---- what is read is one thing
 
@@ -116,12 +116,12 @@ under_is indent inner (p ∷ ps) is = deeper indent inner (nat_lt indent p.inden
 -- one line
 one : (indent : ℕ) (p : Placed) (later rest : List Placed) (l : Line) → p.indent ≡ indent → p.line ≡ l → later ≡ rest → IsYield (p ∷ later) ((indent, l) ∷ []) rest
 one indent p later rest l at is left =
-    ap {B = List IndentedLine} (λ n. (n, p.line) ∷ map level later) at
-    ∙ (ap {B = List IndentedLine} (λ x. (indent, x) ∷ map level later) is ∙ ap {B = List IndentedLine} (λ qs. (indent, l) ∷ map level qs) left)
+    ap {B = List IndentedLine} (λ n. (n, p.line) ∷ map indented later) at
+    ∙ (ap {B = List IndentedLine} (λ x. (indent, x) ∷ map indented later) is ∙ ap {B = List IndentedLine} (λ qs. (indent, l) ∷ map indented qs) left)
 
 -- lines and those after them
 join : (ps mid rest : List Placed) (xs ys : List IndentedLine) → IsYield ps xs mid → IsYield mid ys rest → IsYield ps (xs ++ ys) rest
-join ps mid rest xs ys first second = first ∙ (ap (λ ls. xs ++ ls) second ∙ sym (append_assoc xs ys (map level rest)))
+join ps mid rest xs ys first second = first ∙ (ap (λ ls. xs ++ ls) second ∙ sym (append_assoc xs ys (map indented rest)))
 
 simple_by : (indent : ℕ) (p : Placed) (later : List Placed) (l : Line) (s : Stmt) (rest : List Placed) → p.line ≡ l → p.indent ≡ indent
     → and_then (statements_of p l later) (λ found. pure (simple found)) ≡ Ok (s, rest) → IsYield (p ∷ later) (stmt_yield indent s) rest
@@ -166,7 +166,7 @@ decorators_ok : (n indent : ℕ) (ps : List Placed) (marks : List Decorator) (re
     → IsYield ps (marks_yield indent marks) rest
 unfolding decorators
 decorators_ok zero indent ps marks rest e =
-    parts [] marks ps rest e (λ same left. subst (λ x. IsYield ps (marks_yield indent x) rest) same (ap (map level) left))
+    parts [] marks ps rest e (λ same left. subst (λ x. IsYield ps (marks_yield indent x) rest) same (ap (map indented) left))
 decorators_ok (suc n) indent ps marks rest e =
     either _ _ (is_decorator (next_of indent ps)) (marks, rest) e
     (λ some held.
@@ -177,7 +177,7 @@ decorators_ok (suc n) indent ps marks rest e =
     (here indent (next_of indent ps) ps refl (decorator_stands (next_of indent ps) some) (λ p later ps_is at.
     join ps mid rest ((indent, line.decorator d.mark d.value) ∷ []) (marks_yield indent more) (mark_ok indent p later ps d mid ps_is at first)
     (decorators_ok n indent mid more rest (read ∙ ap {B = BlocksParsed (List Decorator)} (λ qs. Ok (more, qs)) end))))))))
-    (λ none over. parts [] marks ps rest over (λ same left. subst (λ x. IsYield ps (marks_yield indent x) rest) same (ap (map level) left)))
+    (λ none over. parts [] marks ps rest over (λ same left. subst (λ x. IsYield ps (marks_yield indent x) rest) same (ap (map indented) left)))
 
 -- ---- over what reads the block at an indent
 
@@ -189,28 +189,28 @@ module _ (S : ℕ → Parser Stmts) (holds : Holds S) where
   -- a header and what it heads
   block_under : (number indent : ℕ) (h : Header) (colon : Token) (ps : List Placed) (body : Suite) (rest : List Placed) (o : Option ℕ)
       → under indent ps ≡ o → suite_under S number o ps ≡ Ok (body, rest)
-      → (indent, line.header h colon no_item) ∷ map level ps ≡ suite_yield indent h colon body ++ map level rest
+      → (indent, line.header h colon no_item) ∷ map indented ps ≡ suite_yield indent h colon body ++ map indented rest
   unfolding suite_yield
   block_under number indent h colon ps body rest None is e = refused number (body, rest) e
   block_under number indent h colon ps body rest (Some inner) is e =
       bind (S inner ps) _ (body, rest) e (λ found later read made.
       parts (block found) body later rest made (λ same left.
-      subst (λ x. (indent, line.header h colon no_item) ∷ map level ps ≡ suite_yield indent h colon x ++ map level rest) same
+      subst (λ x. (indent, line.header h colon no_item) ∷ map indented ps ≡ suite_yield indent h colon x ++ map indented rest) same
       (ap {B = List IndentedLine} (λ ls. (indent, line.header h colon no_item) ∷ ls)
       (holds (indent + 1) ps found rest
       (subst (λ n. S n ps ≡ Ok (found, rest)) (under_is indent inner ps is) (read ∙ ap {B = BlocksParsed Stmts} (λ qs. Ok (found, qs)) left))))))
 
   on_line : (indent : ℕ) (h : Header) (colon : Token) (found : Separated SimpleStatement) (ps : List Placed) (body : Suite) (rest : List Placed)
       → ◌≡◌ {A = BlocksParsed Suite} (Ok (inline found, ps)) (Ok (body, rest))
-      → (indent, line.header h colon found) ∷ map level ps ≡ suite_yield indent h colon body ++ map level rest
+      → (indent, line.header h colon found) ∷ map indented ps ≡ suite_yield indent h colon body ++ map indented rest
   unfolding suite_yield
   on_line indent h colon found ps body rest e =
       parts (inline found) body ps rest e (λ same left.
-      subst (λ x. (indent, line.header h colon found) ∷ map level ps ≡ suite_yield indent h colon x ++ map level rest) same
-      (ap {B = List IndentedLine} (λ qs. (indent, line.header h colon found) ∷ map level qs) left))
+      subst (λ x. (indent, line.header h colon found) ∷ map indented ps ≡ suite_yield indent h colon x ++ map indented rest) same
+      (ap {B = List IndentedLine} (λ qs. (indent, line.header h colon found) ∷ map indented qs) left))
 
   suite_ok : (number indent : ℕ) (h : Header) (colon : Token) (found : Separated SimpleStatement) (ps : List Placed) (body : Suite) (rest : List Placed)
-      → suite S number indent found ps ≡ Ok (body, rest) → (indent, line.header h colon found) ∷ map level ps ≡ suite_yield indent h colon body ++ map level rest
+      → suite S number indent found ps ≡ Ok (body, rest) → (indent, line.header h colon found) ∷ map indented ps ≡ suite_yield indent h colon body ++ map indented rest
   unfolding suite
   suite_ok number indent h colon no_item ps body rest e = block_under number indent h colon ps body rest (under indent ps) refl e
   suite_ok number indent h colon (last_item x) ps body rest e = on_line indent h colon (last_item x) ps body rest e
@@ -223,8 +223,8 @@ module _ (S : ℕ → Parser Stmts) (holds : Holds S) where
       bind (suite S p.number indent found later) _ (c, rest) e (λ body left read made.
       parts (clause h colon body) c left rest made (λ same end.
       subst (λ x. IsYield (p ∷ later) (clause_yield indent x) rest) same
-      (ap {B = List IndentedLine} (λ n. (n, p.line) ∷ map level later) at
-      ∙ (ap {B = List IndentedLine} (λ l. (indent, l) ∷ map level later) is
+      (ap {B = List IndentedLine} (λ n. (n, p.line) ∷ map indented later) at
+      ∙ (ap {B = List IndentedLine} (λ l. (indent, l) ∷ map indented later) is
       ∙ suite_ok p.number indent h colon found later body rest (read ∙ ap {B = BlocksParsed Suite} (λ qs. Ok (body, qs)) end)))))
   clause_by_line indent p later (line.simple found) c rest is at e = refused p.number (c, rest) e
   clause_by_line indent p later (line.decorator t v) c rest is at e = refused p.number (c, rest) e
@@ -248,7 +248,7 @@ module _ (S : ℕ → Parser Stmts) (holds : Holds S) where
   clauses_step n indent so ps x later found rest more None is read made =
       parts None x ps later read (λ same left.
       parts no_clause found later rest (subst (λ y. clauses_after (clauses S n indent) y later ≡ Ok (found, rest)) (sym same) made) (λ none end.
-      subst (λ y. IsYield ps (clauses_yield indent y) rest) none (ap (map level) (left ∙ end))))
+      subst (λ y. IsYield ps (clauses_yield indent y) rest) none (ap (map indented) (left ∙ end))))
   clauses_step n indent so ps x later found rest more (Some stood) is read made =
       bind (one_clause S indent ps) _ (x, later) read (λ c mid first x_is.
       parts (Some (c, stood)) x mid later x_is (λ same left.
@@ -263,27 +263,27 @@ module _ (S : ℕ → Parser Stmts) (holds : Holds S) where
   clauses_ok : (n indent : ℕ) → More n indent
   unfolding clauses clauses_yield next_clause
   clauses_ok zero indent so ps found rest e =
-      parts no_clause found ps rest e (λ same left. subst (λ y. IsYield ps (clauses_yield indent y) rest) same (ap (map level) left))
+      parts no_clause found ps rest e (λ same left. subst (λ y. IsYield ps (clauses_yield indent y) rest) same (ap (map indented) left))
   clauses_ok (suc n) indent so ps found rest e =
       bind (next_clause S so indent ps) _ (found, rest) e (λ x later read made.
       clauses_step n indent so ps x later found rest (clauses_ok n indent) (follower so indent ps) refl read made)
 
   compound_ok : (indent : ℕ) (so : After) (marks : List Decorator) (p : Placed) (later ps : List Placed) (s : Stmt) (rest : List Placed)
       → ps ≡ p ∷ later → p.indent ≡ indent → compound_statement S indent marks so ps ≡ Ok (s, rest)
-      → marks_yield indent marks ++ map level ps ≡ stmt_yield indent s ++ map level rest
+      → marks_yield indent marks ++ map indented ps ≡ stmt_yield indent s ++ map indented rest
   unfolding compound_statement all_clauses stmt_yield
   compound_ok indent so marks p later ps s rest ps_is at e =
       bind (one_clause S indent ps) _ (s, rest) e (λ c mid first then_more.
       bind (all_clauses S indent so mid) _ (s, rest) then_more (λ others left read made.
       parts (compound marks c others) s left rest made (λ same end.
-      subst (λ x. marks_yield indent marks ++ map level ps ≡ stmt_yield indent x ++ map level rest) same
+      subst (λ x. marks_yield indent marks ++ map indented ps ≡ stmt_yield indent x ++ map indented rest) same
       (ap (λ ls. marks_yield indent marks ++ ls)
       (join ps mid rest (clause_yield indent c) (clauses_yield indent others) (clause_ok indent p later ps c mid ps_is at first)
       (clauses_ok (length mid) indent so mid others rest (read ∙ ap {B = BlocksParsed CompoundClauses} (λ qs. Ok (others, qs)) end)))
-      ∙ sym (append_assoc (marks_yield indent marks) (clause_yield indent c ++ clauses_yield indent others) (map level rest))))))
+      ∙ sym (append_assoc (marks_yield indent marks) (clause_yield indent c ++ clauses_yield indent others) (map indented rest))))))
 
   definition_ok : (number indent : ℕ) (marks : List Decorator) (ps : List Placed) (s : Stmt) (rest : List Placed) → definition S number indent marks ps ≡ Ok (s, rest)
-      → marks_yield indent marks ++ map level ps ≡ stmt_yield indent s ++ map level rest
+      → marks_yield indent marks ++ map indented ps ≡ stmt_yield indent s ++ map indented rest
   unfolding definition
   definition_ok number indent marks ps s rest e =
       either _ _ (is_definition (next_of indent ps)) (s, rest) e
@@ -330,7 +330,7 @@ module _ (S : ℕ → Parser Stmts) (holds : Holds S) where
       → IsYield ps (stmts_yield indent found) rest
   unfolding stmts_yield
   statements_step n indent ps None later found rest more first e =
-      parts no_statement found later rest e (λ same left. subst (λ y. IsYield ps (stmts_yield indent y) rest) same (ap (map level) (first ∙ left)))
+      parts no_statement found later rest e (λ same left. subst (λ y. IsYield ps (stmts_yield indent y) rest) same (ap (map indented) (first ∙ left)))
   statements_step n indent ps (Some s) later found rest more first e =
       bind (statements S n indent later) _ (found, rest) e (λ others left read made.
       parts (statement s others) found left rest made (λ same end.
@@ -341,7 +341,7 @@ module _ (S : ℕ → Parser Stmts) (holds : Holds S) where
   statements_ok : (n : ℕ) → Holds (statements S n)
   unfolding statements next_statement stmts_yield
   statements_ok zero indent ps found rest e =
-      parts no_statement found ps rest e (λ same left. subst (λ y. IsYield ps (stmts_yield indent y) rest) same (ap (map level) left))
+      parts no_statement found ps rest e (λ same left. subst (λ y. IsYield ps (stmts_yield indent y) rest) same (ap (map indented) left))
   statements_ok (suc n) indent ps found rest e =
       bind (next_statement S indent ps) _ (found, rest) e (λ x later read made.
       statements_step n indent ps x later found rest (statements_ok n) (statement_ok indent (next_of indent ps) ps x later refl read) made)
@@ -373,8 +373,8 @@ stmt_some indent (compound marks first others) =
 -- fewer lines are left than there were
 fewer : (indent : ℕ) (ps : List Placed) (s : Stmt) (rest : List Placed) → IsYield ps (stmt_yield indent s) rest → length rest < length ps
 fewer indent ps s rest is =
-    let all = ap length is ∙ length-append (stmt_yield indent s) (map level rest) in
-    let whole = length-map ps level in let left = length-map rest level in let some = stmt_some indent s in omega (arith, all, whole, left, some)
+    let all = ap length is ∙ length-append (stmt_yield indent s) (map indented rest) in
+    let whole = length-map ps indented in let left = length-map rest indented in let some = stmt_some indent s in omega (arith, all, whole, left, some)
 
 opening_goes : (number indent : ℕ) (ps : List Placed) (f : Form) → opening number indent ps f ≡ next.End → ⊥
 opening_goes number indent ps form.If e = cc
@@ -454,14 +454,14 @@ block_all : (depth : ℕ) (ps : List Placed) (found : Stmts) (rest : List Placed
 unfolding block_at all_statements
 block_all depth ps found rest e = statements_all (block_at depth) (block_holds depth) (length ps) ps found rest (omega arith) e
 
-whole : (depth : ℕ) (ps : List Placed) (o : BlocksParsed Stmts) (found : Stmts) → block_at (suc depth) 0 ps ≡ o → module_of o ≡ Ok found → map level ps ≡ stmts_yield 0 found
+whole : (depth : ℕ) (ps : List Placed) (o : BlocksParsed Stmts) (found : Stmts) → block_at (suc depth) 0 ps ≡ o → module_of o ≡ Ok found → map indented ps ≡ stmts_yield 0 found
 whole depth ps (Ok p) found is e =
     block_holds (suc depth) 0 ps p.0 p.1 is
-    ∙ (ap (λ rest. stmts_yield 0 p.0 ++ map level rest) (block_all depth ps p.0 p.1 is)
+    ∙ (ap (λ rest. stmts_yield 0 p.0 ++ map indented rest) (block_all depth ps p.0 p.1 is)
     ∙ (append-nil (stmts_yield 0 p.0) ∙ ap (stmts_yield 0) (cc)))
 whole depth ps (Err number) found is e = absurd (cc)
 
 -- the statements of a module hold all its lines, in text order, each at its level
-pub blocks_hold : (ps : List Placed) (found : Stmts) → blocks ps ≡ Ok found → map level ps ≡ stmts_yield 0 found
+pub blocks_hold : (ps : List Placed) (found : Stmts) → blocks ps ≡ Ok found → map indented ps ≡ stmts_yield 0 found
 unfolding blocks
 blocks_hold ps found e = whole 64 ps (block_at 65 0 ps) found refl e

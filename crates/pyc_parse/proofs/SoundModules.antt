@@ -11,12 +11,12 @@ use Rattle.pyc_tree.specs.Headers.{line_tree}
 use Rattle.pyc_line.specs.LineFault.{fault_of, number_of}
 use Rattle.pyc_tree.specs.Lines.{Line, line_yield}
 use Rattle.pyc_parse.specs.Modules.{Module, placed_before, placed_lines, of_blocks, of_lines, module_of}
-use Rattle.pyc_parse.proofs.SoundBlocks.{level, blocks_hold}
+use Rattle.pyc_parse.proofs.SoundBlocks.{indented, blocks_hold}
 use Rattle.pyc_line.proofs.SoundLines.{line_sound}
 
 -- the logical lines that placed lines hold
 abbrev placed_held : List Placed → List lex.Line
-placed_held ps = map held (map level ps)
+placed_held ps = map held (map indented ps)
 
 refused : {A G : Type 0} (fault : ParseFault) (a : A) → ◌≡◌ {A = Result A ParseFault} (Err fault) (Ok a) → G
 refused fault a e = absurd (cc)
