@@ -1,5 +1,6 @@
 #!/usr/bin/env bash
-# The gate: proves, builds and tests every crate by `rt ci`, then runs the built program by the other scripts.
+# The gate: proves, builds and tests every crate by `rt ci`, looks at the layout, then runs the built program by the other
+# scripts.
 # Its last line is `gate: N passed, M failed`, the sum of all, and its status is 1 if anything failed.
 set -u
 cd "$(dirname "${BASH_SOURCE[0]}")/.." || exit 1
@@ -33,6 +34,7 @@ run() {
 # Four checks side by side, each with one job: `rt ci` alone reckons with twice the memory that these crates take, and lets
 # half of the processors wait for it.
 run env RT_JOBS="${RT_JOBS:-4}" rt ci
+run python3 scripts/check_layout.py
 run python3 scripts/refused_growths.py
 run python3 scripts/real_files.py
 
