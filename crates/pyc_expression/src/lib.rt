@@ -6,6 +6,6 @@ mod comparisons;
 mod displays;
 mod operands;
 mod operators;
-mod rules;
+pub mod rules;
 
 pub use rules::{ExpressionRules, expr};
