@@ -4,7 +4,7 @@ use Rattle.std.proofs.Math.ListN.{get_or}
 use Rattle.std.specs.declared.alloc.Global.{Global}
 use Rattle.std.specs.declared.boxed.Box.{Box}
 use Rattle.std.specs.Global.{Vec}
-use Rattle.pyc_tree.specs.declared.block.CompoundClause.{CompoundClause as ComprehensionOf}
+use Rattle.pyc_tree.specs.declared.block.CompoundClause.{CompoundClause as CompoundClauseOf}
 use Rattle.pyc_tree.specs.declared.block.Decorator.{Decorator as DecoratorOf}
 use Rattle.pyc_tree.specs.declared.block.Stmt.{Stmt as StmtOf}
 use Rattle.pyc_tree.specs.declared.block.Stmt.TheVariants as s

@@ -2,7 +2,7 @@
 use Rattle.std.proofs.Common.{◌≡◌, ℕ, suc, ◌+◌, ◌-◌, ◌<◌, ◌≤◌, refl, ap, sym, subst, ◌∙◌, arith, true, false, List, [], ◌∷◌, ◌++◌, Option, Some, None, Result, Ok, Err, IsErrAnd, map, option_map, append_assoc}
 use Rattle.std.proofs.lemmas.List.{map_push, append-nil}
 use Rattle.pyc_tree.specs.declared.block.After.{After}
-use Rattle.pyc_tree.specs.declared.block.CompoundClause.{CompoundClause as ComprehensionOf}
+use Rattle.pyc_tree.specs.declared.block.CompoundClause.{CompoundClause as CompoundClauseOf}
 use Rattle.pyc_tree.specs.declared.block.Decorator.{Decorator as DecoratorOf}
 use Rattle.pyc_tree.specs.declared.block.Stmt.{Stmt as StmtOf}
 use Rattle.pyc_parse.specs.declared.block_fault.BlockFault.{BlockFault}

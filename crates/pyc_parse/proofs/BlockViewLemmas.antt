@@ -4,7 +4,7 @@ use Rattle.std.specs.declared.alloc.Global.{Global}
 use Rattle.std.specs.declared.boxed.Box.{Box}
 use Rattle.std.specs.Global.{Vec}
 use mathlib.Core.Former.{Count}
-use Rattle.pyc_tree.specs.declared.block.CompoundClause.{CompoundClause as ComprehensionOf}
+use Rattle.pyc_tree.specs.declared.block.CompoundClause.{CompoundClause as CompoundClauseOf}
 use Rattle.pyc_tree.specs.declared.block.Decorator.{Decorator as DecoratorOf}
 use Rattle.pyc_tree.specs.declared.block.Stmt.{Stmt as StmtOf, Row_of-CompoundClause, end_of-CompoundClause, more_of-CompoundClause, items-the_row-CompoundClause, items_hidden-the_row-CompoundClause-0}
 use Rattle.pyc_tree.specs.declared.block.Stmt.TheVariants as s
