@@ -6,3 +6,8 @@ pub mod ReadsLines
 pub mod BlockYield
 pub mod Modules
 pub mod Outcome
+pub use Rattle.pyc_line.specs.LineFault
+pub use Rattle.pyc_tree.specs.Headers
+pub use Rattle.pyc_tree.specs.LineView
+pub use Rattle.pyc_tree.specs.Lines
+pub use Rattle.pyc_tree.specs.WellLines
