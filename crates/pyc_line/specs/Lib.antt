@@ -1,1 +1,2 @@
 pub mod LineFault
+pub mod ReadsExactly
