@@ -6,3 +6,4 @@ pub mod ReadsLines
 pub mod BlockYield
 pub mod Modules
 pub mod Outcome
+pub mod BadLines
