@@ -3,6 +3,7 @@
 mod lines;
 mod modules;
 mod outcomes;
+mod precedence;
 mod refused;
 mod trees;
 

@@ -4,7 +4,9 @@ use Rattle.pyc_token.specs.declared.tokens.Token.{Token}
 use Rattle.pyc_tree.specs.Headers.{line_tree}
 use Rattle.pyc_tree.specs.Lines.{Line, line_yield}
 use Rattle.pyc_tree.specs.WellLines.{IsWellLine}
+use Rattle.pyc_line.specs.ReadsExactly.{ReadsExactly}
 use Rattle.pyc_line.proofs.CompleteLines.{line_complete}
+use Rattle.pyc_line.proofs.SoundLines.{line_sound}
 
 abbrev found_or : Line → Option Line → Line
 found_or other None = other
@@ -19,3 +21,8 @@ only_tree ts found other is well text = ap (found_or other) (sym is ∙ line_com
 
 pub no_tree : (ts : List Token) → line_tree ts ≡ None → (other : Line) → IsWellLine other → line_yield other ≡ ts → ⊥
 no_tree ts is other well text = true≢false (sym (ap is_found (sym is ∙ line_complete ts other well text)))
+
+-- what is read is well-formed, and what is well-formed is read
+pub reads_exactly : ReadsExactly
+reads_exactly ts line =
+    (λ is. let sound = line_sound ts line is in (sound.0, sound.2, sound.1), λ of. line_complete ts line of.0 of.2)

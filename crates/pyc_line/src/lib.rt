@@ -2,6 +2,7 @@
 #![tactic(auto)]
 
 mod fault;
+pub mod laws;
 mod line_parser;
 
 pub use fault::{ParseFault, What, line_number};

@@ -5,3 +5,4 @@ pub mod SoundBlocks
 pub mod ModuleLemmas
 pub mod SoundModules
 pub mod OutcomeLemmas
+pub mod BadLineLemmas

@@ -6,6 +6,7 @@ pub mod ReadsLines
 pub mod BlockYield
 pub mod Modules
 pub mod Outcome
+pub mod BadLines
 pub use Rattle.pyc_line.specs.LineFault
 pub use Rattle.pyc_tree.specs.Headers
 pub use Rattle.pyc_tree.specs.LineView

@@ -240,7 +240,7 @@ const MAX_BLOCKS: usize = 65;
 
 /// The statements of a module.
 #[tactic(auto, unfolding(crate::specs::Blocks::blocks))]
-pub fn read_blocks(alloc: Global, lines: Vec<Placed>) -> Result<Vec<Stmt>, BlockFault>
+pub(crate) fn read_blocks(alloc: Global, lines: Vec<Placed>) -> Result<Vec<Stmt>, BlockFault>
     ensures { AnswersBlocks stmts_of (spec.blocks (map placed_of lines.items)) result }
 {
     let mut lines = Lines {

@@ -1,8 +1,9 @@
 //! Reads a source.
 
-ghost use Rattle.std.specs.Prelude.{◌≡◌, ◌≢◌, All, IfOk, OnOk};
+ghost use Rattle.std.specs.Prelude.{◌≡◌, ◌≢◌, All, IfOk, OnOk, true};
 ghost use Rattle.pyc_lex.specs.Texts.{IsTextSpan};
 ghost use Rattle.pyc_lex.specs.View.{lexis_in};
+ghost use Rattle.pyc_parse.specs.BadLines.{TellsFirstBadLine, is_line_fault};
 ghost use Rattle.pyc_parse.specs.Modules.{module_of};
 ghost use Rattle.pyc_parse.specs.Outcome as spec;
 ghost use Rattle.pyc_parse.specs.Outcome.{outcome_in, outcome_of, outcome_tokens, parse_text};
@@ -72,12 +73,15 @@ fn parsed(alloc: Global, scan: Scan) -> Result<Outcome, AllocError>
 }
 
 /// What a source is: its first lexical fault, else its first line without a tree, else the first fault of its blocks,
-/// else the tree of its module, whose tokens are spans of its text. The only error is that memory runs out.
+/// else the tree of its module, whose tokens are spans of its text. Of a line without a tree no well-formed line has
+/// the tokens, and of each line before it one has. The only error is that memory runs out.
 #[tactic(auto, unfolding(crate::specs::Outcome::outcome_of))]
 pub fn outcome(alloc: Global, bytes: &[u8]) -> Result<Outcome, AllocError>
     ensures outcome { IfOk result (λ outcome. outcome_in outcome ≡ outcome_of bytes.now) }
     ensures spans { IfOk result
         (λ outcome. All (λ token. IsTextSpan bytes.now token.span) (outcome_tokens (outcome_in outcome))) }
+    ensures bad_line { IfOk result
+        (λ outcome. is_line_fault (outcome_in outcome) ≡ true → TellsFirstBadLine bytes.now (outcome_in outcome)) }
 {
     match scan(alloc, bytes) {
         Ok(scan) => parsed(alloc, scan),

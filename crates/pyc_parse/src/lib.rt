@@ -7,8 +7,6 @@ mod file_outcome;
 mod file_parser;
 mod module_tree;
 
-pub use block_fault::BlockFault;
-pub use blocks::read_blocks;
 pub use file_outcome::{Fault, Outcome};
 pub use file_parser::outcome;
 pub use module_tree::{Module, parse};

@@ -1,7 +1,8 @@
 //! The tree of a module.
 
-ghost use Rattle.std.specs.Prelude.{◌≡◌, IfOk, map};
+ghost use Rattle.std.specs.Prelude.{◌≡◌, IfOk, IfErr, map, true};
 ghost use Rattle.pyc_lex.specs.View.{line_in, lexis_in};
+ghost use Rattle.pyc_parse.specs.BadLines.{IsFirstBadLine, is_of_line};
 ghost use Rattle.pyc_parse.specs.BlockView.{placed_of};
 ghost use Rattle.pyc_parse.specs.BlockYield.{lines_held};
 ghost use Rattle.pyc_parse.specs.Modules.{AnswersModule, module_in, module_of, placed_lines as lines_with_trees};
@@ -49,12 +50,14 @@ fn placed_lines(alloc: Global, lines: Vec<LogicalLine>) -> Result<Vec<Placed>, P
 }
 
 /// The tree of a module, or the first line that has no tree, else the first that stands where it may not. The tree
-/// holds each line of the scan once, in text order and at its level. `Memory` comes only from a growth that was
-/// refused.
+/// holds each line of the scan once, in text order and at its level. Of a line without a tree no well-formed line has
+/// the tokens, and of each line before it one has. `Memory` comes only from a growth that was refused.
 #[tactic(auto, unfolding(crate::specs::Modules::module_of))]
 pub fn parse(alloc: Global, scan: Scan) -> Result<Module, ParseFault>
     ensures tree { AnswersModule module_in (module_of (lexis_in scan)) result }
     ensures held { IfOk result (λ found. lines_held (module_in found).statements ≡ (lexis_in scan).lines) }
+    ensures bad_line { IfErr result
+        (λ fault. is_of_line fault.what ≡ true → IsFirstBadLine (lexis_in scan).lines fault) }
 {
     let lines = placed_lines(alloc, scan.lines)?;
     match read_blocks(alloc, lines) {
