@@ -3,18 +3,18 @@
 
     scripts/check_names.py
 
-In README.md and docs/*.md each link to a file of the repository has its target, and the heading that it may name. Where a
-link's text is one name in backticks and its target a file of code, of definitions or an edit, that file defines the name,
-or is that edit. In ARCHITECTURE.md, INDEX.md, THEOREMS.md and README.md each crate and each path in backticks exists: a
-path is taken from the top, from `crates/`, or as the end of a path in a crate. The last line is `N passed, M failed`.
+In README.md and docs/*.md each link to a file of the repository has its target, and the heading that it may name. Where
+a link's text is one name in backticks and its target a file of code, of definitions or an edit, that file defines the
+name, or is that edit. In ARCHITECTURE.md, INDEX.md, THEOREMS.md and README.md each crate in backticks is listed, and
+each path in backticks is the end of one of the repository. The last line is `N passed, M failed`.
 """
 
+import os
 import re
 import sys
 from pathlib import Path
 
 ROOT = Path(__file__).resolve().parent.parent
-CRATES = ROOT / "crates"
 DOCS = ROOT / "docs"
 PAGES = [ROOT / "README.md", *sorted(DOCS.glob("*.md"))]
 MAPS = {"README.md", "ARCHITECTURE.md", "INDEX.md", "THEOREMS.md"}
@@ -25,6 +25,7 @@ CODE = re.compile(r"`([^`\n]+)`")
 NAME = re.compile(r"`((?:[A-Za-z_]\w*::)*[A-Za-z_]\w*)`")
 CRATE = re.compile(r"(?:pyc_\w+|dmypy)")
 SUFFIXES = (".rt", ".antt", ".py", ".sh", ".c", ".md", ".txt", ".edit", ".session", ".stdout")
+NOT_OURS = {".git", "out", "__pycache__"}
 # what begins a path of the repository
 FIRST = {"crates", "scripts", "docs", "bench", ".ci", "src", "specs", "proofs", "must-fail"}
 # no path of the repository: made by `rt`, or words that stand for a name
@@ -90,17 +91,17 @@ def is_path(word):
     return word.endswith(SUFFIXES) and word.count(".") == 1 and word[0] not in ".*-"
 
 
-def is_there(word):
-    """Whether a path exists: from the top, from `crates/`, or as the end of a path in a crate."""
-    word = word.rstrip("/")
-    found = (start.glob(pattern) for start, pattern in ((ROOT, word), (CRATES, word), (CRATES, f"*/**/{word}")))
-    return any(any("out" not in path.relative_to(ROOT).parts for path in paths) for paths in found) or any(
-        (folder / word).is_file() for folder in (DOCS, ROOT / "scripts", ROOT / "bench")
-    )
+def paths():
+    """All files and folders of the repository, from its top, without what `rt` and git keep."""
+    found = []
+    for folder, folders, files in os.walk(ROOT):
+        folders[:] = [name for name in folders if name not in NOT_OURS]
+        found += [(Path(folder) / name).relative_to(ROOT) for name in (*folders, *files)]
+    return found
 
 
-def judgements(page):
-    """Each thing that a page names, with what is wrong with it, or None."""
+def judgements(page, there):
+    """Each thing that a page names, with what is wrong with it, or None; `there` are all paths."""
     text = BLOCK.sub("", page.read_text(encoding="utf-8"))
     for found in LINK.finditer(text):
         if "://" not in found[2]:
@@ -112,13 +113,14 @@ def judgements(page):
         if CRATE.fullmatch(word):
             yield word, None if word in known else f"{word}: no such crate"
         elif is_path(word):
-            yield word, None if is_there(word) else f"{word}: no such path"
+            yield word, None if any(path.match(word) for path in there) else f"{word}: no such path"
 
 
 def main():
     passed = failed = 0
+    there = paths()
     for page in PAGES:
-        for _, fault in judgements(page):
+        for _, fault in judgements(page, there):
             if fault:
                 print(f"{page.relative_to(ROOT)}: {fault}")
             failed += fault is not None
