@@ -1,6 +1,6 @@
 #!/usr/bin/env bash
-# The gate: proves, builds and tests every crate by `rt ci`, looks at the layout, then runs the built program by the other
-# scripts.
+# The gate: proves, builds and tests every crate by `rt ci`, looks at the layout and at the names in the documents, then
+# runs the built program by the other scripts.
 # Its last line is `gate: N passed, M failed`, the sum of all, and its status is 1 if anything failed.
 set -u
 cd "$(dirname "${BASH_SOURCE[0]}")/.." || exit 1
@@ -11,7 +11,8 @@ passed=0
 failed=0
 
 # Runs a command and adds up the numbers of its last line, which has the form `N passed, M failed`, with or without a
-# name before it. A command that ends with another status than 0, or without that line, has failed at least once.
+# name before it. A command that ends with another status than 0, or without that line, or that judged nothing, has failed
+# at least once.
 run() {
     "$@" | tee "$log"
     local status=${PIPESTATUS[0]} pattern='(^|: )([0-9]+) passed, ([0-9]+) failed$' last good=0 bad=0
@@ -27,6 +28,10 @@ run() {
         echo "gate: failed: status $status: $*"
         bad=1
     fi
+    if [[ $good -eq 0 && $bad -eq 0 ]]; then
+        echo "gate: failed: nothing was judged: $*"
+        bad=1
+    fi
     passed=$((passed + good))
     failed=$((failed + bad))
 }
@@ -35,6 +40,7 @@ run() {
 # half of the processors wait for it.
 run env RT_JOBS="${RT_JOBS:-4}" rt ci
 run python3 scripts/check_layout.py
+run python3 scripts/check_names.py
 run python3 scripts/refused_growths.py
 run python3 scripts/real_files.py
 
