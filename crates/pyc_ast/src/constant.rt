@@ -1,0 +1,30 @@
+//! Literals, and what is not looked into.
+
+/// A literal. The values of numbers and the texts of strings are left out, but for a number that is one digit.
+#[derive(Clone, Copy, Debug, PartialEq, Eq)]
+pub enum Constant {
+    None,
+    True,
+    False,
+    /// `...`
+    Ellipsis,
+    /// An integer, with its value where it is spelled as one decimal digit.
+    Integer(Option<u8>),
+    Float,
+    Imaginary,
+    /// A string, or strings one after another that join.
+    Str,
+    /// The same where one of them is formatted.
+    FormattedStr,
+    Bytes,
+}
+
+/// An expression that is not looked into.
+#[derive(Clone, Copy, Debug, PartialEq, Eq)]
+pub enum Opaque {
+    Lambda,
+    Generator,
+    ListComprehension,
+    SetComprehension,
+    DictComprehension,
+}

@@ -1,0 +1,146 @@
+//! Expressions.
+
+use crate::constant::{Constant, Opaque};
+use crate::operator::{BooleanOperator, ComparisonOperator, Operator, UnaryOperator};
+use crate::position::Position;
+use crate::text::Text;
+
+/// An expression: where it begins, its parentheses included, where it begins within them, and what it is.
+#[cycle(expr)]
+#[derive(Drop)]
+pub struct Expr {
+    pub at: Position,
+    pub inside: Position,
+    pub form: Form,
+}
+
+/// What an expression is.
+#[cycle(expr)]
+#[derive(Drop)]
+pub enum Form {
+    Name(Text),
+    Constant(Constant),
+    /// A string that may be an annotation and spells an expression: each part of that stands at the string's position.
+    Quoted(Box<Expr>),
+    Tuple(Vec<Element>),
+    List(Vec<Element>),
+    Set(Vec<Element>),
+    Dict(Vec<DictItem>),
+    Opaque(Opaque),
+    Attribute {
+        value: Box<Expr>,
+        name: Text,
+    },
+    Call {
+        callee: Box<Expr>,
+        arguments: Vec<Argument>,
+    },
+    Subscript {
+        value: Box<Expr>,
+        index: Box<Index>,
+    },
+    Unary {
+        operator: UnaryOperator,
+        operand: Box<Expr>,
+    },
+    Binary {
+        operator: Operator,
+        left: Box<Expr>,
+        right: Box<Expr>,
+    },
+    Boolean {
+        operator: BooleanOperator,
+        left: Box<Expr>,
+        right: Box<Expr>,
+    },
+    /// A chain of comparisons: its first operand, and those after it with their operators.
+    Compare {
+        left: Box<Expr>,
+        rest: Vec<Comparison>,
+    },
+    /// `body if test else orelse`
+    Conditional {
+        test: Box<Expr>,
+        body: Box<Expr>,
+        orelse: Box<Expr>,
+    },
+    Await(Box<Expr>),
+    Yield(OptionalExpr),
+    YieldFrom(Box<Expr>),
+}
+
+/// An expression, or none.
+#[cycle(expr)]
+#[derive(Drop)]
+pub enum OptionalExpr {
+    Absent,
+    Present(Box<Expr>),
+}
+
+/// An item of a tuple, a list or a set, perhaps after `*`.
+#[cycle(expr)]
+#[derive(Drop)]
+pub struct Element {
+    pub is_starred: bool,
+    pub value: Expr,
+}
+
+/// An item of a dictionary.
+#[cycle(expr)]
+#[derive(Drop)]
+pub enum DictItem {
+    Entry { key: Expr, value: Expr },
+    /// What stands after `**`.
+    Unpacking(Expr),
+}
+
+/// An argument of a call: where it begins, how it is given, and its value.
+#[cycle(expr)]
+#[derive(Drop)]
+pub struct Argument {
+    pub at: Position,
+    pub kind: ArgumentKind,
+    pub value: Expr,
+}
+
+/// How an argument is given.
+#[derive(Debug, Drop)]
+pub enum ArgumentKind {
+    Positional,
+    /// After `*`.
+    Starred,
+    /// By the name of its parameter.
+    Keyword(Text),
+    /// After `**`.
+    DoubleStarred,
+}
+
+/// A comparison of a chain: its operator and its right operand.
+#[cycle(expr)]
+#[derive(Drop)]
+pub struct Comparison {
+    pub operator: ComparisonOperator,
+    pub right: Expr,
+}
+
+/// What stands between the brackets of a subscript, and where it begins.
+#[cycle(expr)]
+#[derive(Drop)]
+pub struct Index {
+    pub at: Position,
+    pub form: IndexForm,
+}
+
+/// What stands between the brackets of a subscript.
+#[cycle(expr)]
+#[derive(Drop)]
+pub enum IndexForm {
+    Item(Expr),
+    Slice {
+        lower: OptionalExpr,
+        upper: OptionalExpr,
+        step: OptionalExpr,
+    },
+    /// Indices with commas.
+    Indices(Vec<Index>),
+}

@@ -1,0 +1,44 @@
+//! Modules, and what a source is.
+
+use crate::stmt::Stmt;
+use crate::text::Text;
+
+/// A module: its statements, whether a `yield` or `await` stands in them outside functions, classes and lambdas, its
+/// ignore comments, and whether one of them silences the whole file.
+#[derive(Drop)]
+pub struct Module {
+    pub statements: Vec<Stmt>,
+    pub suspends: bool,
+    pub ignores: Vec<Ignore>,
+    pub whole_file: bool,
+}
+
+/// An ignore comment with its physical line, counted from 1.
+#[derive(Debug, Drop)]
+pub struct Ignore {
+    pub line: usize,
+    pub codes: Codes,
+}
+
+/// Which errors an ignore comment silences.
+#[derive(Debug, Drop)]
+pub enum Codes {
+    /// All of them.
+    All,
+    /// Those of these codes.
+    Listed(Vec<Text>),
+}
+
+/// What is wrong with a source: the physical line on which it is told, and what is told.
+#[derive(Clone, Copy, Debug, PartialEq, Eq)]
+pub struct Fault {
+    pub line: usize,
+    pub text: &'static str,
+}
+
+/// What a source is: its module, or its first fault.
+#[derive(Drop)]
+pub enum Outcome {
+    Tree(Module),
+    Fault(Fault),
+}

@@ -1,0 +1,100 @@
+//! The name of a module, and the one that a path gives.
+
+ghost use Rattle.std.specs.Prelude.{◌≡◌, map, IfOk};
+ghost use Rattle.std.specs.List.{slice_split};
+ghost use Rattle.pyc_names.specs.ModuleName.{is_slash, stem, spelled_parts, module_of};
+
+use pyc_ast::Text;
+use std::alloc::{AllocError, Global};
+use std::marker::Model;
+
+/// The name of a module. Contracts see its parts in Normalization Form KC, those of its folders first.
+#[derive(Debug, Drop)]
+pub struct ModuleName {
+    parts: Vec<Text>,
+}
+
+impl Model for ModuleName {
+    ghost use Rattle.std.specs.Prelude.{List, ℕ};
+
+    ghost Value = { List (List ℕ) };
+
+    ghost view = { λ name. name.parts.items };
+}
+
+impl ModuleName {
+    /// The module that a path names. The path's parts are separated by `/`, the last stands without `.py`, and
+    /// `__init__.py` names its folder. The only error is that memory runs out.
+    #[tactic(auto, unfolding(crate::specs::ModuleName::module_of))]
+    pub fn of_path(alloc: Global, path: &str) -> Result<ModuleName, AllocError>
+        ensures { IfOk result (λ name. name ≡ module_of path.now) }
+    {
+        let spelled = spelled_parts(alloc, path)?;
+        let mut parts = Vec::with_capacity(alloc, spelled.len())?;
+        for part in &spelled {
+            parts.push(Text::normalized(alloc, part)?)?;
+        }
+        Ok(ModuleName { parts })
+    }
+
+    /// The parts of the name, those of its folders first.
+    pub fn parts(&self) -> &[Text]
+        ensures { result.now ≡ self.now }
+    {
+        &self.parts
+    }
+}
+
+impl PartialEq for ModuleName {
+    ghost use Rattle.std.specs.Cmp.Rules.{comparing};
+    ghost use Rattle.std.proofs.Common.{rules};
+    ghost use Rattle.pyc_names.specs.ModuleName.{same_module};
+
+    ghost eq = { same_module };
+
+    ghost laws = { Prim.search (comparing, rules) };
+
+    /// Whether both name the same module.
+    fn eq(&self, other: &ModuleName) -> bool {
+        self.parts.as_slice() == other.parts.as_slice()
+    }
+}
+
+impl Eq for ModuleName {
+    ghost use Rattle.std.specs.Cmp.Rules.{comparing};
+    ghost use Rattle.std.proofs.Common.{rules};
+
+    ghost laws = { Prim.search (comparing, rules) };
+}
+
+/// The parts of the module that a path names, as they are spelled.
+fn spelled_parts<'a>(alloc: Global, path: &'a str) -> Result<Vec<&'a str>, AllocError>
+    ensures { IfOk result (λ parts. map (λ part. part.now) parts.items
+        ≡ spelled_parts (slice_split is_slash path.now)) }
+{
+    let mut parts = path_parts(alloc, path)?;
+    if let Some(name) = parts.pop() {
+        if name != "__init__.py" {
+            parts.push(stem(name))?;
+        }
+    }
+    Ok(parts)
+}
+
+/// The parts of a path, between its slashes.
+fn path_parts<'a>(alloc: Global, path: &'a str) -> Result<Vec<&'a str>, AllocError>
+    ensures { IfOk result (λ parts. map (λ part. part.now) parts.items ≡ slice_split is_slash path.now) }
+{
+    let mut parts = Vec::new(alloc);
+    for part in path.split('/') {
+        parts.push(part)?;
+    }
+    Ok(parts)
+}
+
+/// A file's name without `.py`.
+fn stem(name: &str) -> &str
+    ensures { result.now ≡ stem name.now }
+{
+    name.strip_suffix(".py").unwrap_or(name)
+}
