@@ -45,7 +45,7 @@ unfoldable mutual
   form_of (f.Compare' _ at inside x _ row) = plain.compare (plain.expr at inside (form_of x)) (comparisons_row row)
   form_of (f.Conditional' _ at inside x _ at' inside' y _ at'' inside'' z) =
       plain.conditional (plain.expr at inside (form_of x)) (plain.expr at' inside' (form_of y))
-          (plain.expr at'' inside'' (form_of z))
+      (plain.expr at'' inside'' (form_of z))
   form_of (f.Await' _ at inside x) = plain.await (plain.expr at inside (form_of x))
   form_of (f.Yield x) = plain.yield (optional_of x)
   form_of (f.YieldFrom' _ at inside x) = plain.yield_from (plain.expr at inside (form_of x))

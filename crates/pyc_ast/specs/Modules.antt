@@ -43,8 +43,13 @@ ignore_of i = record { line = i.line; codes = codes_of i.codes }
 
 abbrev pub module_of : ModuleOf → Module
 module_of m =
-    record { statements = stmts (map stmt_of m.statements.items); suspends = m.suspends; ignores = map ignore_of
-        m.ignores.items; whole_file = m.whole_file }
+    record {
+      statements = stmts (map stmt_of m.statements.items);
+      suspends = m.suspends;
+      ignores = map ignore_of
+          m.ignores.items;
+      whole_file = m.whole_file;
+    }
 
 abbrev pub outcome_of : OutcomeOf → Outcome
 outcome_of (o.Tree m) = tree (module_of m)

@@ -35,8 +35,14 @@ boxed_expr_of = option_map (λ x. expr_of x.value)
 
 abbrev pub parameter_of : ParameterOf → Parameter
 parameter_of p =
-    record { at = p.at; kind = p.kind; name = p.name; annotation = boxed_expr_of p.annotation; default = boxed_expr_of
-        p.default }
+    record {
+      at = p.at;
+      kind = p.kind;
+      name = p.name;
+      annotation = boxed_expr_of p.annotation;
+      default = boxed_expr_of
+          p.default;
+    }
 
 abbrev pub annotated_of : AnnotatedAssignmentOf → AnnotatedAssignment
 annotated_of a =
@@ -59,13 +65,25 @@ with_item_of w = record { context = expr_of w.context; target = option_map targe
 
 abbrev pub function_of : FunctionDefinitionOf → FunctionDefinition
 function_of f =
-    record { decorators = map expr_of f.decorators.items; is_async = f.is_async; name = f.name; parameters = map
-        parameter_of f.parameters.items; returns = option_map expr_of f.returns; suspends = f.suspends }
+    record {
+      decorators = map expr_of f.decorators.items;
+      is_async = f.is_async;
+      name = f.name;
+      parameters = map
+          parameter_of f.parameters.items;
+      returns = option_map expr_of f.returns;
+      suspends = f.suspends;
+    }
 
 abbrev pub class_of : ClassDefinitionOf → ClassDefinition
 class_of c =
-    record { decorators = map expr_of c.decorators.items; name = c.name; arguments = map argument_of
-    c.arguments.items; suspends = c.suspends }
+    record {
+      decorators = map expr_of c.decorators.items;
+      name = c.name;
+      arguments = map argument_of
+          c.arguments.items;
+      suspends = c.suspends;
+    }
 
 -- ---- statements
 

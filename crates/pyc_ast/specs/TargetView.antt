@@ -19,7 +19,7 @@ unfoldable mutual
   target_elements_row end_of-TargetElement = plain.no_target
   target_elements_row (more_of-TargetElement starred at inside x rest) =
       plain.another_target (plain.target_element starred (plain.target at inside (target_form_of x)))
-          (target_elements_row rest)
+      (target_elements_row rest)
 
 -- the plain target that one of the code is
 abbrev pub target_of : TargetOf → Target

@@ -27,3 +27,6 @@ pub use stmt::{
 };
 pub use target::{Target, TargetElement, TargetForm};
 pub use text::Text;
+
+#[cfg(test)]
+mod tests;

@@ -4,3 +4,6 @@
 mod module_name;
 
 pub use module_name::ModuleName;
+
+#[cfg(test)]
+mod tests;
