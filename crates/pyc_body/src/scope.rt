@@ -78,7 +78,7 @@ fn push_block<'a>(block: &'a Block, parts: &mut Vec<&'a Stmt>) -> Result<(), All
 fn push_branches<'a>(branches: &'a [Branch], parts: &mut Vec<&'a Stmt>) -> Result<(), AllocError>
     ensures { OnOk result (map (λ part. stmt_of part.now) parts.new.items
         ≡ map (λ part. stmt_of part.now) parts.old.items
-            ++ branches_parts (plain.branches (map branch_of branches.now))) }
+        ++ branches_parts (plain.branches (map branch_of branches.now))) }
 {
     for branch in branches {
         push_block(&branch.body, parts)?;
@@ -91,7 +91,7 @@ fn push_branches<'a>(branches: &'a [Branch], parts: &mut Vec<&'a Stmt>) -> Resul
 fn push_handlers<'a>(handlers: &'a [Handler], parts: &mut Vec<&'a Stmt>) -> Result<(), AllocError>
     ensures { OnOk result (map (λ part. stmt_of part.now) parts.new.items
         ≡ map (λ part. stmt_of part.now) parts.old.items
-            ++ handlers_parts (plain.handlers (map handler_of handlers.now))) }
+        ++ handlers_parts (plain.handlers (map handler_of handlers.now))) }
 {
     for handler in handlers {
         push_block(&handler.body, parts)?;
