@@ -7,7 +7,7 @@ use Rattle.std.proofs.lemmas.List.Elements.{filter_map-append}
 use Rattle.pyc_types.specs.Builtin.{ty_of, builtin_orders}
 use Rattle.pyc_types.specs.Assignable.{assignable, MeetsTheRules}
 use Rattle.pyc_daemon.specs.declared.message.Message.{Message as Declared}
-use Rattle.pyc_parse.specs.BlockTrees.{Stmts}
+use Rattle.pyc_tree.specs.BlockTrees.{Stmts}
 use Rattle.pyc_daemon.specs.declared.literal_forms.LiteralForm.{LiteralForm as DeclaredForm}
 use Rattle.pyc_daemon.specs.LiteralForms.{LiteralForm, form_in, literal_forms}
 use Rattle.pyc_daemon.specs.Message.{Message, message_in}

@@ -12,11 +12,11 @@ use Rattle.pyc_tree.specs.declared.block.Suite.TheVariants as u
 use Rattle.pyc_tree.specs.declared.statement.Item.{Item}
 use Rattle.pyc_tree.specs.declared.statement.Separated.{Separated as SeparatedOf}
 use Rattle.pyc_tree.specs.declared.statement.SimpleStatement.{SimpleStatement as SimpleStatementOf}
-use Rattle.pyc_parse.specs.BlockTrees.{no_statement, no_clause}
-use Rattle.pyc_parse.specs.BlockView.{stmt_of, suite_of, clause_of, stmts_before, clauses_before}
+use Rattle.pyc_tree.specs.BlockTrees.{no_statement, no_clause}
+use Rattle.pyc_tree.specs.BlockView.{stmt_of, suite_of, clause_of, stmts_before, clauses_before}
 use Rattle.pyc_tree.specs.Statements.{Separated}
 use Rattle.pyc_tree.specs.StatementView.{statement_of, separated_of, separated_before, last_item_of}
-use Rattle.pyc_parse.proofs.BlockViewLemmas.{view_Simple, view_Compound, view_Inline, view_Block}
+use Rattle.pyc_tree.proofs.BlockViewLemmas.{view_Simple, view_Compound, view_Inline, view_Block}
 use Rattle.pyc_daemon.specs.Scopes.{ScopePart, simple, definition, is_definition, line_parts, parts_of, statement_parts, clause_parts, clauses_parts, suite_parts}
 
 -- ---- one equation a constructor of the code

@@ -4,8 +4,8 @@ use Rattle.std.proofs.Math.ListN.{get_or}
 use Rattle.std.proofs.lemmas.List.Elements.{All-nil, All-cons, All-head, All-tail, All-append, All-get_or}
 use Rattle.pyc_token.specs.declared.tokens.Token.{Token}
 use Rattle.pyc_lex.specs.Texts.{tokens_of}
-use Rattle.pyc_parse.specs.BlockTrees.{CompoundClause, clause, CompoundClauses, no_clause, another, Stmt, compound, Stmts, no_statement, statement, Suite, inline, block}
-use Rattle.pyc_parse.specs.BlockTrees as tree
+use Rattle.pyc_tree.specs.BlockTrees.{CompoundClause, clause, CompoundClauses, no_clause, another, Stmt, compound, Stmts, no_statement, statement, Suite, inline, block}
+use Rattle.pyc_tree.specs.BlockTrees as tree
 use Rattle.pyc_parse.specs.BlockYield.{IndentedLine, held, lines_held, stmts_tokens, marks_yield, stmt_yield, clause_yield, suite_yield, clauses_yield, stmts_yield}
 use Rattle.pyc_tree.specs.Lines.{Header, line_yield, header_yield}
 use Rattle.pyc_tree.specs.Statements.{SimpleStatement, statement_yield, Separated, no_item, last_item, item, separated_yield}

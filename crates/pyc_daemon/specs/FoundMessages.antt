@@ -2,7 +2,7 @@
 -- the file's fault.
 use Rattle.std.specs.Prelude.{ℕ, List, [], ◌∷◌, ◌++◌, Option, None, Some, if◌then◌else◌, codes}
 use Rattle.std.specs.List.{filter_map}
-use Rattle.pyc_parse.specs.BlockTrees.{Stmts}
+use Rattle.pyc_tree.specs.BlockTrees.{Stmts}
 use Rattle.pyc_parse.specs.Outcome.{Outcome, tree, fault}
 use Rattle.pyc_types.specs.Shape.{T}
 use Rattle.pyc_types.specs.Text.{text_of}

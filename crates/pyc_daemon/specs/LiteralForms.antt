@@ -9,7 +9,7 @@ use Rattle.pyc_token.specs.declared.tokens.Number.TheVariants as number
 use Rattle.pyc_token.specs.declared.tokens.Prefix.TheVariants as prefix
 use Rattle.pyc_token.specs.declared.tokens.Token.{Token}
 use Rattle.pyc_lex.specs.Texts.{slice_at}
-use Rattle.pyc_parse.specs.BlockTrees.{Stmts}
+use Rattle.pyc_tree.specs.BlockTrees.{Stmts}
 use Rattle.pyc_tree.specs.Statements.{SimpleStatement, annotate}
 use Rattle.pyc_tree.specs.Tree.{Tree, Tail, nothing, after}
 use Rattle.pyc_tree.specs.Tree as tree

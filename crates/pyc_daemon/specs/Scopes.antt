@@ -3,10 +3,10 @@
 -- binding").
 use Rattle.std.specs.Prelude.{Bool, true, false, ◌||◌, if◌then◌else◌, List, [], ◌∷◌, ◌++◌}
 use Rattle.pyc_token.specs.declared.tokens.Token.{Token}
-use Rattle.pyc_parse.specs.BlockTrees.{CompoundClause, clause, CompoundClauses, no_clause, another, Stmt, compound}
-use Rattle.pyc_parse.specs.BlockTrees.{Stmts, no_statement, statement, Suite, inline, block}
-use Rattle.pyc_parse.specs.BlockTrees as tree
-use Rattle.pyc_parse.specs.BlockView.{clause_of}
+use Rattle.pyc_tree.specs.BlockTrees.{CompoundClause, clause, CompoundClauses, no_clause, another, Stmt, compound}
+use Rattle.pyc_tree.specs.BlockTrees.{Stmts, no_statement, statement, Suite, inline, block}
+use Rattle.pyc_tree.specs.BlockTrees as tree
+use Rattle.pyc_tree.specs.BlockView.{clause_of}
 use Rattle.pyc_tree.specs.Lines.{Header, def, class, class_of}
 use Rattle.pyc_tree.specs.Statements.{SimpleStatement, statement_yield, Separated, no_item, last_item, item}
 use Rattle.pyc_tree.specs.StatementView.{statement_of}

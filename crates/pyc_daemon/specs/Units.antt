@@ -2,7 +2,7 @@
 -- (Python reference, "Function definitions", "Class definitions").
 use Rattle.std.specs.Prelude.{List, [], ◌∷◌, Option, None, Some, if◌then◌else◌}
 use Rattle.std.specs.List.{filter_map, flat_map}
-use Rattle.pyc_parse.specs.BlockTrees.{CompoundClause, clause, Stmts}
+use Rattle.pyc_tree.specs.BlockTrees.{CompoundClause, clause, Stmts}
 use Rattle.pyc_daemon.specs.Scopes.{ScopePart, simple, definition, is_function_header, is_class_header, parts_of}
 use Rattle.pyc_daemon.specs.Scopes.{suite_parts}
 

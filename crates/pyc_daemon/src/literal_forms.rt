@@ -3,8 +3,8 @@
 
 ghost use Rattle.std.specs.Prelude.{◌≡◌, map, All, IfOk, option_map};
 ghost use Rattle.pyc_lex.specs.Texts.{IsTextSpan};
-ghost use Rattle.pyc_parse.specs.BlockTrees.{no_statement};
-ghost use Rattle.pyc_parse.specs.BlockView.{stmts_before};
+ghost use Rattle.pyc_tree.specs.BlockTrees.{no_statement};
+ghost use Rattle.pyc_tree.specs.BlockView.{stmts_before};
 ghost use Rattle.pyc_parse.specs.BlockYield.{stmts_tokens};
 ghost use Rattle.pyc_tree.specs.Statements.{statement_yield};
 ghost use Rattle.pyc_tree.specs.StatementView.{statement_of};

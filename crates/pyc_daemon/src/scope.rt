@@ -2,8 +2,8 @@
 #![tactic(auto, using(crate::proofs::ScopeLemmas::scope_views))]
 
 ghost use Rattle.std.specs.Prelude.{◌≡◌, ◌++◌, map, IfOk};
-ghost use Rattle.pyc_parse.specs.BlockTrees.{no_statement, no_clause};
-ghost use Rattle.pyc_parse.specs.BlockView.{clause_of, clauses_before, stmt_of, stmts_before, suite_of};
+ghost use Rattle.pyc_tree.specs.BlockTrees.{no_statement, no_clause};
+ghost use Rattle.pyc_tree.specs.BlockView.{clause_of, clauses_before, stmt_of, stmts_before, suite_of};
 ghost use Rattle.pyc_tree.specs.LineView.{header_of};
 ghost use Rattle.pyc_tree.specs.StatementView.{separated_of, statement_of};
 ghost use Rattle.pyc_daemon.specs.Scopes as spec;

@@ -2,8 +2,8 @@
 #![tactic(auto)]
 
 ghost use Rattle.std.specs.Prelude.{◌≡◌, ◌++◌, map, option_map, IfOk};
-ghost use Rattle.pyc_parse.specs.BlockTrees.{no_statement};
-ghost use Rattle.pyc_parse.specs.BlockView.{clause_of, stmts_before};
+ghost use Rattle.pyc_tree.specs.BlockTrees.{no_statement};
+ghost use Rattle.pyc_tree.specs.BlockView.{clause_of, stmts_before};
 ghost use Rattle.pyc_daemon.specs.Scopes.{part_in};
 ghost use Rattle.pyc_daemon.specs.Units as spec;
 ghost use Rattle.pyc_daemon.specs.Units.{unit_clauses};

@@ -13,7 +13,7 @@ ghost use Rattle.pyc_tree.specs.WellLines.{IsWellLine};
 use crate::fault::{ParseFault, What, line_fault, line_number};
 use pyc_build::{MAX_HEIGHT, ParseError};
 use pyc_cursor::Cursor;
-use pyc_expression::expr;
+use pyc_precedence::expr;
 use pyc_item::ItemRules;
 use pyc_statement::StatementRules;
 use pyc_token::Token;

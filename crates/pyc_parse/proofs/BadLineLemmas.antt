@@ -13,7 +13,7 @@ use Rattle.pyc_line.specs.LineFault.{fault_of, number_of}
 use Rattle.pyc_tree.specs.Headers.{line_tree}
 use Rattle.pyc_tree.specs.Lines.{Line}
 use Rattle.pyc_parse.specs.declared.file_outcome.Outcome.{Outcome as OutcomeOf}
-use Rattle.pyc_parse.specs.BlockTrees.{Stmts}
+use Rattle.pyc_tree.specs.BlockTrees.{Stmts}
 use Rattle.pyc_parse.specs.Blocks.{Placed, blocks}
 use Rattle.pyc_parse.specs.Modules.{Module, placed_before, placed_lines, of_blocks, of_lines, module_of}
 use Rattle.pyc_parse.specs.Outcome.{Outcome, fault, outcome_in, parsed, parse_text, lexical_outcome}

@@ -7,10 +7,10 @@ use Rattle.pyc_tree.specs.declared.block.Decorator.{Decorator as DecoratorOf}
 use Rattle.pyc_tree.specs.declared.block.Stmt.{Stmt as StmtOf}
 use Rattle.pyc_parse.specs.declared.block_fault.BlockFault.{BlockFault}
 use Rattle.pyc_parse.specs.declared.block_fault.BlockFault.TheVariants as fault
-use Rattle.pyc_parse.specs.BlockTrees.{Decorator, CompoundClauses, no_clause, another, Stmts, no_statement, statement}
+use Rattle.pyc_tree.specs.BlockTrees.{Decorator, CompoundClauses, no_clause, another, Stmts, no_statement, statement}
 use Rattle.pyc_parse.specs.Blocks.{Placed, BlocksParsed, Parser, and_then, pure, next_clause, clauses, next_statement, statements, next_of, is_decorator, decorator_line, decorators}
 use Rattle.pyc_parse.specs.ReadsLines.{ReadsLines}
-use Rattle.pyc_parse.specs.BlockView.{clause_of, follower_of, clauses_before, stmt_of, stmts_before, decorator_of}
+use Rattle.pyc_tree.specs.BlockView.{clause_of, follower_of, clauses_before, stmt_of, stmts_before, decorator_of}
 use Rattle.pyc_tree.proofs.Turns.{one_more, no_more}
 
 -- the fault of a part is the fault of the whole

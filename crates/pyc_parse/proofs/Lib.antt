@@ -1,6 +1,5 @@
 pub mod BlockLemmas
 pub mod BlockSteps
-pub mod BlockViewLemmas
 pub mod SoundBlocks
 pub mod ModuleLemmas
 pub mod SoundModules

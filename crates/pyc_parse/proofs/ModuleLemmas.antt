@@ -7,7 +7,7 @@ use Rattle.pyc_tree.specs.declared.block.Placed.{Placed as PlacedOf}
 use Rattle.pyc_line.specs.declared.fault.ParseFault.{ParseFault}
 use Rattle.pyc_line.specs.declared.fault.What.TheVariants as what
 use Rattle.pyc_parse.specs.Blocks.{Placed}
-use Rattle.pyc_parse.specs.BlockView.{placed_of}
+use Rattle.pyc_parse.specs.PlacedView.{placed_of}
 use Rattle.pyc_tree.specs.Headers.{line_tree}
 use Rattle.pyc_line.specs.LineFault.{fault_of, number_of}
 use Rattle.pyc_tree.specs.Lines.{Line}

@@ -9,7 +9,7 @@ use Rattle.pyc_tree.specs.declared.block.Form.{Form}
 use Rattle.pyc_tree.specs.declared.block.Form.TheVariants as form
 use Rattle.pyc_tree.specs.declared.block.Next.{Next}
 use Rattle.pyc_tree.specs.declared.block.Next.TheVariants as next
-use Rattle.pyc_parse.specs.BlockTrees.{Decorator, Stmt, simple, compound, CompoundClause, clause, CompoundClauses, no_clause, another, Suite, inline, block, Stmts, no_statement, statement}
+use Rattle.pyc_tree.specs.BlockTrees.{Decorator, Stmt, simple, compound, CompoundClause, clause, CompoundClauses, no_clause, another, Suite, inline, block, Stmts, no_statement, statement}
 use Rattle.pyc_parse.specs.BlockYield.{IndentedLine, marks_yield, stmt_yield, clause_yield, suite_yield, clauses_yield, stmts_yield}
 use Rattle.pyc_parse.specs.Blocks.{Placed, BlocksParsed, Parser, and_then, pure, take_one, form_of, handled, opening, next_of, beginning, follower, line_follows, under, number_of, is_decorator, is_definition, simple_line, statements_of, decorator_line, decorator_of, decorators, all_decorators, suite, suite_under, clause_of, one_clause, clause_by, next_clause, clauses_after, clauses, all_clauses, compound_statement, definition, decorated, statement_by, next_statement, statements_after, statements, all_statements, block_at, module_of, blocks}
 use Rattle.pyc_tree.specs.Lines.{Header, Line}

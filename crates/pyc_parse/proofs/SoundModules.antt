@@ -4,7 +4,7 @@ use Rattle.pyc_lex.specs.Lines.{Lexis}
 use Rattle.pyc_lex.specs.Lines as lex
 use Rattle.pyc_line.specs.declared.fault.ParseFault.{ParseFault}
 use Rattle.pyc_line.specs.declared.fault.What.TheVariants as what
-use Rattle.pyc_parse.specs.BlockTrees.{Stmts}
+use Rattle.pyc_tree.specs.BlockTrees.{Stmts}
 use Rattle.pyc_parse.specs.BlockYield.{held, lines_held, stmts_yield}
 use Rattle.pyc_parse.specs.Blocks.{Placed, blocks}
 use Rattle.pyc_tree.specs.Headers.{line_tree}

@@ -1,8 +1,8 @@
 -- The lines that statements hold, in text order, each with the level at which it stands.
 use Rattle.std.specs.Prelude.{ℕ, ◌+◌, List, [], ◌∷◌, ◌++◌, map}
 use Rattle.pyc_token.specs.declared.tokens.Token.{Token}
-use Rattle.pyc_parse.specs.BlockTrees.{Decorator, Stmt, simple, compound, CompoundClause, clause, CompoundClauses}
-use Rattle.pyc_parse.specs.BlockTrees.{no_clause, another, Suite, inline, block, Stmts, no_statement, statement}
+use Rattle.pyc_tree.specs.BlockTrees.{Decorator, Stmt, simple, compound, CompoundClause, clause, CompoundClauses}
+use Rattle.pyc_tree.specs.BlockTrees.{no_clause, another, Suite, inline, block, Stmts, no_statement, statement}
 use Rattle.pyc_lex.specs.Lines as lex
 use Rattle.pyc_lex.specs.Texts.{tokens_of}
 use Rattle.pyc_tree.specs.Lines.{Header, Line, line_yield}

@@ -10,8 +10,8 @@ use Rattle.pyc_tree.specs.declared.block.Form.{Form}
 use Rattle.pyc_tree.specs.declared.block.Form.TheVariants as form
 use Rattle.pyc_tree.specs.declared.block.Next.{Next}
 use Rattle.pyc_tree.specs.declared.block.Next.TheVariants as next
-use Rattle.pyc_parse.specs.BlockTrees.{Decorator, Stmt, simple, compound, CompoundClause, clause, CompoundClauses}
-use Rattle.pyc_parse.specs.BlockTrees.{no_clause, another, Suite, inline, block, Stmts, no_statement, statement}
+use Rattle.pyc_tree.specs.BlockTrees.{Decorator, Stmt, simple, compound, CompoundClause, clause, CompoundClauses}
+use Rattle.pyc_tree.specs.BlockTrees.{no_clause, another, Suite, inline, block, Stmts, no_statement, statement}
 use Rattle.pyc_tree.specs.Lines.{Header, Line}
 use Rattle.pyc_tree.specs.Lines as line
 use Rattle.pyc_tree.specs.Statements.{SimpleStatement, Separated, no_item, last_item, item}

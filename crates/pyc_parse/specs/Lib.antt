@@ -1,6 +1,5 @@
-pub mod BlockTrees
 pub mod Blocks
-pub mod BlockView
+pub mod PlacedView
 pub mod ReadsBlocks
 pub mod ReadsLines
 pub mod BlockYield
@@ -12,3 +11,5 @@ pub use Rattle.pyc_tree.specs.Headers
 pub use Rattle.pyc_tree.specs.LineView
 pub use Rattle.pyc_tree.specs.Lines
 pub use Rattle.pyc_tree.specs.WellLines
+pub use Rattle.pyc_tree.specs.BlockTrees
+pub use Rattle.pyc_tree.specs.BlockView

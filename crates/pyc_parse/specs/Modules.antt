@@ -7,9 +7,9 @@ use Rattle.pyc_lex.specs.View.{ignore_in}
 use Rattle.pyc_line.specs.declared.fault.ParseFault.{ParseFault}
 use Rattle.pyc_line.specs.declared.fault.What.TheVariants as what
 use Rattle.pyc_parse.specs.declared.module_tree.Module.{Module as ModuleOf}
-use Rattle.pyc_parse.specs.BlockTrees.{Stmts}
+use Rattle.pyc_tree.specs.BlockTrees.{Stmts}
 use Rattle.pyc_parse.specs.Blocks.{Placed, blocks}
-use Rattle.pyc_parse.specs.BlockView.{stmts_of}
+use Rattle.pyc_tree.specs.BlockView.{stmts_of}
 use Rattle.pyc_tree.specs.Headers.{line_tree}
 use Rattle.pyc_line.specs.LineFault.{fault_of, number_of}
 use Rattle.pyc_tree.specs.Lines.{Line}

@@ -8,7 +8,8 @@ use Rattle.pyc_parse.specs.declared.blocks.Lines.{Lines}
 use Rattle.pyc_parse.specs.declared.block_fault.BlockFault.{BlockFault}
 use Rattle.pyc_parse.specs.Blocks.{block_at}
 use Rattle.pyc_parse.specs.ReadsLines.{ReadsLines}
-use Rattle.pyc_parse.specs.BlockView.{lines_of, stmts_of}
+use Rattle.pyc_tree.specs.BlockView.{stmts_of}
+use Rattle.pyc_parse.specs.PlacedView.{lines_of}
 
 -- it may be called at this depth, and reads what the definition does
 pub record ReadsBlocks (depth : ℕ) (pre : Global → MutBor Lines → ℕ → ℕ → Type 0)

@@ -3,7 +3,8 @@
 
 ghost use Rattle.std.specs.Prelude.{◌≡◌, ◌+◌, map, drop, length, nat_lt, Some, None, if◌then◌else◌};
 ghost use Rattle.pyc_parse.specs.ReadsLines.{ReadsLines, AnswersBlocks};
-ghost use Rattle.pyc_parse.specs.BlockView.{lines_of, placed_of, stmts_of};
+ghost use Rattle.pyc_tree.specs.BlockView.{stmts_of};
+ghost use Rattle.pyc_parse.specs.PlacedView.{lines_of, placed_of};
 ghost use Rattle.pyc_parse.specs.Blocks as spec;
 ghost use Rattle.pyc_tree.specs.LineView.{header_of, line_of};
 ghost use Rattle.pyc_tree.specs.StatementView.{separated_of, statement_of};

@@ -3,7 +3,7 @@
 ghost use Rattle.std.specs.Prelude.{◌≡◌, IfOk, IfErr, map, true};
 ghost use Rattle.pyc_lex.specs.View.{line_in, lexis_in};
 ghost use Rattle.pyc_parse.specs.BadLines.{IsFirstBadLine, is_of_line};
-ghost use Rattle.pyc_parse.specs.BlockView.{placed_of};
+ghost use Rattle.pyc_parse.specs.PlacedView.{placed_of};
 ghost use Rattle.pyc_parse.specs.BlockYield.{lines_held};
 ghost use Rattle.pyc_parse.specs.Modules.{AnswersModule, module_in, module_of, placed_lines as lines_with_trees};
 

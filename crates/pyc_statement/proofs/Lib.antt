@@ -1,2 +1,3 @@
 pub mod NameSteps
 pub mod StatementSteps
+pub mod ReadingSteps

@@ -1,5 +1,5 @@
 //! Headers.
-#![tactic(auto, using(pyc_build::proofs::Steps::ReadsTokens_made))]
+#![tactic(auto, using(crate::proofs::ReadingSteps::reading))]
 
 ghost use Rattle.std.specs.Prelude.{◌≡◌};
 ghost use Rattle.pyc_tree.specs.Expressions as spec;
@@ -30,7 +30,7 @@ pub fn word_header(alloc: Global, tokens: &mut Cursor<'_>) -> Result<BuiltHeader
 
 impl<F: Fn(Global, &mut Cursor<'_>, usize, u8) -> Result<Built, ParseError>> StatementRules<F> {
     /// `if`, `elif` or `while`, and a condition.
-    #[tactic(auto, using(pyc_build::proofs::Steps::ReadsTokens_made), unfolding(pyc_tree::specs::Headers::condition))]
+    #[tactic(auto, using(crate::proofs::ReadingSteps::reading), unfolding(pyc_tree::specs::Headers::condition))]
     pub fn condition(&self, tokens: &mut Cursor<'_>) -> Result<BuiltHeader, ParseError>
         requires { ReadsExpressions self.now.rules.depth (F.pre self.now.rules.expr) (F.post self.now.rules.expr) }
         ensures { ReadsTokens (λ b. header_of b.header.value)
@@ -42,7 +42,7 @@ impl<F: Fn(Global, &mut Cursor<'_>, usize, u8) -> Result<Built, ParseError>> Sta
     }
 
     /// `for`, targets, `in` and what is iterated, perhaps after `async`.
-    #[tactic(auto, using(pyc_build::proofs::Steps::ReadsTokens_made), unfolding(pyc_tree::specs::Headers::for_each))]
+    #[tactic(auto, using(crate::proofs::ReadingSteps::reading), unfolding(pyc_tree::specs::Headers::for_each))]
     pub fn for_each(
         &self,
         tokens: &mut Cursor<'_>,
@@ -68,7 +68,7 @@ impl<F: Fn(Global, &mut Cursor<'_>, usize, u8) -> Result<Built, ParseError>> Sta
     }
 
     /// `except`, and perhaps what is caught.
-    #[tactic(auto, using(pyc_build::proofs::Steps::ReadsTokens_made), unfolding(pyc_tree::specs::Headers::excepted))]
+    #[tactic(auto, using(crate::proofs::ReadingSteps::reading), unfolding(pyc_tree::specs::Headers::excepted))]
     pub fn excepted(&self, tokens: &mut Cursor<'_>) -> Result<BuiltHeader, ParseError>
         requires { ReadsExpressions self.now.rules.depth (F.pre self.now.rules.expr) (F.post self.now.rules.expr) }
         ensures { ReadsTokens (λ b. header_of b.header.value)
@@ -84,7 +84,7 @@ impl<F: Fn(Global, &mut Cursor<'_>, usize, u8) -> Result<Built, ParseError>> Sta
     }
 
     /// The items of a `with`.
-    #[tactic(auto, using(pyc_build::proofs::Steps::ReadsTokens_made), unfolding(pyc_tree::specs::Headers::with_items))]
+    #[tactic(auto, using(crate::proofs::ReadingSteps::reading), unfolding(pyc_tree::specs::Headers::with_items))]
     fn with_items(&self, tokens: &mut Cursor<'_>) -> Result<BuiltPieces, ParseError>
         requires { ReadsExpressions self.now.rules.depth (F.pre self.now.rules.expr) (F.post self.now.rules.expr) }
         ensures { ReadsTokens (λ b. pieces_of b.pieces)
@@ -95,7 +95,7 @@ impl<F: Fn(Global, &mut Cursor<'_>, usize, u8) -> Result<Built, ParseError>> Sta
     }
 
     /// The items of a `with` in parentheses that a colon follows.
-    #[tactic(auto, using(pyc_build::proofs::Steps::ReadsTokens_made), unfolding(pyc_tree::specs::Headers::with_enclosed))]
+    #[tactic(auto, using(crate::proofs::ReadingSteps::reading), unfolding(pyc_tree::specs::Headers::with_enclosed))]
     fn with_enclosed(
         &self,
         tokens: &mut Cursor<'_>,
@@ -117,7 +117,7 @@ impl<F: Fn(Global, &mut Cursor<'_>, usize, u8) -> Result<Built, ParseError>> Sta
     }
 
     /// The items of a `with` without parentheses.
-    #[tactic(auto, using(pyc_build::proofs::Steps::ReadsTokens_made), unfolding(pyc_tree::specs::Headers::with_open))]
+    #[tactic(auto, using(crate::proofs::ReadingSteps::reading), unfolding(pyc_tree::specs::Headers::with_open))]
     fn with_open(
         &self,
         tokens: &mut Cursor<'_>,
@@ -137,7 +137,7 @@ impl<F: Fn(Global, &mut Cursor<'_>, usize, u8) -> Result<Built, ParseError>> Sta
     }
 
     /// `with` and items, perhaps after `async`: parentheses belong to the header where they can.
-    #[tactic(auto, using(pyc_build::proofs::Steps::ReadsTokens_made), unfolding(pyc_tree::specs::Headers::with))]
+    #[tactic(auto, using(crate::proofs::ReadingSteps::reading), unfolding(pyc_tree::specs::Headers::with))]
     pub fn with(
         &self,
         tokens: &mut Cursor<'_>,
@@ -161,7 +161,7 @@ impl<F: Fn(Global, &mut Cursor<'_>, usize, u8) -> Result<Built, ParseError>> Sta
     }
 
     /// `def`, a name, parameters, and perhaps what is returned, perhaps after `async`.
-    #[tactic(auto, using(pyc_build::proofs::Steps::ReadsTokens_made), unfolding(pyc_tree::specs::Headers::function))]
+    #[tactic(auto, using(crate::proofs::ReadingSteps::reading), unfolding(pyc_tree::specs::Headers::function))]
     pub fn function(
         &self,
         tokens: &mut Cursor<'_>,
@@ -193,7 +193,7 @@ impl<F: Fn(Global, &mut Cursor<'_>, usize, u8) -> Result<Built, ParseError>> Sta
     }
 
     /// The bases and keywords of a class in parentheses.
-    #[tactic(auto, using(pyc_build::proofs::Steps::ReadsTokens_made), unfolding(pyc_tree::specs::Headers::class_of))]
+    #[tactic(auto, using(crate::proofs::ReadingSteps::reading), unfolding(pyc_tree::specs::Headers::class_of))]
     fn class_of(
         &self,
         tokens: &mut Cursor<'_>,
@@ -212,7 +212,7 @@ impl<F: Fn(Global, &mut Cursor<'_>, usize, u8) -> Result<Built, ParseError>> Sta
     }
 
     /// `class`, a name, and perhaps bases and keywords.
-    #[tactic(auto, using(pyc_build::proofs::Steps::ReadsTokens_made), unfolding(pyc_tree::specs::Headers::class))]
+    #[tactic(auto, using(crate::proofs::ReadingSteps::reading), unfolding(pyc_tree::specs::Headers::class))]
     pub fn class(&self, tokens: &mut Cursor<'_>) -> Result<BuiltHeader, ParseError>
         requires { ReadsExpressions self.now.rules.depth (F.pre self.now.rules.expr) (F.post self.now.rules.expr) }
         ensures { ReadsTokens (λ b. header_of b.header.value)

@@ -1,5 +1,5 @@
 //! Whole lines.
-#![tactic(auto, using(pyc_build::proofs::Steps::ReadsTokens_made))]
+#![tactic(auto, using(crate::proofs::ReadingSteps::reading))]
 
 ghost use Rattle.std.specs.Prelude.{◌≡◌};
 ghost use Rattle.pyc_token.specs.declared.tokens.Kind.TheVariants as kind;
@@ -20,7 +20,7 @@ use std::alloc::Global;
 
 impl<F: Fn(Global, &mut Cursor<'_>, usize, u8) -> Result<Built, ParseError>> StatementRules<F> {
     /// `@` and an expression.
-    #[tactic(auto, using(pyc_build::proofs::Steps::ReadsTokens_made), unfolding(pyc_tree::specs::Headers::decorator))]
+    #[tactic(auto, using(crate::proofs::ReadingSteps::reading), unfolding(pyc_tree::specs::Headers::decorator))]
     fn decorator(&self, tokens: &mut Cursor<'_>) -> Result<BuiltLine, ParseError>
         requires { ReadsExpressions self.now.rules.depth (F.pre self.now.rules.expr) (F.post self.now.rules.expr) }
         ensures { ReadsTokens (λ b. line_of b.line)
@@ -32,7 +32,7 @@ impl<F: Fn(Global, &mut Cursor<'_>, usize, u8) -> Result<Built, ParseError>> Sta
     }
 
     /// The colon after a header, and the statements where a token is left.
-    #[tactic(auto, using(pyc_build::proofs::Steps::ReadsTokens_made), unfolding(pyc_tree::specs::Headers::suite))]
+    #[tactic(auto, using(crate::proofs::ReadingSteps::reading), unfolding(pyc_tree::specs::Headers::suite))]
     fn suite(&self, tokens: &mut Cursor<'_>, header: BuiltHeader) -> Result<BuiltLine, ParseError>
         requires { ReadsExpressions self.now.rules.depth (F.pre self.now.rules.expr) (F.post self.now.rules.expr) }
         ensures { ReadsTokens (λ b. line_of b.line)
@@ -49,7 +49,7 @@ impl<F: Fn(Global, &mut Cursor<'_>, usize, u8) -> Result<Built, ParseError>> Sta
     }
 
     /// Statements, joined by semicolons.
-    #[tactic(auto, using(pyc_build::proofs::Steps::ReadsTokens_made), unfolding(pyc_tree::specs::Headers::simple_line))]
+    #[tactic(auto, using(crate::proofs::ReadingSteps::reading), unfolding(pyc_tree::specs::Headers::simple_line))]
     fn simple_line(&self, tokens: &mut Cursor<'_>) -> Result<BuiltLine, ParseError>
         requires { ReadsExpressions self.now.rules.depth (F.pre self.now.rules.expr) (F.post self.now.rules.expr) }
         ensures { ReadsTokens (λ b. line_of b.line)
@@ -60,7 +60,7 @@ impl<F: Fn(Global, &mut Cursor<'_>, usize, u8) -> Result<Built, ParseError>> Sta
     }
 
     /// A line that begins with this keyword.
-    #[tactic(auto, using(pyc_build::proofs::Steps::ReadsTokens_made), unfolding(pyc_tree::specs::Headers::headed))]
+    #[tactic(auto, using(crate::proofs::ReadingSteps::reading), unfolding(pyc_tree::specs::Headers::headed))]
     fn line_of_word(&self, tokens: &mut Cursor<'_>, word: Keyword) -> Result<BuiltLine, ParseError>
         requires { ReadsExpressions self.now.rules.depth (F.pre self.now.rules.expr) (F.post self.now.rules.expr) }
         ensures { ReadsTokens (λ b. line_of b.line)
@@ -85,7 +85,7 @@ impl<F: Fn(Global, &mut Cursor<'_>, usize, u8) -> Result<Built, ParseError>> Sta
     }
 
     /// A line, by its first token.
-    #[tactic(auto, using(pyc_build::proofs::Steps::ReadsTokens_made), unfolding(pyc_tree::specs::Headers::any_line))]
+    #[tactic(auto, using(crate::proofs::ReadingSteps::reading), unfolding(pyc_tree::specs::Headers::any_line))]
     fn any_line(&self, tokens: &mut Cursor<'_>) -> Result<BuiltLine, ParseError>
         requires { ReadsExpressions self.now.rules.depth (F.pre self.now.rules.expr) (F.post self.now.rules.expr) }
         ensures { ReadsTokens (λ b. line_of b.line)

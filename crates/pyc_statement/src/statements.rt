@@ -1,5 +1,5 @@
 //! Simple statements with expressions.
-#![tactic(auto, using(pyc_build::proofs::Steps::ReadsTokens_made))]
+#![tactic(auto, using(crate::proofs::ReadingSteps::reading))]
 
 ghost use Rattle.std.specs.Prelude.{◌≡◌, map, length};
 ghost use Rattle.pyc_tree.specs.Expressions as spec;
@@ -21,7 +21,7 @@ use std::alloc::Global;
 
 impl<F: Fn(Global, &mut Cursor<'_>, usize, u8) -> Result<Built, ParseError>> StatementRules<F> {
     /// An expression, a tuple without brackets or a `yield`.
-    #[tactic(auto, using(pyc_build::proofs::Steps::ReadsTokens_made), unfolding(pyc_tree::specs::SimpleStatements::value))]
+    #[tactic(auto, using(crate::proofs::ReadingSteps::reading), unfolding(pyc_tree::specs::SimpleStatements::value))]
     fn value(&self, tokens: &mut Cursor<'_>) -> Result<Built, ParseError>
         requires { ReadsExpressions self.now.rules.depth (F.pre self.now.rules.expr) (F.post self.now.rules.expr) }
         ensures { ReadsTokens (λ b. tree_of b.expr.value)
@@ -34,7 +34,7 @@ impl<F: Fn(Global, &mut Cursor<'_>, usize, u8) -> Result<Built, ParseError>> Sta
     }
 
     /// `=` and a value, if it comes next.
-    #[tactic(auto, using(pyc_build::proofs::Steps::ReadsTokens_made), unfolding(pyc_tree::specs::SimpleStatements::given))]
+    #[tactic(auto, using(crate::proofs::ReadingSteps::reading), unfolding(pyc_tree::specs::SimpleStatements::given))]
     fn given(&self, tokens: &mut Cursor<'_>) -> Result<BuiltTail, ParseError>
         requires { ReadsExpressions self.now.rules.depth (F.pre self.now.rules.expr) (F.post self.now.rules.expr) }
         ensures { ReadsTokens (λ b. tail_of b.tail)
@@ -82,7 +82,7 @@ impl<F: Fn(Global, &mut Cursor<'_>, usize, u8) -> Result<Built, ParseError>> Sta
     }
 
     /// An expression statement, or an assignment.
-    #[tactic(auto, using(pyc_build::proofs::Steps::ReadsTokens_made), unfolding(pyc_tree::specs::SimpleStatements::assigned))]
+    #[tactic(auto, using(crate::proofs::ReadingSteps::reading), unfolding(pyc_tree::specs::SimpleStatements::assigned))]
     fn assigned(
         &self,
         tokens: &mut Cursor<'_>,
@@ -98,7 +98,7 @@ impl<F: Fn(Global, &mut Cursor<'_>, usize, u8) -> Result<Built, ParseError>> Sta
     }
 
     /// `:`, an annotation, and perhaps a value, after a target.
-    #[tactic(auto, using(pyc_build::proofs::Steps::ReadsTokens_made), unfolding(pyc_tree::specs::SimpleStatements::annotated))]
+    #[tactic(auto, using(crate::proofs::ReadingSteps::reading), unfolding(pyc_tree::specs::SimpleStatements::annotated))]
     fn annotated(
         &self,
         tokens: &mut Cursor<'_>,
@@ -119,7 +119,7 @@ impl<F: Fn(Global, &mut Cursor<'_>, usize, u8) -> Result<Built, ParseError>> Sta
     }
 
     /// An operator as `+=` and a value, after a target.
-    #[tactic(auto, using(pyc_build::proofs::Steps::ReadsTokens_made), unfolding(pyc_tree::specs::SimpleStatements::augmented))]
+    #[tactic(auto, using(crate::proofs::ReadingSteps::reading), unfolding(pyc_tree::specs::SimpleStatements::augmented))]
     fn augmented(
         &self,
         tokens: &mut Cursor<'_>,
@@ -139,7 +139,7 @@ impl<F: Fn(Global, &mut Cursor<'_>, usize, u8) -> Result<Built, ParseError>> Sta
     }
 
     /// A statement that begins with an expression.
-    #[tactic(auto, using(pyc_build::proofs::Steps::ReadsTokens_made), unfolding(pyc_tree::specs::SimpleStatements::of_expression))]
+    #[tactic(auto, using(crate::proofs::ReadingSteps::reading), unfolding(pyc_tree::specs::SimpleStatements::of_expression))]
     fn of_expression(&self, tokens: &mut Cursor<'_>) -> Result<BuiltSimpleStatement, ParseError>
         requires { ReadsExpressions self.now.rules.depth (F.pre self.now.rules.expr) (F.post self.now.rules.expr) }
         ensures { ReadsTokens (λ b. statement_of b.statement)
@@ -158,7 +158,7 @@ impl<F: Fn(Global, &mut Cursor<'_>, usize, u8) -> Result<Built, ParseError>> Sta
     }
 
     /// A statement that begins with `yield`.
-    #[tactic(auto, using(pyc_build::proofs::Steps::ReadsTokens_made), unfolding(pyc_tree::specs::SimpleStatements::of_yield))]
+    #[tactic(auto, using(crate::proofs::ReadingSteps::reading), unfolding(pyc_tree::specs::SimpleStatements::of_yield))]
     fn of_yield(&self, tokens: &mut Cursor<'_>) -> Result<BuiltSimpleStatement, ParseError>
         requires { ReadsExpressions self.now.rules.depth (F.pre self.now.rules.expr) (F.post self.now.rules.expr) }
         ensures { ReadsTokens (λ b. statement_of b.statement)
@@ -169,7 +169,7 @@ impl<F: Fn(Global, &mut Cursor<'_>, usize, u8) -> Result<Built, ParseError>> Sta
     }
 
     /// `return`, perhaps with a value.
-    #[tactic(auto, using(pyc_build::proofs::Steps::ReadsTokens_made), unfolding(pyc_tree::specs::SimpleStatements::returned))]
+    #[tactic(auto, using(crate::proofs::ReadingSteps::reading), unfolding(pyc_tree::specs::SimpleStatements::returned))]
     fn returned(&self, tokens: &mut Cursor<'_>) -> Result<BuiltSimpleStatement, ParseError>
         requires { ReadsExpressions self.now.rules.depth (F.pre self.now.rules.expr) (F.post self.now.rules.expr) }
         ensures { ReadsTokens (λ b. statement_of b.statement)
@@ -184,7 +184,7 @@ impl<F: Fn(Global, &mut Cursor<'_>, usize, u8) -> Result<Built, ParseError>> Sta
     }
 
     /// `raise`, perhaps an exception, perhaps `from` and its cause.
-    #[tactic(auto, using(pyc_build::proofs::Steps::ReadsTokens_made), unfolding(pyc_tree::specs::SimpleStatements::raised))]
+    #[tactic(auto, using(crate::proofs::ReadingSteps::reading), unfolding(pyc_tree::specs::SimpleStatements::raised))]
     fn raised(&self, tokens: &mut Cursor<'_>) -> Result<BuiltSimpleStatement, ParseError>
         requires { ReadsExpressions self.now.rules.depth (F.pre self.now.rules.expr) (F.post self.now.rules.expr) }
         ensures { ReadsTokens (λ b. statement_of b.statement)
@@ -200,7 +200,7 @@ impl<F: Fn(Global, &mut Cursor<'_>, usize, u8) -> Result<Built, ParseError>> Sta
     }
 
     /// `assert`, a test, and perhaps a message.
-    #[tactic(auto, using(pyc_build::proofs::Steps::ReadsTokens_made), unfolding(pyc_tree::specs::SimpleStatements::asserted))]
+    #[tactic(auto, using(crate::proofs::ReadingSteps::reading), unfolding(pyc_tree::specs::SimpleStatements::asserted))]
     fn asserted(&self, tokens: &mut Cursor<'_>) -> Result<BuiltSimpleStatement, ParseError>
         requires { ReadsExpressions self.now.rules.depth (F.pre self.now.rules.expr) (F.post self.now.rules.expr) }
         ensures { ReadsTokens (λ b. statement_of b.statement)
@@ -213,7 +213,7 @@ impl<F: Fn(Global, &mut Cursor<'_>, usize, u8) -> Result<Built, ParseError>> Sta
     }
 
     /// `del` and targets.
-    #[tactic(auto, using(pyc_build::proofs::Steps::ReadsTokens_made), unfolding(pyc_tree::specs::SimpleStatements::deleted))]
+    #[tactic(auto, using(crate::proofs::ReadingSteps::reading), unfolding(pyc_tree::specs::SimpleStatements::deleted))]
     fn deleted(&self, tokens: &mut Cursor<'_>) -> Result<BuiltSimpleStatement, ParseError>
         requires { ReadsExpressions self.now.rules.depth (F.pre self.now.rules.expr) (F.post self.now.rules.expr) }
         ensures { ReadsTokens (λ b. statement_of b.statement)
@@ -225,7 +225,7 @@ impl<F: Fn(Global, &mut Cursor<'_>, usize, u8) -> Result<Built, ParseError>> Sta
     }
 
     /// A simple statement, by its first token.
-    #[tactic(auto, using(pyc_build::proofs::Steps::ReadsTokens_made), unfolding(pyc_tree::specs::SimpleStatements::simple))]
+    #[tactic(auto, using(crate::proofs::ReadingSteps::reading), unfolding(pyc_tree::specs::SimpleStatements::simple))]
     pub fn simple(&self, tokens: &mut Cursor<'_>) -> Result<BuiltSimpleStatement, ParseError>
         requires { ReadsExpressions self.now.rules.depth (F.pre self.now.rules.expr) (F.post self.now.rules.expr) }
         ensures { ReadsTokens (λ b. statement_of b.statement)

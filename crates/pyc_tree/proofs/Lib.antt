@@ -3,3 +3,4 @@ pub mod HeightLemmas
 pub mod TargetLemmas
 pub mod FormLemmas
 pub mod Turns
+pub mod BlockViewLemmas

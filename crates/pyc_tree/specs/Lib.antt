@@ -17,3 +17,5 @@ pub mod StatementView
 pub mod LineView
 pub mod Expressions
 pub mod Headers
+pub mod BlockTrees
+pub mod BlockView

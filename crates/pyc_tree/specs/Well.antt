@@ -1,7 +1,8 @@
 -- Well-formed trees: each operand stands at a precedence that its place allows, each token is of the kind that its
 -- place asks for, and targets, joined strings, arguments and parameters have their forms (Python reference 3.13,
 -- "Expressions").
-use Rattle.std.specs.Prelude.{◌≡◌, ◌≤◌, ℕ, Bool, true, false, not, ◌&&◌, ◌||◌, nat_le, if◌then◌else◌, List, [], ◌∷◌}
+use Rattle.std.specs.Prelude.{◌≡◌, ◌≤◌, ℕ, Bool, true, false, not, ◌&&◌, ◌||◌, nat_le}
+use Rattle.std.specs.Prelude.{if◌then◌else◌, List, [], ◌∷◌}
 use Rattle.std.specs.Prelude.{Option, None, Some}
 use Rattle.pyc_token.specs.declared.tokens.Bracket.{Bracket}
 use Rattle.pyc_token.specs.declared.tokens.Bracket.TheVariants as bracket
@@ -160,7 +161,8 @@ unfoldable mutual
   IsWell (tree.yield_from t from e) =
       (t.kind ≡ kind.Keyword word.Yield) × (from.kind ≡ kind.Keyword word.From) × (1 ≤ precedence e) × IsWell e
   IsWell (tree.starred star e) = (star.kind ≡ kind.Arithmetic op.Star) × (1 ≤ precedence e) × IsWell e
-  IsWell (tree.double_starred stars e) = (stars.kind ≡ kind.Arithmetic op.DoubleStar) × (1 ≤ precedence e) × IsWell e
+  IsWell (tree.double_starred stars e) =
+      (stars.kind ≡ kind.Arithmetic op.DoubleStar) × (1 ≤ precedence e) × IsWell e
   IsWell (tree.entry key colon value) =
       (1 ≤ precedence key) × IsWell key × (colon.kind ≡ kind.Delimiter delimiter.Colon) × (1 ≤ precedence value)
       × IsWell value

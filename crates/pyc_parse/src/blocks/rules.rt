@@ -1,11 +1,12 @@
 //! The rules of blocks: each over the function that reads the block at an indent, so that each is proved by itself.
-#![tactic(auto, using(crate::proofs::BlockViewLemmas::block_views))]
+#![tactic(auto, using(pyc_tree::proofs::BlockViewLemmas::block_views))]
 
 ghost use Rattle.std.specs.Prelude.{◌≡◌, [], option_map};
 ghost use Rattle.pyc_parse.specs.ReadsBlocks.{ReadsBlocks};
 ghost use Rattle.pyc_parse.specs.ReadsLines.{ReadsLines};
-ghost use Rattle.pyc_parse.specs.BlockView.{lines_of, decorator_of, decorators_of, stmt_of, stmts_of, clause_of};
-ghost use Rattle.pyc_parse.specs.BlockView.{clauses_of, follower_of, suite_of};
+ghost use Rattle.pyc_tree.specs.BlockView.{decorator_of, decorators_of, stmt_of, stmts_of, clause_of};
+ghost use Rattle.pyc_parse.specs.PlacedView.{lines_of};
+ghost use Rattle.pyc_tree.specs.BlockView.{clauses_of, follower_of, suite_of};
 ghost use Rattle.pyc_parse.specs.Blocks as spec;
 ghost use Rattle.pyc_tree.specs.StatementView.{separated_of, statement_of};
 
@@ -27,7 +28,7 @@ pub struct Rules<F> {
 }
 
 /// A line of simple statements.
-#[tactic(auto, using(crate::proofs::BlockViewLemmas::block_views), unfolding(crate::specs::Blocks::simple_line))]
+#[tactic(auto, using(pyc_tree::proofs::BlockViewLemmas::block_views), unfolding(crate::specs::Blocks::simple_line))]
 fn simple_line(lines: &mut Lines) -> Result<Stmt, BlockFault>
     ensures { ReadsLines stmt_of (spec.simple_line (lines_of lines.old)) result (lines_of lines.new) }
 {
@@ -76,7 +77,7 @@ impl<F: Fn(Global, &mut Lines, usize, usize) -> Result<Vec<Stmt>, BlockFault>> R
     }
 
     /// The statements on the line of a header, or the block under it.
-    #[tactic(auto, using(crate::proofs::BlockViewLemmas::block_views), unfolding(crate::specs::Blocks::suite))]
+    #[tactic(auto, using(pyc_tree::proofs::BlockViewLemmas::block_views), unfolding(crate::specs::Blocks::suite))]
     fn suite(
         &self,
         lines: &mut Lines,
@@ -173,7 +174,7 @@ impl<F: Fn(Global, &mut Lines, usize, usize) -> Result<Vec<Stmt>, BlockFault>> R
     }
 
     /// A compound statement after its decorators.
-    #[tactic(auto, using(crate::proofs::BlockViewLemmas::block_views), unfolding(crate::specs::Blocks::compound_statement))]
+    #[tactic(auto, using(pyc_tree::proofs::BlockViewLemmas::block_views), unfolding(crate::specs::Blocks::compound_statement))]
     fn compound(
         &self,
         lines: &mut Lines,

@@ -2,8 +2,8 @@ use Rattle.std.proofs.Common.{◌≡◌, All, sym, subst, rules}
 use Rattle.pyc_lex.specs.Texts.{IsTextSpan}
 use Rattle.pyc_token.specs.declared.tokens.Token.{Token}
 use Rattle.pyc_tree.specs.declared.block.Stmt.{Stmt}
-use Rattle.pyc_parse.specs.BlockTrees.{no_statement}
-use Rattle.pyc_parse.specs.BlockView.{stmts_before}
+use Rattle.pyc_tree.specs.BlockTrees.{no_statement}
+use Rattle.pyc_tree.specs.BlockView.{stmts_before}
 use Rattle.pyc_parse.specs.BlockYield.{stmts_tokens}
 use Rattle.pyc_parse.specs.Outcome.{outcome_in, outcome_tokens}
 use Rattle.pyc_daemon.proofs.found.found.Goals as goal

@@ -2,8 +2,8 @@ use Rattle.std.proofs.Common.{◌∙◌, map, ap, sym}
 use Rattle.std.proofs.lemmas.List.{map-append}
 use Rattle.std.specs.Prelude.{option_map}
 use Rattle.pyc_lex.specs.Texts.{IsTextSpan}
-use Rattle.pyc_parse.specs.BlockTrees.{no_statement}
-use Rattle.pyc_parse.specs.BlockView.{stmts_before}
+use Rattle.pyc_tree.specs.BlockTrees.{no_statement}
+use Rattle.pyc_tree.specs.BlockView.{stmts_before}
 use Rattle.pyc_daemon.specs.LiteralForms.{form_in, part_form}
 use Rattle.pyc_daemon.specs.Scopes.{part_in}
 use Rattle.pyc_daemon.proofs.SpanLemmas.{part_spans}

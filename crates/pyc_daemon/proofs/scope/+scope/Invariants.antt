@@ -1,6 +1,6 @@
 use Rattle.std.proofs.Common.{◌≡◌, ◌++◌, map, take}
-use Rattle.pyc_parse.specs.BlockTrees.{no_statement, no_clause}
-use Rattle.pyc_parse.specs.BlockView.{stmts_before, clauses_before}
+use Rattle.pyc_tree.specs.BlockTrees.{no_statement, no_clause}
+use Rattle.pyc_tree.specs.BlockView.{stmts_before, clauses_before}
 use Rattle.pyc_daemon.specs.Scopes.{part_in, parts_of, clauses_parts}
 use Rattle.pyc_daemon.proofs.scope.+scope.Given as goal
 

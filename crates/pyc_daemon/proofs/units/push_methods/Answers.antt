@@ -1,6 +1,6 @@
 use Rattle.std.proofs.Common.{sym, append_assoc}
 use Rattle.std.proofs.lemmas.List.{map-append}
-use Rattle.pyc_parse.specs.BlockView.{clause_of}
+use Rattle.pyc_tree.specs.BlockView.{clause_of}
 use Rattle.pyc_daemon.specs.Scopes.{part_in}
 use Rattle.pyc_daemon.specs.Units.{function_in}
 use Rattle.pyc_daemon.proofs.UnitLemmas.{filter_map_some, filter_map_none}

@@ -1,6 +1,6 @@
 use Rattle.std.proofs.Common.{◌≡◌, ◌++◌, map, take}
 use Rattle.std.specs.List.{filter_map}
-use Rattle.pyc_parse.specs.BlockView.{clause_of}
+use Rattle.pyc_tree.specs.BlockView.{clause_of}
 use Rattle.pyc_daemon.specs.Scopes.{part_in}
 use Rattle.pyc_daemon.specs.Units.{function_in}
 use Rattle.pyc_daemon.proofs.units.push_methods.Given as goal

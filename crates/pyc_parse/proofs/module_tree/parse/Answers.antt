@@ -1,7 +1,8 @@
 -- The statements of a module hold its lines; a fault of a line is that of the first bad one.
 use Rattle.std.proofs.Common.{rules, map}
 use Rattle.pyc_lex.specs.View.{line_in}
-use Rattle.pyc_parse.specs.BlockView.{placed_of, stmts_of}
+use Rattle.pyc_tree.specs.BlockView.{stmts_of}
+use Rattle.pyc_parse.specs.PlacedView.{placed_of}
 use Rattle.pyc_parse.proofs.BadLineLemmas.{handed_on}
 use Rattle.pyc_parse.proofs.SoundModules.{statements_hold}
 use Rattle.pyc_parse.proofs.module_tree.parse.Goals as goal

@@ -5,7 +5,7 @@ use Rattle.pyc_lex.specs.View.{line_in}
 use Rattle.pyc_tree.specs.declared.block.Placed.{Placed as PlacedOf}
 use Rattle.pyc_line.specs.declared.fault.ParseFault.{ParseFault}
 use Rattle.pyc_parse.specs.Blocks.{Placed}
-use Rattle.pyc_parse.specs.BlockView.{placed_of}
+use Rattle.pyc_parse.specs.PlacedView.{placed_of}
 use Rattle.pyc_line.specs.LineFault.{number_of}
 use Rattle.pyc_tree.specs.LineView.{line_of}
 use Rattle.pyc_parse.specs.Modules.{placed_lines}

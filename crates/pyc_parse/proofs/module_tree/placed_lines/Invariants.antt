@@ -1,7 +1,7 @@
 use Rattle.std.proofs.Common.{◌≡◌, map, length}
 use Rattle.std.specs.Vec.Iter.{into_iter_items, into_iter_len}
 use Rattle.pyc_lex.specs.View.{line_in}
-use Rattle.pyc_parse.specs.BlockView.{placed_of}
+use Rattle.pyc_parse.specs.PlacedView.{placed_of}
 use Rattle.pyc_parse.specs.Modules.{placed_lines}
 use Rattle.pyc_parse.proofs.ModuleLemmas.{with_placed}
 use Rattle.pyc_parse.proofs.module_tree.placed_lines.Given as goal

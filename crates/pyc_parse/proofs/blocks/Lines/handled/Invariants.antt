@@ -1,5 +1,5 @@
 use Rattle.std.proofs.Common.{◌≡◌, map, drop}
-use Rattle.pyc_parse.specs.BlockView.{placed_of}
+use Rattle.pyc_parse.specs.PlacedView.{placed_of}
 use Rattle.pyc_parse.specs.Blocks.{handled}
 use Rattle.pyc_parse.proofs.blocks.Lines.handled.Given as goal
 

@@ -1,5 +1,5 @@
 use Rattle.std.proofs.Common.{ap, sym, ◌∙◌, Err, arith}
-use Rattle.pyc_parse.specs.BlockView.{lines_of}
+use Rattle.pyc_parse.specs.PlacedView.{lines_of}
 use Rattle.pyc_parse.proofs.BlockLemmas.{block_at-more, block_at-none}
 use Rattle.pyc_parse.proofs.blocks.rules.+block_at.Goals as goal
 

@@ -1,6 +1,7 @@
 use Rattle.std.proofs.Common.{arith}
 use Rattle.pyc_parse.specs.Blocks.{decorators, all_decorators}
-use Rattle.pyc_parse.specs.BlockView.{lines_of, decorator_of}
+use Rattle.pyc_tree.specs.BlockView.{decorator_of}
+use Rattle.pyc_parse.specs.PlacedView.{lines_of}
 use Rattle.pyc_parse.proofs.BlockSteps.{read_err, decorators_start, decorators_over, decorators_fault, decorators_end, decorators_on}
 use Rattle.pyc_parse.proofs.blocks.rules.decorators.Goals as goal
 

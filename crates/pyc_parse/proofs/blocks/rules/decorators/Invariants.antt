@@ -1,6 +1,7 @@
 use Rattle.std.proofs.Common.{◌≡◌, ◌-◌, map}
 use Rattle.pyc_parse.specs.Blocks.{decorators, all_decorators}
-use Rattle.pyc_parse.specs.BlockView.{lines_of, decorator_of}
+use Rattle.pyc_tree.specs.BlockView.{decorator_of}
+use Rattle.pyc_parse.specs.PlacedView.{lines_of}
 use Rattle.pyc_parse.proofs.BlockSteps.{with_decorators}
 use Rattle.pyc_parse.proofs.blocks.rules.decorators.Given as goal
 

@@ -2,7 +2,8 @@ use Rattle.std.proofs.Common.{arith, Option}
 use Rattle.pyc_tree.specs.declared.block.After.{After}
 use Rattle.pyc_tree.specs.declared.block.CompoundClause.{CompoundClause}
 use Rattle.pyc_parse.specs.Blocks.{block_at, clauses, all_clauses}
-use Rattle.pyc_parse.specs.BlockView.{lines_of, follower_of}
+use Rattle.pyc_tree.specs.BlockView.{follower_of}
+use Rattle.pyc_parse.specs.PlacedView.{lines_of}
 use Rattle.pyc_parse.proofs.BlockSteps.{read_err, clauses_start, clauses_over, clauses_fault, clauses_end, clauses_on}
 use Rattle.pyc_parse.proofs.blocks.rules.Rules.clauses.Goals as goal
 

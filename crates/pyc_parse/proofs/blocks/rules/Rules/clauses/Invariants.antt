@@ -1,6 +1,6 @@
 use Rattle.std.proofs.Common.{◌≡◌, ◌-◌}
 use Rattle.pyc_parse.specs.Blocks.{block_at, clauses, all_clauses}
-use Rattle.pyc_parse.specs.BlockView.{lines_of}
+use Rattle.pyc_parse.specs.PlacedView.{lines_of}
 use Rattle.pyc_parse.proofs.BlockSteps.{with_clauses}
 use Rattle.pyc_parse.proofs.blocks.rules.Rules.clauses.Given as goal
 

@@ -1,7 +1,8 @@
 use Rattle.std.proofs.Common.{arith, Option, option_map}
 use Rattle.pyc_tree.specs.declared.block.Stmt.{Stmt}
 use Rattle.pyc_parse.specs.Blocks.{block_at, statements, all_statements}
-use Rattle.pyc_parse.specs.BlockView.{lines_of, stmt_of}
+use Rattle.pyc_tree.specs.BlockView.{stmt_of}
+use Rattle.pyc_parse.specs.PlacedView.{lines_of}
 use Rattle.pyc_parse.proofs.BlockSteps.{read_err, statements_start, statements_over, statements_fault, statements_end, statements_on}
 use Rattle.pyc_parse.proofs.blocks.rules.Rules.statements.Goals as goal
 

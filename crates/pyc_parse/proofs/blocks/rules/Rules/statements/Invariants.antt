@@ -1,6 +1,6 @@
 use Rattle.std.proofs.Common.{◌≡◌, ◌-◌}
 use Rattle.pyc_parse.specs.Blocks.{block_at, statements, all_statements}
-use Rattle.pyc_parse.specs.BlockView.{lines_of}
+use Rattle.pyc_parse.specs.PlacedView.{lines_of}
 use Rattle.pyc_parse.proofs.BlockSteps.{with_statements}
 use Rattle.pyc_parse.proofs.blocks.rules.Rules.statements.Given as goal
 

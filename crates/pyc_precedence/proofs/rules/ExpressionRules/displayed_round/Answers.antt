@@ -2,7 +2,7 @@ use Rattle.std.proofs.Common.{◌≡◌}
 use Rattle.pyc_tree.specs.Expressions.{expr}
 use Rattle.pyc_tree.specs.Items.{displayed}
 use Rattle.pyc_tree.specs.View.{tree_of}
-use Rattle.pyc_expression.proofs.rules.ExpressionRules.displayed_round.Goals as goal
+use Rattle.pyc_precedence.proofs.rules.ExpressionRules.displayed_round.Goals as goal
 
 pub returns : goal.returns
 unfolding displayed

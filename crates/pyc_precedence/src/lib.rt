@@ -1,4 +1,4 @@
-//! The grammar of expressions.
+//! The grammar of expressions, by their precedence.
 #![tactic(auto)]
 
 mod calls;

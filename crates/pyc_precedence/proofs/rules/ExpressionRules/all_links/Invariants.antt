@@ -1,7 +1,7 @@
 use Rattle.std.proofs.Common.{◌≡◌, ◌-◌}
 use Rattle.pyc_tree.specs.Expressions.{expr, links, all_links}
 use Rattle.pyc_item.proofs.LoopLemmas.{with_links}
-use Rattle.pyc_expression.proofs.rules.ExpressionRules.all_links.Given as goal
+use Rattle.pyc_precedence.proofs.rules.ExpressionRules.all_links.Given as goal
 
 abbrev pub invariant-loop-turn : goal.invariant-loop-turn
 invariant-loop-turn g l =

@@ -12,8 +12,8 @@ use Rattle.pyc_tree.specs.declared.block.Suite.{Suite as SuiteOf, Row_of-Stmt, e
 use Rattle.pyc_tree.specs.declared.block.Suite.TheVariants as u
 use Rattle.pyc_tree.specs.declared.statement.Separated.{Separated as SeparatedOf}
 use Rattle.pyc_tree.specs.declared.statement.SimpleStatement.{SimpleStatement as SimpleStatementOf}
-use Rattle.pyc_parse.specs.BlockTrees as plain
-use Rattle.pyc_parse.specs.BlockView.{decorators_of, stmt_of, suite_of, clauses_row, stmts_row, clause_of, clauses_before, clauses_of, stmts_before, stmts_of}
+use Rattle.pyc_tree.specs.BlockTrees as plain
+use Rattle.pyc_tree.specs.BlockView.{decorators_of, stmt_of, suite_of, clauses_row, stmts_row, clause_of, clauses_before, clauses_of, stmts_before, stmts_of}
 use Rattle.pyc_tree.specs.StatementView.{separated_of, statement_of}
 
 -- ---- rows and lists

@@ -1,30 +1,19 @@
--- The plain lines and statements that those of the code are.
+-- The plain statements that those of the code are.
 use Rattle.std.specs.Prelude.{List, [], ◌∷◌, Option, None, Some, map}
 use Rattle.std.specs.Global.{Vec}
 use Rattle.pyc_tree.specs.declared.block.After.{After}
 use Rattle.pyc_tree.specs.declared.block.CompoundClause.{CompoundClause as CompoundClauseOf}
 use Rattle.pyc_tree.specs.declared.block.Decorator.{Decorator as DecoratorOf}
-use Rattle.pyc_tree.specs.declared.block.Placed.{Placed as PlacedOf}
 use Rattle.pyc_tree.specs.declared.block.Stmt.{Stmt as StmtOf, Row_of-CompoundClause, end_of-CompoundClause}
 use Rattle.pyc_tree.specs.declared.block.Stmt.{more_of-CompoundClause}
 use Rattle.pyc_tree.specs.declared.block.Stmt.TheVariants as s
 use Rattle.pyc_tree.specs.declared.block.Suite.{Suite as SuiteOf, Row_of-Stmt, end_of-Stmt, more_of-Stmt}
 use Rattle.pyc_tree.specs.declared.block.Suite.TheVariants as u
-use Rattle.pyc_parse.specs.declared.blocks.Lines.{Lines}
-use Rattle.pyc_parse.specs.BlockTrees.{Decorator, Stmt, CompoundClause, CompoundClauses, Suite, Stmts}
-use Rattle.pyc_parse.specs.BlockTrees as plain
-use Rattle.pyc_parse.specs.Blocks.{Placed}
-use Rattle.pyc_tree.specs.LineView.{header_of, line_of}
+use Rattle.pyc_tree.specs.BlockTrees.{Decorator, Stmt, CompoundClause, CompoundClauses, Suite, Stmts}
+use Rattle.pyc_tree.specs.BlockTrees as plain
+use Rattle.pyc_tree.specs.LineView.{header_of}
 use Rattle.pyc_tree.specs.StatementView.{separated_of, statement_of}
 use Rattle.pyc_tree.specs.View.{tree_of}
-
--- the line of one of the code
-abbrev pub placed_of : PlacedOf → Placed
-placed_of p = record { indent = p.indent; number = p.number; line = line_of p.line }
-
--- the lines that are left to read
-abbrev pub lines_of : Lines → List Placed
-lines_of lines = map placed_of lines.rest.items
 
 abbrev pub decorator_of : DecoratorOf → Decorator
 decorator_of d = record { mark = d.mark; value = tree_of d.value.value }

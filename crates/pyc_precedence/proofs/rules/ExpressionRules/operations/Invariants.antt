@@ -1,7 +1,7 @@
 use Rattle.std.proofs.Common.{◌≡◌, ◌-◌}
 use Rattle.pyc_tree.specs.Expressions.{expr, climb, operations}
 use Rattle.pyc_tree.specs.View.{tree_of}
-use Rattle.pyc_expression.proofs.rules.ExpressionRules.operations.Given as goal
+use Rattle.pyc_precedence.proofs.rules.ExpressionRules.operations.Given as goal
 
 abbrev pub invariant-loop-turn : goal.invariant-loop-turn
 invariant-loop-turn g l =

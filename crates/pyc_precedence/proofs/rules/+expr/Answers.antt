@@ -1,7 +1,7 @@
 use Rattle.std.proofs.Common.{◌≡◌, ◌+◌, ap, arith}
 use Rattle.pyc_tree.specs.Expressions.{expr}
 use Rattle.pyc_tree.proofs.Turns.{deeper}
-use Rattle.pyc_expression.proofs.rules.+expr.Goals as goal
+use Rattle.pyc_precedence.proofs.rules.+expr.Goals as goal
 
 pub returns-then-depth-eq0 : goal.returns-then-depth-eq0
 unfolding expr

@@ -11,7 +11,7 @@ use Rattle.pyc_tree.specs.View.{tree_of}
 use Rattle.pyc_tree.proofs.FormLemmas.{generated_other}
 use Rattle.pyc_tree.proofs.HeightLemmas.{height_argument}
 use Rattle.pyc_tree.proofs.ViewLemmas.{view_Argument}
-use Rattle.pyc_expression.proofs.rules.ExpressionRules.generated.Goals as goal
+use Rattle.pyc_precedence.proofs.rules.ExpressionRules.generated.Goals as goal
 
 pub overflow_sub-height : goal.overflow_sub-height
 overflow_sub-height g c =

@@ -7,8 +7,8 @@ use Rattle.pyc_tree.specs.View.{tree_of, links_before}
 use Rattle.pyc_item.proofs.LoopLemmas.{with_links, with_no_link, links_step, links_bad, links_done, links_over}
 use Rattle.pyc_build.proofs.Steps.{ReadsTokens_err}
 use Rattle.pyc_tree.proofs.Turns.{one_more}
-use Rattle.pyc_expression.proofs.rules.ExpressionRules.all_links.Goals as goal
-use Rattle.pyc_expression.proofs.rules.ExpressionRules.all_links.Goals.{else-loop-turn-test, then-loop-turn-test+then-not-is_comparison}
+use Rattle.pyc_precedence.proofs.rules.ExpressionRules.all_links.Goals as goal
+use Rattle.pyc_precedence.proofs.rules.ExpressionRules.all_links.Goals.{else-loop-turn-test, then-loop-turn-test+then-not-is_comparison}
 
 pub loop-turn-init : goal.loop-turn-init
 unfolding all_links

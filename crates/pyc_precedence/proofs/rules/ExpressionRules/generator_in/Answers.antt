@@ -4,7 +4,7 @@ use Rattle.pyc_tree.specs.Parser.{made}
 use Rattle.pyc_tree.specs.Tree as tree
 use Rattle.pyc_tree.specs.View.{tree_of, comprehensions_before}
 use Rattle.pyc_build.proofs.Steps.{ReadsTokens_made, ReadsTokens_err}
-use Rattle.pyc_expression.proofs.rules.ExpressionRules.generator_in.Goals as goal
+use Rattle.pyc_precedence.proofs.rules.ExpressionRules.generator_in.Goals as goal
 
 pub returns-in_err-generator : goal.returns-in_err-generator
 returns-in_err-generator g c =

@@ -7,8 +7,8 @@ use Rattle.pyc_tree.specs.View.{tree_of}
 use Rattle.pyc_item.proofs.LoopLemmas.{climb_step, climb_bad, climb_done, climb_over}
 use Rattle.pyc_build.proofs.Steps.{ReadsTokens_err}
 use Rattle.pyc_tree.proofs.Turns.{one_more}
-use Rattle.pyc_expression.proofs.rules.ExpressionRules.operations.Goals as goal
-use Rattle.pyc_expression.proofs.rules.ExpressionRules.operations.Goals.{else-loop-turn-test, then-loop-turn-test+then-infix_precedence-loosest}
+use Rattle.pyc_precedence.proofs.rules.ExpressionRules.operations.Goals as goal
+use Rattle.pyc_precedence.proofs.rules.ExpressionRules.operations.Goals.{else-loop-turn-test, then-loop-turn-test+then-infix_precedence-loosest}
 
 pub loop-turn-init : goal.loop-turn-init
 unfolding operations

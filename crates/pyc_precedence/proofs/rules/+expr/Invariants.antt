@@ -1,4 +1,4 @@
-use Rattle.pyc_expression.proofs.rules.+expr.Given as goal
+use Rattle.pyc_precedence.proofs.rules.+expr.Given as goal
 
 abbrev pub decreases-expr : goal.decreases-expr
 decreases-expr l = l.depth
