@@ -1,0 +1,110 @@
+-- What the definitions say of statements of the code, by their parts.
+use Rattle.std.proofs.Common.{◌≡◌, refl, ap, sym, ◌∙◌, ℕ, suc, ◌==◌, ◌<◌, ◌≤◌, arith, Bool, true, false, not, ◌&&◌, ◌||◌, List}
+use Rattle.std.proofs.Common.{[], ◌∷◌, length, get_or, Option, None, Some}
+use Rattle.std.proofs.lemmas.Bool.Decides.{nat_tests}
+use Rattle.std.specs.declared.alloc.Global.{Global}
+use Rattle.std.specs.declared.boxed.Box.{Box}
+use Rattle.std.specs.List.{list_any}
+use Rattle.pyc_lower.specs.ExpressionInput.{is_input, of_simple_statement, of_line, of_statement, of_statements}
+use Rattle.pyc_lower_expression.proofs.ItemLemmas.{pieces_of-fields}
+use Rattle.pyc_token.specs.declared.tokens.Token.{Token}
+use Rattle.pyc_tree.specs.BlockTrees.{no_statement}
+use Rattle.pyc_tree.specs.BlockView.{stmt_of, stmts_before}
+use Rattle.pyc_tree.specs.declared.block.Stmt.{Stmt as StmtOf}
+use Rattle.pyc_tree.specs.declared.statement.Item.{Item}
+use Rattle.pyc_tree.specs.declared.statement.Separated.{Separated as SeparatedOf}
+use Rattle.pyc_tree.specs.declared.statement.SimpleStatement.{SimpleStatement as SimpleStatementOf}
+use Rattle.pyc_tree.specs.declared.statement.SimpleStatement.TheVariants as s
+use Rattle.pyc_tree.specs.declared.tree.Expr.{Expr, None', Some'}
+use Rattle.pyc_tree.specs.declared.tree.Expr.TheVariants as e
+use Rattle.pyc_tree.specs.declared.tree.Piece.{Piece}
+use Rattle.pyc_tree.specs.declared.tree.Pieces.{Pieces as Items, out-Pieces}
+use Rattle.pyc_tree.specs.StatementView.{separated_before, separated_of, statement_of}
+use Rattle.pyc_tree.specs.Statements.{SimpleStatement, Separated}
+use Rattle.pyc_tree.specs.Targets.{is_starred}
+use Rattle.pyc_tree.specs.Tree.{Pieces}
+use Rattle.pyc_tree.specs.View.{tree_of, pieces_of, pieces_before, last_of}
+use Rattle.pyc_tree.specs.WellLines.{has_no_star}
+
+-- whether an item of the code is starred
+abbrev pub is_starred_item : Piece → Bool
+is_starred_item item = is_starred (tree_of item.value.value)
+
+-- what is no starred tree
+pub starred_other : (x : Expr) → ((a : Token) (b : Box Expr Global) → x ≡ e.Starred a b → ⊥) → false ≡ is_starred (tree_of x)
+unfolding tree_of
+starred_other (e.Starred' star p inner) other = absurd (other _ _ refl)
+starred_other _ other = refl
+
+-- what is neither a `yield` nor items without brackets
+pub input_other : (x : Expr) → ((a : Token) (b : Option (Box Expr Global)) → x ≡ e.Yield a b → ⊥)
+    → ((a b : Token) (d : Box Expr Global) → x ≡ e.YieldFrom a b d → ⊥) → ((a : Items) → x ≡ e.Bare a → ⊥)
+    → true ≡ is_input (tree_of x)
+unfolding tree_of
+input_other (e.Yield' word None') n0 n1 n2 = absurd (n0 _ None refl)
+input_other (e.Yield' word (Some' p inner)) n0 n1 n2 = absurd (n0 _ (Some _) refl)
+input_other (e.YieldFrom' word from p inner) n0 n1 n2 = absurd (n1 _ _ _ refl)
+input_other (e.Bare items) n0 n1 n2 = absurd (n2 _ refl)
+input_other _ n0 n1 n2 = refl
+
+-- what is no expression
+pub statement_other : (x : SimpleStatementOf) → ((a : Box Expr Global) → x ≡ s.Expression a → ⊥)
+    → None ≡ of_simple_statement (statement_of x)
+statement_other (s.Expression inner) other = absurd (other _ refl)
+statement_other _ other = refl
+
+neither : (a b c : Bool) → not a && (not b && c) ≡ not (a || b) && c
+neither true b c = refl
+neither false b c = refl
+
+no_star-before : (items : List Piece) (end : Pieces)
+    → has_no_star (pieces_before items end) ≡ not (list_any is_starred_item items) && has_no_star end
+no_star-before [] end = refl
+no_star-before (x ∷ items) end =
+    ap (λ plain. not (is_starred_item x) && plain) (no_star-before items end)
+    ∙ neither (is_starred_item x) (list_any is_starred_item items) (has_no_star end)
+
+-- whether no item is starred, by those before a comma and the last
+pub no_star-fields : (x : Items) → has_no_star (pieces_of x)
+    ≡ not (list_any is_starred_item (out-Pieces x).each.items) && has_no_star (last_of (out-Pieces x).last)
+no_star-fields x =
+    ap has_no_star (pieces_of-fields x) ∙ no_star-before (out-Pieces x).each.items (last_of (out-Pieces x).last)
+
+-- where an item is starred, and where none before the last is
+pub no_star-found : (x : Items) → list_any is_starred_item (out-Pieces x).each.items ≡ true → false ≡ has_no_star (pieces_of x)
+no_star-found x found = sym (no_star-fields x ∙ ap (λ any. not any && has_no_star (last_of (out-Pieces x).last)) found)
+
+pub no_star-last : (x : Items) → list_any is_starred_item (out-Pieces x).each.items ≡ false
+    → has_no_star (pieces_of x) ≡ has_no_star (last_of (out-Pieces x).last)
+no_star-last x plain = no_star-fields x ∙ ap (λ any. not any && has_no_star (last_of (out-Pieces x).last)) plain
+
+-- ---- lines and statements
+
+suc_is_zero : (n : ℕ) → (suc n == 0) ≡ false
+suc_is_zero n = grind (arith, nat_tests)
+
+line_before : (items : List (Item SimpleStatementOf)) (end : Separated SimpleStatement) → (length items == 0) ≡ false
+    → None ≡ of_line (separated_before statement_of items end)
+line_before [] end more = cc
+line_before (x ∷ items) end more = refl
+
+-- a line with a semicolon
+pub line_more : (line : SeparatedOf SimpleStatementOf) → (length line.each.items == 0) ≡ false
+    → None ≡ of_line (separated_of statement_of line)
+line_more line more = line_before line.each.items _ more
+
+-- no statement, two and more, and one
+pub statements_none : (xs : List StmtOf) → length xs < 1 → None ≡ of_statements (stmts_before xs no_statement)
+statements_none [] short = refl
+statements_none (x ∷ xs) short = absurd (omega arith)
+
+pub statements_more : (xs : List StmtOf) → 2 ≤ length xs → None ≡ of_statements (stmts_before xs no_statement)
+statements_more [] long = refl
+statements_more (x ∷ []) long = absurd (omega arith)
+statements_more (x ∷ y ∷ xs) long = refl
+
+pub statements_one : (xs : List StmtOf) (x : StmtOf) → 1 ≤ length xs → length xs < 2 → x ≡ get_or xs 0 x
+    → of_statement (stmt_of x) ≡ of_statements (stmts_before xs no_statement)
+statements_one [] x long short is = absurd (omega arith)
+statements_one (y ∷ []) x long short is = ap (λ found. of_statement (stmt_of found)) is
+statements_one (y ∷ z ∷ xs) x long short is = absurd (omega arith)

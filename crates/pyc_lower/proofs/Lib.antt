@@ -1,0 +1,3 @@
+pub mod InputLemmas
+pub mod StringLemmas
+pub mod ReadingLemmas

@@ -1,0 +1,4 @@
+pub mod Ignores
+pub mod ExpressionInput
+pub mod Strings
+pub mod Reading

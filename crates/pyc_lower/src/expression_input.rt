@@ -1,0 +1,99 @@
+//! Sources that are an expression.
+#![tactic(auto, using(pyc_tree::proofs::ViewLemmas::views))]
+
+ghost use Rattle.std.specs.Prelude.{◌≡◌, option_map};
+ghost use Rattle.std.specs.List.{list_any};
+ghost use Rattle.pyc_lower.specs.ExpressionInput as spec;
+ghost use Rattle.pyc_tree.specs.BlockTrees.{no_statement};
+ghost use Rattle.pyc_tree.specs.BlockView.{stmts_before};
+ghost use Rattle.pyc_tree.specs.StatementView.{separated_of, statement_of};
+ghost use Rattle.pyc_tree.specs.Targets as target;
+ghost use Rattle.pyc_tree.specs.View.{tree_of, pieces_of};
+ghost use Rattle.pyc_tree.specs.WellLines as line;
+
+use pyc_tree::{Expr, Piece, Pieces, Separated, SimpleStatement, Stmt};
+
+/// Whether a tree is `*` and an operand.
+fn is_starred(tree: &Expr) -> bool
+    ensures { result ≡ target.is_starred (tree_of tree.now) }
+{
+    match tree {
+        Expr::Starred(_, _) => true,
+        _ => false,
+    }
+}
+
+/// Whether one of these items is starred.
+fn any_starred(items: &[Piece]) -> bool
+    ensures { result ≡ list_any (λ item. target.is_starred (tree_of item.value.value)) items.now }
+{
+    for item in items {
+        if is_starred(&item.value) {
+            return true;
+        }
+    }
+    false
+}
+
+/// Whether no item is starred.
+fn has_no_star(items: &Pieces) -> bool
+    ensures { result ≡ line.has_no_star (pieces_of items.now) }
+{
+    if any_starred(&items.each) {
+        return false;
+    }
+    match &items.last {
+        Some(last) => !is_starred(last),
+        None => true,
+    }
+}
+
+/// Whether what stands as a statement is an expression list.
+fn is_input(tree: &Expr) -> bool
+    ensures { result ≡ spec.is_input (tree_of tree.now) }
+{
+    match tree {
+        Expr::Yield(_, _) => false,
+        Expr::YieldFrom(_, _, _) => false,
+        Expr::Bare(items) => has_no_star(items),
+        _ => true,
+    }
+}
+
+/// The expression that a simple statement is.
+fn of_simple_statement(statement: &SimpleStatement) -> Option<&Expr>
+    ensures { option_map (λ tree. tree_of tree.now) result ≡ spec.of_simple_statement (statement_of statement.now) }
+{
+    let SimpleStatement::Expression(tree) = statement else {
+        return None;
+    };
+    if is_input(tree) { Some(&**tree) } else { None }
+}
+
+/// The expression that a line is.
+fn of_line(line: &Separated<SimpleStatement>) -> Option<&Expr>
+    ensures { option_map (λ tree. tree_of tree.now) result ≡ spec.of_line (separated_of statement_of line.now) }
+{
+    if !line.each.is_empty() {
+        return None;
+    }
+    match &line.last {
+        Some(last) => of_simple_statement(last),
+        None => None,
+    }
+}
+
+/// The expression that these statements are.
+pub fn expression_input(statements: &[Stmt]) -> Option<&Expr>
+    ensures { option_map (λ tree. tree_of tree.now) result
+        ≡ spec.of_statements (stmts_before statements.now no_statement) }
+{
+    match statements {
+        [] => None,
+        [statement] => match statement {
+            Stmt::Simple(line) => of_line(line),
+            Stmt::Compound(_, _, _) => None,
+        },
+        [_, _, ..] => None,
+    }
+}

@@ -1,0 +1,12 @@
+//! From the bytes of a source to its abstract tree.
+#![tactic(auto)]
+
+mod content;
+mod expression_input;
+mod ignores;
+mod reading;
+mod strings;
+#[cfg(test)]
+mod tests;
+
+pub use reading::read;

@@ -1,0 +1,53 @@
+//! Strings that are annotations.
+
+ghost use Rattle.std.specs.Prelude.{◌≡◌, IfOk, option_map};
+
+use crate::content::{content, is_passed_over};
+use crate::expression_input::expression_input;
+use pyc_ast::{Expr, Position};
+use pyc_lower_expression::{Lowering, Names, Origin, Quotes, Role};
+use pyc_parse::{Outcome, outcome};
+use std::alloc::{AllocError, Global};
+
+/// A reader of strings, in whose expressions another reads the strings.
+#[derive(Clone, Copy)]
+pub struct Inside<Q> {
+    pub inner: Q,
+}
+
+impl<Q: Quotes> Quotes for Inside<Q> {
+    ghost use Rattle.pyc_lower.specs.Strings.{spelled_in};
+
+    ghost spelled = { λ reader text at. spelled_in (Q.spelled reader.inner) text at };
+
+    /// The expression that a string without prefix spells: none where it is passed over, or where its content is
+    /// no expression. The only error is that memory runs out.
+    fn read(
+        &self,
+        alloc: Global,
+        names: &mut Names,
+        text: &str,
+        at: Position,
+    ) -> Result<Option<Expr>, AllocError> {
+        let text = text.as_bytes();
+        if is_passed_over(text) {
+            return Ok(None);
+        }
+        let source = content(text);
+        let Outcome::Tree(module) = outcome(alloc, source)? else {
+            return Ok(None);
+        };
+        let Some(tree) = expression_input(&module.statements) else {
+            return Ok(None);
+        };
+        let lowering = Lowering {
+            alloc,
+            origin: Origin {
+                source,
+                string: Some(at),
+            },
+            quotes: &self.inner,
+        };
+        Ok(Some(lowering.expr(tree, Role::Annotation, names)?))
+    }
+}

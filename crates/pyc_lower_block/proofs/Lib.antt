@@ -1,0 +1,3 @@
+pub mod SuspensionLemmas
+pub mod JoinLemmas
+pub mod BlockLemmas

@@ -1,0 +1,3 @@
+pub mod Suspends
+pub mod Blocks
+pub mod PartsView

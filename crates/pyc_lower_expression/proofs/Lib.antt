@@ -1,0 +1,5 @@
+pub mod OriginLemmas
+pub mod OtherForms
+pub mod ItemLemmas
+pub mod LoweredForms
+pub mod Loops

@@ -1,0 +1,6 @@
+pub mod Origins
+pub mod OriginView
+pub mod Operators
+pub mod Constants
+pub mod Expressions
+pub mod Forms

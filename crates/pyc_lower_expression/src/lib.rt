@@ -1,0 +1,19 @@
+//! The abstract expressions that trees of the grammar are.
+#![tactic(auto)]
+
+mod build;
+mod constants;
+mod lower;
+mod names;
+mod operators;
+mod origin;
+mod quotes;
+mod role;
+
+pub use constants::{comprehension, is_plain, number_constant, strings_constant, word_constant};
+pub use lower::Lowering;
+pub use names::Names;
+pub use operators::{augmented, comparison_operator, operation, unary_operator};
+pub use origin::{Origin, text_at};
+pub use quotes::{Quotes, Unread};
+pub use role::Role;

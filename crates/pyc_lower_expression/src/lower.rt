@@ -1,0 +1,474 @@
+//! The abstract expression that a tree of the grammar is.
+#![tactic(auto, using(pyc_ast::proofs::ViewLemmas::views, crate::proofs::LoweredForms::lowered))]
+
+ghost use Rattle.std.specs.Prelude.{◌≡◌, IfOk, map, false};
+ghost use Rattle.pyc_ast.specs.ExprView.{expr_of, form_of, optional_of, element_of, dict_item_of, argument_of};
+ghost use Rattle.pyc_ast.specs.ExprView.{comparison_of, index_of};
+ghost use Rattle.pyc_lower_expression.specs.Expressions as spec;
+ghost use Rattle.pyc_ast.specs.Exprs as plain;
+ghost use Rattle.pyc_lower_expression.specs.Constants as constants;
+ghost use Rattle.pyc_lower_expression.specs.Origins.{name_at, position_at, text_at};
+ghost use Rattle.pyc_lower_expression.specs.Forms.{is_atom, is_operation};
+ghost use Rattle.pyc_lower_expression.specs.OriginView.{origin_of};
+ghost use Rattle.pyc_tree.specs.View.{tree_of, pieces_of, perhaps_of, links_before};
+ghost use Rattle.pyc_tree.specs.Tree as tree;
+
+use crate::build;
+use crate::constants::{comprehension, is_plain, number_constant, strings_constant, word_constant};
+use crate::names::Names;
+use crate::operators::{comparison_operator, unary_operator};
+use crate::origin::Origin;
+use crate::quotes::Quotes;
+use crate::role::Role;
+use pyc_ast::{Argument, Comparison, DictItem, Element, Expr, Index, Opaque, OptionalExpr};
+use pyc_token::Token;
+use pyc_tree::{DisplayKind, Expr as Tree, Link, Pieces};
+use std::alloc::{AllocError, Global};
+
+/// How trees of one origin are lowered, with a reader of the strings that may be annotations.
+#[derive(Drop)]
+pub struct Lowering<'a, Q> {
+    pub alloc: Global,
+    pub origin: Origin<'a>,
+    pub quotes: &'a Q,
+}
+
+impl<Q: Quotes> Lowering<'_, Q> {
+    /// A name.
+    fn name(&self, token: Token, names: &mut Names) -> Result<Expr, AllocError>
+        ensures { IfOk result (λ e. expr_of e
+            ≡ (let o = origin_of self.now.origin in spec.begun (position_at o token) (plain.name (name_at o token)))) }
+    {
+        let name = names.shared(self.alloc, self.origin.text(token))?;
+        Ok(build::name(self.origin.position(token), name))
+    }
+
+    /// A number.
+    fn number(&self, token: Token) -> Expr
+        ensures { expr_of result ≡ (let o = origin_of self.now.origin in
+            spec.begun (position_at o token)
+            (plain.constant (constants.number_constant token.kind (text_at o.source token.span)))) }
+    {
+        let text = self.origin.text(token);
+        build::constant(
+            self.origin.position(token),
+            number_constant(token.kind, text.as_bytes()),
+        )
+    }
+
+    /// A string that may be an annotation.
+    fn quoted(&self, token: Token, names: &mut Names) -> Result<Expr, AllocError>
+        ensures { IfOk result (λ e. expr_of e ≡ (let o = origin_of self.now.origin in
+            spec.begun (position_at o token) (spec.quoted_form (Q.spelled self.now.quotes.now) o token))) }
+    {
+        let at = self.origin.position(token);
+        let constant = strings_constant(token.kind, &[]);
+        if !is_plain(token.kind) {
+            return Ok(build::constant(at, constant));
+        }
+        match self
+            .quotes
+            .read(self.alloc, names, self.origin.text(token), at)?
+        {
+            Some(expr) => build::quoted(self.alloc, at, expr),
+            None => Ok(build::constant(at, constant)),
+        }
+    }
+
+    /// Strings one after another.
+    fn strings(
+        &self,
+        first: Token,
+        more: &[Token],
+        role: Role,
+        names: &mut Names,
+    ) -> Result<Expr, AllocError>
+        ensures { IfOk result (λ e. expr_of e ≡ (let o = origin_of self.now.origin in
+            spec.begun (position_at o first)
+            (spec.strings_form (Q.spelled self.now.quotes.now) o role first more.now))) }
+    {
+        if role.is_annotation() && more.is_empty() {
+            return self.quoted(first, names);
+        }
+        let constant = strings_constant(first.kind, more);
+        Ok(build::constant(self.origin.position(first), constant))
+    }
+
+    /// The expression that a tree is; the only error is that memory runs out.
+    #[cycle(lower)]
+    pub fn expr(&self, expr: &Tree, role: Role, names: &mut Names) -> Result<Expr, AllocError>
+        ensures { IfOk result (λ e. expr_of e
+            ≡ spec.expr_in (Q.spelled self.now.quotes.now) (origin_of self.now.origin) role (tree_of expr.now)) }
+    {
+        match expr {
+            Tree::Name(token) => self.name(*token, names),
+            Tree::Number(token) => Ok(self.number(*token)),
+            Tree::Constant(token) => Ok(build::constant(
+                self.origin.position(*token),
+                word_constant(token.kind),
+            )),
+            Tree::Strings(first, more) => self.strings(*first, more, role, names),
+            Tree::Parenthesized(opening, inner, _) => {
+                let inner = self.expr(inner, role, names)?;
+                Ok(build::enclosed(self.origin.position(*opening), inner))
+            }
+            Tree::Display(made, opening, items, _) => self.display(
+                items, *made, *opening, role, names,
+            ),
+            Tree::ComprehensionDisplay(made, opening, _, _, _) => {
+                Ok(build::opaque(self.origin.position(*opening), comprehension(*made)))
+            }
+            Tree::Lambda(word, _, _, _) => Ok(build::opaque(
+                self.origin.position(*word),
+                Opaque::Lambda,
+            )),
+            Tree::Bare(items) => {
+                let found = self.elements(items, role, names)?;
+                Ok(build::bare(self.origin, items, found))
+            }
+            _ => self.operation(expr, role, names),
+        }
+    }
+
+    /// A display in brackets.
+    #[cycle(lower)]
+    fn display(
+        &self,
+        items: &Pieces,
+        made: DisplayKind,
+        opening: Token,
+        role: Role,
+        names: &mut Names,
+    ) -> Result<Expr, AllocError>
+        ensures { IfOk result (λ e. expr_of e
+            ≡ (let s = Q.spelled self.now.quotes.now in
+            let o = origin_of self.now.origin in
+            let p = pieces_of items.now in
+            spec.begun (position_at o opening)
+            (spec.display_form made (spec.elements_in s o role p) (spec.dict_items_in s o role p)))) }
+    {
+        let at = self.origin.position(opening);
+        match made {
+            DisplayKind::Tuple => {
+                let found = self.elements(items, role, names)?;
+                Ok(build::tuple(at, found))
+            }
+            DisplayKind::List => {
+                let found = self.elements(items, role, names)?;
+                Ok(build::list(at, found))
+            }
+            DisplayKind::Set => {
+                let found = self.elements(items, role, names)?;
+                Ok(build::set(at, found))
+            }
+            DisplayKind::Dict => {
+                let found = self.dict_items(items, role, names)?;
+                Ok(build::dict(at, found))
+            }
+        }
+    }
+
+    /// The expression that a tree is that is no atom.
+    #[cycle(lower)]
+    fn operation(&self, expr: &Tree, role: Role, names: &mut Names) -> Result<Expr, AllocError>
+        requires { is_atom (tree_of expr.now) ≡ false }
+        ensures { IfOk result (λ e. expr_of e
+            ≡ spec.expr_in (Q.spelled self.now.quotes.now) (origin_of self.now.origin) role (tree_of expr.now)) }
+    {
+        match expr {
+            Tree::Attribute(value, _, name) => {
+                let value = self.expr(value, role, names)?;
+                let name = names.shared(self.alloc, self.origin.text(*name))?;
+                build::attribute(self.alloc, value, name)
+            }
+            Tree::Call(callee, opening, items, _) => {
+                let callee = self.expr(callee, role, names)?;
+                let found = self.arguments(items, role, names)?;
+                let at = self.origin.position(*opening);
+                let found = build::only_or(self.alloc, at, items, found)?;
+                build::call(self.alloc, callee, found)
+            }
+            Tree::Subscript(value, _, items, _) => {
+                let value = self.expr(value, role, names)?;
+                let index = self.subscript(items, role, names)?;
+                build::subscript(self.alloc, value, index)
+            }
+            Tree::Await(word, operand) => {
+                let operand = self.expr(operand, role, names)?;
+                build::awaited(self.alloc, self.origin.position(*word), operand)
+            }
+            Tree::Unary(sign, operand) => {
+                let operand = self.expr(operand, role, names)?;
+                let at = self.origin.position(*sign);
+                build::unary(self.alloc, at, unary_operator(sign.kind), operand)
+            }
+            Tree::Binary(left, sign, right) => {
+                let left = self.expr(left, role, names)?;
+                let right = self.expr(right, role, names)?;
+                build::binary(self.alloc, left, sign.kind, right)
+            }
+            Tree::Compare(left, links) => {
+                let left = self.expr(left, role, names)?;
+                build::compare(self.alloc, left, self.comparisons(links, role, names)?)
+            }
+            Tree::Conditional(body, _, test, _, orelse) => {
+                let body = self.expr(body, role, names)?;
+                let test = self.expr(test, role, names)?;
+                let orelse = self.expr(orelse, role, names)?;
+                build::conditional(self.alloc, test, body, orelse)
+            }
+            Tree::Yield(word, value) => {
+                let value = self.optional(value, role, names)?;
+                Ok(build::yielded(self.origin.position(*word), value))
+            }
+            Tree::YieldFrom(word, _, value) => {
+                let value = self.expr(value, role, names)?;
+                build::yielded_from(self.alloc, self.origin.position(*word), value)
+            }
+            _ => self.item(expr, role, names),
+        }
+    }
+
+    /// The value of an item.
+    #[cycle(lower)]
+    fn item(&self, expr: &Tree, role: Role, names: &mut Names) -> Result<Expr, AllocError>
+        requires no_atom { is_atom (tree_of expr.now) ≡ false }
+        requires no_operation { is_operation (tree_of expr.now) ≡ false }
+        ensures { IfOk result (λ e. expr_of e
+            ≡ spec.expr_in (Q.spelled self.now.quotes.now) (origin_of self.now.origin) role (tree_of expr.now)) }
+    {
+        match expr {
+            Tree::Starred(_, value) => self.expr(value, role, names),
+            Tree::DoubleStarred(_, value) => self.expr(value, role, names),
+            Tree::Entry(_, _, value) => self.expr(value, role, names),
+            Tree::Mapping(_, value) => self.expr(value, role, names),
+            Tree::Argument(value) => self.expr(value, role, names),
+            Tree::Keyword(_, _, value) => self.expr(value, role, names),
+            Tree::WithItem(value, _) => self.expr(value, role, names),
+            _ => Ok(build::nowhere()),
+        }
+    }
+
+    /// An expression, or none.
+    #[cycle(lower)]
+    fn optional(
+        &self,
+        expr: &Option<Box<Tree>>,
+        role: Role,
+        names: &mut Names,
+    ) -> Result<OptionalExpr, AllocError>
+        ensures { IfOk result (λ e. optional_of e
+            ≡ spec.optional_in (Q.spelled self.now.quotes.now) (origin_of self.now.origin) role (perhaps_of expr.now)) }
+    {
+        match expr {
+            Some(expr) => build::present(self.alloc, self.expr(expr, role, names)?),
+            None => Ok(OptionalExpr::Absent),
+        }
+    }
+
+    /// The items of a tuple, a list or a set.
+    #[cycle(lower)]
+    fn elements(
+        &self,
+        items: &Pieces,
+        role: Role,
+        names: &mut Names,
+    ) -> Result<Vec<Element>, AllocError>
+        ensures { IfOk result (λ found. map element_of found.items
+            ≡ spec.elements_in (Q.spelled self.now.quotes.now) (origin_of self.now.origin) role (pieces_of items.now)) }
+    {
+        let mut found = Vec::with_capacity(self.alloc, build::count(items))?;
+        for piece in &items.each {
+            let value = self.expr(&piece.value, role, names)?;
+            found.push(build::element(&piece.value, value))?;
+        }
+        match &items.last {
+            Some(last) => {
+                let value = self.expr(last, role, names)?;
+                found.push(build::element(last, value))?;
+                Ok(found)
+            }
+            None => Ok(found),
+        }
+    }
+
+    /// An item of a dictionary.
+    #[cycle(lower)]
+    fn dict_item(&self, item: &Tree, role: Role, names: &mut Names) -> Result<DictItem, AllocError>
+        ensures { IfOk result (λ found. dict_item_of found
+            ≡ (let o = origin_of self.now.origin in let t = tree_of item.now in
+            spec.dict_item_in (Q.spelled self.now.quotes.now) o role t
+            (spec.expr_in (Q.spelled self.now.quotes.now) o role t))) }
+    {
+        let value = self.expr(item, role, names)?;
+        match item {
+            Tree::Entry(key, _, _) => Ok(DictItem::Entry {
+                key: self.expr(key, role, names)?,
+                value,
+            }),
+            _ => Ok(DictItem::Unpacking(value)),
+        }
+    }
+
+    /// The items of a dictionary.
+    #[cycle(lower)]
+    fn dict_items(
+        &self,
+        items: &Pieces,
+        role: Role,
+        names: &mut Names,
+    ) -> Result<Vec<DictItem>, AllocError>
+        ensures { IfOk result (λ found. map dict_item_of found.items
+            ≡ spec.dict_items_in (Q.spelled self.now.quotes.now) (origin_of self.now.origin) role
+            (pieces_of items.now)) }
+    {
+        let mut found = Vec::with_capacity(self.alloc, build::count(items))?;
+        for piece in &items.each {
+            found.push(self.dict_item(&piece.value, role, names)?)?;
+        }
+        match &items.last {
+            Some(last) => {
+                found.push(self.dict_item(last, role, names)?)?;
+                Ok(found)
+            }
+            None => Ok(found),
+        }
+    }
+
+    /// The arguments of a call.
+    #[cycle(lower)]
+    pub fn arguments(
+        &self,
+        items: &Pieces,
+        role: Role,
+        names: &mut Names,
+    ) -> Result<Vec<Argument>, AllocError>
+        ensures { IfOk result (λ found. map argument_of found.items ≡ (let p = pieces_of items.now in
+            spec.arguments_in (Q.spelled self.now.quotes.now) (origin_of self.now.origin)
+            (spec.first_role role p) role p)) }
+    {
+        let mut found = Vec::with_capacity(self.alloc, build::count(items))?;
+        let mut next = build::first_role(role, items);
+        for piece in &items.each {
+            let value = self.expr(&piece.value, next, names)?;
+            found.push(build::argument(self.alloc, self.origin, &piece.value, value, names)?)?;
+            next = role;
+        }
+        match &items.last {
+            Some(last) => {
+                let value = self.expr(last, next, names)?;
+                found.push(build::argument(self.alloc, self.origin, last, value, names)?)?;
+                Ok(found)
+            }
+            None => Ok(found),
+        }
+    }
+
+    /// The comparisons of a chain after its first operand.
+    #[cycle(lower)]
+    fn comparisons(
+        &self,
+        links: &[Link],
+        role: Role,
+        names: &mut Names,
+    ) -> Result<Vec<Comparison>, AllocError>
+        ensures { IfOk result (λ found. map comparison_of found.items
+            ≡ spec.comparisons_in (Q.spelled self.now.quotes.now) (origin_of self.now.origin) role
+            (links_before links.now tree.unlinked)) }
+    {
+        let mut found = Vec::with_capacity(self.alloc, links.len())?;
+        for link in links {
+            let operator = comparison_operator(link.first.kind, link.second.is_some());
+            let right = self.expr(&link.right, role, names)?;
+            found.push(Comparison { operator, right })?;
+        }
+        Ok(found)
+    }
+
+    /// An index.
+    #[cycle(lower)]
+    fn index(&self, item: &Tree, role: Role, names: &mut Names) -> Result<Index, AllocError>
+        ensures { IfOk result (λ found. index_of found
+            ≡ (let o = origin_of self.now.origin in let t = tree_of item.now in
+            spec.index_in (Q.spelled self.now.quotes.now) o role t
+            (spec.expr_in (Q.spelled self.now.quotes.now) o role t))) }
+    {
+        match item {
+            Tree::Slice(lower, colon, upper) => {
+                let lower = self.optional(lower, role, names)?;
+                let upper = self.optional(upper, role, names)?;
+                Ok(build::slice(
+                    self.origin.position(*colon),
+                    lower,
+                    upper,
+                    OptionalExpr::Absent,
+                ))
+            }
+            Tree::Stride(lower, colon, upper, _, step) => {
+                let lower = self.optional(lower, role, names)?;
+                let upper = self.optional(upper, role, names)?;
+                let step = self.optional(step, role, names)?;
+                Ok(build::slice(self.origin.position(*colon), lower, upper, step))
+            }
+            _ => Ok(build::indexed(self.expr(item, role, names)?)),
+        }
+    }
+
+    /// The indices of a subscript.
+    #[cycle(lower)]
+    fn indices(
+        &self,
+        items: &Pieces,
+        role: Role,
+        names: &mut Names,
+    ) -> Result<Vec<Index>, AllocError>
+        ensures { IfOk result (λ found. map index_of found.items
+            ≡ spec.indices_in (Q.spelled self.now.quotes.now) (origin_of self.now.origin) role (pieces_of items.now)) }
+    {
+        let mut found = Vec::with_capacity(self.alloc, build::count(items))?;
+        for piece in &items.each {
+            found.push(self.index(&piece.value, role, names)?)?;
+        }
+        match &items.last {
+            Some(last) => {
+                found.push(self.index(last, role, names)?)?;
+                Ok(found)
+            }
+            None => Ok(found),
+        }
+    }
+
+    /// Indices with commas.
+    #[cycle(lower)]
+    fn many_indices(
+        &self,
+        items: &Pieces,
+        role: Role,
+        names: &mut Names,
+    ) -> Result<Index, AllocError>
+        ensures { IfOk result (λ found. index_of found ≡ spec.many_indices
+            (spec.indices_in (Q.spelled self.now.quotes.now) (origin_of self.now.origin) role (pieces_of items.now))) }
+    {
+        Ok(build::many_indices(self.indices(items, role, names)?))
+    }
+
+    /// What stands between the brackets of a subscript.
+    #[cycle(lower)]
+    pub fn subscript(
+        &self,
+        items: &Pieces,
+        role: Role,
+        names: &mut Names,
+    ) -> Result<Index, AllocError>
+        ensures { IfOk result (λ found. index_of found ≡ (let p = pieces_of items.now in
+            spec.subscript_of p (spec.indices_in (Q.spelled self.now.quotes.now) (origin_of self.now.origin) role p))) }
+    {
+        if !items.each.is_empty() {
+            return self.many_indices(items, role, names);
+        }
+        match &items.last {
+            Some(only) => self.index(only, role, names),
+            None => self.many_indices(items, role, names),
+        }
+    }
+}

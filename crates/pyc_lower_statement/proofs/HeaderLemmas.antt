@@ -1,0 +1,56 @@
+-- What the items of a `with` are assigned to.
+use Rattle.std.proofs.Common.{◌≡◌, refl, ap, ℕ, List, [], ◌∷◌, Option, None, Some}
+use Rattle.std.specs.declared.alloc.Global.{Global}
+use Rattle.std.specs.declared.boxed.Box.{Box}
+use Rattle.pyc_ast.specs.declared.position.Position.{Position}
+use Rattle.pyc_ast.specs.Exprs.{Expr as Plain}
+use Rattle.pyc_lower_expression.specs.Origins.{Origin}
+use Rattle.pyc_token.specs.declared.tokens.Token.{Token}
+use Rattle.pyc_tree.specs.declared.tree.Expr.{Expr}
+use Rattle.pyc_tree.specs.declared.tree.Expr.TheVariants as e
+use Rattle.pyc_tree.specs.declared.tree.Tail.{Tail as Ending}
+use Rattle.pyc_tree.specs.declared.tree.Tail.TheVariants as t
+use Rattle.pyc_tree.specs.Tree.{Pieces}
+use Rattle.pyc_tree.specs.declared.tree.Piece.{Piece}
+use Rattle.pyc_tree.specs.View.{tree_of, pieces_before, last_of, tail_of}
+use Rattle.pyc_tree.proofs.ViewLemmas.{view_WithItem, view_Nothing, view_After}
+use Rattle.pyc_lower_statement.specs.Headers.{optional_target_in, with_target_in, with_item_in, with_items_in}
+use Rattle.pyc_lower_statement.specs.Targets.{target_in}
+
+pub optional_target_Nothing : (spelled : List ℕ → Position → Option Plain) (o : Origin) → optional_target_in spelled o (tail_of t.Nothing) ≡ None
+unfolding optional_target_in
+optional_target_Nothing spelled o = ap (optional_target_in spelled o) view_Nothing
+
+pub optional_target_After : (spelled : List ℕ → Position → Option Plain) (o : Origin) (mark : Box Token Global) (x : Box Expr Global)
+    → optional_target_in spelled o (tail_of (t.After mark x)) ≡ Some (target_in spelled o (tree_of x.value))
+unfolding optional_target_in
+optional_target_After spelled o mark x = ap (optional_target_in spelled o) (view_After mark x)
+
+pub with_target_WithItem : (spelled : List ℕ → Position → Option Plain) (o : Origin) (x : Box Expr Global) (a : Ending)
+    → with_target_in spelled o (tree_of (e.WithItem x a)) ≡ optional_target_in spelled o (tail_of a)
+unfolding with_target_in
+with_target_WithItem spelled o x a = ap (with_target_in spelled o) (view_WithItem x a)
+
+-- any other item has no target
+pub with_target_other : (spelled : List ℕ → Position → Option Plain) (o : Origin) (x : Expr) → ((a : Box Expr Global) (b : Ending) → x ≡ e.WithItem a b → ⊥) → with_target_in spelled o (tree_of x) ≡ None
+unfolding with_target_in tree_of
+with_target_other spelled o (e.WithItem' p x a) n0 = absurd (n0 _ _ refl)
+with_target_other spelled o _ n0 = refl
+
+-- ---- items
+
+pub with_items_Piece : (spelled : List ℕ → Position → Option Plain) (o : Origin) (p : Piece) (ps : List Piece) (end : Pieces)
+    → with_items_in spelled o (pieces_before (p ∷ ps) end) ≡ with_item_in spelled o (tree_of p.value.value) ∷ with_items_in spelled o (pieces_before ps end)
+unfolding with_items_in
+with_items_Piece spelled o p ps end = refl
+
+pub with_items_None : (spelled : List ℕ → Position → Option Plain) (o : Origin) → with_items_in spelled o (last_of None) ≡ []
+unfolding with_items_in
+with_items_None spelled o = refl
+
+pub with_items_Some : (spelled : List ℕ → Position → Option Plain) (o : Origin) (x : Box Expr Global) → with_items_in spelled o (last_of (Some x)) ≡ with_item_in spelled o (tree_of x.value) ∷ []
+unfolding with_items_in
+with_items_Some spelled o x = refl
+
+-- what each form of the code is assigned to
+pub ruleset heads = (optional_target_Nothing, optional_target_After, with_target_WithItem)

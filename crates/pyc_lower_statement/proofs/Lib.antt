@@ -1,0 +1,6 @@
+pub mod Loops
+pub mod ItemLemmas
+pub mod SuspensionLemmas
+pub mod TargetLemmas
+pub mod ParameterLemmas
+pub mod HeaderLemmas

@@ -1,0 +1,12 @@
+use Rattle.std.proofs.Common.{◌≡◌, ◌++◌, drop}
+use Rattle.pyc_lower_expression.specs.OriginView.{origin_of}
+use Rattle.pyc_lower_statement.specs.Statements.{separated_in, imported_in}
+use Rattle.pyc_tree.specs.StatementView.{separated_of, separated_before, last_item_of, name_of}
+use Rattle.pyc_lower_statement.proofs.imports.imported_names.Given as goal
+
+-- what is made so far, and what is left, is the whole
+abbrev pub invariant-loop-item : goal.invariant-loop-item
+invariant-loop-item g l =
+    l.found.items
+    ++ separated_in (imported_in (origin_of l.lowering.origin)) (separated_before name_of (drop l.item-index l.item-items) (last_item_of name_of l.trees.last))
+    ≡ separated_in (imported_in (origin_of l.lowering.origin)) (separated_of name_of l.trees)

@@ -1,0 +1,72 @@
+use Rattle.std.proofs.Common.{sym, ap, ◌∙◌, Bool, List}
+use Rattle.pyc_lower_statement.specs.Suspends.{suspends, pieces_suspend, links_suspend, comprehensions_suspend}
+use Rattle.pyc_lower_statement.proofs.Loops.{found_at, passed_at, no_more}
+use Rattle.pyc_lower_statement.proofs.SuspensionLemmas.{suspends_Piece, suspends_Link, suspends_clause, suspends_last, suspends_unlinked, suspends_no_comprehension, pieces_of-fields}
+use Rattle.pyc_tree.specs.declared.tree.Comprehension.{Comprehension}
+use Rattle.pyc_tree.specs.declared.tree.Link.{Link}
+use Rattle.pyc_tree.specs.declared.tree.Piece.{Piece}
+use Rattle.pyc_tree.specs.declared.tree.Pieces.{Pieces as Items, out-Pieces}
+use Rattle.pyc_tree.specs.Tree as tree
+use Rattle.pyc_tree.specs.View.{tree_of, pieces_before, last_of, links_before, comprehension_before, comprehensions_before}
+use Rattle.pyc_lower_statement.proofs.suspension.+suspends.Goals as goal
+
+abbrev clauses : List Comprehension → Bool
+clauses xs = comprehensions_suspend (comprehensions_before xs tree.no_comprehension)
+
+abbrev clause : Comprehension → Bool
+clause x = comprehensions_suspend (comprehension_before x tree.no_comprehension)
+
+abbrev links : List Link → Bool
+links xs = links_suspend (links_before xs tree.unlinked)
+
+abbrev link : Link → Bool
+link x = suspends (tree_of x.right.value)
+
+abbrev pieces : Items → List Piece → Bool
+pieces all xs = pieces_suspend (pieces_before xs (last_of (out-Pieces all).last))
+
+abbrev piece : Piece → Bool
+piece x = suspends (tree_of x.value.value)
+
+pub comprehensions_suspend-returns-then-clause_suspends : goal.comprehensions_suspend-returns-then-clause_suspends
+comprehensions_suspend-returns-then-clause_suspends t c =
+    found_at clauses clause (λ x xs. suspends_clause x (comprehensions_before xs tree.no_comprehension)) c.args.clauses.now c.loop-clause.clause-index c.clause-item.result
+    c.loop-clause-test.true c.clause-item.is (sym c.clause_suspends.ensures ∙ c.if-clause_suspends.true) c.loop-clause.invariant
+
+pub comprehensions_suspend-loop-clause-preserved : goal.comprehensions_suspend-loop-clause-preserved
+comprehensions_suspend-loop-clause-preserved t c =
+    passed_at clauses clause (λ x xs. suspends_clause x (comprehensions_before xs tree.no_comprehension)) c.args.clauses.now c.loop-clause.clause-index c.clause-item.result
+    c.loop-clause-test.true c.clause-item.is (sym c.clause_suspends.ensures ∙ c.if-clause_suspends.false) c.loop-clause.invariant
+
+pub comprehensions_suspend-returns : goal.comprehensions_suspend-returns
+comprehensions_suspend-returns t c =
+    sym suspends_no_comprehension ∙ no_more clauses c.args.clauses.now c.loop-clause.clause-index c.loop-clause-test.false c.loop-clause.invariant
+
+pub links_suspend-returns-then-suspends : goal.links_suspend-returns-then-suspends
+links_suspend-returns-then-suspends t c =
+    found_at links link suspends_Link c.args.links.now c.loop-link.link-index c.link-item.result c.loop-link-test.true c.link-item.is (ap (λ x. suspends (tree_of x)) (sym c.deref.ensures) ∙ sym c.suspends.ensures ∙ c.if-suspends.true) c.loop-link.invariant
+
+pub links_suspend-loop-link-preserved : goal.links_suspend-loop-link-preserved
+links_suspend-loop-link-preserved t c =
+    passed_at links link suspends_Link c.args.links.now c.loop-link.link-index c.link-item.result c.loop-link-test.true c.link-item.is (ap (λ x. suspends (tree_of x)) (sym c.deref.ensures) ∙ sym c.suspends.ensures ∙ c.if-suspends.false) c.loop-link.invariant
+
+pub links_suspend-returns : goal.links_suspend-returns
+links_suspend-returns t c = sym suspends_unlinked ∙ no_more links c.args.links.now c.loop-link.link-index c.loop-link-test.false c.loop-link.invariant
+
+pub pieces_suspend-loop-piece-init : goal.pieces_suspend-loop-piece-init
+pieces_suspend-loop-piece-init t c =
+    ap pieces_suspend (ap (λ xs. pieces_before xs (last_of (out-Pieces c.args.items.now).last)) c.deref-piece-items.ensures.value ∙ sym (pieces_of-fields c.args.items.now))
+
+pub pieces_suspend-returns-then-suspends : goal.pieces_suspend-returns-then-suspends
+pieces_suspend-returns-then-suspends t c =
+    found_at (pieces c.args.items.now) piece (λ x xs. suspends_Piece x xs (last_of (out-Pieces c.args.items.now).last)) c.deref-piece-items.result.now c.loop-piece.piece-index c.piece-item.result
+    c.loop-piece-test.true c.piece-item.is (ap (λ x. suspends (tree_of x)) (sym c.deref.ensures) ∙ sym c.suspends.ensures ∙ c.if-suspends.true) c.loop-piece.invariant
+
+pub pieces_suspend-loop-piece-preserved : goal.pieces_suspend-loop-piece-preserved
+pieces_suspend-loop-piece-preserved t c =
+    passed_at (pieces c.args.items.now) piece (λ x xs. suspends_Piece x xs (last_of (out-Pieces c.args.items.now).last)) c.deref-piece-items.result.now c.loop-piece.piece-index c.piece-item.result
+    c.loop-piece-test.true c.piece-item.is (ap (λ x. suspends (tree_of x)) (sym c.deref.ensures) ∙ sym c.suspends.ensures ∙ c.if-suspends.false) c.loop-piece.invariant
+
+pub pieces_suspend-returns : goal.pieces_suspend-returns
+pieces_suspend-returns t c =
+    c.perhaps_suspends.ensures ∙ sym (suspends_last (out-Pieces c.args.items.now).last) ∙ no_more (pieces c.args.items.now) c.deref-piece-items.result.now c.loop-piece.piece-index c.loop-piece-test.false c.loop-piece.invariant

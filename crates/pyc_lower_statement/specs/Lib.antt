@@ -1,0 +1,5 @@
+pub mod Targets
+pub mod Parameters
+pub mod Statements
+pub mod Headers
+pub mod Suspends

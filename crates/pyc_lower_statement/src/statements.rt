@@ -1,0 +1,313 @@
+//! The abstract statements that simple statements are.
+#![tactic(auto, using(pyc_ast::proofs::StatementViewLemmas::stmt_views))]
+
+ghost use Rattle.std.specs.Prelude.{◌≡◌, IfOk, map};
+ghost use Rattle.pyc_ast.specs.ExprView.{expr_of};
+ghost use Rattle.pyc_ast.specs.StatementView.{stmt_of, stmt_form_of, annotated_of, augmented_of};
+ghost use Rattle.pyc_ast.specs.Statements as plain;
+ghost use Rattle.pyc_ast.specs.TargetView.{target_of};
+ghost use Rattle.pyc_lower_expression.specs.Expressions.{expr_in};
+ghost use Rattle.pyc_lower_expression.specs.Origins.{position_at};
+ghost use Rattle.pyc_lower_expression.specs.OriginView.{origin_of};
+ghost use Rattle.pyc_lower_expression.specs.Operators.{augmented};
+ghost use Rattle.pyc_lower_statement.specs.Parameters.{tail_in};
+ghost use Rattle.pyc_lower_statement.specs.Statements as spec;
+ghost use Rattle.pyc_lower_statement.specs.Targets.{target_in};
+ghost use Rattle.pyc_tree.specs.StatementView.{assigned_of, import_from_of, module_of, separated_of, statement_of};
+ghost use Rattle.pyc_tree.specs.StatementView.{token_of};
+ghost use Rattle.pyc_tree.specs.View.{tree_of, perhaps_of, tail_of};
+ghost use Rattle.pyc_tree.specs.Statements as tree;
+
+use crate::imports::{declared_names, import_from, modules};
+use crate::parameters::{boxed_tail, perhaps, tail};
+use crate::targets::target;
+use pyc_ast::{AnnotatedAssignment, AugmentedAssignment, Position, Stmt, StmtForm, Target, Text};
+use pyc_lower_expression::{Lowering, Names, Quotes, Role, augmented};
+use pyc_token::{Keyword, Kind, Token};
+use pyc_tree::{
+    Assigned, Expr as Tree, ImportFrom, ImportedModule, Separated, SimpleStatement, Tail,
+};
+use std::alloc::AllocError;
+
+/// The targets of an assignment.
+fn assigned<Q: Quotes>(
+    lowering: &Lowering<'_, Q>,
+    trees: &[Assigned],
+    names: &mut Names,
+) -> Result<Vec<Target>, AllocError>
+    ensures { IfOk result (λ found. map target_of found.items
+        ≡ spec.assigned_in (Q.spelled lowering.now.quotes.now) (origin_of lowering.now.origin)
+        (map assigned_of trees.now)) }
+{
+    let mut found = Vec::new(lowering.alloc);
+    for tree in trees {
+        found.push(target(lowering, &tree.target, names)?)?;
+    }
+    Ok(found)
+}
+
+/// Where the first of some targets begins.
+fn targets_at(targets: &[Target]) -> Position
+    ensures { result ≡ spec.targets_at (map target_of targets.now) }
+{
+    match targets.first() {
+        Some(first) => first.at,
+        None => Position { line: 0, column: 0 },
+    }
+}
+
+/// An assignment to targets.
+fn assign<Q: Quotes>(
+    lowering: &Lowering<'_, Q>,
+    trees: &[Assigned],
+    value: &Tree,
+    names: &mut Names,
+) -> Result<Stmt, AllocError>
+    ensures { IfOk result (λ found. stmt_of found
+        ≡ spec.statement_in (Q.spelled lowering.now.quotes.now) (origin_of lowering.now.origin)
+        (tree.assign (map assigned_of trees.now) (tree_of value.now))) }
+{
+    let targets = assigned(lowering, trees, names)?;
+    let value = lowering.expr(value, Role::Value, names)?;
+    Ok(Stmt {
+        at: targets_at(&targets),
+        form: StmtForm::Assign { targets, value },
+    })
+}
+
+/// A target with its annotation, and perhaps a value.
+fn annotate<Q: Quotes>(
+    lowering: &Lowering<'_, Q>,
+    to: &Tree,
+    annotation: &Tree,
+    value: &Tail,
+    names: &mut Names,
+) -> Result<Stmt, AllocError>
+    ensures { IfOk result (λ found. stmt_of found
+        ≡ spec.annotated_in (Q.spelled lowering.now.quotes.now) (origin_of lowering.now.origin) (tree_of to.now)
+        (tree_of annotation.now) (tail_of value.now)) }
+{
+    let made = AnnotatedAssignment {
+        target: target(lowering, to, names)?,
+        annotation: lowering.expr(annotation, Role::Annotation, names)?,
+        value: tail(lowering, value, Role::Value, names)?,
+    };
+    Ok(Stmt {
+        at: made.target.at,
+        form: StmtForm::Annotate(Box::new(lowering.alloc, made)?),
+    })
+}
+
+/// An assignment by an operator.
+fn augment<Q: Quotes>(
+    lowering: &Lowering<'_, Q>,
+    to: &Tree,
+    sign: Token,
+    value: &Tree,
+    names: &mut Names,
+) -> Result<Stmt, AllocError>
+    ensures { IfOk result (λ found. stmt_of found
+        ≡ spec.statement_in (Q.spelled lowering.now.quotes.now) (origin_of lowering.now.origin)
+        (tree.augment (tree_of to.now) sign (tree_of value.now))) }
+{
+    let made = AugmentedAssignment {
+        target: target(lowering, to, names)?,
+        operator: augmented(sign.kind),
+        value: lowering.expr(value, Role::Value, names)?,
+    };
+    Ok(Stmt {
+        at: made.target.at,
+        form: StmtForm::Augment(Box::new(lowering.alloc, made)?),
+    })
+}
+
+/// `pass`, `break` or `continue`.
+fn word_form(kind: Kind) -> StmtForm
+    ensures { stmt_form_of result ≡ spec.word_form kind }
+{
+    match kind {
+        Kind::Keyword(Keyword::Break) => StmtForm::Break,
+        Kind::Keyword(Keyword::Continue) => StmtForm::Continue,
+        _ => StmtForm::Pass,
+    }
+}
+
+/// `global` or `nonlocal`, and names.
+fn declared_form(kind: Kind, names: Vec<Text>) -> StmtForm
+    ensures { stmt_form_of result ≡ spec.declared_form kind names.items }
+{
+    match kind {
+        Kind::Keyword(Keyword::Nonlocal) => StmtForm::Nonlocal(names),
+        _ => StmtForm::Global(names),
+    }
+}
+
+/// A statement that begins with a word.
+fn begun<Q: Quotes>(lowering: &Lowering<'_, Q>, word: Token, form: StmtForm) -> Stmt
+    ensures { stmt_of result ≡ plain.stmt (position_at (origin_of lowering.now.origin) word) (stmt_form_of form) }
+{
+    Stmt {
+        at: lowering.origin.position(word),
+        form,
+    }
+}
+
+/// An expression that stands alone.
+fn expression<Q: Quotes>(
+    lowering: &Lowering<'_, Q>,
+    value: &Tree,
+    names: &mut Names,
+) -> Result<Stmt, AllocError>
+    ensures { IfOk result (λ found. stmt_of found
+        ≡ spec.statement_in (Q.spelled lowering.now.quotes.now) (origin_of lowering.now.origin)
+        (tree.expression (tree_of value.now))) }
+{
+    let value = lowering.expr(value, Role::Value, names)?;
+    Ok(Stmt {
+        at: value.at,
+        form: StmtForm::Expression(value),
+    })
+}
+
+/// `return`, perhaps with a value.
+fn returned<Q: Quotes>(
+    lowering: &Lowering<'_, Q>,
+    word: Token,
+    value: &Option<Box<Tree>>,
+    names: &mut Names,
+) -> Result<Stmt, AllocError>
+    ensures { IfOk result (λ found. stmt_of found
+        ≡ spec.statement_in (Q.spelled lowering.now.quotes.now) (origin_of lowering.now.origin)
+        (tree.return word (perhaps_of value.now))) }
+{
+    let value = perhaps(lowering, value, Role::Value, names)?;
+    Ok(begun(lowering, word, StmtForm::Return(value)))
+}
+
+/// `raise`, perhaps with an exception and its cause.
+fn raise<Q: Quotes>(
+    lowering: &Lowering<'_, Q>,
+    word: Token,
+    exception: &Option<Box<Tree>>,
+    cause: &Tail,
+    names: &mut Names,
+) -> Result<Stmt, AllocError>
+    ensures { IfOk result (λ found. stmt_of found
+        ≡ spec.statement_in (Q.spelled lowering.now.quotes.now) (origin_of lowering.now.origin)
+        (tree.raise word (perhaps_of exception.now) (tail_of cause.now))) }
+{
+    let exception = perhaps(lowering, exception, Role::Value, names)?;
+    let cause = boxed_tail(lowering, cause, Role::Value, names)?;
+    Ok(begun(lowering, word, StmtForm::Raise { exception, cause }))
+}
+
+/// `assert` and a test, perhaps with a message.
+fn assertion<Q: Quotes>(
+    lowering: &Lowering<'_, Q>,
+    word: Token,
+    test: &Tree,
+    message: &Tail,
+    names: &mut Names,
+) -> Result<Stmt, AllocError>
+    ensures { IfOk result (λ found. stmt_of found
+        ≡ spec.statement_in (Q.spelled lowering.now.quotes.now) (origin_of lowering.now.origin)
+        (tree.assert word (tree_of test.now) (tail_of message.now))) }
+{
+    let test = lowering.expr(test, Role::Value, names)?;
+    let test = Box::new(lowering.alloc, test)?;
+    let message = boxed_tail(lowering, message, Role::Value, names)?;
+    Ok(begun(lowering, word, StmtForm::Assert { test, message }))
+}
+
+/// `del` and a target.
+fn delete<Q: Quotes>(
+    lowering: &Lowering<'_, Q>,
+    word: Token,
+    to: &Tree,
+    names: &mut Names,
+) -> Result<Stmt, AllocError>
+    ensures { IfOk result (λ found. stmt_of found
+        ≡ spec.statement_in (Q.spelled lowering.now.quotes.now) (origin_of lowering.now.origin)
+        (tree.delete word (tree_of to.now))) }
+{
+    let to = target(lowering, to, names)?;
+    let to = Box::new(lowering.alloc, to)?;
+    Ok(begun(lowering, word, StmtForm::Delete(to)))
+}
+
+/// `global` or `nonlocal`, and names.
+fn declare<Q: Quotes>(
+    lowering: &Lowering<'_, Q>,
+    word: Token,
+    tokens: &Separated<Token>,
+    names: &mut Names,
+) -> Result<Stmt, AllocError>
+    ensures { IfOk result (λ found. stmt_of found
+        ≡ spec.statement_in (Q.spelled lowering.now.quotes.now) (origin_of lowering.now.origin)
+        (tree.declare word (separated_of token_of tokens.now))) }
+{
+    let found = declared_names(lowering, tokens, names)?;
+    Ok(begun(lowering, word, declared_form(word.kind, found)))
+}
+
+/// `import` and modules.
+fn import<Q: Quotes>(
+    lowering: &Lowering<'_, Q>,
+    word: Token,
+    trees: &Separated<ImportedModule>,
+    names: &mut Names,
+) -> Result<Stmt, AllocError>
+    ensures { IfOk result (λ found. stmt_of found
+        ≡ spec.statement_in (Q.spelled lowering.now.quotes.now) (origin_of lowering.now.origin)
+        (tree.import word (separated_of module_of trees.now))) }
+{
+    let found = modules(lowering, trees, names)?;
+    Ok(begun(lowering, word, StmtForm::Import(found)))
+}
+
+/// Names imported from a module.
+fn imported_from<Q: Quotes>(
+    lowering: &Lowering<'_, Q>,
+    imported: &ImportFrom,
+    names: &mut Names,
+) -> Result<Stmt, AllocError>
+    ensures { IfOk result (λ found. stmt_of found
+        ≡ spec.statement_in (Q.spelled lowering.now.quotes.now) (origin_of lowering.now.origin)
+        (import_from_of imported.now)) }
+{
+    let found = import_from(lowering, imported, names)?;
+    let found = Box::new(lowering.alloc, found)?;
+    Ok(begun(lowering, imported.word, StmtForm::ImportFrom(found)))
+}
+
+/// The statement that a simple statement is; the only error is that memory runs out.
+pub fn statement<Q: Quotes>(
+    lowering: &Lowering<'_, Q>,
+    statement: &SimpleStatement,
+    names: &mut Names,
+) -> Result<Stmt, AllocError>
+    ensures { IfOk result (λ found. stmt_of found
+        ≡ spec.statement_in (Q.spelled lowering.now.quotes.now) (origin_of lowering.now.origin)
+        (statement_of statement.now)) }
+{
+    match statement {
+        SimpleStatement::Expression(value) => expression(lowering, value, names),
+        SimpleStatement::Assign(targets, value) => assign(lowering, targets, value, names),
+        SimpleStatement::Annotate(to, _, annotation, value) => {
+            annotate(lowering, to, annotation, value, names)
+        }
+        SimpleStatement::Augment(to, sign, value) => augment(lowering, to, *sign, value, names),
+        SimpleStatement::Word(word) => Ok(begun(lowering, *word, word_form(word.kind))),
+        SimpleStatement::Return(word, value) => returned(lowering, *word, value, names),
+        SimpleStatement::Raise(word, exception, cause) => {
+            raise(lowering, *word, exception, cause, names)
+        }
+        SimpleStatement::Assert(word, test, message) => {
+            assertion(lowering, *word, test, message, names)
+        }
+        SimpleStatement::Delete(word, to) => delete(lowering, *word, to, names),
+        SimpleStatement::Declare(word, tokens) => declare(lowering, *word, tokens, names),
+        SimpleStatement::Import(word, trees) => import(lowering, *word, trees, names),
+        SimpleStatement::ImportFrom(found) => imported_from(lowering, found, names),
+    }
+}
