@@ -4,18 +4,18 @@ use Rattle.std.specs.Prelude.{Result, Ok, Err}
 use Rattle.std.proofs.lemmas.List.{drop_all}
 use Rattle.std.specs.Global.{Global}
 use Rattle.std.specs.Io.KnownBytes.{Appends}
-use Rattle.pyc_daemon.specs.declared.options.Options.{Options}
-use Rattle.pyc_daemon.specs.Entry.{Entry}
-use Rattle.pyc_daemon.specs.Event.{Event, FetchStep, Links}
-use Rattle.pyc_daemon.specs.Fresh.{fresh}
+use Rattle.pyc_session.specs.declared.options.Options.{Options}
+use Rattle.pyc_session.specs.Entry.{Entry}
+use Rattle.pyc_session.specs.Event.{Event, FetchStep, Links}
+use Rattle.pyc_workspace.specs.Fresh.{fresh}
 use Rattle.pyc_daemon.specs.Replies.{WritesPart}
-use Rattle.pyc_daemon.specs.Report.{Report}
-use Rattle.pyc_daemon.specs.Refusal.{refusal_text}
-use Rattle.pyc_daemon.specs.Session.{Turn, done, refused}
-use Rattle.pyc_daemon.specs.Workspace.{State, start}
-use Rattle.pyc_daemon.specs.declared.ending.RunFault.{RunFault}
-use Rattle.pyc_daemon.specs.declared.refusal.Refusal.{Refusal}
-use Rattle.pyc_daemon.specs.declared.refusal.Refusal.TheVariants as refusal
+use Rattle.pyc_body.specs.Report.{Report}
+use Rattle.pyc_session.specs.Refusal.{refusal_text}
+use Rattle.pyc_session.specs.Session.{Turn, done, refused}
+use Rattle.pyc_session.specs.State.{State, start}
+use Rattle.pyc_session.specs.declared.ending.RunFault.{RunFault}
+use Rattle.pyc_session.specs.declared.refusal.Refusal.{Refusal}
+use Rattle.pyc_session.specs.declared.refusal.Refusal.TheVariants as refusal
 use Rattle.pyc_daemon.proofs.Going.{appends_none, appends_trans, events_nil, links_push, part_before, part_after}
 use Rattle.pyc_daemon.proofs.Moving.{append_nil}
 use Rattle.dmypy.specs.CheckFiles.{Checks, program_line, check_status, err_text, out_text, file_update, is_any_refused, is_refused, refusal_line, refusal_lines, report_on, report_status, memory_line, printed_report}

@@ -2,16 +2,16 @@
 use Rattle.std.specs.Prelude.{◌≡◌, ℕ, Bool, false, not, ◌||◌, bytes_eq, if◌then◌else◌, List, [], ◌∷◌, ◌++◌, drop, codes}
 use Rattle.std.specs.Prelude.{Option, Result, Ok, Err}
 use Rattle.std.specs.Io.KnownBytes.{Appends}
-use Rattle.pyc_daemon.specs.declared.ending.RunFault.{RunFault}
-use Rattle.pyc_daemon.specs.declared.refusal.Refusal.TheVariants as refusal
-use Rattle.pyc_daemon.specs.declared.options.Options.{Options}
-use Rattle.pyc_daemon.specs.Entry.{Entry}
-use Rattle.pyc_daemon.specs.Event.{Event, Links, first_event}
-use Rattle.pyc_daemon.specs.Fresh.{fresh}
-use Rattle.pyc_daemon.specs.Refusal.{refusal_text}
-use Rattle.pyc_daemon.specs.Report.{Report}
-use Rattle.pyc_daemon.specs.Session.{Turn, ok, update_turn}
-use Rattle.pyc_daemon.specs.Workspace.{State, start}
+use Rattle.pyc_session.specs.declared.ending.RunFault.{RunFault}
+use Rattle.pyc_session.specs.declared.refusal.Refusal.TheVariants as refusal
+use Rattle.pyc_session.specs.declared.options.Options.{Options}
+use Rattle.pyc_session.specs.Entry.{Entry}
+use Rattle.pyc_session.specs.Event.{Event, Links, first_event}
+use Rattle.pyc_workspace.specs.Fresh.{fresh}
+use Rattle.pyc_session.specs.Refusal.{refusal_text}
+use Rattle.pyc_body.specs.Report.{Report}
+use Rattle.pyc_session.specs.Session.{Turn, ok, update_turn}
+use Rattle.pyc_session.specs.State.{State, start}
 
 -- the turn of `update` for a file, with what it met
 abbrev pub file_update : State → List ℕ → Event → Turn

@@ -1,15 +1,15 @@
 -- What the parts of a check of files do.
 use Rattle.std.specs.Prelude.{◌≡◌, ℕ, Bool, ◌||◌, List, ◌++◌, codes, Option, Result, Ok, Err}
 use Rattle.std.specs.Io.KnownBytes.{Appends}
-use Rattle.pyc_daemon.specs.declared.ending.RunFault.{RunFault}
-use Rattle.pyc_daemon.specs.declared.refusal.Refusal.{Refusal}
-use Rattle.pyc_daemon.specs.Entry.{Entry}
-use Rattle.pyc_daemon.specs.Event.{Event, Links}
-use Rattle.pyc_daemon.specs.Refusal.{refusal_text}
+use Rattle.pyc_session.specs.declared.ending.RunFault.{RunFault}
+use Rattle.pyc_session.specs.declared.refusal.Refusal.{Refusal}
+use Rattle.pyc_session.specs.Entry.{Entry}
+use Rattle.pyc_session.specs.Event.{Event, Links}
+use Rattle.pyc_session.specs.Refusal.{refusal_text}
 use Rattle.pyc_daemon.specs.Replies.{WritesPart}
-use Rattle.pyc_daemon.specs.Report.{Report}
-use Rattle.pyc_daemon.specs.Session.{Turn}
-use Rattle.pyc_daemon.specs.Workspace.{State}
+use Rattle.pyc_body.specs.Report.{Report}
+use Rattle.pyc_session.specs.Session.{Turn}
+use Rattle.pyc_session.specs.State.{State}
 use Rattle.dmypy.specs.CheckFiles.{BeginsWith, after_updates, is_any_refused, is_refused, memory_line, printed_report}
 use Rattle.dmypy.specs.CheckFiles.{program_line, refusal_line, refusal_lines, report_status}
 

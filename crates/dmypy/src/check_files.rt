@@ -4,20 +4,14 @@ ghost use Rattle.std.specs.Prelude.{◌≡◌, ◌+◌, ◌<◌, [], ℕ, Bool, 
 ghost use Rattle.std.specs.Prelude.{OnErr, OnOk};
 ghost use Rattle.std.specs.Io.KnownBytes.{Appends};
 ghost use Rattle.pyc_daemon.specs.Counted.{inner_of, faults_of, zeros_of};
-ghost use Rattle.pyc_daemon.specs.Event.{Event, FetchStep, Links};
-ghost use Rattle.pyc_daemon.specs.Fresh.{fresh};
+ghost use Rattle.pyc_session.specs.Event.{Event, FetchStep, Links};
+ghost use Rattle.pyc_workspace.specs.Fresh.{fresh};
 ghost use Rattle.pyc_daemon.specs.Replies.{WritesPart};
-ghost use Rattle.pyc_daemon.specs.declared.ending.RunFault.{RunFault};
+ghost use Rattle.pyc_session.specs.declared.ending.RunFault.{RunFault};
 ghost use Rattle.dmypy.specs.CheckFiles.{Checks, check_status, err_text, exit_status, file_update, out_text};
 ghost use Rattle.dmypy.specs.Updates.{BeginsUpdates, Prints, Updates, UpdatesOne, told_refusal};
 
-use pyc_daemon::counted::Counted;
-use pyc_daemon::daemon::Daemon;
-use pyc_daemon::ending::RunFault;
-use pyc_daemon::options::Options;
-use pyc_daemon::refusal::Refusal;
-use pyc_daemon::sources::Sources;
-use pyc_daemon::writing::{write_bytes, write_parts};
+use pyc_daemon::{Counted, Daemon, Options, Refusal, RunFault, Sources, write_bytes, write_parts};
 use std::alloc::Global;
 use std::io::Write;
 

@@ -2,7 +2,7 @@
 
 ghost use Rattle.std.specs.Prelude.{◌≡◌, ◌≤◌, IfOk, IfSome, take, vec_len, ⊤};
 
-use pyc_daemon::sources::{FetchFault, MOST_FETCHED, Sources};
+use pyc_daemon::{FetchFault, MOST_FETCHED, Sources};
 use std::alloc::Global;
 use std::fs;
 use std::io::{self, ErrorKind, Read};

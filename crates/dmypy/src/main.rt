@@ -13,9 +13,7 @@ pub mod words;
 
 use check_files::check_files;
 use disk::Disk;
-use pyc_daemon::counted::Counted;
-use pyc_daemon::engine::run;
-use pyc_daemon::options::Options;
+use pyc_daemon::{Counted, Options, run};
 use std::process::ExitCode;
 use std::{env, io};
 use words::{Job, read_words, session_status};

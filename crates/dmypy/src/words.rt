@@ -10,8 +10,7 @@ ghost use Rattle.dmypy.specs.Words.{option_text, ignore_missing_id, check_untype
 ghost use Rattle.dmypy.specs.Status.{status_of};
 
 use clap::{Arg, ArgAction, ArgMatches, Command};
-use pyc_daemon::ending::{End, RunFault};
-use pyc_daemon::options::{Options, TURNS};
+use pyc_daemon::{End, Options, RunFault, TURNS};
 use std::alloc::{AllocError, Global};
 use thiserror::Error;
 

@@ -3,24 +3,24 @@ use Rattle.std.proofs.Common.{◌≡◌, ℕ, Bool, true, false, List, [], ◌�
 use Rattle.std.specs.Prelude.{OnErr, IfOk, IfSome, Result, Ok, Err}
 use Rattle.std.specs.Io.KnownBytes.{Appends}
 use Rattle.std.specs.Io.KnownBytes.{IsAtEnd}
-use Rattle.pyc_daemon.specs.declared.options.Options.{Options}
-use Rattle.pyc_daemon.specs.Entry.{Entry}
-use Rattle.pyc_daemon.specs.Event.{Event, FetchStep, Links}
+use Rattle.pyc_session.specs.declared.options.Options.{Options}
+use Rattle.pyc_session.specs.Entry.{Entry}
+use Rattle.pyc_session.specs.Event.{Event, FetchStep, Links}
 use Rattle.pyc_daemon.specs.Reading.{Advances}
 use Rattle.std.proofs.Math.Seq.{drop-cons}
 use Rattle.std.proofs.Math.ListN.{drop_of_length-le}
 use denote.Ref.{Bor}
 use Rattle.pyc_daemon.specs.Replies.{joined, WritesPart, Serves, turn_of, turn_after, reply_bytes}
 use Rattle.pyc_daemon.specs.Runs.{Runs, IsLast}
-use Rattle.pyc_daemon.specs.Session.{Session, Onward, goes_on, ends, onto, session_from, session_text, session_end}
+use Rattle.pyc_session.specs.Session.{Session, Onward, goes_on, ends, onto, session_from, session_text, session_end}
 use Rattle.pyc_daemon.specs.Window.{held_of, ended_of}
-use Rattle.pyc_daemon.specs.Workspace.{State, start}
-use Rattle.pyc_daemon.specs.declared.ending.End.{End}
-use Rattle.pyc_daemon.specs.declared.ending.End.TheVariants.{EndOfInput}
-use Rattle.pyc_daemon.specs.declared.ending.RunFault.{RunFault}
+use Rattle.pyc_session.specs.State.{State, start}
+use Rattle.pyc_session.specs.declared.ending.End.{End}
+use Rattle.pyc_session.specs.declared.ending.End.TheVariants.{EndOfInput}
+use Rattle.pyc_session.specs.declared.ending.RunFault.{RunFault}
 use Rattle.pyc_daemon.specs.declared.reply.Answer.{Answer}
 use Rattle.pyc_daemon.specs.declared.window.Window.{Window}
-use Rattle.pyc_daemon.proofs.Turns.{session_from-turn, session_from-empty}
+use Rattle.pyc_session.proofs.Turns.{session_from-turn, session_from-empty}
 use Rattle.pyc_daemon.proofs.Moving.{append_nil, consumes_none, advances_none, advances_trans}
 
 pub appends_none : (told : Option (List ℕ)) → Appends told told []

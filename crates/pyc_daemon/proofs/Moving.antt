@@ -6,7 +6,7 @@ use Rattle.std.proofs.Math.ListN.{drop_of_length-le}
 use native.Mathlib.Numerals.{unary_clauses}
 use Rattle.std.specs.Io.KnownBytes.{Consumes}
 use Rattle.pyc_daemon.specs.Reading.{Advances, work_left}
-use Rattle.pyc_daemon.specs.Input.{has_line_feed}
+use Rattle.pyc_session.specs.Input.{has_line_feed}
 
 pub append_nil : (xs : List ℕ) → xs ++ [] ≡ xs
 append_nil [] = refl

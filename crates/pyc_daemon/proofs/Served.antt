@@ -3,16 +3,16 @@ use Rattle.std.proofs.Common.{◌≡◌, ℕ, ◌+◌, ◌-◌, ◌<◌, ◌≤�
 use Rattle.std.proofs.lemmas.List.{length-take}
 use Rattle.std.proofs.lemmas.Bool.Decides.{nat_tests}
 use native.Mathlib.Numerals.{unary_clauses}
-use Rattle.pyc_daemon.specs.Command.{unknown, spelled}
-use Rattle.pyc_daemon.specs.Input.{has_line_feed, command_line}
+use Rattle.pyc_session.specs.Command.{unknown, spelled}
+use Rattle.pyc_session.specs.Input.{has_line_feed, command_line}
 use Rattle.pyc_daemon.specs.Replies.{Serves, turn_of}
 use Rattle.pyc_daemon.specs.Runs.{IsLast}
-use Rattle.pyc_daemon.specs.Event.{Event}
-use Rattle.pyc_daemon.specs.Session.{turn, act_with}
-use Rattle.pyc_daemon.specs.Workspace.{State}
+use Rattle.pyc_session.specs.Event.{Event}
+use Rattle.pyc_session.specs.Session.{turn, act_with}
+use Rattle.pyc_session.specs.State.{State}
 use Rattle.pyc_daemon.specs.declared.reply.Answer.{Answer}
 use Rattle.pyc_daemon.proofs.Moving.{append_nil, take_whole}
-use Rattle.pyc_daemon.proofs.Turns.{first_line-fed, after_line-fed, has_line_feed-fed, first_line-last, after_line-last}
+use Rattle.pyc_session.proofs.Turns.{first_line-fed, after_line-fed, has_line_feed-fed, first_line-last, after_line-last}
 
 spelled_long : (line : List ℕ) → 512 < length line → spelled line ≡ unknown
 unfolding spelled

@@ -1,6 +1,6 @@
 -- The bytes that follow an `add`.
 use Rattle.std.specs.Prelude.{◌≡◌, ℕ, ◌<◌, Bool, IsTrue, List, length, vec_len, Option, None, ⊤}
-use Rattle.pyc_daemon.specs.declared.refusal.Refusal.{Refusal}
+use Rattle.pyc_session.specs.declared.refusal.Refusal.{Refusal}
 use Rattle.pyc_daemon.specs.declared.input.Body.{Body}
 use Rattle.pyc_daemon.specs.declared.input.Body.TheVariants.{Whole, NotKept, Truncated}
 

@@ -1,8 +1,8 @@
 -- What reading an input in pieces does: bytes are read from the reader, held in a window, and used.
 use Rattle.std.specs.Prelude.{◌≡◌, ℕ, ◌+◌, ◌-◌, ◌*◌, ◌<◌, ◌≤◌, Bool, IsTrue, if◌then◌else◌, List, ◌++◌, Option}
 use Rattle.std.specs.Io.KnownBytes.{Consumes, IsAtEnd}
-use Rattle.pyc_daemon.specs.declared.ending.RunFault.{RunFault}
-use Rattle.pyc_daemon.specs.declared.ending.RunFault.TheVariants.{Read, Write, TooManyTurns, Memory}
+use Rattle.pyc_session.specs.declared.ending.RunFault.{RunFault}
+use Rattle.pyc_session.specs.declared.ending.RunFault.TheVariants.{Read, Write, TooManyTurns, Memory}
 
 -- From known bytes left in the reader and bytes held in the window to later ones: some were read, and `bytes` were
 -- used.

@@ -3,15 +3,15 @@ use Rattle.std.specs.Prelude.{◌≡◌, ℕ, ◌<◌, Bool, IsTrue, List, [], �
 use Rattle.std.specs.Prelude.{Some}
 use Rattle.std.specs.Io.KnownBytes.{Appends}
 use denote.Ref.{Bor}
-use Rattle.pyc_daemon.specs.declared.ending.End.{End}
+use Rattle.pyc_session.specs.declared.ending.End.{End}
 use Rattle.pyc_daemon.specs.declared.reply.Reply.{Reply}
 use Rattle.pyc_daemon.specs.declared.reply.Reply.TheVariants.{Line, Checked, Counts}
-use Rattle.pyc_daemon.specs.declared.status.Status.{Status}
+use Rattle.pyc_session.specs.declared.status.Status.{Status}
 use Rattle.pyc_daemon.specs.declared.reply.Answer.{Answer}
-use Rattle.pyc_daemon.specs.Event.{Event}
-use Rattle.pyc_daemon.specs.Report.{report_in}
-use Rattle.pyc_daemon.specs.Session.{Turn, goes_on, ends, turn, check_reply}
-use Rattle.pyc_daemon.specs.Workspace.{State}
+use Rattle.pyc_session.specs.Event.{Event}
+use Rattle.pyc_body.specs.Report.{report_in}
+use Rattle.pyc_session.specs.Session.{Turn, goes_on, ends, turn, check_reply}
+use Rattle.pyc_session.specs.State.{State}
 use Rattle.pyc_daemon.specs.Runs.{IsLast}
 
 -- the line that tells what the last check saw and did

@@ -1,14 +1,14 @@
 -- What a run of a session did: the bytes that it took and wrote, for every input that goes on from those bytes.
 use Rattle.std.specs.Prelude.{◌≡◌, ℕ, ◌<◌, Bool, IsTrue, List, [], ◌++◌, Option, Result, Ok, Err}
 use Rattle.std.specs.Io.KnownBytes.{Consumes, IsAtEnd, Appends}
-use Rattle.pyc_daemon.specs.declared.ending.End.{End}
-use Rattle.pyc_daemon.specs.declared.ending.RunFault.{RunFault}
-use Rattle.pyc_daemon.specs.declared.ending.RunFault.TheVariants as fault
-use Rattle.pyc_daemon.specs.declared.options.Options.{Options}
-use Rattle.pyc_daemon.specs.Entry.{Entry}
-use Rattle.pyc_daemon.specs.Event.{Event, Links}
-use Rattle.pyc_daemon.specs.Session.{Session, session_from}
-use Rattle.pyc_daemon.specs.Workspace.{start}
+use Rattle.pyc_session.specs.declared.ending.End.{End}
+use Rattle.pyc_session.specs.declared.ending.RunFault.{RunFault}
+use Rattle.pyc_session.specs.declared.ending.RunFault.TheVariants as fault
+use Rattle.pyc_session.specs.declared.options.Options.{Options}
+use Rattle.pyc_session.specs.Entry.{Entry}
+use Rattle.pyc_session.specs.Event.{Event, Links}
+use Rattle.pyc_session.specs.Session.{Session, session_from}
+use Rattle.pyc_session.specs.State.{start}
 
 -- where the input's end was told, nothing comes after
 abbrev pub IsLast : Bool → List ℕ → Type 0

@@ -3,23 +3,20 @@
 ghost use Rattle.std.specs.Prelude.{◌≡◌, ◌+◌, ◌<◌, ◌≤◌, [], false, List, vec_capacity, IfOk, IfErr, IfSome, IsErrOf};
 ghost use Rattle.std.specs.Io.KnownBytes.{Appends};
 ghost use Rattle.pyc_daemon.specs.Counted.{inner_of, calls_of, faults_of, zeros_of};
-ghost use Rattle.pyc_daemon.specs.Event.{Event, Links};
+ghost use Rattle.pyc_session.specs.Event.{Event, Links};
 ghost use Rattle.pyc_daemon.specs.Reading.{IsReading};
 ghost use Rattle.pyc_daemon.specs.Runs.{Runs, ComesOfRun};
-ghost use Rattle.pyc_daemon.specs.Session.{session_text, session_end};
+ghost use Rattle.pyc_session.specs.Session.{session_text, session_end};
 ghost use Rattle.pyc_daemon.specs.Window.{held_of, ended_of};
-ghost use Rattle.pyc_daemon.specs.Workspace.{start};
+ghost use Rattle.pyc_session.specs.State.{start};
 
 use crate::counted::Counted;
-use crate::daemon::Daemon;
-use crate::ending::{End, RunFault};
 use crate::input::KEPT;
-use crate::options::Options;
 use crate::reply::Answer;
 use crate::serving::serve;
-use crate::sources::Sources;
 use crate::window::Window;
 use crate::writing::write_reply;
+use pyc_session::{Daemon, End, Options, RunFault, Sources};
 use std::alloc::Global;
 use std::io::{Read, Write};
 
@@ -70,7 +67,7 @@ pub fn run<R: Read, W: Write, S: Sources>(
     )
 }
 
-// Serves commands until the session ends.
+/// Serves commands until the session ends.
 fn serve_all<R: Read, W: Write, S: Sources>(
     alloc: Global,
     reader: &mut Counted<R>,

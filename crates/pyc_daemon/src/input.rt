@@ -5,12 +5,12 @@ ghost use Rattle.std.specs.Prelude.{vec_capacity, IfOk, IfErr, OnErr, OnOk, take
 ghost use Rattle.pyc_daemon.specs.Counted.{inner_of, calls_of, faults_of};
 ghost use Rattle.pyc_daemon.specs.Reading.{Advances, IsReading, ComesOfReading, work_left};
 ghost use Rattle.pyc_daemon.specs.Window.{held_of, ended_of};
-ghost use Rattle.pyc_daemon.specs.Input.{has_line_feed, command_line};
+ghost use Rattle.pyc_session.specs.Input.{has_line_feed, command_line};
 ghost use Rattle.pyc_daemon.specs.Body.{CameAs};
 
 use crate::counted::Counted;
-use crate::ending::RunFault;
 use crate::window::Window;
+use pyc_session::RunFault;
 use std::alloc::Global;
 use std::io::Read;
 
@@ -131,7 +131,7 @@ pub fn read_body<R: Read>(
     })
 }
 
-// Adds a part to what is kept, and tells whether all is kept still.
+/// Adds a part to what is kept, and tells whether all is kept still.
 fn keep_part(bytes: &mut Vec<u8>, part: &[u8], kept: bool) -> bool
     ensures kept { result ≡ true → (kept ≡ true) × (bytes.new.items ≡ bytes.old.items ++ part.now) }
     ensures room { kept ≡ true → vec_len bytes.old + length part.now ≤ vec_capacity bytes.old → result ≡ true }

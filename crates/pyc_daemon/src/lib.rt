@@ -1,34 +1,18 @@
-//! The daemon: the files of a session, what is found in them, and the commands that change, check and report them.
+//! The daemon: a session over a reader, a writer and sources, from its first command to its end.
 #![tactic(auto)]
 
-pub mod checked;
-mod command;
-pub mod counted;
-pub mod daemon;
-pub mod ending;
-pub mod engine;
-pub mod file;
-pub mod found;
-mod fresh;
+mod counted;
+mod engine;
 mod input;
-pub mod keep;
-pub mod laws;
-pub mod literal_forms;
-pub mod memory_source;
-pub mod message;
-pub mod module_name;
-pub mod options;
-mod path;
-pub mod refusal;
 mod reply;
-pub mod report;
-pub mod scope;
 mod serving;
-mod silencing;
-pub mod sources;
-pub mod status;
-pub mod unit;
-pub mod units;
 mod window;
-pub mod workspace;
-pub mod writing;
+mod writing;
+
+pub use counted::Counted;
+pub use engine::run;
+pub use pyc_session::{
+    Daemon, End, FetchFault, Keep, LARGEST_FILE, MOST_FETCHED, MOST_FILES, MemorySource, Options,
+    Refusal, RunFault, Sources, Status, TURNS,
+};
+pub use writing::{write_bytes, write_parts};

@@ -2,9 +2,8 @@
 
 ghost use Rattle.std.specs.Prelude.{◌≡◌, None, Some};
 
-use crate::checked::Report;
-use crate::ending::End;
-use crate::status::Status;
+use pyc_body::Report;
+use pyc_session::{End, Status};
 
 /// What is written for one command.
 #[derive(Drop)]

@@ -3,27 +3,22 @@
 ghost use Rattle.std.specs.Prelude.{◌≡◌, ◌==◌, ◌&&◌, not, ◌<◌, ◌≤◌, ◌++◌, [], ℕ, Bool, List, true, false, length};
 ghost use Rattle.std.specs.Prelude.{vec_capacity, IfOk, IfErr, OnErr, OnOk};
 ghost use Rattle.pyc_daemon.specs.Body.{CameAs, IsWanted};
-ghost use Rattle.pyc_daemon.specs.Command.{said};
+ghost use Rattle.pyc_session.specs.Command.{said};
 ghost use Rattle.pyc_daemon.specs.Counted.{inner_of, calls_of, faults_of};
-ghost use Rattle.pyc_daemon.specs.Event.{Event, FetchStep};
+ghost use Rattle.pyc_session.specs.Event.{Event, FetchStep};
 ghost use Rattle.pyc_daemon.specs.Reading.{Advances, IsReading, ComesOfReading, work_left};
-ghost use Rattle.pyc_daemon.specs.Refusal.{early_refusal, keep_refusal};
+ghost use Rattle.pyc_session.specs.Refusal.{early_refusal, keep_refusal};
 ghost use Rattle.pyc_daemon.specs.Replies.{Serves, turn_of};
 ghost use Rattle.pyc_daemon.specs.Runs.{IsLast};
-ghost use Rattle.pyc_daemon.specs.Session.{act_with, check_turn, file_turn, told_turn};
+ghost use Rattle.pyc_session.specs.Session.{act_with, check_turn, file_turn, told_turn};
 ghost use Rattle.pyc_daemon.specs.Window.{held_of, ended_of};
-ghost use Rattle.pyc_daemon.specs.Workspace.{State};
+ghost use Rattle.pyc_session.specs.State.{State};
 
-use crate::command::{Command, parse};
 use crate::counted::Counted;
-use crate::daemon::Daemon;
-use crate::ending::{End, RunFault};
 use crate::input::{Body, KEPT, command_line, read_body, read_line};
-use crate::keep::Keep;
-use crate::refusal::Refusal;
 use crate::reply::{Answer, Reply};
-use crate::sources::Sources;
 use crate::window::Window;
+use pyc_session::{Command, Daemon, End, Keep, Refusal, RunFault, Sources, parse};
 use std::alloc::Global;
 use std::io::Read;
 
@@ -66,14 +61,14 @@ pub fn serve<R: Read, S: Sources>(
     Ok(Some(answer))
 }
 
-// Whether a line is the empty rest of an input.
+/// Whether a line is the empty rest of an input.
 fn is_end(line: &[u8], fed: bool) -> bool
     ensures { result ≡ (not fed && (length line.now == 0)) }
 {
     !fed && line.is_empty()
 }
 
-// Does a command.
+/// Does a command.
 fn obey<R: Read, S: Sources>(
     alloc: Global,
     reader: &mut Counted<R>,
@@ -129,7 +124,7 @@ fn obey<R: Read, S: Sources>(
     }
 }
 
-// The answer to a command that is done or refused.
+/// The answer to a command that is done or refused.
 fn tell(told: Result<(), Refusal>) -> Answer
     ensures { (s : State) (rest : List ℕ) → turn_of result s rest ≡ told_turn told s rest }
 {
@@ -139,7 +134,7 @@ fn tell(told: Result<(), Refusal>) -> Answer
     }
 }
 
-// `check`
+/// Checks all files: the answer to `check`.
 fn check(daemon: &mut Daemon) -> Answer
     ensures { (mark : Bool) × ((rest : List ℕ) → check_turn daemon.old mark rest ≡ turn_of result daemon.new rest) }
 {
@@ -152,7 +147,7 @@ fn check(daemon: &mut Daemon) -> Answer
     }
 }
 
-// `add` and `change`: the next bytes are the file's, also where it is refused.
+/// Does `add` or `change`: the next bytes are the file's, also where it is refused.
 fn keep_file<R: Read>(
     alloc: Global,
     reader: &mut Counted<R>,
@@ -186,7 +181,7 @@ fn keep_file<R: Read>(
     Ok(answer_body(daemon, keep, path, size, refusal, body))
 }
 
-// The answer to a command whose bytes came, or did not.
+/// The answer to a command whose bytes came, or did not.
 fn answer_body(
     daemon: &mut Daemon,
     keep: Keep,

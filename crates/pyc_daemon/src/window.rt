@@ -4,7 +4,7 @@ ghost use Rattle.std.specs.Prelude.{◌≡◌, ◌+◌, ◌-◌, ◌*◌, ◌<�
 ghost use Rattle.std.specs.Prelude.{IfNone, IfErr, OnErr, OnOk, take, drop, min};
 
 use crate::counted::Counted;
-use crate::ending::RunFault;
+use pyc_session::RunFault;
 use std::alloc::{AllocError, Global};
 use std::io::Read;
 

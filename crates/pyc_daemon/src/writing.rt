@@ -5,15 +5,14 @@ ghost use Rattle.std.specs.Prelude.{OnOk};
 ghost use Rattle.std.specs.Io.KnownBytes.{Appends};
 ghost use Rattle.pyc_daemon.specs.Counted.{inner_of, faults_of, zeros_of};
 ghost use Rattle.pyc_daemon.specs.Replies.{reply_bytes, status_text, joined, WritesPart};
-ghost use Rattle.pyc_daemon.specs.Report.{report_in};
-ghost use Rattle.pyc_daemon.specs.Session.{check_reply};
+ghost use Rattle.pyc_body.specs.Report.{report_in};
+ghost use Rattle.pyc_session.specs.Session.{check_reply};
 
-use crate::checked::Report;
 use crate::counted::Counted;
-use crate::ending::RunFault;
 use crate::reply::Reply;
-use crate::status::Status;
 use itoa::Buffer;
+use pyc_body::Report;
+use pyc_session::{RunFault, Status};
 use std::io::Write;
 
 /// Writes a reply whole.
@@ -32,7 +31,7 @@ pub(crate) fn write_reply<W: Write>(writer: &mut Counted<W>, reply: Reply) -> Re
     }
 }
 
-// Writes a report and its status.
+/// Writes a report and its status.
 fn write_report<W: Write>(writer: &mut Counted<W>, report: &Report) -> Result<(), RunFault>
     ensures ok { OnOk result
         (Appends (W.contents (inner_of writer.old)) (W.contents (inner_of writer.new))
@@ -47,14 +46,14 @@ fn write_report<W: Write>(writer: &mut Counted<W>, report: &Report) -> Result<()
     write_bytes(writer, status_line(report.clean).as_bytes())
 }
 
-// The line that follows a report.
+/// The line that follows a report.
 fn status_line(clean: bool) -> &'static str
     ensures { result.now ≡ (if clean then codes "status 0\n" else codes "status 1\n") }
 {
     if clean { "status 0\n" } else { "status 1\n" }
 }
 
-// Writes the counts of the last check.
+/// Writes the counts of the last check.
 fn write_counts<W: Write>(writer: &mut Counted<W>, counts: Status) -> Result<(), RunFault>
     ensures ok { OnOk result
         (Appends (W.contents (inner_of writer.old)) (W.contents (inner_of writer.new)) (status_text counts)) }
@@ -113,7 +112,7 @@ pub fn write_bytes<W: Write>(writer: &mut Counted<W>, bytes: &[u8]) -> Result<()
     Ok(())
 }
 
-// Writes at least one byte.
+/// Writes at least one byte.
 fn write_some<W: Write>(writer: &mut Counted<W>, bytes: &[u8]) -> Result<usize, RunFault>
     requires { 0 < length bytes.now }
     ensures some { IfOk result (λ count. (0 < count) × (count ≤ length bytes.now)) }

@@ -1,7 +1,7 @@
 //! What a check of files writes, and its status.
 
 use super::*;
-use pyc_daemon::memory_source::MemorySource;
+use pyc_daemon::MemorySource;
 use std::alloc::AllocError;
 use std::test::Fail;
 

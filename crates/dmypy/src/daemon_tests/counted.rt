@@ -1,6 +1,6 @@
 //! Readers and writers, with what is counted of them.
 
-use pyc_daemon::counted::Counted;
+use pyc_daemon::Counted;
 use std::cell::Cell;
 use std::io::{self, ErrorKind, Read, Write};
 use std::test::Fail;

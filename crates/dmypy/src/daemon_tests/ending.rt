@@ -1,6 +1,6 @@
 //! Faults that stop a session, as they are told.
 
-use pyc_daemon::ending::RunFault;
+use pyc_daemon::RunFault;
 use std::test::Fail;
 
 #[test]

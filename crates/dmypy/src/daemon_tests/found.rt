@@ -1,8 +1,7 @@
 //! Sources with the messages that are found in them.
 
-use pyc_daemon::found::{found, unsilenced};
-use pyc_daemon::message::Message;
-use pyc_parse::outcome;
+use pyc_body::{Message, found, unsilenced};
+use pyc_lower::read;
 use pyc_types::Builtins;
 use std::alloc::Global;
 use std::fmt::Write;
@@ -24,16 +23,16 @@ fn shown(alloc: Global, messages: &[Message]) -> Result<String, Fail> {
 /// What is found in a source.
 fn found_in(alloc: Global, source: &[u8]) -> Result<String, Fail> {
     let builtins = Builtins::new(alloc)?;
-    let outcome = outcome(alloc, source)?;
-    shown(alloc, &found(alloc, &builtins, source, &outcome)?)
+    let outcome = read(alloc, source)?;
+    shown(alloc, &found(alloc, &builtins, &outcome)?)
 }
 
 /// The lines of what is told of a source, each with a space after it.
 fn lines_told(alloc: Global, source: &[u8]) -> Result<String, Fail> {
     let builtins = Builtins::new(alloc)?;
-    let outcome = outcome(alloc, source)?;
+    let outcome = read(alloc, source)?;
     let mut lines = String::new(alloc);
-    for message in &unsilenced(alloc, &builtins, source, &outcome)? {
+    for message in &unsilenced(alloc, &builtins, &outcome)? {
         let line = message.line;
         write!(lines, "{line} ")?;
     }

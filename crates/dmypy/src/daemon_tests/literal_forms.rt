@@ -1,21 +1,21 @@
 //! Modules, with their annotated literals.
 
-use pyc_daemon::literal_forms::literal_forms;
-use pyc_parse::{Outcome, outcome};
+use pyc_ast::Outcome;
+use pyc_body::literal_forms;
+use pyc_lower::read;
 use std::alloc::Global;
 use std::fmt::Write;
 use std::test::Fail;
 
 /// The annotated literals of a source, each as its line, column, annotation and type, and ended by a `;`.
 fn forms_of(alloc: Global, source: &str) -> Result<String, Fail> {
-    let bytes = source.as_bytes();
-    let Outcome::Tree(module) = outcome(alloc, bytes)? else {
+    let Outcome::Tree(module) = read(alloc, source.as_bytes())? else {
         return Err("no tree".into());
     };
     let mut shown = String::new(alloc);
-    for form in &literal_forms(alloc, bytes, &module.statements)? {
-        let line = form.line;
-        let column = form.column;
+    for form in &literal_forms(alloc, &module.statements)? {
+        let line = form.at.line;
+        let column = form.at.column;
         let annotation = form.annotation;
         let value = form.value;
         write!(shown, "{line}:{column} {annotation:?} {value:?};")?;

@@ -1,7 +1,6 @@
 //! Files in memory, as they are fetched.
 
-use pyc_daemon::memory_source::MemorySource;
-use pyc_daemon::sources::{FetchFault, Sources};
+use pyc_daemon::{FetchFault, MemorySource, Sources};
 use std::alloc::{AllocError, Global};
 use std::test::Fail;
 

@@ -1,6 +1,6 @@
 //! Paths, with the modules that they name.
 
-use pyc_daemon::module_name::ModuleName;
+use pyc_names::ModuleName;
 use std::test::Fail;
 
 #[test]
@@ -13,9 +13,12 @@ fn names_modules(rt: HostRuntime) -> Result<(), Fail> {
         ("\u{fb01}.py", "[\"fi\"]"),
     ] {
         let name = ModuleName::of_path(rt.alloc(), path)?;
-        let shown = format!(in rt.alloc(); "{name:?}")?;
-        let want = format!(in rt.alloc(); "ModuleName {{ parts: {parts} }}")?;
-        assert_eq!(rt; shown.as_str(), want.as_str(), "at {path}");
+        let mut texts = Vec::new(rt.alloc());
+        for part in name.parts() {
+            texts.push(part.as_str())?;
+        }
+        let shown = format!(in rt.alloc(); "{texts:?}")?;
+        assert_eq!(rt; shown.as_str(), *parts, "at {path}");
     }
     Ok(())
 }
@@ -25,7 +28,7 @@ fn tells_modules_apart(rt: HostRuntime) -> Result<(), Fail> {
     let file = ModuleName::of_path(rt.alloc(), "a/b.py")?;
     let folder = ModuleName::of_path(rt.alloc(), "a/b/__init__.py")?;
     let other = ModuleName::of_path(rt.alloc(), "b.py")?;
-    assert!(rt; file.is_same(&folder));
-    assert!(rt; !file.is_same(&other));
+    assert!(rt; file == folder);
+    assert!(rt; file != other);
     Ok(())
 }

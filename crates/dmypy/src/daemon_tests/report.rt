@@ -1,8 +1,6 @@
 //! What was found in files, with the report of it.
 
-use pyc_daemon::checked::Found;
-use pyc_daemon::message::{Code, Message};
-use pyc_daemon::report::report;
+use pyc_body::{Code, Found, Message, report};
 use std::alloc::{AllocError, Global};
 use std::test::Fail;
 

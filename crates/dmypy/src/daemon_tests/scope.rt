@@ -1,29 +1,26 @@
 //! Modules, with the lines of their parts and of their units.
 
-use pyc_daemon::scope::{ScopePart, scope_parts};
-use pyc_daemon::units::unit_clauses;
-use pyc_parse::{Expr, Module, Outcome, SimpleStatement, outcome};
+use pyc_ast::{Module, Outcome, Stmt, StmtForm};
+use pyc_body::{scope_parts, unit_definitions};
+use pyc_lower::read;
 use std::alloc::Global;
 use std::fmt::Write;
 use std::test::Fail;
 
 /// The tree of a source.
 fn module_of(alloc: Global, source: &str) -> Result<Module, Fail> {
-    match outcome(alloc, source.as_bytes())? {
+    match read(alloc, source.as_bytes())? {
         Outcome::Tree(module) => Ok(module),
         Outcome::Fault(_) => Err("no tree".into()),
     }
 }
 
-/// The line of a statement that is a name alone, or 0.
-fn line_of(statement: &SimpleStatement) -> usize {
-    let SimpleStatement::Expression(expr) = statement else {
-        return 0;
-    };
-    match &**expr {
-        Expr::Name(name) => name.line,
-        _ => 0,
-    }
+/// Whether a part of a scope is a function or a class.
+fn is_definition(part: &Stmt) -> bool {
+    matches!(
+        part.form,
+        StmtForm::Function { .. } | StmtForm::Class { .. }
+    )
 }
 
 /// The lines of the parts of a source, those of definitions with a `d`.
@@ -31,15 +28,11 @@ fn parts_of(alloc: Global, source: &str) -> Result<String, Fail> {
     let module = module_of(alloc, source)?;
     let mut shown = String::new(alloc);
     for part in &scope_parts(alloc, &module.statements)? {
-        match part {
-            ScopePart::Simple(statement) => {
-                let line = line_of(statement);
-                write!(shown, "{line} ")?;
-            }
-            ScopePart::Definition(clause) => {
-                let line = clause.colon.line;
-                write!(shown, "d{line} ")?;
-            }
+        let line = part.at.line;
+        if is_definition(part) {
+            write!(shown, "d{line} ")?;
+        } else {
+            write!(shown, "{line} ")?;
         }
     }
     Ok(shown)
@@ -49,8 +42,8 @@ fn parts_of(alloc: Global, source: &str) -> Result<String, Fail> {
 fn units_of(alloc: Global, source: &str) -> Result<String, Fail> {
     let module = module_of(alloc, source)?;
     let mut shown = String::new(alloc);
-    for unit in &unit_clauses(alloc, &module.statements)? {
-        let line = unit.colon.line;
+    for unit in &unit_definitions(alloc, &module.statements)? {
+        let line = unit.at.line;
         write!(shown, "{line} ")?;
     }
     Ok(shown)

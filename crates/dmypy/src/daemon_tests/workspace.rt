@@ -1,9 +1,8 @@
 //! Files of a session, as they are put in and taken out.
 
-use pyc_daemon::file::File;
-use pyc_daemon::module_name::ModuleName;
-use pyc_daemon::workspace::Workspace;
-use pyc_parse::Outcome;
+use pyc_ast::Outcome;
+use pyc_names::ModuleName;
+use pyc_workspace::{File, Workspace};
 use std::alloc::{AllocError, Global};
 use std::test::Fail;
 

@@ -1,10 +1,6 @@
 //! Readers and writers for the tests of sessions.
 
-use pyc_daemon::counted::Counted;
-use pyc_daemon::ending::{End, RunFault};
-use pyc_daemon::engine::run;
-use pyc_daemon::memory_source::MemorySource;
-use pyc_daemon::options::Options;
+use pyc_daemon::{Counted, End, MemorySource, Options, RunFault, run};
 use std::alloc::Global;
 use std::io::{self, ErrorKind, Read, Write};
 use std::process::Abort;

@@ -2,10 +2,7 @@
 
 use super::fakes::{NEVER, OPTIONS, ShortReads, Sink, Stop, assert_sessions, session};
 use super::rows::{ONE_ERROR, ONE_ERROR_REPLIES};
-use pyc_daemon::daemon::Daemon;
-use pyc_daemon::ending::{End, RunFault};
-use pyc_daemon::refusal::Refusal;
-use pyc_daemon::status::Status;
+use pyc_daemon::{Daemon, End, Refusal, RunFault, Status};
 use std::alloc::{AllocError, Global};
 use std::test::Fail;
 

@@ -1,11 +1,7 @@
 //! Worked sessions: what comes in, and what goes out for it to the last byte.
 
 use super::fakes::{NEVER, OPTIONS, ShortReads, Sink, assert_sessions, session};
-use pyc_daemon::counted::Counted;
-use pyc_daemon::ending::End;
-use pyc_daemon::engine::run;
-use pyc_daemon::memory_source::MemorySource;
-use pyc_daemon::sources::Sources;
+use pyc_daemon::{Counted, End, MemorySource, Sources, run};
 use std::alloc::{AllocError, Global};
 use std::test::Fail;
 

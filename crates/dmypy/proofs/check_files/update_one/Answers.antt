@@ -1,6 +1,6 @@
 use Rattle.std.proofs.Common.{◌∙◌, [], ap}
 use Rattle.std.proofs.lemmas.Result.{err_from_is_err_and}
-use Rattle.pyc_daemon.specs.Session.{told_turn}
+use Rattle.pyc_session.specs.Session.{told_turn}
 use Rattle.dmypy.proofs.CheckFilesLemmas.{one_done, one_part, one_refused}
 use Rattle.dmypy.proofs.check_files.update_one.Goals as goal
 

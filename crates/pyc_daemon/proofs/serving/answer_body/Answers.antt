@@ -1,5 +1,6 @@
 use Rattle.std.proofs.Common.{true, false, sym, ◌∙◌}
-use Rattle.pyc_daemon.proofs.Turns.{file_done, file_late, file_not_kept, file_broken}
+use Rattle.pyc_session.proofs.Turns.{file_done, file_late, file_not_kept}
+use Rattle.pyc_daemon.proofs.Ended.{file_broken}
 use Rattle.pyc_daemon.proofs.serving.answer_body.Goals as goal
 
 pub returns-in-Ok : goal.returns-in-Ok

@@ -1,5 +1,5 @@
 use Rattle.std.proofs.Common.{true, false}
-use Rattle.pyc_daemon.proofs.Turns.{check_done, check_refused}
+use Rattle.pyc_session.proofs.Turns.{check_done, check_refused}
 use Rattle.pyc_daemon.proofs.serving.check.Goals as goal
 
 pub returns-in-Ok : goal.returns-in-Ok

@@ -1,6 +1,7 @@
 use Rattle.std.proofs.Common.{false, None, [], refl, sym, ◌∙◌}
 use Rattle.pyc_daemon.proofs.Moving.{advances_none}
-use Rattle.pyc_daemon.proofs.Turns.{act_update, told_remove, status_told, if_ok}
+use Rattle.pyc_session.proofs.Turns.{act_update, told_remove, if_ok}
+use Rattle.pyc_daemon.proofs.Ended.{status_told}
 use Rattle.pyc_daemon.proofs.serving.obey.Goals as goal
 
 pub returns-in-Check-clause-obeyed : goal.returns-in-Check-clause-obeyed

@@ -1,6 +1,6 @@
 use Rattle.std.proofs.Common.{refl, ◌++◌, ◌∷◌, [], if◌then◌else◌, sym, ◌∙◌}
 use Rattle.std.proofs.lemmas.Result.{err_from_is_err_and}
-use Rattle.pyc_daemon.specs.Event.{quiet}
+use Rattle.pyc_session.specs.Event.{quiet}
 use Rattle.pyc_daemon.proofs.Moving.{advances_trans}
 use Rattle.pyc_daemon.proofs.Served.{served, some_line, end_line}
 use Rattle.pyc_daemon.proofs.serving.serve.Goals as goal

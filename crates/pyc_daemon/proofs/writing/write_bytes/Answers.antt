@@ -1,7 +1,7 @@
 use Rattle.std.proofs.Common.{◌∙◌, ◌++◌, ap, sym, take}
 use Rattle.std.proofs.lemmas.List.{take-append-drop}
 use Rattle.pyc_daemon.proofs.Going.{written_on}
-use Rattle.pyc_daemon.proofs.CommandWords.{take_rest}
+use Rattle.pyc_session.proofs.CommandWords.{take_rest}
 use Rattle.pyc_daemon.proofs.writing.write_bytes.Goals as goal
 
 pub loop-rest-preserved : goal.loop-rest-preserved

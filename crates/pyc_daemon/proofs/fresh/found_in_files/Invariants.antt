@@ -1,8 +1,0 @@
-use Rattle.std.proofs.Common.{◌≡◌, take, map}
-use Rattle.pyc_daemon.specs.Daemon.{files_in}
-use Rattle.pyc_daemon.specs.Fresh.{checked}
-use Rattle.pyc_daemon.specs.Report.{found_in}
-use Rattle.pyc_daemon.proofs.fresh.found_in_files.Given as goal
-
-abbrev pub invariant-loop-file : goal.invariant-loop-file
-invariant-loop-file l = map found_in l.all.items ≡ map checked (files_in (take l.file-index l.files))

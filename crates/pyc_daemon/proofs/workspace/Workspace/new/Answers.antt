@@ -1,5 +1,0 @@
-use Rattle.pyc_daemon.proofs.WorkspaceLemmas.{in_order_none}
-use Rattle.pyc_daemon.proofs.workspace.Workspace.new.Goals as goal
-
-pub invariant_of-result : goal.invariant_of-result
-invariant_of-result c = rw c.new.ensures.items in_order_none

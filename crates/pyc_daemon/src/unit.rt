@@ -1,9 +1,0 @@
-//! The parts of a file that are examined by themselves.
-
-/// A part of a file that is examined by itself: the path of the file, and which of its units it is, counted from 0.
-/// Unit 0 is the header, unit 1 the body of the module; its classes, functions and methods follow in text order.
-#[derive(Clone, Copy, Debug, PartialEq, Eq)]
-pub struct UnitId<'a> {
-    pub path: &'a str,
-    pub index: usize,
-}

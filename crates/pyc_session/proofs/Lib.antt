@@ -1,0 +1,3 @@
+pub mod CommandWords
+pub mod Refusals
+pub mod Turns

@@ -1,0 +1,9 @@
+pub mod Command
+pub mod Ending
+pub mod Entry
+pub mod Event
+pub mod Input
+pub mod MemorySource
+pub mod Refusal
+pub mod Session
+pub mod State

@@ -1,0 +1,283 @@
+//! The files of a session, and what its last check left.
+
+ghost use Rattle.std.specs.Prelude.{◌≡◌, ℕ, Bool, List, Option, None, Some, true, false, length, IfOk, IfErr, OnOk};
+ghost use Rattle.std.specs.Prelude.{OnErr, vec_len, if◌then◌else◌};
+ghost use Rattle.pyc_session.specs.Event.{Fetch, FetchStep};
+ghost use Rattle.pyc_workspace.specs.Fresh.{fresh, units_of};
+ghost use Rattle.pyc_names.specs.ModuleName.{module_of};
+ghost use Rattle.pyc_workspace.specs.Path.{is_file_path};
+ghost use Rattle.pyc_session.specs.Refusal.{add_refusal, change_refusal, remove_refusal, early_refusal, late_refusal};
+ghost use Rattle.pyc_session.specs.Refusal.{keep_refusal, kept_as};
+ghost use Rattle.pyc_body.specs.Report.{report_in};
+ghost use Rattle.pyc_session.specs.Session.{after_check, keeping, dropping, update_turn, told_turn};
+ghost use Rattle.pyc_session.specs.State.{State, start};
+ghost use Rattle.pyc_workspace.specs.Workspace.{has_file};
+
+use crate::keep::Keep;
+use crate::options::Options;
+use crate::refusal::Refusal;
+use crate::sources::{FetchFault, Sources};
+use crate::status::Status;
+use pyc_body::Report;
+use pyc_names::ModuleName;
+use pyc_workspace::{File, Workspace, fresh_report, is_file_path};
+use std::alloc::{AllocError, Global};
+use std::marker::Model;
+use std::str;
+
+/// How many files a session may hold.
+pub const MOST_FILES: usize = 1024;
+
+/// How many bytes a file may have.
+pub const LARGEST_FILE: usize = 1_048_576;
+
+/// The files of a session, and what its last check left. Contracts see its state: the files that are present, the files
+/// at the last completed check, and the units that it examined.
+#[derive(Drop)]
+pub struct Daemon {
+    alloc: Global,
+    options: Options,
+    present: Workspace,
+    last: Workspace,
+    bodies: usize,
+}
+
+impl Model for Daemon {
+    ghost Value = { State };
+
+    ghost view = { λ d.
+        record { options = d.options; present = d.present; last = d.last; examined = units_of d.last } };
+
+    ghost invariant = { λ d. d.bodies ≡ length (units_of d.last) };
+}
+
+impl Daemon {
+    /// A daemon with no file, that has checked nothing. It takes no memory.
+    pub fn new(alloc: Global, options: Options) -> Self
+        ensures { result ≡ start options }
+    {
+        Daemon {
+            alloc,
+            options,
+            present: Workspace::new(alloc),
+            last: Workspace::new(alloc),
+            bodies: 0,
+        }
+    }
+
+    /// Why a file of this path and size would not be kept so, as far as that takes no memory to tell.
+    pub fn early_refusal(&self, keep: Keep, path: &[u8], size: usize) -> Option<Refusal>
+        ensures { result ≡ early_refusal keep self.now.present path.now size }
+    {
+        match keep {
+            Keep::Add => add_refusal(&self.present, path, size),
+            Keep::Change => change_refusal(&self.present, path, size),
+        }
+    }
+
+    /// Adds a file. Where it is refused all is as before.
+    pub fn add(&mut self, path: &[u8], bytes: Vec<u8>) -> Result<(), Refusal>
+        ensures ok { OnOk result (keep_refusal Keep.Add self.old.present path.now (vec_len bytes) false ≡ None) }
+        ensures after { OnOk result (self.new ≡ keeping self.old (record { path = path.now; bytes = bytes.items })) }
+        ensures refusal { IfErr result
+            (λ why. (wanting : Bool)
+            × (keep_refusal Keep.Add self.old.present path.now (vec_len bytes) wanting ≡ Some why)) }
+        ensures same { OnErr result (self.new ≡ self.old) }
+    {
+        self.keep_unless(Keep::Add, path, bytes)
+    }
+
+    /// Puts other bytes in place of those of a file that is present. Where that is refused all is as before.
+    pub fn change(&mut self, path: &[u8], bytes: Vec<u8>) -> Result<(), Refusal>
+        ensures ok { OnOk result (keep_refusal Keep.Change self.old.present path.now (vec_len bytes) false ≡ None) }
+        ensures after { OnOk result (self.new ≡ keeping self.old (record { path = path.now; bytes = bytes.items })) }
+        ensures refusal { IfErr result
+            (λ why. (wanting : Bool)
+            × (keep_refusal Keep.Change self.old.present path.now (vec_len bytes) wanting ≡ Some why)) }
+        ensures same { OnErr result (self.new ≡ self.old) }
+    {
+        self.keep_unless(Keep::Change, path, bytes)
+    }
+
+    /// Adds the file whose bytes the source hands over at this path, or changes it if it is present. Where that is
+    /// refused all is as before.
+    pub fn update<S: Sources>(&mut self, sources: &mut S, path: &[u8]) -> Result<(), Refusal>
+        ensures told { (wanting : Bool) × (fetched : Option Fetch) × FetchStep S.step sources.old fetched sources.new
+            × ((rest : List ℕ) → update_turn self.old path.now wanting fetched rest ≡ told_turn result self.new rest) }
+        ensures same { OnErr result (self.new ≡ self.old) }
+    {
+        if !is_file_path(path) {
+            return Err(Refusal::Path);
+        }
+        match sources.fetch(self.alloc, str::from_utf8(path).unwrap()) {
+            Ok(bytes) => {
+                let keep = self.kept_as(path);
+                self.keep_unless(keep, path, bytes)
+            }
+            Err(FetchFault::Unreadable) => Err(Refusal::Unreadable),
+            Err(FetchFault::Memory) => Err(Refusal::Memory),
+        }
+    }
+
+    /// Removes the file of this path. It takes no memory; where it is refused all is as before.
+    pub fn remove(&mut self, path: &[u8]) -> Result<(), Refusal>
+        ensures ok { OnOk result (remove_refusal self.old.present path.now ≡ None) }
+        ensures after { OnOk result (self.new ≡ dropping self.old path.now) }
+        ensures refusal { IfErr result (λ why. remove_refusal self.old.present path.now ≡ Some why) }
+        ensures same { OnErr result (self.new ≡ self.old) }
+    {
+        if let Some(why) = remove_refusal(&self.present, path) {
+            return Err(why);
+        }
+        self.present.take(path);
+        Ok(())
+    }
+
+    /// Checks all files. Where memory is refused all is as before.
+    pub fn check(&mut self) -> Result<Report, AllocError>
+        ensures fresh { IfOk result (λ report. report_in report ≡ fresh self.old.present) }
+        ensures after { OnOk result (self.new ≡ after_check self.old) }
+        ensures same { OnErr result (self.new ≡ self.old) }
+    {
+        let report = fresh_report(self.alloc, self.present.files())?;
+        let last = self.present.share(self.alloc)?;
+        let bodies = self.present.units(self.alloc)?.len();
+        self.last = last;
+        self.bodies = bodies;
+        Ok(report)
+    }
+
+    /// How many files and units the last completed check saw, and how many units it examined. It takes no memory.
+    pub fn status(&self) -> Status
+        ensures files { result.files ≡ length self.now.last }
+        ensures bodies { result.bodies ≡ length (units_of self.now.last) }
+        ensures rechecked { result.rechecked ≡ length self.now.examined }
+    {
+        Status {
+            files: self.last.len(),
+            bodies: self.bodies,
+            rechecked: self.bodies,
+        }
+    }
+
+    /// How bytes that a source hands over are kept.
+    fn kept_as(&self, path: &[u8]) -> Keep
+        ensures { result ≡ kept_as self.now.present path.now }
+    {
+        if self.present.contains(path) {
+            Keep::Change
+        } else {
+            Keep::Add
+        }
+    }
+
+    /// Keeps a file, unless it is refused.
+    fn keep_unless(&mut self, keep: Keep, path: &[u8], bytes: Vec<u8>) -> Result<(), Refusal>
+        ensures ok { OnOk result (keep_refusal keep self.old.present path.now (vec_len bytes) false ≡ None) }
+        ensures after { OnOk result (self.new ≡ keeping self.old (record { path = path.now; bytes = bytes.items })) }
+        ensures refusal { IfErr result
+            (λ why. (wanting : Bool)
+            × (keep_refusal keep self.old.present path.now (vec_len bytes) wanting ≡ Some why)) }
+        ensures same { OnErr result (self.new ≡ self.old) }
+    {
+        if let Some(why) = self.early_refusal(keep, path, bytes.len()) {
+            return Err(why);
+        }
+        self.keep(keep, path, bytes)
+    }
+
+    /// Keeps a file of which nothing is told before the name of its module is formed. Where it is refused all is as
+    /// before.
+    pub fn keep(&mut self, keep: Keep, path: &[u8], bytes: Vec<u8>) -> Result<(), Refusal>
+        requires { early_refusal keep self.old.present path.now (vec_len bytes) ≡ None }
+        ensures ok { OnOk result (late_refusal keep self.old.present path.now false ≡ None) }
+        ensures after { OnOk result (self.new ≡ keeping self.old (record { path = path.now; bytes = bytes.items })) }
+        ensures refusal { IfErr result
+            (λ why. (wanting : Bool) × (late_refusal keep self.old.present path.now wanting ≡ Some why)) }
+        ensures same { OnErr result (self.new ≡ self.old) }
+    {
+        let path = str::from_utf8(path).unwrap();
+        let Ok(name) = ModuleName::of_path(self.alloc, path) else {
+            return Err(Refusal::Memory);
+        };
+        if let Some(why) = module_refusal(&self.present, keep, &name) {
+            return Err(why);
+        }
+        match self.put(path, name, bytes) {
+            Ok(()) => Ok(()),
+            Err(_) => Err(Refusal::Memory),
+        }
+    }
+
+    /// Keeps a file of this path, module and bytes.
+    fn put(&mut self, path: &str, name: ModuleName, bytes: Vec<u8>) -> Result<(), AllocError>
+        requires { name ≡ module_of path.now }
+        ensures after { OnOk result (self.new ≡ keeping self.old (record { path = path.now; bytes = bytes.items })) }
+        ensures same { OnErr result (self.new ≡ self.old) }
+    {
+        let file = File::new(self.alloc, path, name, bytes)?;
+        self.present.put(file)
+    }
+}
+
+/// Why a file of this path and size is not added to these files, as far as that takes no memory to tell.
+#[tactic(auto, unfolding(crate::specs::Refusal::add_refusal))]
+fn add_refusal(files: &Workspace, path: &[u8], size: usize) -> Option<Refusal>
+    ensures { result ≡ add_refusal files.now path.now size }
+{
+    if !is_file_path(path) {
+        Some(Refusal::Path)
+    } else if size > LARGEST_FILE {
+        Some(Refusal::Large)
+    } else if files.contains(path) {
+        Some(Refusal::Present)
+    } else {
+        None
+    }
+}
+
+/// Why a file of this path is not changed to one of this size.
+#[tactic(auto, unfolding(crate::specs::Refusal::change_refusal))]
+fn change_refusal(files: &Workspace, path: &[u8], size: usize) -> Option<Refusal>
+    ensures { result ≡ change_refusal files.now path.now size }
+{
+    if !is_file_path(path) {
+        Some(Refusal::Path)
+    } else if size > LARGEST_FILE {
+        Some(Refusal::Large)
+    } else if !files.contains(path) {
+        Some(Refusal::Absent)
+    } else {
+        None
+    }
+}
+
+/// Why no file of this path is removed.
+#[tactic(auto, unfolding(crate::specs::Refusal::remove_refusal))]
+fn remove_refusal(files: &Workspace, path: &[u8]) -> Option<Refusal>
+    ensures { result ≡ remove_refusal files.now path.now }
+{
+    if !is_file_path(path) {
+        Some(Refusal::Path)
+    } else if !files.contains(path) {
+        Some(Refusal::Absent)
+    } else {
+        None
+    }
+}
+
+/// Why the module that its path names refuses a file that is kept so.
+#[tactic(auto, unfolding(crate::specs::Refusal::module_refusal))]
+fn module_refusal(files: &Workspace, keep: Keep, name: &ModuleName) -> Option<Refusal>
+    ensures { (path : List ℕ) → name.now ≡ module_of path → result ≡ late_refusal keep files.now path false }
+{
+    if keep == Keep::Change {
+        None
+    } else if files.names_module(name) {
+        Some(Refusal::Module)
+    } else if files.len() >= MOST_FILES {
+        Some(Refusal::Many)
+    } else {
+        None
+    }
+}

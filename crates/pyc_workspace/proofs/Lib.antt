@@ -1,0 +1,3 @@
+pub mod FreshLemmas
+pub mod Texts
+pub mod WorkspaceLemmas

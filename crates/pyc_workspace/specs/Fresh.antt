@@ -1,0 +1,33 @@
+-- What a check of files from scratch finds and examines.
+use Rattle.std.specs.Prelude.{ℕ, zero, suc, ◌+◌, List, [], ◌∷◌, map, flat_map}
+use Rattle.pyc_body.specs.declared.unit.UnitId.{UnitId}
+use Rattle.pyc_body.specs.FoundMessages.{unsilenced}
+use Rattle.pyc_body.specs.Report.{Report, Found, report_of}
+use Rattle.pyc_body.specs.Units.{unit_count}
+use Rattle.pyc_lower.specs.Reading.{read_of}
+use Rattle.pyc_workspace.specs.Workspace.{File, Unit}
+
+-- what is told of a file
+abbrev pub checked : File → Found
+checked file = record { path = file.path; messages = unsilenced (read_of file.bytes) }
+
+-- the report of a check of these files from scratch
+unfoldable pub fresh : List File → Report
+fresh files = report_of (map checked files)
+
+-- so many units of the file of a path, the first with this number
+unfoldable pub numbered : List ℕ → ℕ → ℕ → List Unit
+numbered path from zero = []
+numbered path from (suc n) = record { path = path; index = from } ∷ numbered path (from + 1) n
+
+-- the units of a file
+abbrev pub file_units : File → List Unit
+file_units file = numbered file.path 0 (unit_count (read_of file.bytes))
+
+-- the units of all files, in order
+abbrev pub units_of : List File → List Unit
+units_of files = flat_map file_units files
+
+-- a unit as plain values
+abbrev pub unit_in : UnitId → Unit
+unit_in unit = record { path = unit.path.now; index = unit.index }

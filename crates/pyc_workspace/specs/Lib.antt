@@ -1,0 +1,4 @@
+pub mod Files
+pub mod Fresh
+pub mod Path
+pub mod Workspace

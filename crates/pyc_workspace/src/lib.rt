@@ -1,0 +1,12 @@
+//! The files of a session: their paths and trees, their order, and what a check of them from scratch finds.
+#![tactic(auto)]
+
+mod file;
+mod fresh;
+mod path;
+mod workspace;
+
+pub use file::File;
+pub use fresh::fresh_report;
+pub use path::{LONGEST_PATH, is_file_path};
+pub use workspace::Workspace;

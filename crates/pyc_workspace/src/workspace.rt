@@ -1,0 +1,181 @@
+//! The files of a session, in order.
+
+ghost use Rattle.std.specs.Prelude.{◌≡◌, ◌++◌, [], List, length, map, IfOk, IfErr, OnOk, OnErr};
+ghost use Rattle.std.specs.Cmp.Lexicographic.{slice_cmp};
+ghost use Rattle.std.specs.Ordering.{nat_cmp};
+ghost use Rattle.pyc_workspace.specs.Files.{file_in, files_in};
+ghost use Rattle.pyc_workspace.specs.Fresh.{numbered, unit_in, units_of};
+ghost use Rattle.pyc_names.specs.ModuleName.{module_of, same_module};
+ghost use Rattle.pyc_workspace.specs.Workspace.{File as PlainFile, IsInOrder, IsPlaceOf, IsGapFor, has_file};
+ghost use Rattle.pyc_workspace.specs.Workspace.{is_module_taken, with_file, without_file};
+
+use crate::file::File;
+use pyc_body::UnitId;
+use pyc_names::ModuleName;
+use std::alloc::{AllocError, Global};
+use std::cmp::Ordering;
+use std::marker::Model;
+use std::rc::Rc;
+
+/// The files of a session, in ascending order of the bytes of their paths, each path once. Contracts see the list of
+/// them, each as its path and its bytes.
+#[derive(Drop)]
+pub struct Workspace {
+    files: Vec<Rc<File>>,
+}
+
+impl Model for Workspace {
+    ghost Value = { List PlainFile };
+
+    ghost view = { λ w. files_in w.files.items };
+
+    ghost invariant = { λ w. IsInOrder (files_in w.files.items) };
+}
+
+impl Workspace {
+    /// A workspace with no file. It takes no memory.
+    pub fn new(alloc: Global) -> Self
+        ensures { result ≡ [] }
+    {
+        Workspace {
+            files: Vec::new(alloc),
+        }
+    }
+
+    /// How many files there are.
+    pub fn len(&self) -> usize
+        ensures { result ≡ length self.now }
+    {
+        self.files.len()
+    }
+
+    /// Whether there is a file of this path.
+    pub fn contains(&self, path: &[u8]) -> bool
+        ensures { result ≡ has_file self.now path.now }
+    {
+        place_of(&self.files, path).is_ok()
+    }
+
+    /// Whether a file names this module.
+    pub fn names_module(&self, name: &ModuleName) -> bool
+        ensures { result ≡ is_module_taken self.now name.now }
+    {
+        names_module(&self.files, name)
+    }
+
+    /// Puts a file in place of the one of its path, or else where its path belongs. Where memory is refused all is as
+    /// before.
+    pub fn put(&mut self, file: File) -> Result<(), AllocError>
+        ensures after { OnOk result (self.new ≡ with_file self.old (file_in file)) }
+        ensures same { OnErr result (self.new ≡ self.old) }
+        ensures ordered { IsInOrder self.new }
+    {
+        let place = place_of(&self.files, file.path().as_bytes());
+        let file = Rc::new(*self.files.allocator(), file)?;
+        match place {
+            Ok(at) => {
+                self.files[at] = file;
+                Ok(())
+            }
+            Err(at) => Ok(self.files.insert(at, file)?),
+        }
+    }
+
+    /// Takes the file of this path away, and answers whether there was one.
+    pub fn take(&mut self, path: &[u8]) -> bool
+        ensures value { result ≡ has_file self.old path.now }
+        ensures after { self.new ≡ without_file self.old path.now }
+        ensures ordered { IsInOrder self.new }
+    {
+        let Ok(at) = place_of(&self.files, path) else {
+            return false;
+        };
+        let _ = self.files.remove(at);
+        true
+    }
+
+    /// The same files, shared and not copied.
+    pub fn share(&self, alloc: Global) -> Result<Workspace, AllocError>
+        ensures same { IfOk result (λ shared. shared ≡ self.now) }
+        ensures ordered { IfOk result IsInOrder }
+    {
+        Ok(Workspace {
+            files: share(alloc, &self.files)?,
+        })
+    }
+
+    /// The units of the files, in order.
+    pub fn units(&self, alloc: Global) -> Result<Vec<UnitId<'_>>, AllocError>
+        ensures { IfOk result (λ units. map unit_in units.items ≡ units_of self.now) }
+    {
+        units_of(alloc, &self.files)
+    }
+
+    /// The files, in ascending order of their paths.
+    pub fn files(&self) -> &[Rc<File>]
+        ensures all { files_in result.now ≡ self.now }
+        ensures ordered { IsInOrder self.now }
+    {
+        &self.files
+    }
+}
+
+/// Where the file of this path is among files in order, or where it would go.
+fn place_of(files: &[Rc<File>], path: &[u8]) -> Result<usize, usize>
+    requires { IsInOrder (files_in files.now) }
+    ensures found { IfOk result (IsPlaceOf (files_in files.now) path.now) }
+    ensures absent { IfErr result (IsGapFor (files_in files.now) path.now) }
+{
+    files.binary_search_by(
+        |file: &Rc<File>| -> Ordering
+            ensures { result ≡ slice_cmp nat_cmp (file_in file.now.value).path path.entry.now }
+        { file.path().as_bytes().cmp(path) },
+    )
+}
+
+/// Whether one of these files names this module.
+fn names_module(files: &[Rc<File>], name: &ModuleName) -> bool
+    ensures { result ≡ is_module_taken (files_in files.now) name.now }
+{
+    files.iter().any(
+        |file: &Rc<File>| -> bool
+            ensures { result ≡ same_module (module_of (file_in file.now.value).path) name.entry.now }
+        { file.module() == name },
+    )
+}
+
+/// The same files, shared.
+fn share(alloc: Global, files: &[Rc<File>]) -> Result<Vec<Rc<File>>, AllocError>
+    ensures { IfOk result (λ shared. files_in shared.items ≡ files_in files.now) }
+{
+    let mut shared = Vec::with_capacity(alloc, files.len())?;
+    for file in files {
+        shared.push(file.clone()?)?;
+    }
+    Ok(shared)
+}
+
+/// The units of these files, in order.
+fn units_of<'a>(alloc: Global, files: &'a [Rc<File>]) -> Result<Vec<UnitId<'a>>, AllocError>
+    ensures { IfOk result (λ units. map unit_in units.items ≡ units_of (files_in files.now)) }
+{
+    let mut units = Vec::new(alloc);
+    for file in files {
+        push_units(&mut units, file.path(), file.count_units())?;
+    }
+    Ok(units)
+}
+
+/// Adds so many units of the file of a path.
+fn push_units<'a>(
+    units: &mut Vec<UnitId<'a>>,
+    path: &'a str,
+    count: usize,
+) -> Result<(), AllocError>
+    ensures { OnOk result (map unit_in units.new.items ≡ map unit_in units.old.items ++ numbered path.now 0 count) }
+{
+    for index in 0..count {
+        units.push(UnitId { path, index })?;
+    }
+    Ok(())
+}
