@@ -1,7 +1,7 @@
 -- Loops that put a list behind what was made, and loops that look for the first item of a kind.
 use Rattle.std.proofs.Common.{◌≡◌, refl, ap, sym, ◌∙◌, ℕ, ◌+◌, ◌<◌, Bool, true, false, if◌then◌else◌, List, [], ◌∷◌, length, get_or, Option, None, Some, drop, ◌++◌, append_assoc}
 use Rattle.std.specs.List.{cons_option}
-use Rattle.pyc_lower_statement.proofs.Loops.{drop_at}
+use Rattle.pyc_lower_expression.proofs.Loops.{drop_at}
 
 -- what one item may be stands before the others
 pub cons_first : {A : Type 0} (x : Option A) (xs : List A) → cons_option x xs ≡ cons_option x [] ++ xs

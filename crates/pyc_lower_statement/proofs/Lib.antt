@@ -1,4 +1,3 @@
-pub mod Loops
 pub mod ItemLemmas
 pub mod SuspensionLemmas
 pub mod TargetLemmas

@@ -1,7 +1,7 @@
 use Rattle.std.proofs.Common.{sym, ◌∙◌, Bool, List}
 use Rattle.pyc_lower_block.specs.Suspends.{stmts_suspend, stmt_suspends, clause_suspends, clauses_suspend}
 use Rattle.pyc_lower_block.proofs.SuspensionLemmas.{suspends_stmts, suspends_no_statement, suspends_clauses, suspends_no_clause}
-use Rattle.pyc_lower_statement.proofs.Loops.{found_at, passed_at, no_more}
+use Rattle.pyc_lower_expression.proofs.Loops.{found_at, passed_at, no_more}
 use Rattle.pyc_tree.specs.declared.block.CompoundClause.{CompoundClause as CompoundClauseOf}
 use Rattle.pyc_tree.specs.declared.block.Stmt.{Stmt as StmtOf}
 use Rattle.pyc_tree.specs.BlockTrees as tree

@@ -1,6 +1,6 @@
 use Rattle.std.proofs.Common.{sym, ap, ◌∙◌, Bool, List}
 use Rattle.pyc_lower_statement.specs.Suspends.{suspends, pieces_suspend, links_suspend, comprehensions_suspend}
-use Rattle.pyc_lower_statement.proofs.Loops.{found_at, passed_at, no_more}
+use Rattle.pyc_lower_expression.proofs.Loops.{found_at, passed_at, no_more}
 use Rattle.pyc_lower_statement.proofs.SuspensionLemmas.{suspends_Piece, suspends_Link, suspends_clause, suspends_last, suspends_unlinked, suspends_no_comprehension, pieces_of-fields}
 use Rattle.pyc_tree.specs.declared.tree.Comprehension.{Comprehension}
 use Rattle.pyc_tree.specs.declared.tree.Link.{Link}

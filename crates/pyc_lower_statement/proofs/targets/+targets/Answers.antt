@@ -5,7 +5,7 @@ use Rattle.pyc_ast.specs.declared.target.TargetElement.{TargetElement as TargetE
 use Rattle.pyc_ast.specs.TargetView.{target_element_of}
 use Rattle.pyc_lower_expression.specs.OriginView.{origin_of}
 use Rattle.pyc_lower_statement.proofs.ItemLemmas.{items_begin}
-use Rattle.pyc_lower_statement.proofs.Loops.{pushed, pushed_at, ended_at, last_at, none_left}
+use Rattle.pyc_lower_expression.proofs.Loops.{pushed, pushed_at, ended_at, last_at, none_left}
 use Rattle.pyc_lower_statement.proofs.TargetLemmas.{target_other, elements_Piece, elements_None, elements_Some, element_is}
 use Rattle.pyc_lower_statement.specs.Targets.{target_in, elements_in, element_of}
 use Rattle.pyc_tree.specs.declared.tree.Expr.{Expr}
