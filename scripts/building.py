@@ -27,8 +27,8 @@ def crates_of(library, named):
     return found
 
 
-def made(folder, name, library):
-    """A workspace with the libraries, as they were built, and the program."""
+def made(folder, name, library, beside):
+    """A workspace with the libraries, as they were built, and the program; it may name some of them beside its own."""
     named = rows()
     crates = crates_of(library, named)
     for crate in crates:
@@ -39,26 +39,26 @@ def made(folder, name, library):
     shutil.copyfile(ROOT / "bench" / f"{name}.rt.txt", source / "main.rt")
     shutil.copyfile(ROOT / "HANDLES", folder / "HANDLES")
     lines = [f"{crate}: {' '.join(named[crate])}" for crate in crates]
-    (folder / "crates.txt").write_text("\n".join([*lines, f"{name}: {library}", ""]))
+    (folder / "crates.txt").write_text("\n".join([*lines, f"{name}: {' '.join([library, *beside])}", ""]))
     return source.parent
 
 
-def build(name, library, program):
+def build(name, library, program, *beside):
     """Proves and builds the library, then the program `bench/NAME.rt.txt`, into a file."""
     subprocess.run(["rt", "lib"], cwd=ROOT / "crates" / library, stdout=sys.stderr, check=True)
     with tempfile.TemporaryDirectory(prefix=f"{name}-") as folder:
-        crate = made(Path(folder), name, library)
+        crate = made(Path(folder), name, library, beside)
         subprocess.run(["rt", "run"], cwd=crate, input=b"", stdout=sys.stderr, check=True)
         shutil.copy(crate / "out" / name, program)
 
 
-def build_by_words(name, library, usage):
+def build_by_words(name, library, usage, *beside):
     """Builds the program into the file that the only word of the command line names, and gives the script's status."""
     if len(sys.argv) != 2:
         print(usage)
         return 2
     try:
-        build(name, library, sys.argv[1])
+        build(name, library, sys.argv[1], *beside)
     except (OSError, subprocess.CalledProcessError) as why:
         print(f"{Path(sys.argv[0]).stem}: {why}", file=sys.stderr)
         return 1
