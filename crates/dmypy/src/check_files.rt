@@ -1,15 +1,14 @@
 //! One check of the files that the command line names.
 
-ghost use Rattle.std.specs.Prelude.{◌≡◌, ◌+◌, ◌<◌, [], ℕ, Bool, List, Result, map, string_bytes, if◌then◌else◌, IfOk};
-ghost use Rattle.std.specs.Prelude.{OnErr, OnOk};
+ghost use Rattle.std.specs.Prelude.{◌≡◌, ◌<◌, [], ℕ, Result, Ok, map, string_bytes, if◌then◌else◌, IfOk, OnErr, OnOk};
 ghost use Rattle.std.specs.Io.KnownBytes.{Appends};
-ghost use Rattle.pyc_daemon.specs.Counted.{inner_of, faults_of, zeros_of};
-ghost use Rattle.pyc_session.specs.Event.{Event, FetchStep, Links};
+ghost use Rattle.pyc_daemon.specs.Counted.{inner_of, faults_of, zeros_of, IsSound, FailsOnce};
+ghost use Rattle.pyc_session.specs.Event.{Event, FetchStep};
 ghost use Rattle.pyc_workspace.specs.Fresh.{fresh};
 ghost use Rattle.pyc_daemon.specs.Replies.{WritesPart};
 ghost use Rattle.pyc_session.specs.declared.ending.RunFault.{RunFault};
-ghost use Rattle.dmypy.specs.CheckFiles.{Checks, check_status, err_text, exit_status, file_update, out_text};
-ghost use Rattle.dmypy.specs.Updates.{BeginsUpdates, Prints, Updates, UpdatesOne, told_refusal};
+ghost use Rattle.dmypy.specs.CheckFiles.{Checks, ComesOfCheck, exit_status, outputs, refusal_line};
+ghost use Rattle.dmypy.specs.Updates.{BeginsUpdates, Prints, UpdatesFirst, UpdatesOne};
 
 use pyc_daemon::{Counted, Daemon, Options, Refusal, RunFault, Sources, write_bytes, write_parts};
 use std::alloc::Global;
@@ -30,22 +29,24 @@ pub fn check_files<S: Sources, O: Write, E: Write>(
     options: &Options,
     files: &[String],
 ) -> u8
-    // Where no write failed, all is written.
-    ensures whole { faults_of out.new + zeros_of out.new + (faults_of err.new + zeros_of err.new) ≡ 0
-        → (events : List Event) × (wanting : Bool)
-        × Links S.step sources.old events sources.new
-        × Appends (O.contents (inner_of out.old)) (O.contents (inner_of out.new))
-        (out_text options.now (map string_bytes files.now) events wanting)
-        × Appends (E.contents (inner_of err.old)) (E.contents (inner_of err.new))
-        (err_text options.now (map string_bytes files.now) events wanting)
-        × (result ≡ check_status options.now (map string_bytes files.now) events wanting) }
-    // In any case what is written begins what is to be written, and where that is not all of it a write failed.
+    requires unwritten { (faults_of out.old ≡ 0) × (zeros_of out.old ≡ 0) }
+    requires untold { (faults_of err.old ≡ 0) × (zeros_of err.old ≡ 0) }
+    // Where no write failed, all is written, and the status is that of the report and the refusals.
+    ensures whole { IsSound out.old out.new → IsSound err.old err.new
+        → Checks S.step options.now
+        (outputs sources.old (O.contents (inner_of out.old)) (E.contents (inner_of err.old)))
+        (outputs sources.new (O.contents (inner_of out.new)) (E.contents (inner_of err.new)))
+        (map string_bytes files.now) (Ok result) }
+    // In any case what is written begins what is to be written, and where that is not all of it, just one write failed,
+    // and nothing was written after it.
     ensures checks { (answer : Result ℕ RunFault)
-        × Checks S.step options.now sources.old sources.new (O.contents (inner_of out.old))
-        (O.contents (inner_of out.new))
-        (E.contents (inner_of err.old)) (E.contents (inner_of err.new)) (map string_bytes files.now) answer
+        × Checks S.step options.now
+        (outputs sources.old (O.contents (inner_of out.old)) (E.contents (inner_of err.old)))
+        (outputs sources.new (O.contents (inner_of out.new)) (E.contents (inner_of err.new)))
+        (map string_bytes files.now) answer
         × (result ≡ exit_status answer)
-        × OnErr answer (0 < faults_of out.new + zeros_of out.new + (faults_of err.new + zeros_of err.new)) }
+        × ComesOfCheck answer out.old out.new err.old err.new }
+    ensures sound { result < 2 → IsSound out.old out.new × IsSound err.old err.new }
 {
     match check_and_tell(alloc, sources, out, err, options, files) {
         Ok(status) => status,
@@ -62,10 +63,11 @@ fn check_and_tell<S: Sources, O: Write, E: Write>(
     options: &Options,
     files: &[String],
 ) -> Result<u8, RunFault>
-    ensures checks { Checks S.step options.now sources.old sources.new (O.contents (inner_of out.old))
-        (O.contents (inner_of out.new))
-        (E.contents (inner_of err.old)) (E.contents (inner_of err.new)) (map string_bytes files.now) result }
-    ensures cause { OnErr result (0 < faults_of out.new + zeros_of out.new + (faults_of err.new + zeros_of err.new)) }
+    ensures checks { Checks S.step options.now
+        (outputs sources.old (O.contents (inner_of out.old)) (E.contents (inner_of err.old)))
+        (outputs sources.new (O.contents (inner_of out.new)) (E.contents (inner_of err.new)))
+        (map string_bytes files.now) result }
+    ensures counts { ComesOfCheck result out.old out.new err.old err.new }
 {
     let mut daemon = Daemon::new(alloc, *options);
     let refused = update_all(&mut daemon, sources, err, files)?;
@@ -80,13 +82,14 @@ fn update_all<S: Sources, E: Write>(
     files: &[String],
 ) -> Result<bool, RunFault>
     ensures ok { IfOk result
-        (λ refused. Updates S.step sources.old sources.new (E.contents (inner_of err.old))
+        (λ refused. UpdatesFirst S.step sources.old sources.new (E.contents (inner_of err.old))
         (E.contents (inner_of err.new))
         daemon.old daemon.new (map string_bytes files.now) [] refused) }
     ensures part { OnErr result
         (BeginsUpdates S.step sources.old sources.new (E.contents (inner_of err.old)) (E.contents (inner_of err.new))
         daemon.old (map string_bytes files.now)) }
-    ensures cause { OnErr result (0 < faults_of err.new + zeros_of err.new) }
+    ensures sound { OnOk result (IsSound err.old err.new) }
+    ensures cause { OnErr result (FailsOnce err.old err.new) }
 {
     let mut refused = false;
     for file in files {
@@ -103,9 +106,10 @@ fn update_one<S: Sources, E: Write>(
     file: &str,
 ) -> Result<bool, RunFault>
     ensures update { (event : Event) × FetchStep S.step sources.old event.fetched sources.new
-        × UpdatesOne (E.contents (inner_of err.old)) (E.contents (inner_of err.new)) file.now
-        (file_update daemon.old file.now event) daemon.new result }
-    ensures cause { OnErr result (0 < faults_of err.new + zeros_of err.new) }
+        × UpdatesOne (E.contents (inner_of err.old)) (E.contents (inner_of err.new)) file.now daemon.old daemon.new
+        event result }
+    ensures sound { OnOk result (IsSound err.old err.new) }
+    ensures cause { OnErr result (FailsOnce err.old err.new) }
 {
     match daemon.update(sources, file.as_bytes()) {
         Ok(()) => Ok(false),
@@ -119,10 +123,11 @@ fn update_one<S: Sources, E: Write>(
 // Writes the line on a file that is refused.
 fn tell_refusal<E: Write>(err: &mut Counted<E>, file: &str, why: Refusal) -> Result<(), RunFault>
     ensures ok { OnOk result
-        (Appends (E.contents (inner_of err.old)) (E.contents (inner_of err.new)) (told_refusal file.now why)) }
+        (Appends (E.contents (inner_of err.old)) (E.contents (inner_of err.new)) (refusal_line file.now why)) }
     ensures part { OnErr result
-        (WritesPart (E.contents (inner_of err.old)) (E.contents (inner_of err.new)) (told_refusal file.now why)) }
-    ensures cause { OnErr result (0 < faults_of err.new + zeros_of err.new) }
+        (WritesPart (E.contents (inner_of err.old)) (E.contents (inner_of err.new)) (refusal_line file.now why)) }
+    ensures sound { OnOk result (IsSound err.old err.new) }
+    ensures cause { OnErr result (FailsOnce err.old err.new) }
 {
     write_parts(err, &["dmypy: ", file, ": "])?;
     write_bytes(err, why.text().as_bytes())
@@ -137,7 +142,7 @@ fn print_report<O: Write, E: Write>(
 ) -> Result<u8, RunFault>
     ensures checks { Prints (O.contents (inner_of out.old)) (O.contents (inner_of out.new))
         (E.contents (inner_of err.old)) (E.contents (inner_of err.new)) (fresh daemon.old.present) refused result }
-    ensures cause { OnErr result (0 < faults_of out.new + zeros_of out.new + (faults_of err.new + zeros_of err.new)) }
+    ensures counts { ComesOfCheck result out.old out.new err.old err.new }
 {
     let Ok(report) = daemon.check() else {
         write_parts(err, &["dmypy: ", Refusal::Memory.text()])?;

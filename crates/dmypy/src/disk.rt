@@ -50,10 +50,14 @@ impl<R: Files> Sources for Disk<R> {
     }
 }
 
-// The first bytes of the file at `path`.
+// The first bytes of the regular file at `path`.
 fn read_first<R: Files>(alloc: Global, files: &R, path: &str) -> io::Result<Vec<u8>>
     ensures { IfOk result (λ bytes. vec_len bytes ≤ MOST_FETCHED) }
 {
+    // Opening a pipe or a device could wait, and what it gives is no file.
+    if !fs::metadata(files, path)?.is_file() {
+        return Err(io::Error::from(ErrorKind::InvalidInput));
+    }
     first_bytes(alloc, fs::open(files, path)?)
 }
 

@@ -7,16 +7,18 @@ mod daemon_tests;
 pub mod disk;
 #[cfg(test)]
 mod parser_tests;
+pub mod session;
 #[cfg(test)]
 mod session_tests;
 pub mod words;
 
 use check_files::check_files;
 use disk::Disk;
-use pyc_daemon::{Counted, Options, run};
+use pyc_daemon::{Counted, Options};
+use session::session;
 use std::process::ExitCode;
 use std::{env, io};
-use words::{Job, read_words, session_status};
+use words::{Job, read_words};
 
 /// Reads the words of the command line and does what they ask for. Where they are no job, or memory runs out while they
 /// are read, nothing is written to standard output and the status is 2.
@@ -26,7 +28,7 @@ fn main(rt: HostRuntime) -> ExitCode {
         return ExitCode::from(2);
     };
     match read_words(rt.alloc(), words.as_slice()) {
-        Ok(Job::Session(options)) => ExitCode::from(session(&rt, &options)),
+        Ok(Job::Session(options)) => ExitCode::from(serve(&rt, &options)),
         Ok(Job::Check(options, files)) => ExitCode::from(check(&rt, &options, files.as_slice())),
         Err(usage) => {
             let _ = eprint!(rt; "{usage}");
@@ -45,11 +47,19 @@ fn program_words(rt: &HostRuntime) -> io::Result<Vec<String>> {
 }
 
 // Runs a session on standard input and output, and gives its status.
-fn session(rt: &HostRuntime, options: &Options) -> u8 {
+fn serve(rt: &HostRuntime, options: &Options) -> u8 {
     let mut reader = Counted::new(rt.stdin());
     let mut writer = Counted::new(rt.stdout());
+    let mut err = Counted::new(rt.stderr());
     let mut sources = Disk::new(rt);
-    session_status(&run(rt.alloc(), &mut reader, &mut writer, &mut sources, options))
+    session(
+        rt.alloc(),
+        &mut reader,
+        &mut writer,
+        &mut err,
+        &mut sources,
+        options,
+    )
 }
 
 // Checks files of the disk, with standard output and standard error, and gives the status.

@@ -1,4 +1,4 @@
-//! The words of the command line, and the status with which the program ends.
+//! The words of the command line.
 
 ghost use Rattle.std.specs.Prelude.{◌≡◌, [], false, IfOk, IfErr, All, bytes_eq, codes, drop, map, string_bytes};
 ghost use Rattle.std.specs.Prelude.{unwrap_or};
@@ -7,10 +7,9 @@ ghost use Rattle.clap.specs.Words.{FailsBy};
 ghost use Rattle.dmypy.specs.Words.{GivesSession, HasFiles, HasUsage, IsFlag, file_texts, files_id, files_rule};
 ghost use Rattle.dmypy.specs.Words.{is_check, names_check, optioned_app, session_rows, command_line, flag_rule};
 ghost use Rattle.dmypy.specs.Words.{option_text, ignore_missing_id, check_untyped_id, options_of};
-ghost use Rattle.dmypy.specs.Status.{status_of};
 
 use clap::{Arg, ArgAction, ArgMatches, Command};
-use pyc_daemon::{End, Options, RunFault, TURNS};
+use pyc_daemon::{Options, TURNS};
 use std::alloc::{AllocError, Global};
 use thiserror::Error;
 
@@ -183,15 +182,5 @@ fn found_options(found: &ArgMatches<'_>) -> Options
         ignore_missing: found.get_flag(IGNORE_MISSING),
         check_untyped: found.get_flag(CHECK_UNTYPED),
         turns: TURNS,
-    }
-}
-
-/// The status of the program after a session.
-pub fn session_status(answer: &Result<End, RunFault>) -> u8
-    ensures { result ≡ status_of answer.now }
-{
-    match answer {
-        Ok(End::Stopped | End::EndOfInput) => 0,
-        Ok(End::Broken) | Err(_) => 2,
     }
 }

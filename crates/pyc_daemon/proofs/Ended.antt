@@ -1,8 +1,8 @@
 -- A command whose bytes end with the input, and the reply to `status`.
-use Rattle.std.proofs.Common.{◌≡◌, ℕ, ◌<◌, Bool, List, [], ◌++◌, length, Option, IsTrue, refl}
+use Rattle.std.proofs.Common.{◌≡◌, ℕ, ◌<◌, Bool, List, [], ◌++◌, length, IsTrue, refl}
 use Rattle.pyc_workspace.specs.Fresh.{units_of}
 use Rattle.pyc_session.specs.declared.ending.End.TheVariants.{Broken}
-use Rattle.pyc_session.specs.declared.refusal.Refusal.{Refusal}
+use Rattle.pyc_session.specs.declared.keep.Keep.{Keep}
 use Rattle.pyc_session.specs.declared.refusal.Refusal.TheVariants as refusal
 use Rattle.pyc_session.specs.declared.status.Status.{Status}
 use Rattle.pyc_session.specs.Refusal.{refusal_text}
@@ -14,11 +14,11 @@ use Rattle.pyc_daemon.specs.Runs.{IsLast}
 use Rattle.pyc_daemon.proofs.Moving.{append_nil}
 
 -- the bytes that came are not all, and nothing comes after them
-pub file_broken : (o : Option Refusal) (s : State) (path : List ℕ) (size : ℕ) (ended : Bool) (held rest : List ℕ) → length held < size → IsTrue ended → IsLast ended rest
-    → file_turn o s path size (held ++ rest) ≡ last_turn (refusal_text refusal.Truncated) s Broken
-file_broken o s path size ended held rest few told last =
+pub file_broken : (how : Keep) (s : State) (path : List ℕ) (size : ℕ) (wanting ended : Bool) (held rest : List ℕ) → length held < size → IsTrue ended → IsLast ended rest
+    → file_turn how s path size wanting (held ++ rest) ≡ last_turn (refusal_text refusal.Truncated) s Broken
+file_broken how s path size wanting ended held rest few told last =
     let none : rest ≡ [] = last told in
-    file_short o s path size (held ++ rest) (rw (none, append_nil held) few)
+    file_short how s path size wanting (held ++ rest) (rw (none, append_nil held) few)
 
 -- the reply to `status`
 pub status_told : (s : State) (counts : Status) → counts.files ≡ length s.last → counts.bodies ≡ length (units_of s.last) → counts.rechecked ≡ length s.examined

@@ -1,26 +1,28 @@
 -- A run of a session, command by command.
-use Rattle.std.proofs.Common.{◌≡◌, ℕ, Bool, true, false, List, [], ◌∷◌, ◌++◌, length, drop, get_or, ◌+◌, ◌≤◌, ◌-◌, Option, None, Some, IsTrue, ◌<◌, refl, sym, ap, add-one, subst, ◌∙◌, arith, append_assoc, length-append}
+use Rattle.std.proofs.Common.{◌≡◌, ℕ, Bool, true, false, List, [], ◌∷◌, ◌++◌, length, drop, get_or, ◌+◌, ◌-◌, ◌≤◌, Option, None, Some, IsTrue, ◌<◌, refl, sym, ap, add-one, arith, subst, ◌∙◌, append_assoc}
 use Rattle.std.specs.Prelude.{OnErr, IfOk, IfSome, Result, Ok, Err}
 use Rattle.std.specs.Io.KnownBytes.{Appends}
 use Rattle.std.specs.Io.KnownBytes.{IsAtEnd}
 use Rattle.pyc_session.specs.declared.options.Options.{Options}
 use Rattle.pyc_session.specs.Entry.{Entry}
 use Rattle.pyc_session.specs.Event.{Event, FetchStep, Links}
-use Rattle.pyc_daemon.specs.Reading.{Advances}
+use Rattle.pyc_daemon.specs.Reading.{Advances, ComesOfReading}
+use Rattle.pyc_daemon.specs.declared.counted.Counted.{Counted}
 use Rattle.std.proofs.Math.Seq.{drop-cons}
 use Rattle.std.proofs.Math.ListN.{drop_of_length-le}
 use denote.Ref.{Bor}
 use Rattle.pyc_daemon.specs.Replies.{joined, WritesPart, Serves, turn_of, turn_after, reply_bytes}
-use Rattle.pyc_daemon.specs.Runs.{Runs, IsLast}
-use Rattle.pyc_session.specs.Session.{Session, Onward, goes_on, ends, onto, session_from, session_text, session_end}
+use Rattle.pyc_daemon.specs.Runs.{Runs, Work, Tells, AwaitsCommand, IsLast, streams}
+use Rattle.pyc_session.specs.Session.{Session, Turn, goes_on, ends, has_command, turn, progress, session_from, session_of}
 use Rattle.pyc_daemon.specs.Window.{held_of, ended_of}
 use Rattle.pyc_session.specs.State.{State, start}
 use Rattle.pyc_session.specs.declared.ending.End.{End}
 use Rattle.pyc_session.specs.declared.ending.End.TheVariants.{EndOfInput}
 use Rattle.pyc_session.specs.declared.ending.RunFault.{RunFault}
+use Rattle.pyc_session.specs.declared.ending.RunFault.TheVariants as fault
 use Rattle.pyc_daemon.specs.declared.reply.Answer.{Answer}
 use Rattle.pyc_daemon.specs.declared.window.Window.{Window}
-use Rattle.pyc_session.proofs.Turns.{session_from-turn, session_from-empty}
+use Rattle.pyc_session.proofs.Turns.{progress_on, session_over, session_ended, commands_first, turn_first}
 use Rattle.pyc_daemon.proofs.Moving.{append_nil, consumes_none, advances_none, advances_trans}
 
 pub appends_none : (told : Option (List ℕ)) → Appends told told []
@@ -134,7 +136,7 @@ links_push step before between after [] same event fetched = (after, subst (λ x
 links_push step before between after (first ∷ events) links event fetched =
     (links.0, links.1, links_push step links.0 between after events links.2 event fetched)
 
--- A session that is going on: what was taken, marked and written so far comes before what the rest of the input brings.
+-- A session that is going on: what was taken, met and written so far comes before what the rest of the input brings.
 pub record Going {S : Type 0} (step : S → List ℕ → Entry → S → Type 0) (options : Options) (source source' : S) (left left' : Option (List ℕ)) (held' : List ℕ) (told told' : Option (List ℕ)) (s : State) (ended : Bool) : Type 0 where
   pub taken : List ℕ
   pub events : List Event
@@ -142,8 +144,8 @@ pub record Going {S : Type 0} (step : S → List ℕ → Entry → S → Type 0)
   pub moved : Advances left [] left' held' taken
   pub appends : Appends told told' written
   pub links : Links step source events source'
-  pub onward : (rest : List ℕ) (more : List Event) → IsLast ended rest
-      → session_from (start options) (taken ++ rest) (events ++ more) ≡ onto written goes_on (session_from s rest more)
+  pub onward : (rest : List ℕ) → IsLast ended rest
+      → progress (start options) (taken ++ rest) events ≡ Some (record { text = written; state = s; rest = rest })
 
 pub going_none : {S : Type 0} (step : S → List ℕ → Entry → S → Type 0) (options : Options) (source : S) (left told : Option (List ℕ)) (held : List ℕ) (s : State) (ended : Bool) → held ≡ [] → s ≡ start options → Going step options source source left left held told told s ended
 going_none step options source left told held s ended e f = record {
@@ -153,40 +155,8 @@ going_none step options source left told held s ended e f = record {
   moved = subst (λ zs. Advances left [] left zs []) (sym e) (advances_none left []);
   appends = appends_none told;
   links = refl;
-  onward = λ rest more last. rw f refl;
+  onward = λ rest last. rw f refl;
 }
-
--- what a served command adds to a session that is going on
-step_on : {S : Type 0} (step : S → List ℕ → Entry → S → Type 0) (options : Options) (source source' : S) (left left' told told' : Option (List ℕ)) (held' : List ℕ) (s s' : State) (ended' : Bool)
-    (g : Going step options source source' left left' held' told told' s false) (bytes : List ℕ) (event : Event) (answer : Answer)
-    → Serves s s' bytes event ended' (Some answer)
-    → (rest : List ℕ) (more : List Event) → IsLast ended' rest
-    → session_from (start options) ((g.taken ++ bytes) ++ rest) ((g.events ++ event ∷ []) ++ more)
-    ≡ onto g.written goes_on (onto (turn_of answer s' rest).reply (turn_of answer s' rest).onward (session_from (turn_of answer s' rest).state (turn_of answer s' rest).rest more))
-step_on step options source source' left left' told told' held' s s' ended' g bytes event answer serves rest more last =
-    let some : 0 < length (bytes ++ rest) = omega (arith, length-append bytes rest, serves.0) in
-    ap (λ zs. session_from (start options) zs ((g.events ++ event ∷ []) ++ more)) (append_assoc g.taken bytes rest)
-    ∙ ap (λ ms. session_from (start options) (g.taken ++ (bytes ++ rest)) ms) (append_assoc g.events (event ∷ []) more)
-    ∙ g.onward (bytes ++ rest) (event ∷ more) (λ never. cc)
-    ∙ ap (onto g.written goes_on) (session_from-turn s (bytes ++ rest) event more (turn_of answer s' rest) some (serves.1 rest last))
-
--- a reply is written, and the session goes on
-pub going_on : {S : Type 0} (step : S → List ℕ → Entry → S → Type 0) (options : Options) (source source' source'' : S) (left left' left'' told told' told'' : Option (List ℕ)) (held' held'' : List ℕ) (s s' : State) (ended ended' : Bool) (bytes : List ℕ) (event : Event) (answer : Answer)
-    → Going step options source source' left left' held' told told' s ended → ended ≡ false → Advances left' held' left'' held'' bytes
-    → Serves s s' bytes event ended' (Some answer) → FetchStep step source' event.fetched source'' → answer.end ≡ None → Appends told' told'' (reply_bytes answer.reply)
-    → Going step options source source'' left left'' held'' told told'' s' ended'
-going_on step options source source' source'' left left' left'' told told' told'' held' held'' s s' ended ended' bytes event answer g0 unended moved serves fetched end appends =
-    let g : Going step options source source' left left' held' told told' s false = subst (λ t. Going step options source source' left left' held' told told' s t) unended g0 in
-    record {
-      taken = g.taken ++ bytes;
-      events = g.events ++ event ∷ [];
-      written = g.written ++ reply_bytes answer.reply;
-      moved = advances_trans left left' left'' [] held' held'' g.taken bytes g.moved moved;
-      appends = appends_trans told told' told'' g.written (reply_bytes answer.reply) g.appends appends;
-      links = links_push step source source' source'' g.events g.links event fetched;
-      onward = λ rest more last. step_on step options source source' left left' told told' held' s s' ended' g bytes event answer serves rest more last
-          ∙ rw (end, append_assoc) refl;
-    }
 
 -- a window whose reader told its end holds nothing
 pub held_none : (w : Window) → ended_of w ≡ true → held_of w ≡ []
@@ -196,65 +166,154 @@ held_none w e = let same : w.end - w.start ≡ 0 = omega (arith, w.at_end e) in 
 last_held : (ended : Bool) (held rest : List ℕ) → (IsTrue ended → held ≡ []) → IsLast ended rest → IsLast ended (held ++ rest)
 last_held ended held rest none last = λ told. rw (none told, last told) refl
 
--- what is written after what was written
-text_onto : (written reply : List ℕ) (onward : Onward) (later : Session) → (tail : List ℕ) × ((onto written goes_on (onto reply onward later)).text ≡ (written ++ reply) ++ tail)
-text_onto written reply goes_on later = (later.text, sym (append_assoc written reply later.text))
-text_onto written reply (ends end) later = ([], sym (append_nil (written ++ reply)))
-
-written_ends : (written : List ℕ) → onto written goes_on (record { text = []; ending = EndOfInput }) ≡ record { text = written; ending = EndOfInput }
-written_ends written = ap (λ zs. record { text = zs; ending = EndOfInput }) (append_nil written)
-
 still_going : {ended : Bool} {P : Type 0} → ended ≡ false → IsTrue ended → P
 still_going {ended} e t = cc
 
-reply_part : (end : Option End) (s : State) (rest written reply part later tail : List ℕ) → reply ≡ part ++ later
-    → (written ++ (turn_after reply end s rest).reply) ++ tail ≡ (written ++ part) ++ (later ++ tail)
-reply_part None s rest written reply part later tail e = rw e (simp append_assoc)
-reply_part (Some end) s rest written reply part later tail e = rw e (simp append_assoc)
+-- an input as what was taken before, by the last command, and what is left
+parted : (taken bytes held rest all : List ℕ) → all ≡ (taken ++ bytes) ++ held → all ++ rest ≡ taken ++ (bytes ++ (held ++ rest))
+parted taken bytes held rest all seam =
+    ap (λ zs. zs ++ rest) seam ∙ append_assoc (taken ++ bytes) held rest ∙ append_assoc taken bytes (held ++ rest)
 
--- the session ends after a reply
-pub runs_last : {S : Type 0} (step : S → List ℕ → Entry → S → Type 0) (options : Options) (source source' source'' : S) (left left' left'' told told' told'' : Option (List ℕ)) (held' held'' : List ℕ) (s s' : State) (ended ended' : Bool) (bytes : List ℕ) (event : Event) (answer : Answer) (end : End)
-    → Going step options source source' left left' held' told told' s ended → ended ≡ false → Advances left' held' left'' held'' bytes
-    → Serves s s' bytes event ended' (Some answer) → FetchStep step source' event.fetched source'' → answer.end ≡ Some end → Appends told' told'' (reply_bytes answer.reply)
-    → (IsTrue ended' → IsAtEnd left'') → (IsTrue ended' → held'' ≡ [])
-    → Runs step options source source'' left left'' told told'' (Ok end)
-runs_last step options source source' source'' left left' left'' told told' told'' held' held'' s s' ended ended' bytes event answer end g0 unended moved serves fetched is_last appends at_end none =
-    let g : Going step options source source' left left' held' told told' s false = subst (λ t. Going step options source source' left left' held' told told' s t) unended g0 in
-    let all = advances_trans left left' left'' [] held' held'' g.taken bytes g.moved moved in
-    record {
-      taken = all.got;
-      ended = ended';
+-- the reply of an answer is that of its turn
+reply_is : (end : Option End) (s : State) (rest reply : List ℕ) → (turn_after reply end s rest).reply ≡ reply
+reply_is None s rest reply = refl
+reply_is (Some end) s rest reply = refl
+
+module _ {S : Type 0} (step : S → List ℕ → Entry → S → Type 0) (options : Options) (source source' source'' : S) (left left' left'' told told' told'' : Option (List ℕ)) (held' held'' : List ℕ) (s : State) (ended : Bool)
+    (g : Going step options source source' left left' held' told told' s ended) (unended : ended ≡ false) (bytes : List ℕ) (moved : Advances left' held' left'' held'' bytes) where
+  -- where the commands before the next one came to
+  before_next : (rest : List ℕ) → progress (start options) (g.taken ++ rest) g.events ≡ Some (record { text = g.written; state = s; rest = rest })
+  before_next rest = g.onward rest (still_going unended)
+
+  pub all_moved : Advances left [] left'' held'' (g.taken ++ bytes)
+  all_moved = advances_trans left left' left'' [] held' held'' g.taken bytes g.moved moved
+
+  -- the reader fails
+  pub awaits_command : has_command bytes ≡ false → held'' ≡ []
+      → (rest : List ℕ) → progress (start options) (all_moved.got ++ rest) g.events ≡ Some (record { text = g.written; state = s; rest = bytes ++ rest })
+  awaits_command less none rest =
+      ap (λ input. progress (start options) input g.events) (parted g.taken bytes held'' rest all_moved.got all_moved.seam)
+      ∙ before_next (bytes ++ (held'' ++ rest)) ∙ rw none refl
+
+  first_before : (rest : List ℕ) (more : List Event) (session : Session) → session_of options (all_moved.got ++ rest) (g.events ++ more) ≡ Some session
+      → (later : List ℕ) × (session.text ≡ g.written ++ later)
+  first_before rest more session e =
+      commands_first (start options) (g.taken ++ (bytes ++ (held'' ++ rest))) g.events more
+      (record { text = g.written; state = s; rest = bytes ++ (held'' ++ rest) }) session
+      (before_next (bytes ++ (held'' ++ rest)))
+      (ap (λ input. session_from (start options) input (g.events ++ more)) (sym (parted g.taken bytes held'' rest all_moved.got all_moved.seam)) ∙ e)
+
+  pub runs_unread : has_command bytes ≡ false → held'' ≡ [] → (why : RunFault) → ((work : Work) → AwaitsCommand options work → Tells options work (Err why)) → source'' ≡ source'
+      → Runs step options (streams source left told) (streams source'' left'' told') (Err why)
+  runs_unread less none why tells kept =
+      let work : Work = record { taken = all_moved.got; ended = false; events = g.events; written = g.written } in
+      record {
+        work = work;
+        consumes = all_moved.consumes;
+        at_end = λ never. cc;
+        appends = g.appends;
+        links = subst (λ x. Links step source g.events x) (sym kept) g.links;
+        tells = tells work (record { state = s; part = bytes; less = less; replied = awaits_command less none });
+        first = λ rest more session last e. first_before rest more session e;
+      }
+
+  module _ (s' : State) (ended' : Bool) (event : Event) (answer : Answer) (serves : Serves s s' bytes event ended' (Some answer)) (fetched : FetchStep step source' event.fetched source'') where
+    -- the last command's turn
+    last_turned : (rest : List ℕ) → IsLast ended' rest → turn s (bytes ++ rest) event ≡ Some (turn_of answer s' rest)
+    last_turned rest last = serves rest last
+
+    linked : Links step source (g.events ++ event ∷ []) source''
+    linked = links_push step source source' source'' g.events g.links event fetched
+
+    -- a reply is written, and the session goes on
+    pub going_on : answer.end ≡ None → Appends told' told'' (reply_bytes answer.reply)
+        → Going step options source source'' left left'' held'' told told'' s' ended'
+    going_on end appends = record {
+      taken = g.taken ++ bytes;
       events = g.events ++ event ∷ [];
       written = g.written ++ reply_bytes answer.reply;
-      consumes = all.consumes;
-      at_end = at_end;
+      moved = all_moved;
       appends = appends_trans told told' told'' g.written (reply_bytes answer.reply) g.appends appends;
-      links = links_push step source source' source'' g.events g.links event fetched;
-      tells = λ rest more last.
-          ap (λ zs. session_from (start options) zs ((g.events ++ event ∷ []) ++ more)) (ap (λ zs. zs ++ rest) all.seam ∙ append_assoc (g.taken ++ bytes) held'' rest)
-          ∙ step_on step options source source' left left' told told' held' s s' ended' g bytes event answer serves (held'' ++ rest) more (last_held ended' held'' rest none last)
-          ∙ rw is_last refl;
+      links = linked;
+      onward = λ rest last.
+          let on : (turn_of answer s' rest) ≡ record { reply = reply_bytes answer.reply; state = s'; onward = goes_on; rest = rest } = rw end refl in
+          ap (λ input. progress (start options) input (g.events ++ event ∷ [])) (append_assoc g.taken bytes rest)
+          ∙ progress_on (start options) (g.taken ++ (bytes ++ rest)) g.events event (record { text = g.written; state = s; rest = bytes ++ rest })
+          (record { reply = reply_bytes answer.reply; state = s'; onward = goes_on; rest = rest })
+          (before_next (bytes ++ rest)) (last_turned rest last ∙ ap Some on) refl;
     }
 
--- the input ends before another command
-pub runs_ended : {S : Type 0} (step : S → List ℕ → Entry → S → Type 0) (options : Options) (source source' : S) (left left' told told' : Option (List ℕ)) (held' : List ℕ) (s : State) (ended : Bool)
-    → Going step options source source' left left' held' told told' s ended → ended ≡ true → (IsTrue ended → IsAtEnd left') → held' ≡ []
-    → Runs step options source source' left left' told told' (Ok EndOfInput)
-runs_ended step options source source' left left' told told' held' s ended g over at_end none = record {
-  taken = g.moved.got;
-  ended = ended;
-  events = g.events;
-  written = g.written;
-  consumes = g.moved.consumes;
-  at_end = at_end;
-  appends = g.appends;
-  links = g.links;
-  tells = λ rest more last.
-      let nothing : rest ≡ [] = last over in
-      ap (λ zs. session_from (start options) zs (g.events ++ more)) (ap (λ zs. zs ++ rest) g.moved.seam ∙ append_assoc g.taken held' rest)
-      ∙ g.onward (held' ++ rest) more (last_held ended held' rest (λ _. none) last)
-      ∙ rw (none, nothing) (ap (onto g.written goes_on) (session_from-empty s more) ∙ written_ends g.written);
-}
+    input_is : (rest : List ℕ) → all_moved.got ++ rest ≡ g.taken ++ (bytes ++ (held'' ++ rest))
+    input_is rest = parted g.taken bytes held'' rest all_moved.got all_moved.seam
+
+    -- what was written of the last reply comes first in the session
+    first_with : (part later : List ℕ) → reply_bytes answer.reply ≡ part ++ later → (IsTrue ended' → held'' ≡ []) → (rest : List ℕ) (more : List Event) (session : Session) → IsLast ended' rest
+        → session_of options (all_moved.got ++ rest) ((g.events ++ event ∷ []) ++ more) ≡ Some session → (tail : List ℕ) × (session.text ≡ (g.written ++ part) ++ tail)
+    first_with part later parts none rest more session last e =
+        let found = turn_first (start options) (g.taken ++ (bytes ++ (held'' ++ rest))) g.events event more
+        (record { text = g.written; state = s; rest = bytes ++ (held'' ++ rest) }) (turn_of answer s' (held'' ++ rest)) session
+        (before_next (bytes ++ (held'' ++ rest))) (last_turned (held'' ++ rest) (last_held ended' held'' rest none last))
+        (ap (λ input. session_from (start options) input ((g.events ++ event ∷ []) ++ more)) (sym (input_is rest)) ∙ e) in
+        (later ++ found.0, found.1 ∙ ap (λ zs. (g.written ++ zs) ++ found.0) (reply_is answer.end s' (held'' ++ rest) (reply_bytes answer.reply) ∙ parts) ∙ simp append_assoc)
+
+    -- the session ends after a reply
+    pub runs_last : (end : End) → answer.end ≡ Some end → Appends told' told'' (reply_bytes answer.reply) → (IsTrue ended' → IsAtEnd left'') → (IsTrue ended' → held'' ≡ [])
+        → Runs step options (streams source left told) (streams source'' left'' told'') (Ok end)
+    runs_last end is appends at_end none = record {
+      work = record { taken = all_moved.got; ended = ended'; events = g.events ++ event ∷ []; written = g.written ++ reply_bytes answer.reply };
+      consumes = all_moved.consumes;
+      at_end = at_end;
+      appends = appends_trans told told' told'' g.written (reply_bytes answer.reply) g.appends appends;
+      links = linked;
+      tells = λ rest last.
+          let t : Turn = record { reply = reply_bytes answer.reply; state = s'; onward = ends end; rest = [] } in
+          let on : turn_of answer s' (held'' ++ rest) ≡ t = rw is refl in
+          ap (λ input. session_from (start options) input (g.events ++ event ∷ [])) (input_is rest)
+          ∙ session_over (start options) (g.taken ++ (bytes ++ (held'' ++ rest))) g.events event (record { text = g.written; state = s; rest = bytes ++ (held'' ++ rest) }) t end
+          (before_next (bytes ++ (held'' ++ rest))) (last_turned (held'' ++ rest) (last_held ended' held'' rest none last) ∙ ap Some on) refl;
+      first = λ rest more session last e. first_with (reply_bytes answer.reply) [] (sym (append_nil (reply_bytes answer.reply))) none rest more session last e;
+    }
+
+    -- the writer fails
+    pub runs_unwritten : WritesPart told' told'' (reply_bytes answer.reply) → (IsTrue ended' → IsAtEnd left'') → (IsTrue ended' → held'' ≡ [])
+        → Runs step options (streams source left told) (streams source'' left'' told'') (Err fault.Write)
+    runs_unwritten part at_end none = record {
+      work = record { taken = all_moved.got; ended = ended'; events = g.events ++ event ∷ []; written = g.written ++ part.written };
+      consumes = all_moved.consumes;
+      at_end = at_end;
+      appends = appends_trans told told' told'' g.written part.written g.appends part.appends;
+      links = linked;
+      tells = record {
+        events = g.events;
+        event = event;
+        replies = g.written;
+        part = part.written;
+        met = refl;
+        wrote = refl;
+        begins = λ rest last. record {
+          before = record { text = g.written; state = s; rest = bytes ++ (held'' ++ rest) };
+          last = turn_of answer s' (held'' ++ rest);
+          later = part.later;
+          replied = ap (λ input. progress (start options) input g.events) (input_is rest) ∙ before_next (bytes ++ (held'' ++ rest));
+          text = refl;
+          turn = last_turned (held'' ++ rest) (last_held ended' held'' rest none last);
+          reply = reply_is answer.end s' (held'' ++ rest) (reply_bytes answer.reply) ∙ part.seam;
+        };
+      };
+      first = λ rest more session last e. first_with part.written part.later part.seam none rest more session last e;
+    }
+
+-- a fault of reading
+pub runs_unread_by : {R S : Type 0} (step : S → List ℕ → Entry → S → Type 0) (options : Options) (source source' source'' : S) (left left' left'' told told' : Option (List ℕ)) (held' held'' : List ℕ) (s : State) (ended : Bool)
+    (g : Going step options source source' left left' held' told told' s ended) → ended ≡ false → (bytes : List ℕ) → Advances left' held' left'' held'' bytes
+    → has_command bytes ≡ false → held'' ≡ [] → source'' ≡ source' → (why : RunFault) (reader reader' : Counted R) (turns : ℕ) → ComesOfReading why reader reader' turns
+    → Runs step options (streams source left told) (streams source'' left'' told') (Err why)
+runs_unread_by step options source source' source'' left left' left'' told told' held' held'' s ended g unended bytes moved less none kept fault.Read reader reader' turns e =
+    runs_unread step options source source' source'' left left' left'' told told' told' held' held'' s ended g unended bytes moved less none fault.Read (λ work is. is) kept
+runs_unread_by step options source source' source'' left left' left'' told told' held' held'' s ended g unended bytes moved less none kept fault.TooManyTurns reader reader' turns e =
+    runs_unread step options source source' source'' left left' left'' told told' told' held' held'' s ended g unended bytes moved less none fault.TooManyTurns (λ work is. is) kept
+runs_unread_by step options source source' source'' left left' left'' told told' held' held'' s ended g unended bytes moved less none kept fault.Write reader reader' turns e = absurd e
+runs_unread_by step options source source' source'' left left' left'' told told' held' held'' s ended g unended bytes moved less none kept fault.Memory reader reader' turns e = absurd e
 
 -- the input ends where no command begins
 pub going_last : {S : Type 0} (step : S → List ℕ → Entry → S → Type 0) (options : Options) (source source' source'' : S) (left left' left'' told told' : Option (List ℕ)) (held' held'' : List ℕ) (s s' : State) (ended ended' : Bool) (bytes : List ℕ)
@@ -267,87 +326,63 @@ going_last step options source source' source'' left left' left'' told told' hel
   moved = advances_trans left left' left'' [] held' held'' g.taken bytes g.moved moved;
   appends = g.appends;
   links = subst (λ x. Links step source g.events x) (sym kept) g.links;
-  onward = λ rest more last. rw (none, append_nil g.taken, same) (g.onward rest more (still_going unended));
+  onward = λ rest last. rw (none, append_nil g.taken, same) (g.onward rest (still_going unended));
 }
 
--- the reader fails
-pub runs_unread : {S : Type 0} (step : S → List ℕ → Entry → S → Type 0) (options : Options) (source source' source'' : S) (left left' left'' told told' : Option (List ℕ)) (held' held'' : List ℕ) (s : State) (ended ended' : Bool) (bytes : List ℕ) (why : RunFault)
-    → Going step options source source' left left' held' told told' s ended → ended ≡ false → Advances left' held' left'' held'' bytes → ended' ≡ false → source'' ≡ source'
-    → Runs step options source source'' left left'' told told' (Err why)
-runs_unread step options source source' source'' left left' left'' told told' held' held'' s ended ended' bytes why g unended moved open_end kept =
-    let all = advances_trans left left' left'' [] held' held'' g.taken bytes g.moved moved in
+-- the input ends before another command
+pub runs_ended : {S : Type 0} (step : S → List ℕ → Entry → S → Type 0) (options : Options) (source source' : S) (left left' told told' : Option (List ℕ)) (held' : List ℕ) (s : State) (ended : Bool)
+    → Going step options source source' left left' held' told told' s ended → ended ≡ true → (IsTrue ended → IsAtEnd left') → held' ≡ []
+    → Runs step options (streams source left told) (streams source' left' told') (Ok EndOfInput)
+runs_ended step options source source' left left' told told' held' s ended g over at_end none =
+    let input_is : (rest : List ℕ) → g.moved.got ++ rest ≡ g.taken ++ (held' ++ rest) = λ rest. ap (λ zs. zs ++ rest) g.moved.seam ∙ append_assoc g.taken held' rest in
+    let known : (rest : List ℕ) → IsLast ended rest → progress (start options) (g.moved.got ++ rest) g.events ≡ Some (record { text = g.written; state = s; rest = held' ++ rest }) =
+    λ rest last. ap (λ input. progress (start options) input g.events) (input_is rest) ∙ g.onward (held' ++ rest) (last_held ended held' rest (λ _. none) last) in
     record {
-      taken = all.got;
-      ended = ended';
-      events = g.events;
-      written = g.written;
-      consumes = all.consumes;
-      at_end = λ told. still_going open_end told;
-      appends = g.appends;
-      links = subst (λ x. Links step source g.events x) (sym kept) g.links;
-      tells = λ rest more last. (
-        (session_from s (bytes ++ (held'' ++ rest)) more).text,
-        ap (λ (o : Session). o.text)
-            (ap (λ zs. session_from (start options) zs (g.events ++ more))
-            (ap (λ zs. zs ++ rest) all.seam ∙ append_assoc (g.taken ++ bytes) held'' rest ∙ append_assoc g.taken bytes (held'' ++ rest))
-            ∙ g.onward (bytes ++ (held'' ++ rest)) more (still_going unended)),
-      );
-    }
-
--- the writer fails
-pub runs_unwritten : {S : Type 0} (step : S → List ℕ → Entry → S → Type 0) (options : Options) (source source' source'' : S) (left left' left'' told told' told'' : Option (List ℕ)) (held' held'' : List ℕ) (s s' : State) (ended ended' : Bool) (bytes : List ℕ) (event : Event) (answer : Answer) (why : RunFault)
-    → Going step options source source' left left' held' told told' s ended → ended ≡ false → Advances left' held' left'' held'' bytes
-    → Serves s s' bytes event ended' (Some answer) → FetchStep step source' event.fetched source'' → WritesPart told' told'' (reply_bytes answer.reply)
-    → (IsTrue ended' → IsAtEnd left'') → (IsTrue ended' → held'' ≡ [])
-    → Runs step options source source'' left left'' told told'' (Err why)
-runs_unwritten step options source source' source'' left left' left'' told told' told'' held' held'' s s' ended ended' bytes event answer why g0 unended moved serves fetched part at_end none =
-    let g : Going step options source source' left left' held' told told' s false = subst (λ t. Going step options source source' left left' held' told told' s t) unended g0 in
-    let all = advances_trans left left' left'' [] held' held'' g.taken bytes g.moved moved in
-    record {
-      taken = all.got;
-      ended = ended';
-      events = g.events ++ event ∷ [];
-      written = g.written ++ part.written;
-      consumes = all.consumes;
+      work = record { taken = g.moved.got; ended = ended; events = g.events; written = g.written };
+      consumes = g.moved.consumes;
       at_end = at_end;
-      appends = appends_trans told told' told'' g.written part.written g.appends part.appends;
-      links = links_push step source source' source'' g.events g.links event fetched;
-      tells = λ rest more last.
-          let t = turn_of answer s' (held'' ++ rest) in
-          let later = session_from t.state t.rest more in
-          let tail = text_onto g.written t.reply t.onward later in
-          let whole = step_on step options source source' left left' told told' held' s s' ended' g bytes event answer serves (held'' ++ rest) more (last_held ended' held'' rest none last) in (
-            part.later ++ tail.0,
-            ap (λ zs. (session_from (start options) zs ((g.events ++ event ∷ []) ++ more)).text) (ap (λ zs. zs ++ rest) all.seam ∙ append_assoc (g.taken ++ bytes) held'' rest)
-                ∙ ap (λ (o : Session). o.text) whole ∙ tail.1
-                ∙ reply_part answer.end s' (held'' ++ rest) g.written (reply_bytes answer.reply) part.written part.later tail.0 part.seam,
-          );
+      appends = g.appends;
+      links = g.links;
+      tells = λ rest last.
+          let nothing : rest ≡ [] = last over in
+          session_ended (start options) (g.moved.got ++ rest) g.events (record { text = g.written; state = s; rest = held' ++ rest }) (known rest last) (rw (none, nothing) refl);
+      first = λ rest more session last e.
+          commands_first (start options) (g.moved.got ++ rest) g.events more (record { text = g.written; state = s; rest = held' ++ rest }) session (known rest last) e;
     }
 
 -- nothing was done
-pub runs_none : {S : Type 0} (step : S → List ℕ → Entry → S → Type 0) (options : Options) (source : S) (left told : Option (List ℕ)) (why : RunFault) → Runs step options source source left left told told (Err why)
-runs_none step options source left told why = record {
-  taken = [];
-  ended = false;
-  events = [];
-  written = [];
+pub runs_none : {S : Type 0} (step : S → List ℕ → Entry → S → Type 0) (options : Options) (source : S) (left told : Option (List ℕ))
+    → Runs step options (streams source left told) (streams source left told) (Err fault.Memory)
+runs_none step options source left told = record {
+  work = record { taken = []; ended = false; events = []; written = [] };
   consumes = consumes_none left;
   at_end = λ never. cc;
   appends = appends_none told;
   links = refl;
-  tells = λ rest more last. ((session_from (start options) rest more).text, refl);
+  tells = (refl, refl, refl);
+  first = λ rest more session last e. (session.text, refl);
 }
 
 -- what a run that ended wrote is the session of the whole input
-pub replies : {S : Type 0} (step : S → List ℕ → Entry → S → Type 0) (options : Options) (source source' : S) (left left' told told' : Option (List ℕ)) (end : End) → Runs step options source source' left left' told told' (Ok end)
-    → IfSome left (λ input. (events : List Event) × Links step source events source' × Appends told told' (session_text options input events) × (session_end options input events ≡ end))
+abbrev pub Replies : {S : Type 0} (step : S → List ℕ → Entry → S → Type 0) → Options → S → S → Option (List ℕ) → Option (List ℕ) → Option (List ℕ) → End → Type 0
+Replies step options source source' left told told' end =
+    IfSome left (λ input. (events : List Event) × (session : Session) × Links step source events source' × (session_of options input events ≡ Some session)
+    × Appends told told' session.text × (session.ending ≡ end))
+
+pub replies : {S : Type 0} (step : S → List ℕ → Entry → S → Type 0) (options : Options) (source source' : S) (left left' told told' : Option (List ℕ)) (end : End)
+    → Runs step options (streams source left told) (streams source' left' told') (Ok end) → Replies step options source source' left told told' end
 replies step options source source' None left' told told' end r = tt
 replies step options source source' (Some input) None told told' end r = absurd r.consumes
-replies step options source source' (Some input) (Some ys) told told' end r =
-    let whole = ap (λ es. session_from (start options) input es) (sym (events_nil r.events)) ∙ ap (λ zs. session_from (start options) zs (r.events ++ [])) r.consumes ∙ r.tells ys [] r.at_end in
-    (r.events, r.links, subst (λ zs. Appends told told' zs) (sym (ap (λ (o : Session). o.text) whole)) r.appends, ap (λ (o : Session). o.ending) whole)
+replies step options source source' (Some input) (Some ys) told told' end r = (
+  r.work.events,
+  record { text = r.work.written; ending = end },
+  r.links,
+  ap (λ zs. session_from (start options) zs r.work.events) r.consumes ∙ r.tells ys r.at_end,
+  r.appends,
+  refl,
+)
 
-pub replies_ok : {S : Type 0} (step : S → List ℕ → Entry → S → Type 0) (options : Options) (source source' : S) (left left' told told' : Option (List ℕ)) (result : Result End RunFault) → Runs step options source source' left left' told told' result
-    → IfOk result (λ end. IfSome left (λ input. (events : List Event) × Links step source events source' × Appends told told' (session_text options input events) × (session_end options input events ≡ end)))
+pub replies_ok : {S : Type 0} (step : S → List ℕ → Entry → S → Type 0) (options : Options) (source source' : S) (left left' told told' : Option (List ℕ)) (result : Result End RunFault)
+    → Runs step options (streams source left told) (streams source' left' told') result → IfOk result (λ end. Replies step options source source' left told told' end)
 replies_ok step options source source' left left' told told' (Ok end) r = replies step options source source' left left' told told' end r
 replies_ok step options source source' left left' told told' (Err why) r = tt

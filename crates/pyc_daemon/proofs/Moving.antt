@@ -1,11 +1,16 @@
 -- How readings of an input follow one another.
-use Rattle.std.proofs.Common.{◌≡◌, ℕ, ◌+◌, ◌-◌, ◌<◌, ◌≤◌, List, [], ◌∷◌, ◌++◌, length, take, drop, min, Option, None, Some, true, false, Bool, refl, sym, ap, if◌then◌else◌, subst, ◌==◌, ◌∙◌, append_assoc, arith, length-append}
+use Rattle.std.proofs.Common.{◌≡◌, ℕ, ◌+◌, ◌-◌, ◌<◌, ◌≤◌, List, [], ◌∷◌, ◌++◌, length, take, drop, min, Option, None, Some, Err, true, false, true≢false, Bool, refl, sym, ap, if◌then◌else◌, subst, ◌==◌, ◌∙◌, append_assoc, arith, length-append}
 use Rattle.std.proofs.lemmas.Bool.Decides.{nat_tests}
 use Rattle.std.proofs.lemmas.List.{take-append-le, take-append-drop, length-take, length-drop, drop-take, drop-drop}
 use Rattle.std.proofs.Math.ListN.{drop_of_length-le}
 use native.Mathlib.Numerals.{unary_clauses}
 use Rattle.std.specs.Io.KnownBytes.{Consumes}
-use Rattle.pyc_daemon.specs.Reading.{Advances, work_left}
+use Rattle.pyc_daemon.specs.Counted.{IsSound, FailsOnce, at_fault, at_empty, one_more}
+use Rattle.pyc_daemon.specs.Runs.{ComesOfRun}
+use Rattle.pyc_daemon.specs.declared.counted.Counted.{Counted}
+use Rattle.pyc_daemon.specs.Reading.{Advances, ComesOfReading, work_left}
+use Rattle.pyc_session.specs.declared.ending.RunFault.{RunFault}
+use Rattle.pyc_session.specs.declared.ending.RunFault.TheVariants.{Read, Write, TooManyTurns, Memory}
 use Rattle.pyc_session.specs.Input.{has_line_feed}
 
 pub append_nil : (xs : List ℕ) → xs ++ [] ≡ xs
@@ -188,3 +193,46 @@ held_past start end count bytes up fits =
 pub work_skip : (ended ended' : Bool) (held held' : List ℕ) (count calls turns : ℕ) → ended ≡ false → ended' ≡ ended → held' ≡ drop count held
     → (count ≡ 0 → ⊥) → count ≤ length held → work_left ended' (length held') calls turns < work_left ended (length held) calls turns
 work_skip ended ended' held held' count calls turns e f h some fits = rw (f, e, h) (omega (arith, length-drop count held))
+
+-- one call after another, none of which failed
+pub sound_trans : {T : Type 0} (a b c : Counted T) → IsSound a b → IsSound b c → IsSound a c
+sound_trans a b c p q = record { faults = q.faults ∙ p.faults; zeros = q.zeros ∙ p.zeros }
+
+-- where nothing was called
+pub sound_none : {T : Type 0} (a : Counted T) → IsSound a a
+sound_none a = record { faults = refl; zeros = refl }
+
+-- a fault after calls that did not fail
+pub fault_after : {R : Type 0} (a b c : Counted R) (why : RunFault) (turns : ℕ) → IsSound a b → ComesOfReading why b c turns → ComesOfReading why a c turns
+fault_after a b c Read turns sound e = e ∙ ap one_more sound.faults
+fault_after a b c Write turns sound e = e
+fault_after a b c TooManyTurns turns sound e = (sound_trans a b c sound e.0, e.1)
+fault_after a b c Memory turns sound e = e
+
+-- nothing is read on where a line feed is held
+pub unread_byte : {P : Type 0} (held held' : List ℕ) (b : ℕ) → P × (has_line_feed held ≡ true) → held ≡ b ∷ held' → (b ≡ 10 → ⊥) → P × (has_line_feed held' ≡ true)
+unread_byte held held' b p e other =
+    let found : has_line_feed (b ∷ held') ≡ true = ap has_line_feed (sym e) ∙ p.1 in
+    let no : (b == 10) ≡ false = other_byte b other in
+    (p.0, rw no at found)
+
+pub held_line_feed : {P : Type 0} (held : List ℕ) → held ≡ [] → has_line_feed held ≡ true → P
+held_line_feed held none e = let no : has_line_feed held ≡ false = rw none refl in absurd (true≢false (sym e ∙ no))
+
+-- reading that goes on had not ended before
+pub not_begun_over : (over over' : Bool) → over' ≡ false → (over ≡ true → over' ≡ true) → over ≡ false
+not_begun_over true over' open_end idle = absurd (true≢false (sym (idle refl) ∙ open_end))
+not_begun_over false over' open_end idle = refl
+
+-- a fault of reading is one of the run, where no write failed
+pub read_fault : {R W : Type 0} (reader reader' : Counted R) (writer writer' : Counted W) (why : RunFault) (turns : ℕ) → ComesOfReading why reader reader' turns → IsSound writer writer'
+    → ComesOfRun (Err why) reader reader' writer writer' turns
+read_fault reader reader' writer writer' Read turns e sound = (e, sound)
+read_fault reader reader' writer writer' Write turns e sound = absurd e
+read_fault reader reader' writer writer' TooManyTurns turns e sound = (e.0, sound, e.1)
+read_fault reader reader' writer writer' Memory turns e sound = absurd e
+
+-- a write that fails after writes that did not
+pub write_fault : {W : Type 0} (a b c : Counted W) → IsSound a b → FailsOnce b c → FailsOnce a c
+write_fault a b c sound (at_fault faults zeros) = at_fault (faults ∙ ap one_more sound.faults) (zeros ∙ sound.zeros)
+write_fault a b c sound (at_empty faults zeros) = at_empty (faults ∙ sound.faults) (zeros ∙ ap one_more sound.zeros)

@@ -1,18 +1,18 @@
 -- One command at the front of an input, served.
-use Rattle.std.proofs.Common.{◌≡◌, ℕ, ◌+◌, ◌-◌, ◌<◌, ◌≤◌, Bool, true, false, if◌then◌else◌, ◌==◌, ◌&&◌, min, not, nat_lt, nat_le, List, [], ◌∷◌, ◌++◌, length, take, Some, slice_index, refl, sym, ap, subst, ◌∙◌, arith, append_assoc, length-append}
+use Rattle.std.proofs.Common.{◌≡◌, ℕ, ◌+◌, ◌-◌, ◌<◌, ◌≤◌, Bool, true, false, true≢false, if◌then◌else◌, ◌==◌, ◌&&◌, min, not, nat_lt, nat_le, List, [], ◌∷◌, ◌++◌, length, take, Some, slice_index, refl, sym, ap, subst, ◌∙◌, arith, append_assoc, length-append}
 use Rattle.std.proofs.lemmas.List.{length-take}
 use Rattle.std.proofs.lemmas.Bool.Decides.{nat_tests}
 use native.Mathlib.Numerals.{unary_clauses}
-use Rattle.pyc_session.specs.Command.{unknown, spelled}
-use Rattle.pyc_session.specs.Input.{has_line_feed, command_line}
+use Rattle.pyc_session.specs.Command.{unknown, bytes_after, spelled}
+use Rattle.pyc_session.specs.Input.{has_line_feed, first_line, after_line, command_line}
 use Rattle.pyc_daemon.specs.Replies.{Serves, turn_of}
 use Rattle.pyc_daemon.specs.Runs.{IsLast}
 use Rattle.pyc_session.specs.Event.{Event}
-use Rattle.pyc_session.specs.Session.{turn, act_with}
+use Rattle.pyc_session.specs.Session.{turn, act, has_command}
 use Rattle.pyc_session.specs.State.{State}
 use Rattle.pyc_daemon.specs.declared.reply.Answer.{Answer}
 use Rattle.pyc_daemon.proofs.Moving.{append_nil, take_whole}
-use Rattle.pyc_session.proofs.Turns.{first_line-fed, after_line-fed, has_line_feed-fed, first_line-last, after_line-last}
+use Rattle.pyc_session.proofs.Turns.{first_line-fed, after_line-fed, has_line_feed-fed, first_line-last, after_line-last, no_bytes}
 
 spelled_long : (line : List ℕ) → 512 < length line → spelled line ≡ unknown
 unfolding spelled
@@ -43,30 +43,33 @@ spelled_cut raw fed =
 -- what a line and what it asks for are used for
 abbrev pub Obeys : State → State → List ℕ → Bool → List ℕ → Event → Bool → Answer → Type 0
 Obeys s s' line fed bytes event ended answer =
-    (rest : List ℕ) → IsLast ended rest → act_with s (spelled (command_line line fed)) event.wants_memory event.fetched (bytes ++ rest) ≡ turn_of answer s' rest
+    (rest : List ℕ) → IsLast ended rest → act s (spelled (command_line line fed)) event (bytes ++ rest) ≡ Some (turn_of answer s' rest)
+
+turn-is : (s : State) (input : List ℕ) (event : Event) → 0 < length input → turn s input event ≡ act s (spelled (command_line (first_line input) (has_line_feed input))) event (after_line input)
+unfolding turn
+turn-is s [] event some = absurd (omega (arith, some))
+turn-is s (b ∷ bs) event some = refl
 
 turn-fed : (s : State) (raw tail : List ℕ) (event : Event) → has_line_feed raw ≡ false
-    → turn s (raw ++ 10 ∷ tail) event ≡ act_with s (spelled (command_line raw true)) event.wants_memory event.fetched tail
-unfolding turn
-turn-fed s raw tail event none = rw (first_line-fed raw tail none, has_line_feed-fed raw tail, after_line-fed raw tail none) refl
+    → turn s (raw ++ 10 ∷ tail) event ≡ act s (spelled (command_line raw true)) event tail
+turn-fed s raw tail event none =
+    turn-is s (raw ++ 10 ∷ tail) event (omega (arith, length-append raw (10 ∷ tail)))
+    ∙ rw (first_line-fed raw tail none, has_line_feed-fed raw tail, after_line-fed raw tail none) refl
 
-turn-last : (s : State) (raw : List ℕ) (event : Event) → has_line_feed raw ≡ false
-    → turn s raw event ≡ act_with s (spelled (command_line raw false)) event.wants_memory event.fetched []
-unfolding turn
-turn-last s raw event none = rw (first_line-last raw none, none, after_line-last raw none) refl
+turn-last : (s : State) (raw : List ℕ) (event : Event) → has_line_feed raw ≡ false → (length raw ≡ 0 → ⊥)
+    → turn s raw event ≡ act s (spelled (command_line raw false)) event []
+turn-last s raw event none some =
+    turn-is s raw event (omega (arith, some)) ∙ rw (first_line-last raw none, none, after_line-last raw none) refl
 
 -- a command whose line a line feed ended
 served_fed : (s s' : State) (answer : Answer) (raw bytes line : List ℕ) (event : Event) (ended : Bool) → has_line_feed raw ≡ false → line ≡ take 514 raw
     → Obeys s s' line true bytes event ended answer → Serves s s' ((raw ++ 10 ∷ []) ++ bytes) event ended (Some answer)
-served_fed s s' answer raw bytes line event ended none kept obeys = (
-  omega (arith, length-append (raw ++ 10 ∷ []) bytes, length-append raw (10 ∷ [])),
-  λ rest last.
-      let joined : ((raw ++ 10 ∷ []) ++ bytes) ++ rest ≡ raw ++ 10 ∷ (bytes ++ rest) =
-      append_assoc (raw ++ 10 ∷ []) bytes rest ∙ append_assoc raw (10 ∷ []) (bytes ++ rest) in
-      ap (λ input. turn s input event) joined ∙ turn-fed s raw (bytes ++ rest) event none
-      ∙ ap (λ said. act_with s said event.wants_memory event.fetched (bytes ++ rest)) (sym (ap (λ l. spelled (command_line l true)) kept ∙ spelled_cut raw true))
-      ∙ obeys rest last,
-)
+served_fed s s' answer raw bytes line event ended none kept obeys = λ rest last.
+    let joined : ((raw ++ 10 ∷ []) ++ bytes) ++ rest ≡ raw ++ 10 ∷ (bytes ++ rest) =
+    append_assoc (raw ++ 10 ∷ []) bytes rest ∙ append_assoc raw (10 ∷ []) (bytes ++ rest) in
+    ap (λ input. turn s input event) joined ∙ turn-fed s raw (bytes ++ rest) event none
+    ∙ ap (λ said. act s said event (bytes ++ rest)) (sym (ap (λ l. spelled (command_line l true)) kept ∙ spelled_cut raw true))
+    ∙ obeys rest last
 
 -- a command whose line the end of the input ended
 served_last : (s s' : State) (answer : Answer) (raw bytes line : List ℕ) (event : Event) (ended : Bool) → has_line_feed raw ≡ false → line ≡ take 514 raw
@@ -74,17 +77,15 @@ served_last : (s s' : State) (answer : Answer) (raw bytes line : List ℕ) (even
     → Obeys s s' line false bytes event ended answer → Serves s s' ((raw ++ []) ++ bytes) event ended (Some answer)
 served_last s s' answer raw bytes line event ended none kept some over obeys =
     let filled : (length (take 514 raw) ≡ 0 → ⊥) = subst (λ l. length l ≡ 0 → ⊥) kept some in
-    let long : (length raw ≡ 0 → ⊥) = λ e. filled (omega (arith, length-take 514 raw)) in (
-      omega (arith, length-append (raw ++ []) bytes, length-append raw [], long),
-      λ rest last.
-          let nothing : rest ≡ [] = last over.1 in
-          let joined : ((raw ++ []) ++ bytes) ++ rest ≡ raw = rw (nothing, over.0) (append_nil ((raw ++ []) ++ []) ∙ append_nil (raw ++ []) ∙ append_nil raw) in
-          let left : bytes ++ rest ≡ [] = rw (over.0, nothing) refl in
-          ap (λ input. turn s input event) joined ∙ turn-last s raw event none
-          ∙ ap (λ said. act_with s said event.wants_memory event.fetched []) (sym (ap (λ l. spelled (command_line l false)) kept ∙ spelled_cut raw false))
-          ∙ ap (λ tail. act_with s (spelled (command_line line false)) event.wants_memory event.fetched tail) (sym left)
-          ∙ obeys rest last,
-    )
+    let long : (length raw ≡ 0 → ⊥) = λ e. filled (omega (arith, length-take 514 raw)) in
+    λ rest last.
+    let nothing : rest ≡ [] = last over.1 in
+    let joined : ((raw ++ []) ++ bytes) ++ rest ≡ raw = rw (nothing, over.0) (append_nil ((raw ++ []) ++ []) ∙ append_nil (raw ++ []) ∙ append_nil raw) in
+    let left : bytes ++ rest ≡ [] = rw (over.0, nothing) refl in
+    ap (λ input. turn s input event) joined ∙ turn-last s raw event none long
+    ∙ ap (λ said. act s said event []) (sym (ap (λ l. spelled (command_line l false)) kept ∙ spelled_cut raw false))
+    ∙ ap (λ tail. act s (spelled (command_line line false)) event tail) (sym left)
+    ∙ obeys rest last
 
 -- either
 pub served : (s s' : State) (answer : Answer) (raw bytes line : List ℕ) (fed : Bool) (event : Event) (ended : Bool) → has_line_feed raw ≡ false → line ≡ take 514 raw
@@ -93,6 +94,15 @@ pub served : (s s' : State) (answer : Answer) (raw bytes line : List ℕ) (fed :
 served s s' answer raw bytes line true event ended none kept over obeys = served_fed s s' answer raw bytes line event ended none kept obeys
 served s s' answer raw bytes line false event ended none kept over obeys =
     let h = over refl in served_last s s' answer raw bytes line event ended none kept h.0 h.1 obeys
+
+-- a line whose bytes did not all come is no whole command
+pub less_than_command : (raw line part : List ℕ) (fed ended : Bool) → has_line_feed raw ≡ false → line ≡ take 514 raw
+    → (fed ≡ false → ended ≡ true) → ended ≡ false → length part < bytes_after (spelled (command_line line fed))
+    → has_command ((raw ++ (if fed then 10 ∷ [] else [])) ++ part) ≡ false
+less_than_command raw line part true ended none kept last unended few =
+    let same : spelled (command_line line true) ≡ spelled (command_line raw true) = ap (λ l. spelled (command_line l true)) kept ∙ spelled_cut raw true in
+    ap has_command (append_assoc raw (10 ∷ []) part) ∙ no_bytes raw part none (subst (λ said. length part < bytes_after said) same few)
+less_than_command raw line part false ended none kept last unended few = absurd (true≢false (sym (last refl) ∙ unended))
 
 some_kept : (n m : ℕ) → m ≡ 0 → m ≡ min 514 (n + 1) → ⊥
 some_kept n m none e = omega arith

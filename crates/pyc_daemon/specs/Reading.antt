@@ -1,6 +1,8 @@
 -- What reading an input in pieces does: bytes are read from the reader, held in a window, and used.
 use Rattle.std.specs.Prelude.{◌≡◌, ℕ, ◌+◌, ◌-◌, ◌*◌, ◌<◌, ◌≤◌, Bool, IsTrue, if◌then◌else◌, List, ◌++◌, Option}
 use Rattle.std.specs.Io.KnownBytes.{Consumes, IsAtEnd}
+use Rattle.pyc_daemon.specs.Counted.{IsSound, calls_of, faults_of, one_more}
+use Rattle.pyc_daemon.specs.declared.counted.Counted.{Counted}
 use Rattle.pyc_session.specs.declared.ending.RunFault.{RunFault}
 use Rattle.pyc_session.specs.declared.ending.RunFault.TheVariants.{Read, Write, TooManyTurns, Memory}
 
@@ -22,9 +24,9 @@ pub record IsReading (left : Option (List ℕ)) (ended : Bool) (calls turns : �
 abbrev pub work_left : Bool → ℕ → ℕ → ℕ → ℕ
 work_left ended held calls turns = if ended then 0 else 1 + (turns - calls) * 4097 + held
 
--- What a fault of reading comes of: a fault that the reader answered, or as many reads as there may be.
-abbrev pub ComesOfReading : RunFault → ℕ → ℕ → ℕ → Type 0
-ComesOfReading Read faults calls turns = 0 < faults
-ComesOfReading Write faults calls turns = ⊥
-ComesOfReading TooManyTurns faults calls turns = calls ≡ turns
-ComesOfReading Memory faults calls turns = ⊥
+-- What a fault of reading comes of: one fault that the reader answered, or as many reads as there may be and no fault.
+abbrev pub ComesOfReading : {R : Type 0} → RunFault → Counted R → Counted R → ℕ → Type 0
+ComesOfReading Read before after turns = faults_of after ≡ one_more (faults_of before)
+ComesOfReading Write before after turns = ⊥
+ComesOfReading TooManyTurns before after turns = IsSound before after × (calls_of after ≡ turns)
+ComesOfReading Memory before after turns = ⊥

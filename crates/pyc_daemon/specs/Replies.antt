@@ -1,5 +1,5 @@
 -- Replies as the program holds them.
-use Rattle.std.specs.Prelude.{◌≡◌, ℕ, ◌<◌, Bool, IsTrue, List, [], ◌∷◌, ◌++◌, length, codes, decimal, Option, None}
+use Rattle.std.specs.Prelude.{◌≡◌, ℕ, Bool, IsTrue, List, [], ◌∷◌, ◌++◌, length, codes, decimal, Option, None}
 use Rattle.std.specs.Prelude.{Some}
 use Rattle.std.specs.Io.KnownBytes.{Appends}
 use denote.Ref.{Bor}
@@ -44,8 +44,7 @@ turn_of answer s rest = turn_after (reply_bytes answer.reply) answer.end s rest
 abbrev pub Serves : State → State → List ℕ → Event → Bool → Option Answer → Type 0
 Serves old new bytes event ended None = (bytes ≡ []) × IsTrue ended × (new ≡ old) × (event.fetched ≡ None)
 Serves old new bytes event ended (Some answer) =
-    (0 < length bytes) × ((rest : List ℕ) → IsLast ended rest → turn old (bytes ++ rest) event
-    ≡ turn_of answer new rest)
+    (rest : List ℕ) → IsLast ended rest → turn old (bytes ++ rest) event ≡ Some (turn_of answer new rest)
 
 -- what was written before a fault: a part of these bytes
 pub record WritesPart (told told' : Option (List ℕ)) (bytes : List ℕ) : Type 0 where

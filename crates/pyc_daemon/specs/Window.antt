@@ -6,6 +6,10 @@ use Rattle.pyc_daemon.specs.declared.window.Window.{Window}
 abbrev pub held_of : Window → List ℕ
 held_of w = take (w.end - w.start) (drop w.start w.buffer.items)
 
+-- the bytes of the last read that were used
+abbrev pub used_of : Window → List ℕ
+used_of w = take w.start w.buffer.items
+
 -- whether the reader told its end
 abbrev pub ended_of : Window → Bool
 ended_of w = w.ended

@@ -1,12 +1,12 @@
 //! A session, from its first command to its end.
 
-ghost use Rattle.std.specs.Prelude.{◌≡◌, ◌+◌, ◌<◌, ◌≤◌, [], false, List, vec_capacity, IfOk, IfErr, IfSome, IsErrOf};
+ghost use Rattle.std.specs.Prelude.{◌≡◌, ◌≤◌, [], false, List, Some, vec_capacity, IfOk, IfSome, IsErrOf, OnOk};
 ghost use Rattle.std.specs.Io.KnownBytes.{Appends};
-ghost use Rattle.pyc_daemon.specs.Counted.{inner_of, calls_of, faults_of, zeros_of};
+ghost use Rattle.pyc_daemon.specs.Counted.{inner_of, calls_of, faults_of, zeros_of, IsSound, FailsOnce};
 ghost use Rattle.pyc_session.specs.Event.{Event, Links};
 ghost use Rattle.pyc_daemon.specs.Reading.{IsReading};
-ghost use Rattle.pyc_daemon.specs.Runs.{Runs, ComesOfRun};
-ghost use Rattle.pyc_session.specs.Session.{session_text, session_end};
+ghost use Rattle.pyc_daemon.specs.Runs.{Runs, ComesOfRun, streams};
+ghost use Rattle.pyc_session.specs.Session.{Session, session_of};
 ghost use Rattle.pyc_daemon.specs.Window.{held_of, ended_of};
 ghost use Rattle.pyc_session.specs.State.{start};
 
@@ -32,19 +32,23 @@ pub fn run<R: Read, W: Write, S: Sources>(
     requires unread { (calls_of reader.old ≡ 0) × (faults_of reader.old ≡ 0) × (zeros_of reader.old ≡ 0) }
     requires unwritten { (calls_of writer.old ≡ 0) × (faults_of writer.old ≡ 0) × (zeros_of writer.old ≡ 0) }
     // A run that ends has written what a session writes for the input, and ends as that does.
-    ensures replies { IfOk result (λ end. IfSome (R.remaining (inner_of reader.old)) (λ input. (events : List Event)
+    ensures replies { IfOk result (λ end. IfSome (R.remaining (inner_of reader.old)) (λ input.
+        (events : List Event) × (session : Session)
         × Links S.step sources.old events sources.new
-        × Appends (W.contents (inner_of writer.old)) (W.contents (inner_of writer.new))
-        (session_text options.now input events)
-        × (session_end options.now input events ≡ end))) }
-    // In any case what is written begins what a session writes for each input that begins with what was read.
-    ensures runs { Runs S.step options.now sources.old sources.new (R.remaining (inner_of reader.old))
-        (R.remaining (inner_of reader.new))
-        (W.contents (inner_of writer.old)) (W.contents (inner_of writer.new)) result }
-    // What each fault comes of.
-    ensures read { IsErrOf result RunFault.Read → 0 < faults_of reader.new }
-    ensures write { IsErrOf result RunFault.Write → 0 < faults_of writer.new + zeros_of writer.new }
-    ensures turns { IsErrOf result RunFault.TooManyTurns → calls_of reader.new ≡ options.now.turns }
+        × (session_of options.now input events ≡ Some session)
+        × Appends (W.contents (inner_of writer.old)) (W.contents (inner_of writer.new)) session.text
+        × (session.ending ≡ end))) }
+    // In any case it answered each command that it took before it read on, and what is written begins what a session
+    // writes for each input that begins with what was read.
+    ensures runs { Runs S.step options.now (streams sources.old (R.remaining (inner_of reader.old))
+        (W.contents (inner_of writer.old)))
+        (streams sources.new (R.remaining (inner_of reader.new)) (W.contents (inner_of writer.new))) result }
+    // A run that ends met no fault, and each fault ends it.
+    ensures sound { OnOk result (IsSound reader.old reader.new × IsSound writer.old writer.new) }
+    ensures read { IsErrOf result RunFault.Read → (faults_of reader.new ≡ 1) × IsSound writer.old writer.new }
+    ensures write { IsErrOf result RunFault.Write → IsSound reader.old reader.new × FailsOnce writer.old writer.new }
+    ensures turns { IsErrOf result RunFault.TooManyTurns → IsSound reader.old reader.new
+        × IsSound writer.old writer.new × (calls_of reader.new ≡ options.now.turns) }
     ensures memory { IsErrOf result RunFault.Memory → (reader.new ≡ reader.old) × (writer.new ≡ writer.old)
         × (sources.new ≡ sources.old) }
 {
@@ -83,12 +87,10 @@ fn serve_all<R: Read, W: Write, S: Sources>(
     requires open { ended_of window.old ≡ false }
     requires begun { daemon.old ≡ start daemon.old.options }
     requires reading { IsReading (R.remaining (inner_of reader.old)) (ended_of window.old) (calls_of reader.old) turns }
-    ensures runs { Runs S.step daemon.old.options sources.old sources.new (R.remaining (inner_of reader.old))
-        (R.remaining (inner_of reader.new))
-        (W.contents (inner_of writer.old)) (W.contents (inner_of writer.new)) result }
-    ensures fault { IfErr result
-        (λ e. ComesOfRun e (faults_of reader.new) (calls_of reader.new) (faults_of writer.new + zeros_of writer.new)
-        turns) }
+    ensures runs { Runs S.step daemon.old.options (streams sources.old (R.remaining (inner_of reader.old))
+        (W.contents (inner_of writer.old)))
+        (streams sources.new (R.remaining (inner_of reader.new)) (W.contents (inner_of writer.new))) result }
+    ensures fault { ComesOfRun result reader.old reader.new writer.old writer.new turns }
 {
     'commands: while !window.is_ended() {
         let Some(answer) = serve(alloc, reader, window, line, sources, daemon, turns)? else {

@@ -2,9 +2,9 @@
 
 ghost use Rattle.std.specs.Prelude.{◌≡◌, ◌+◌, ◌-◌, ◌*◌, ◌<◌, ◌≤◌, ◌∷◌, ◌++◌, [], ℕ, List, length, true, false, vec_len};
 ghost use Rattle.std.specs.Prelude.{vec_capacity, IfOk, IfErr, OnErr, OnOk, take, drop, if◌then◌else◌};
-ghost use Rattle.pyc_daemon.specs.Counted.{inner_of, calls_of, faults_of};
+ghost use Rattle.pyc_daemon.specs.Counted.{inner_of, calls_of, IsSound};
 ghost use Rattle.pyc_daemon.specs.Reading.{Advances, IsReading, ComesOfReading, work_left};
-ghost use Rattle.pyc_daemon.specs.Window.{held_of, ended_of};
+ghost use Rattle.pyc_daemon.specs.Window.{held_of, used_of, ended_of};
 ghost use Rattle.pyc_session.specs.Input.{has_line_feed, command_line};
 ghost use Rattle.pyc_daemon.specs.Body.{CameAs};
 
@@ -35,14 +35,20 @@ pub fn read_line<R: Read>(
         (held_of window.new) (raw ++ (if fed then 10 ∷ [] else []))
         × (has_line_feed raw ≡ false) × (line.new.items ≡ take 514 raw)) }
     ensures last { IfOk result (λ fed. fed ≡ false → ended_of window.new ≡ true) }
-    ensures err { OnErr result ((bytes : List ℕ)
+    // Nothing is read where a line feed is held, and nothing after one was read.
+    ensures held { has_line_feed (held_of window.old) ≡ true → reader.new ≡ reader.old }
+    ensures first { IfOk result (λ fed. fed ≡ true → (front : List ℕ) × (used_of window.new ≡ front ++ 10 ∷ [])) }
+    ensures err { OnErr result ((raw : List ℕ)
         × Advances (R.remaining (inner_of reader.old)) (held_of window.old) (R.remaining (inner_of reader.new))
-        (held_of window.new) bytes) }
+        (held_of window.new) raw
+        × (has_line_feed raw ≡ false)) }
+    ensures empty { OnErr result (held_of window.new ≡ []) }
     ensures open { OnErr result (ended_of window.new ≡ false) }
     ensures work { OnOk result
         (work_left (ended_of window.new) (length (held_of window.new)) (calls_of reader.new) turns
         < work_left (ended_of window.old) (length (held_of window.old)) (calls_of reader.old) turns) }
-    ensures fault { IfErr result (λ e. ComesOfReading e (faults_of reader.new) (calls_of reader.new) turns) }
+    ensures sound { OnOk result (IsSound reader.old reader.new) }
+    ensures fault { IfErr result (λ e. ComesOfReading e reader.old reader.new turns) }
 {
     line.clear();
     while !window.is_ended() {
@@ -100,12 +106,16 @@ pub fn read_body<R: Read>(
         × (ended_of window.old ≡ true → (bytes ≡ []) × (ended_of window.new ≡ true))) }
     ensures err { OnErr result ((bytes : List ℕ)
         × Advances (R.remaining (inner_of reader.old)) (held_of window.old) (R.remaining (inner_of reader.new))
-        (held_of window.new) bytes) }
+        (held_of window.new) bytes
+        × (length bytes < size)) }
+    ensures begun { OnErr result (ended_of window.old ≡ false) }
+    ensures empty { OnErr result (held_of window.new ≡ []) }
     ensures open { OnErr result (ended_of window.new ≡ false) }
     ensures work { OnOk result
         (work_left (ended_of window.new) (length (held_of window.new)) (calls_of reader.new) turns
         ≤ work_left (ended_of window.old) (length (held_of window.old)) (calls_of reader.old) turns) }
-    ensures fault { IfErr result (λ e. ComesOfReading e (faults_of reader.new) (calls_of reader.new) turns) }
+    ensures sound { OnOk result (IsSound reader.old reader.new) }
+    ensures fault { IfErr result (λ e. ComesOfReading e reader.old reader.new turns) }
 {
     let mut bytes = Vec::new(alloc);
     let mut kept = wanted && bytes.reserve(size).is_ok();

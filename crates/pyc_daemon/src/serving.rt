@@ -1,16 +1,16 @@
 //! Reads one command and does it.
 
 ghost use Rattle.std.specs.Prelude.{◌≡◌, ◌==◌, ◌&&◌, not, ◌<◌, ◌≤◌, ◌++◌, [], ℕ, Bool, List, true, false, length};
-ghost use Rattle.std.specs.Prelude.{vec_capacity, IfOk, IfErr, OnErr, OnOk};
+ghost use Rattle.std.specs.Prelude.{vec_capacity, Some, IfOk, IfErr, OnErr, OnOk};
 ghost use Rattle.pyc_daemon.specs.Body.{CameAs, IsWanted};
-ghost use Rattle.pyc_session.specs.Command.{said};
-ghost use Rattle.pyc_daemon.specs.Counted.{inner_of, calls_of, faults_of};
+ghost use Rattle.pyc_session.specs.Command.{said, bytes_after};
+ghost use Rattle.pyc_daemon.specs.Counted.{inner_of, calls_of, IsSound};
 ghost use Rattle.pyc_session.specs.Event.{Event, FetchStep};
 ghost use Rattle.pyc_daemon.specs.Reading.{Advances, IsReading, ComesOfReading, work_left};
-ghost use Rattle.pyc_session.specs.Refusal.{early_refusal, keep_refusal};
+ghost use Rattle.pyc_session.specs.Refusal.{early_refusal};
 ghost use Rattle.pyc_daemon.specs.Replies.{Serves, turn_of};
 ghost use Rattle.pyc_daemon.specs.Runs.{IsLast};
-ghost use Rattle.pyc_session.specs.Session.{act_with, check_turn, file_turn, told_turn};
+ghost use Rattle.pyc_session.specs.Session.{act, has_command, check_turn, file_turn, told, refusal_in};
 ghost use Rattle.pyc_daemon.specs.Window.{held_of, ended_of};
 ghost use Rattle.pyc_session.specs.State.{State};
 
@@ -44,13 +44,16 @@ pub fn serve<R: Read, S: Sources>(
         × FetchStep S.step sources.old event.fetched sources.new) }
     ensures err { OnErr result ((bytes : List ℕ)
         × Advances (R.remaining (inner_of reader.old)) (held_of window.old) (R.remaining (inner_of reader.new))
-        (held_of window.new) bytes) }
+        (held_of window.new) bytes
+        × (has_command bytes ≡ false)) }
+    ensures empty { OnErr result (held_of window.new ≡ []) }
     ensures stopped { OnErr result (ended_of window.new ≡ false) }
     ensures untouched { OnErr result (sources.new ≡ sources.old) }
     ensures work { OnOk result
         (work_left (ended_of window.new) (length (held_of window.new)) (calls_of reader.new) turns
         < work_left (ended_of window.old) (length (held_of window.old)) (calls_of reader.old) turns) }
-    ensures fault { IfErr result (λ e. ComesOfReading e (faults_of reader.new) (calls_of reader.new) turns) }
+    ensures sound { OnOk result (IsSound reader.old reader.new) }
+    ensures fault { IfErr result (λ e. ComesOfReading e reader.old reader.new turns) }
 {
     let fed = read_line(reader, window, line, turns)?;
     if is_end(line, fed) {
@@ -84,19 +87,22 @@ fn obey<R: Read, S: Sources>(
         × Advances (R.remaining (inner_of reader.old)) (held_of window.old) (R.remaining (inner_of reader.new))
         (held_of window.new) bytes
         × ((rest : List ℕ) → IsLast (ended_of window.new) rest
-        → act_with daemon.old (said command.entry) event.wants_memory event.fetched (bytes ++ rest)
-        ≡ turn_of answer daemon.new rest)
+        → act daemon.old (said command.entry) event (bytes ++ rest) ≡ Some (turn_of answer daemon.new rest))
         × (ended_of window.old ≡ true → (bytes ≡ []) × (ended_of window.new ≡ true))
         × FetchStep S.step sources.old event.fetched sources.new) }
     ensures err { OnErr result ((bytes : List ℕ)
         × Advances (R.remaining (inner_of reader.old)) (held_of window.old) (R.remaining (inner_of reader.new))
-        (held_of window.new) bytes) }
+        (held_of window.new) bytes
+        × (length bytes < bytes_after (said command.entry))) }
+    ensures begun { OnErr result (ended_of window.old ≡ false) }
+    ensures empty { OnErr result (held_of window.new ≡ []) }
     ensures stopped { OnErr result (ended_of window.new ≡ false) }
     ensures untouched { OnErr result (sources.new ≡ sources.old) }
     ensures work { OnOk result
         (work_left (ended_of window.new) (length (held_of window.new)) (calls_of reader.new) turns
         ≤ work_left (ended_of window.old) (length (held_of window.old)) (calls_of reader.old) turns) }
-    ensures fault { IfErr result (λ e. ComesOfReading e (faults_of reader.new) (calls_of reader.new) turns) }
+    ensures sound { OnOk result (IsSound reader.old reader.new) }
+    ensures fault { IfErr result (λ e. ComesOfReading e reader.old reader.new turns) }
 {
     match command {
         Command::Add { path, size } => {
@@ -125,10 +131,11 @@ fn obey<R: Read, S: Sources>(
 }
 
 /// The answer to a command that is done or refused.
-fn tell(told: Result<(), Refusal>) -> Answer
-    ensures { (s : State) (rest : List ℕ) → turn_of result s rest ≡ told_turn told s rest }
+fn tell(answer: Result<(), Refusal>) -> Answer
+    ensures { (s : State) (rest : List ℕ) → turn_of result s rest
+        ≡ told (record { refusal = refusal_in answer; state = s }) rest }
 {
-    match told {
+    match answer {
         Ok(()) => Answer::line("ok\n"),
         Err(why) => Answer::line(why.text()),
     }
@@ -164,17 +171,20 @@ fn keep_file<R: Read>(
         × Advances (R.remaining (inner_of reader.old)) (held_of window.old) (R.remaining (inner_of reader.new))
         (held_of window.new) bytes
         × ((rest : List ℕ) → IsLast (ended_of window.new) rest
-        → file_turn (keep_refusal keep daemon.old.present path.now size mark) daemon.old path.now size (bytes ++ rest)
-        ≡ turn_of answer daemon.new rest)
+        → file_turn keep daemon.old path.now size mark (bytes ++ rest) ≡ turn_of answer daemon.new rest)
         × (ended_of window.old ≡ true → (bytes ≡ []) × (ended_of window.new ≡ true))) }
     ensures err { OnErr result ((bytes : List ℕ)
         × Advances (R.remaining (inner_of reader.old)) (held_of window.old) (R.remaining (inner_of reader.new))
-        (held_of window.new) bytes) }
+        (held_of window.new) bytes
+        × (length bytes < size)) }
+    ensures begun { OnErr result (ended_of window.old ≡ false) }
+    ensures empty { OnErr result (held_of window.new ≡ []) }
     ensures stopped { OnErr result (ended_of window.new ≡ false) }
     ensures work { OnOk result
         (work_left (ended_of window.new) (length (held_of window.new)) (calls_of reader.new) turns
         ≤ work_left (ended_of window.old) (length (held_of window.old)) (calls_of reader.old) turns) }
-    ensures fault { IfErr result (λ e. ComesOfReading e (faults_of reader.new) (calls_of reader.new) turns) }
+    ensures sound { OnOk result (IsSound reader.old reader.new) }
+    ensures fault { IfErr result (λ e. ComesOfReading e reader.old reader.new turns) }
 {
     let refusal = daemon.early_refusal(keep, path, size);
     let body = read_body(alloc, reader, window, size, refusal.is_none(), turns)?;
@@ -194,8 +204,7 @@ fn answer_body(
     requires whole { IsWanted body size refusal }
     ensures { (mark : Bool) × ((bytes : List ℕ) (wanted ended : Bool) (rest : List ℕ)
         → CameAs body bytes size wanted ended → IsLast ended rest
-        → file_turn (keep_refusal keep daemon.old.present path.now size mark) daemon.old path.now size (bytes ++ rest)
-        ≡ turn_of result daemon.new rest) }
+        → file_turn keep daemon.old path.now size mark (bytes ++ rest) ≡ turn_of result daemon.new rest) }
 {
     match body {
         Body::Whole(bytes) => match daemon.keep(keep, path, bytes) {

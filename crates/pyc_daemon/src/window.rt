@@ -27,9 +27,9 @@ pub struct Window {
 
 impl Window {
     ghost use Rattle.std.specs.Prelude.{false, None};
-    ghost use Rattle.pyc_daemon.specs.Counted.{inner_of, calls_of, faults_of};
+    ghost use Rattle.pyc_daemon.specs.Counted.{inner_of, calls_of, IsSound};
     ghost use Rattle.pyc_daemon.specs.Reading.{Advances, IsReading, ComesOfReading, work_left};
-    ghost use Rattle.pyc_daemon.specs.Window.{held_of, ended_of};
+    ghost use Rattle.pyc_daemon.specs.Window.{held_of, used_of, ended_of};
 
     /// A window that holds nothing yet.
     pub fn new(alloc: Global) -> Result<Self, AllocError>
@@ -55,6 +55,7 @@ impl Window {
     /// Takes the first byte that is held.
     pub fn take_byte(&mut self) -> Option<u8>
         ensures byte { IfSome result (λ b. held_of self.old ≡ b ∷ held_of self.new) }
+        ensures used { IfSome result (λ b. used_of self.new ≡ used_of self.old ++ b ∷ []) }
         ensures empty { IfNone result (held_of self.old ≡ []) }
         ensures same { IfNone result (self.new ≡ self.old) }
         ensures ended { ended_of self.new ≡ ended_of self.old }
@@ -95,8 +96,12 @@ impl Window {
             turns }
         ensures moved { Advances (R.remaining (inner_of reader.old)) [] (R.remaining (inner_of reader.new))
             (held_of self.new) [] }
+        // What is held is all of the last read.
+        ensures fresh { OnOk result (used_of self.new ≡ []) }
         ensures open { OnErr result (ended_of self.new ≡ false) }
-        ensures fault { IfErr result (λ e. ComesOfReading e (faults_of reader.new) (calls_of reader.new) turns) }
+        ensures empty { OnErr result (held_of self.new ≡ []) }
+        ensures sound { OnOk result (IsSound reader.old reader.new) }
+        ensures fault { IfErr result (λ e. ComesOfReading e reader.old reader.new turns) }
         ensures work { OnOk result
             (work_left (ended_of self.new) (length (held_of self.new)) (calls_of reader.new) turns
             < work_left false 0 (calls_of reader.old) turns) }

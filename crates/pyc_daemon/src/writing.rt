@@ -1,9 +1,9 @@
 //! Writes replies.
 
-ghost use Rattle.std.specs.Prelude.{◌≡◌, ◌+◌, ◌<◌, ◌≤◌, [], length, take, codes, if◌then◌else◌, IfOk, IfErr, OnErr};
+ghost use Rattle.std.specs.Prelude.{◌≡◌, ◌<◌, ◌≤◌, [], length, take, codes, if◌then◌else◌, IfOk, IfErr, OnErr};
 ghost use Rattle.std.specs.Prelude.{OnOk};
 ghost use Rattle.std.specs.Io.KnownBytes.{Appends};
-ghost use Rattle.pyc_daemon.specs.Counted.{inner_of, faults_of, zeros_of};
+ghost use Rattle.pyc_daemon.specs.Counted.{inner_of, IsSound, FailsOnce};
 ghost use Rattle.pyc_daemon.specs.Replies.{reply_bytes, status_text, joined, WritesPart};
 ghost use Rattle.pyc_body.specs.Report.{report_in};
 ghost use Rattle.pyc_session.specs.Session.{check_reply};
@@ -22,7 +22,8 @@ pub(crate) fn write_reply<W: Write>(writer: &mut Counted<W>, reply: Reply) -> Re
     ensures part { OnErr result
         (WritesPart (W.contents (inner_of writer.old)) (W.contents (inner_of writer.new)) (reply_bytes reply)) }
     ensures fault { IfErr result (λ e. e ≡ RunFault.Write) }
-    ensures cause { OnErr result (0 < faults_of writer.new + zeros_of writer.new) }
+    ensures sound { OnOk result (IsSound writer.old writer.new) }
+    ensures cause { OnErr result (FailsOnce writer.old writer.new) }
 {
     match reply {
         Reply::Line(text) => write_bytes(writer, text.as_bytes()),
@@ -40,7 +41,8 @@ fn write_report<W: Write>(writer: &mut Counted<W>, report: &Report) -> Result<()
         (WritesPart (W.contents (inner_of writer.old)) (W.contents (inner_of writer.new))
         (check_reply (report_in report.now))) }
     ensures fault { IfErr result (λ e. e ≡ RunFault.Write) }
-    ensures cause { OnErr result (0 < faults_of writer.new + zeros_of writer.new) }
+    ensures sound { OnOk result (IsSound writer.old writer.new) }
+    ensures cause { OnErr result (FailsOnce writer.old writer.new) }
 {
     write_bytes(writer, report.text.as_bytes())?;
     write_bytes(writer, status_line(report.clean).as_bytes())
@@ -60,7 +62,8 @@ fn write_counts<W: Write>(writer: &mut Counted<W>, counts: Status) -> Result<(),
     ensures part { OnErr result
         (WritesPart (W.contents (inner_of writer.old)) (W.contents (inner_of writer.new)) (status_text counts)) }
     ensures fault { IfErr result (λ e. e ≡ RunFault.Write) }
-    ensures cause { OnErr result (0 < faults_of writer.new + zeros_of writer.new) }
+    ensures sound { OnOk result (IsSound writer.old writer.new) }
+    ensures cause { OnErr result (FailsOnce writer.old writer.new) }
 {
     let mut files = Buffer::new();
     let mut bodies = Buffer::new();
@@ -87,7 +90,8 @@ pub fn write_parts<W: Write>(writer: &mut Counted<W>, parts: &[&str]) -> Result<
     ensures part { OnErr result
         (WritesPart (W.contents (inner_of writer.old)) (W.contents (inner_of writer.new)) (joined parts.now)) }
     ensures fault { IfErr result (λ e. e ≡ RunFault.Write) }
-    ensures cause { OnErr result (0 < faults_of writer.new + zeros_of writer.new) }
+    ensures sound { OnOk result (IsSound writer.old writer.new) }
+    ensures cause { OnErr result (FailsOnce writer.old writer.new) }
 {
     for part in parts {
         write_bytes(writer, part.as_bytes())?;
@@ -102,7 +106,8 @@ pub fn write_bytes<W: Write>(writer: &mut Counted<W>, bytes: &[u8]) -> Result<()
     ensures part { OnErr result
         (WritesPart (W.contents (inner_of writer.old)) (W.contents (inner_of writer.new)) bytes.now) }
     ensures fault { IfErr result (λ e. e ≡ RunFault.Write) }
-    ensures cause { OnErr result (0 < faults_of writer.new + zeros_of writer.new) }
+    ensures sound { OnOk result (IsSound writer.old writer.new) }
+    ensures cause { OnErr result (FailsOnce writer.old writer.new) }
 {
     let mut rest = bytes;
     while !rest.is_empty() {
@@ -121,7 +126,8 @@ fn write_some<W: Write>(writer: &mut Counted<W>, bytes: &[u8]) -> Result<usize, 
         (take count bytes.now)) }
     ensures none { OnErr result (Appends (W.contents (inner_of writer.old)) (W.contents (inner_of writer.new)) []) }
     ensures fault { IfErr result (λ e. e ≡ RunFault.Write) }
-    ensures cause { OnErr result (0 < faults_of writer.new + zeros_of writer.new) }
+    ensures sound { OnOk result (IsSound writer.old writer.new) }
+    ensures cause { OnErr result (FailsOnce writer.old writer.new) }
 {
     match writer.write(bytes) {
         Ok(0) | Err(_) => Err(RunFault::Write),

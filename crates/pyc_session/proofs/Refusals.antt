@@ -2,10 +2,9 @@
 use Rattle.std.proofs.Common.{◌≡◌, ℕ, Bool, true, false, not, ◌&&◌, if◌then◌else◌, List, Option, None, Some, refl}
 use Rattle.std.specs.Str.{is_utf8}
 use Rattle.pyc_workspace.specs.Path.{is_file_path}
-use Rattle.pyc_session.specs.Refusal.{add_refusal, change_refusal, early_refusal}
+use Rattle.pyc_session.specs.Refusal.{reasons, early_refusal}
 use Rattle.pyc_workspace.specs.Workspace.{File}
 use Rattle.pyc_session.specs.declared.keep.Keep.{Keep}
-use Rattle.pyc_session.specs.declared.keep.Keep.TheVariants as keep
 use Rattle.pyc_session.specs.declared.refusal.Refusal.{Refusal}
 use Rattle.pyc_session.specs.declared.refusal.Refusal.TheVariants as refusal
 
@@ -23,6 +22,5 @@ past_first false why later e = cc
 
 -- its path is text
 pub kept_path_is_text : (how : Keep) (files : List File) (path : List ℕ) (size : ℕ) → early_refusal how files path size ≡ None → is_utf8 path ≡ true
-unfolding add_refusal change_refusal
-kept_path_is_text keep.Add files path size e = path_is_text path (past_first (is_file_path path) refusal.Path _ e)
-kept_path_is_text keep.Change files path size e = path_is_text path (past_first (is_file_path path) refusal.Path _ e)
+unfolding reasons
+kept_path_is_text how files path size e = path_is_text path (past_first (is_file_path path) refusal.Path _ e)

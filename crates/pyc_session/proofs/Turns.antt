@@ -1,23 +1,22 @@
 -- Commands at the front of an input, and the sessions that follow them.
-use Rattle.std.proofs.Common.{◌≡◌, ℕ, zero, suc, ◌<◌, ◌≤◌, Bool, true, false, if◌then◌else◌, ◌==◌, nat_lt, List, [], ◌∷◌, ◌++◌, length, take, drop, bytes_eq, ◌&&◌, Option, None, Some, Result, Ok, Err, OnOk, OnErr, IfOk, IfErr, IsTrue, unwrap_or, refl, sym, ap, subst, ◌∙◌, arith, length-append}
-use Rattle.std.proofs.lemmas.List.{length-drop}
+use Rattle.std.proofs.Common.{◌≡◌, ℕ, ◌<◌, ◌≤◌, Bool, true, false, not, if◌then◌else◌, ◌==◌, ◌&&◌, nat_lt, List, [], ◌∷◌, ◌++◌, length, take, drop, bytes_eq, zero, suc, Option, None, Some, option_map, option_and_then, Result, Ok, Err, OnOk, OnErr, IfOk, IfErr, unwrap_or, refl, sym, ap, subst, ◌∙◌, arith, append_assoc, length-append}
 use Rattle.std.proofs.Math.Seq.{take-append_seam, drop-append_seam}
 use Rattle.std.proofs.lemmas.Bool.Decides.{nat_tests}
-use Rattle.pyc_session.specs.Command.{Spelled, add, change, endless, update, remove, check, status, stop, unknown, spelled}
-use Rattle.pyc_session.specs.Entry.{Entry, bytes, unreadable, no_memory}
-use Rattle.pyc_session.specs.Event.{Event, Fetch, first_event}
+use Rattle.pyc_session.specs.Command.{bytes_after, spelled}
+use Rattle.pyc_session.specs.Entry.{Entry}
+use Rattle.pyc_session.specs.Event.{Event}
 use Rattle.pyc_session.specs.Input.{has_line_feed, first_line, after_line, command_line}
-use Rattle.pyc_session.specs.Refusal.{refusal_text, early_refusal, late_refusal, keep_refusal, kept_as, remove_refusal}
+use Rattle.pyc_session.specs.Refusal.{Reason, first_standing, reasons, refusal_text, early_refusal, late_refusal, keep_refusal, remove_refusal}
 use Rattle.pyc_workspace.specs.Path.{is_file_path}
 use Rattle.pyc_session.specs.declared.keep.Keep.{Keep}
-use Rattle.pyc_session.specs.declared.keep.Keep.TheVariants as keep
-use Rattle.pyc_session.specs.Session.{Turn, turn, act, act_with, act_fetched, file_turn, keep_turn, unless, done, told_turn, no_turn, remove_turn, status_reply, fetched_turn, update_turn, check_turn, check_reply, after_check, keeping, dropping, refused, last_turn, goes_on, onto, session_within, session_from}
+use Rattle.pyc_session.specs.Session.{Turn, Onward, Outcome, Session, Progress, turn, has_command, file_turn, unless, told, kept, removed, updated, handed_over, refusal_in, check_turn, check_reply, after_check, keeping, dropping, replied, ok, last_turn, goes_on, ends, onto, after_turn, session_from, further, go_on, progress, CommandsComeFirst}
 use Rattle.pyc_session.specs.State.{State}
 use Rattle.pyc_workspace.specs.Workspace.{File}
-use Rattle.pyc_workspace.specs.Fresh.{fresh, units_of}
+use Rattle.pyc_workspace.specs.Fresh.{fresh}
 use Rattle.pyc_body.specs.Report.{Report}
 use Rattle.pyc_session.specs.declared.refusal.Refusal.{Refusal}
 use Rattle.pyc_session.specs.declared.refusal.Refusal.TheVariants as refusal
+use Rattle.pyc_session.specs.declared.ending.End.{End}
 use Rattle.pyc_session.specs.declared.ending.End.TheVariants.{EndOfInput, Broken}
 
 -- a line that a line feed ends
@@ -59,129 +58,96 @@ after_line-last (b ∷ bs) none =
       | false ↦ λ e. after_line-last bs e
     ] none
 
--- what stands after a line is shorter
-pub after_line-at_most : (bs : List ℕ) → length (after_line bs) ≤ length bs
-after_line-at_most [] = omega arith
-after_line-at_most (b ∷ bs) =
-    elim (b == 10) as (λ t. length (if t then bs else after_line bs) ≤ suc (length bs)) [ true ↦ omega arith | false ↦ let h = after_line-at_most bs in omega (arith, h) ]
+-- less than a line is no command
+pub no_line : (raw : List ℕ) → has_line_feed raw ≡ false → has_command raw ≡ false
+unfolding has_command
+no_line raw none = rw none refl
 
-pub after_line-shorter : (b : ℕ) (bs : List ℕ) → length (after_line (b ∷ bs)) ≤ length bs
-after_line-shorter b bs = elim (b == 10) as (λ t. length (if t then bs else after_line bs) ≤ length bs) [ true ↦ omega arith | false ↦ after_line-at_most bs ]
+-- nor is a line without all the bytes that belong to it
+pub no_bytes : (raw part : List ℕ) → has_line_feed raw ≡ false → length part < bytes_after (spelled (command_line raw true)) → has_command (raw ++ 10 ∷ part) ≡ false
+unfolding has_command
+no_bytes raw part none few =
+    let short : nat_lt (length part) (bytes_after (spelled (command_line raw true))) ≡ true = grind (arith, nat_tests) in
+    rw (has_line_feed-fed raw part, after_line-fed raw part none, first_line-fed raw part none, short) refl
 
--- a command leaves no more than stood after its line
-keep_turn-rest : (o : Option Refusal) (s : State) (path held rest : List ℕ) → (keep_turn o s path held rest).rest ≡ rest
-keep_turn-rest None s path held rest = refl
-keep_turn-rest (Some why) s path held rest = refl
+-- ---- reasons
 
-unless-rest : (o : Option Refusal) (s s' : State) (rest : List ℕ) → (unless o s s' rest).rest ≡ rest
-unless-rest None s s' rest = refl
-unless-rest (Some why) s s' rest = refl
+-- a reason among the first is told first
+first_of_front : (n : ℕ) (reasons : List Reason) (why : Refusal) → first_standing (take n reasons) ≡ Some why → first_standing reasons ≡ Some why
+first_of_front zero reasons why e = cc
+first_of_front (suc n) [] why e = e
+first_of_front (suc n) (reason ∷ reasons) why e =
+    elim reason.stands as (λ b. (if b then Some reason.refusal else first_standing (take n reasons)) ≡ Some why → (if b then Some reason.refusal else first_standing reasons) ≡ Some why) [
+      | true ↦ λ is. is
+      | false ↦ λ is. first_of_front n reasons why is
+    ] e
 
-file_turn-rest : (o : Option Refusal) (s : State) (path : List ℕ) (size : ℕ) (rest : List ℕ) → length (file_turn o s path size rest).rest ≤ length rest
-unfolding file_turn
-file_turn-rest o s path size rest =
-    elim (nat_lt (length rest) size) as (λ t. length (if t then last_turn (refusal_text refusal.Truncated) s Broken
-    else keep_turn o s path (take size rest) (drop size rest)).rest ≤ length rest) [
-      | true ↦ omega arith
-      | false ↦ rw (keep_turn-rest o s path (take size rest) (drop size rest)) (omega (arith, length-drop size rest))
-    ]
+-- where none of them stands, it is one of the others
+first_of_rest : (n : ℕ) (reasons : List Reason) → first_standing (take n reasons) ≡ None → first_standing reasons ≡ first_standing (drop n reasons)
+first_of_rest zero reasons e = refl
+first_of_rest (suc n) [] e = refl
+first_of_rest (suc n) (reason ∷ reasons) e =
+    elim reason.stands as (λ b. (if b then Some reason.refusal else first_standing (take n reasons)) ≡ None → (if b then Some reason.refusal else first_standing reasons) ≡ first_standing (drop n reasons)) [
+      | true ↦ λ is. cc
+      | false ↦ λ is. first_of_rest n reasons is
+    ] e
 
-remove_turn-rest : (s : State) (path rest : List ℕ) → length (remove_turn s path rest).rest ≤ length rest
-unfolding remove_turn
-remove_turn-rest s path rest = rw (unless-rest (remove_refusal s.present path) s (dropping s path) rest) (omega arith)
+front_same : (how : Keep) (files : List File) (path : List ℕ) (size : ℕ) (wanting : Bool) → take 3 (reasons how files path size wanting) ≡ take 3 (reasons how files path size false)
+unfolding reasons
+front_same how files path size wanting = refl
 
-check_turn-rest : (s : State) (wanting : Bool) (rest : List ℕ) → length (check_turn s wanting rest).rest ≤ length rest
-unfolding check_turn
-check_turn-rest s true rest = omega arith
-check_turn-rest s false rest = omega arith
+-- what is told early is told
+pub early_told : (how : Keep) (files : List File) (path : List ℕ) (size : ℕ) (wanting : Bool) (why : Refusal) → early_refusal how files path size ≡ Some why → keep_refusal how files path size wanting ≡ Some why
+early_told how files path size wanting why e =
+    first_of_front 3 (reasons how files path size wanting) why (ap first_standing (front_same how files path size wanting) ∙ e)
 
-fetched_turn-rest : (s : State) (path : List ℕ) (wanting : Bool) (entry : Entry) (rest : List ℕ) → length (fetched_turn s path wanting entry rest).rest ≤ length rest
-fetched_turn-rest s path wanting (bytes handed) rest =
-    rw (keep_turn-rest (keep_refusal (kept_as s.present path) s.present path (length handed) wanting) s path handed rest) (omega arith)
-fetched_turn-rest s path wanting unreadable rest = omega arith
-fetched_turn-rest s path true no_memory rest = omega arith
-fetched_turn-rest s path false no_memory rest = omega arith
+-- where nothing is, it is what is told late
+pub late_told : (how : Keep) (files : List File) (path : List ℕ) (size : ℕ) (wanting : Bool) → early_refusal how files path size ≡ None
+    → keep_refusal how files path size wanting ≡ late_refusal how files path size wanting
+late_told how files path size wanting e =
+    first_of_rest 3 (reasons how files path size wanting) (ap first_standing (front_same how files path size wanting) ∙ e)
 
-update_turn-rest : (s : State) (path : List ℕ) (wanting : Bool) (fetched : Option Fetch) (rest : List ℕ) → length (update_turn s path wanting fetched rest).rest ≤ length rest
-unfolding update_turn
-update_turn-rest s path wanting None rest =
-    elim (is_file_path path) as (λ t. length (if t then no_turn s else refused refusal.Path s rest).rest ≤ length rest) [ true ↦ omega arith | false ↦ omega arith ]
-update_turn-rest s path wanting (Some fetch) rest =
-    elim (is_file_path path && bytes_eq fetch.path path) as (λ t. length (if t then fetched_turn s path wanting fetch.entry rest else no_turn s).rest ≤ length rest) [
-      | true ↦ fetched_turn-rest s path wanting fetch.entry rest
-      | false ↦ omega arith
-    ]
+-- want of memory is told first of what is told late
+pub late_memory : (how : Keep) (files : List File) (path : List ℕ) (size : ℕ) → late_refusal how files path size true ≡ Some refusal.Memory
+unfolding reasons
+late_memory how files path size = refl
 
-act-rest : (s : State) (said : Spelled) (wanting : Bool) (rest : List ℕ) → length (act s said wanting rest).rest ≤ length rest
-act-rest s (add path size) wanting rest = file_turn-rest (keep_refusal keep.Add s.present path size wanting) s path size rest
-act-rest s (change path size) wanting rest = file_turn-rest (keep_refusal keep.Change s.present path size wanting) s path size rest
-act-rest s endless wanting rest = omega arith
-act-rest s (update path) wanting rest = update_turn-rest s path wanting None rest
-act-rest s (remove path) wanting rest = remove_turn-rest s path rest
-act-rest s check wanting rest = check_turn-rest s wanting rest
-act-rest s status wanting rest = omega arith
-act-rest s stop wanting rest = omega arith
-act-rest s unknown wanting rest = omega arith
+-- ---- what a call on a daemon answered
 
-act_fetched-rest : (s : State) (said : Spelled) (wanting : Bool) (fetch : Fetch) (rest : List ℕ) → length (act_fetched s said wanting fetch rest).rest ≤ length rest
-act_fetched-rest s (update path) wanting fetch rest = update_turn-rest s path wanting (Some fetch) rest
-act_fetched-rest s _ wanting fetch rest = omega arith
+pub told_keep : (how : Keep) (s s' : State) (path : List ℕ) (size : ℕ) (held : List ℕ) (answer : Result (Unit {0}) Refusal)
+    → size ≡ length held
+    → OnOk answer (keep_refusal how s.present path size false ≡ None)
+    → OnOk answer (s' ≡ keeping s (record { path = path; bytes = held }))
+    → IfErr answer (λ why. (wanting : Bool) × (keep_refusal how s.present path size wanting ≡ Some why))
+    → OnErr answer (s' ≡ s)
+    → (wanting : Bool) × (kept how s path held wanting ≡ record { refusal = refusal_in answer; state = s' })
+told_keep how s s' path size held (Ok x) long fine after refusal same = (false, rw (← long, fine, after) refl)
+told_keep how s s' path size held (Err why) long fine after refusal same = (refusal.0, rw (← long, refusal.1, same) refl)
 
-act_with-rest : (s : State) (said : Spelled) (wanting : Bool) (fetched : Option Fetch) (rest : List ℕ) → length (act_with s said wanting fetched rest).rest ≤ length rest
-act_with-rest s said wanting None rest = act-rest s said wanting rest
-act_with-rest s said wanting (Some fetch) rest = act_fetched-rest s said wanting fetch rest
+pub told_remove : (s s' : State) (path : List ℕ) (answer : Result (Unit {0}) Refusal)
+    → OnOk answer (remove_refusal s.present path ≡ None) → OnOk answer (s' ≡ dropping s path)
+    → IfErr answer (λ why. remove_refusal s.present path ≡ Some why) → OnErr answer (s' ≡ s)
+    → removed s path ≡ record { refusal = refusal_in answer; state = s' }
+told_remove s s' path (Ok x) fine after refusal same = rw (fine, after) refl
+told_remove s s' path (Err why) fine after refusal same = rw (refusal, same) refl
 
-turn-shorter : (s : State) (b : ℕ) (bs : List ℕ) (event : Event) → length (turn s (b ∷ bs) event).rest ≤ length bs
-unfolding turn
-turn-shorter s b bs event =
-    let h = act_with-rest s (spelled (command_line (first_line (b ∷ bs)) (has_line_feed (b ∷ bs)))) event.wants_memory event.fetched (after_line (b ∷ bs)) in
-    let k = after_line-shorter b bs in
-    omega (arith, h, k)
+-- an `update` of a path that no file may have
+pub update_bad : (s : State) (path : List ℕ) → is_file_path path ≡ false
+    → updated s path (record { wants_memory = false; fetched = None }) ≡ Some (record { refusal = Some refusal.Path; state = s })
+unfolding updated
+update_bad s path e = rw e refl
 
--- as many commands as bytes are enough
-pub enough : (n m : ℕ) (s : State) (input : List ℕ) (events : List Event) → length input ≤ n → length input ≤ m
-    → session_within n s input events ≡ session_within m s input events
-enough zero zero s input events p q = refl
-enough zero (suc m) s [] events p q = refl
-enough zero (suc m) s (b ∷ bs) events p q = absurd (omega arith)
-enough (suc n) zero s [] events p q = refl
-enough (suc n) zero s (b ∷ bs) events p q = absurd (omega arith)
-enough (suc n) (suc m) s [] events p q = refl
-enough (suc n) (suc m) s (b ∷ bs) events p q =
-    let t = turn s (b ∷ bs) (first_event events) in
-    let h = turn-shorter s b bs (first_event events) in
-    ap (onto t.reply t.onward) (enough n m t.state t.rest (drop 1 events) (omega (arith, h)) (omega (arith, h)))
+same_bytes : (xs : List ℕ) → bytes_eq xs xs ≡ true
+same_bytes [] = refl
+same_bytes (x ∷ xs) = let h : (x == x) ≡ true = grind (arith, nat_tests) in rw (h, same_bytes xs) refl
 
-session_from-cons : (s : State) (b : ℕ) (bs : List ℕ) (event : Event) (events : List Event) → session_from s (b ∷ bs) (event ∷ events)
-    ≡ onto (turn s (b ∷ bs) event).reply (turn s (b ∷ bs) event).onward (session_from (turn s (b ∷ bs) event).state (turn s (b ∷ bs) event).rest events)
-unfolding session_from
-session_from-cons s b bs event events =
-    let t = turn s (b ∷ bs) event in
-    let h = turn-shorter s b bs event in
-    ap (onto t.reply t.onward) (enough (length bs) (length t.rest) t.state t.rest events (omega (arith, h)) (omega arith))
+-- an `update` of another, with what was fetched
+pub update_fetched : (s : State) (path : List ℕ) (wanting : Bool) (entry : Entry) → is_file_path path ≡ true
+    → updated s path (record { wants_memory = wanting; fetched = Some (record { path = path; entry = entry }) }) ≡ handed_over s path wanting entry
+unfolding updated
+update_fetched s path wanting entry e = rw (e, same_bytes path) refl
 
--- a session whose first command is known
-pub session_from-turn : (s : State) (input : List ℕ) (event : Event) (events : List Event) (t : Turn) → 0 < length input → turn s input event ≡ t
-    → session_from s input (event ∷ events) ≡ onto t.reply t.onward (session_from t.state t.rest events)
-session_from-turn s [] event events t some e = absurd (omega arith)
-session_from-turn s (b ∷ bs) event events t some e =
-    session_from-cons s b bs event events ∙ ap (λ (u : Turn). onto u.reply u.onward (session_from u.state u.rest events)) e
-
--- a session with no command
-pub session_from-empty : (s : State) (events : List Event) → session_from s [] events ≡ record { text = []; ending = EndOfInput }
-unfolding session_from
-session_from-empty s events = refl
-
--- a check that is done
-pub check_done : (s s' : State) (report : Report) (rest : List ℕ) → report ≡ fresh s.present → s' ≡ after_check s
-    → check_turn s false rest ≡ record { reply = check_reply report; state = s'; onward = goes_on; rest = rest }
-unfolding check_turn
-check_done s s' report rest e f = rw (e, f) refl
-
--- and one that is refused memory
-pub check_refused : (s s' : State) (rest : List ℕ) → s' ≡ s → check_turn s true rest ≡ refused refusal.Memory s' rest
-unfolding check_turn
-check_refused s s' rest e = rw e refl
+-- ---- commands with bytes after them
 
 enough_bytes : (held rest : List ℕ) (size : ℕ) → length held ≡ size → nat_lt (length (held ++ rest)) size ≡ false
 enough_bytes held rest size e = let long : size ≤ length (held ++ rest) = omega (arith, length-append held rest) in grind (arith, nat_tests)
@@ -190,87 +156,204 @@ too_few_bytes : (rest : List ℕ) (size : ℕ) → length rest < size → nat_lt
 too_few_bytes rest size e = grind (arith, nat_tests)
 
 -- a command whose bytes came
-pub file_whole : (o : Option Refusal) (s : State) (path : List ℕ) (size : ℕ) (held rest : List ℕ) → length held ≡ size
-    → file_turn o s path size (held ++ rest) ≡ keep_turn o s path held rest
+pub file_whole : (how : Keep) (s : State) (path : List ℕ) (size : ℕ) (wanting : Bool) (held rest : List ℕ) → length held ≡ size
+    → file_turn how s path size wanting (held ++ rest) ≡ told (kept how s path held wanting) rest
 unfolding file_turn
-file_whole o s path size held rest e =
+file_whole how s path size wanting held rest e =
     let front : take size (held ++ rest) ≡ held = subst (λ n. take n (held ++ rest) ≡ held) e (take-append_seam held rest) in
     let back : drop size (held ++ rest) ≡ rest = subst (λ n. drop n (held ++ rest) ≡ rest) e (drop-append_seam held rest) in
     rw (enough_bytes held rest size e, front, back) refl
 
 -- and one whose bytes did not all come
-pub file_short : (o : Option Refusal) (s : State) (path : List ℕ) (size : ℕ) (rest : List ℕ) → length rest < size
-    → file_turn o s path size rest ≡ last_turn (refusal_text refusal.Truncated) s Broken
+pub file_short : (how : Keep) (s : State) (path : List ℕ) (size : ℕ) (wanting : Bool) (rest : List ℕ) → length rest < size
+    → file_turn how s path size wanting rest ≡ last_turn (refusal_text refusal.Truncated) s Broken
 unfolding file_turn
-file_short o s path size rest few = rw (too_few_bytes rest size few) refl
+file_short how s path size wanting rest few = rw (too_few_bytes rest size few) refl
 
 -- the file is kept
 pub file_done : (how : Keep) (s s' : State) (path : List ℕ) (size : ℕ) (held rest : List ℕ) → length held ≡ size
-    → early_refusal how s.present path size ≡ None → late_refusal how s.present path false ≡ None
+    → early_refusal how s.present path size ≡ None → late_refusal how s.present path size false ≡ None
     → s' ≡ keeping s (record { path = path; bytes = held })
-    → file_turn (keep_refusal how s.present path size false) s path size (held ++ rest) ≡ done s' rest
+    → file_turn how s path size false (held ++ rest) ≡ replied ok s' rest
 file_done how s s' path size held rest e early late after =
-    file_whole (keep_refusal how s.present path size false) s path size held rest e ∙ rw (early, late, after) refl
+    file_whole how s path size false held rest e ∙ rw (e, late_told how s.present path size false early, late, after) refl
 
 -- it is refused late
 pub file_late : (how : Keep) (s s' : State) (path : List ℕ) (size : ℕ) (wanting : Bool) (why : Refusal) (held rest : List ℕ) → length held ≡ size
-    → early_refusal how s.present path size ≡ None → late_refusal how s.present path wanting ≡ Some why → s' ≡ s
-    → file_turn (keep_refusal how s.present path size wanting) s path size (held ++ rest) ≡ refused why s' rest
+    → early_refusal how s.present path size ≡ None → late_refusal how s.present path size wanting ≡ Some why → s' ≡ s
+    → file_turn how s path size wanting (held ++ rest) ≡ replied (refusal_text why) s' rest
 file_late how s s' path size wanting why held rest e early late same =
-    file_whole (keep_refusal how s.present path size wanting) s path size held rest e ∙ rw (early, late, same) refl
-
-late_memory : (how : Keep) (files : List File) (path : List ℕ) → late_refusal how files path true ≡ Some refusal.Memory
-late_memory keep.Add files path = refl
-late_memory keep.Change files path = refl
+    file_whole how s path size wanting held rest e ∙ rw (e, late_told how s.present path size wanting early, late, same) refl
 
 -- it is refused before, or its bytes are not kept for want of memory
-pub file_not_kept : (how : Keep) (s : State) (path : List ℕ) (size : ℕ) (told : Option Refusal) (held rest : List ℕ) → length held ≡ size
-    → told ≡ early_refusal how s.present path size
-    → file_turn (keep_refusal how s.present path size true) s path size (held ++ rest) ≡ refused (unwrap_or told refusal.Memory) s rest
-file_not_kept how s path size None held rest e is = file_late how s s path size true refusal.Memory held rest e (sym is) (late_memory how s.present path) refl
+pub file_not_kept : (how : Keep) (s : State) (path : List ℕ) (size : ℕ) (early : Option Refusal) (held rest : List ℕ) → length held ≡ size
+    → early ≡ early_refusal how s.present path size
+    → file_turn how s path size true (held ++ rest) ≡ replied (refusal_text (unwrap_or early refusal.Memory)) s rest
+file_not_kept how s path size None held rest e is = file_late how s s path size true refusal.Memory held rest e (sym is) (late_memory how s.present path size) refl
 file_not_kept how s path size (Some why) held rest e is =
-    file_whole (keep_refusal how s.present path size true) s path size held rest e ∙ rw (sym is) refl
+    file_whole how s path size true held rest e ∙ rw (e, early_told how s.present path size true why (sym is)) refl
 
--- ---- what a call on a daemon answered
+-- a check that is done
+pub check_done : (s s' : State) (report : Report) (rest : List ℕ) → report ≡ fresh s.present → s' ≡ after_check s
+    → check_turn s false rest ≡ replied (check_reply report) s' rest
+unfolding check_turn
+check_done s s' report rest e f = rw (e, f) refl
 
-pub told_keep : (how : Keep) (s s' : State) (path : List ℕ) (size : ℕ) (held : List ℕ) (told : Result (Unit {0}) Refusal)
-    → size ≡ length held
-    → OnOk told (keep_refusal how s.present path size false ≡ None)
-    → OnOk told (s' ≡ keeping s (record { path = path; bytes = held }))
-    → IfErr told (λ why. (wanting : Bool) × (keep_refusal how s.present path size wanting ≡ Some why))
-    → OnErr told (s' ≡ s)
-    → (wanting : Bool) × ((rest : List ℕ) → keep_turn (keep_refusal how s.present path (length held) wanting) s path held rest ≡ told_turn told s' rest)
-told_keep how s s' path size held (Ok x) long fine after refusal same = (false, λ rest. rw (← long, fine, after) refl)
-told_keep how s s' path size held (Err why) long fine after refusal same = (refusal.0, λ rest. rw (← long, refusal.1, same) refl)
+-- and one that is refused memory
+pub check_refused : (s s' : State) (rest : List ℕ) → s' ≡ s → check_turn s true rest ≡ replied (refusal_text refusal.Memory) s' rest
+unfolding check_turn
+check_refused s s' rest e = rw e refl
 
-pub told_remove : (s s' : State) (path : List ℕ) (told : Result (Unit {0}) Refusal)
-    → OnOk told (remove_refusal s.present path ≡ None) → OnOk told (s' ≡ dropping s path)
-    → IfErr told (λ why. remove_refusal s.present path ≡ Some why) → OnErr told (s' ≡ s)
-    → (rest : List ℕ) → remove_turn s path rest ≡ told_turn told s' rest
-unfolding remove_turn
-told_remove s s' path (Ok x) fine after refusal same rest = rw (fine, after) refl
-told_remove s s' path (Err why) fine after refusal same rest = rw (refusal, same) refl
+-- ---- sessions
 
--- an `update` of a path that no file may have
-pub update_bad : (s : State) (path : List ℕ) (wanting : Bool) (rest : List ℕ) → is_file_path path ≡ false
-    → update_turn s path wanting None rest ≡ refused refusal.Path s rest
-unfolding update_turn
-update_bad s path wanting rest e = rw e refl
+append_nil : (xs : List ℕ) → xs ++ [] ≡ xs
+append_nil [] = refl
+append_nil (x ∷ xs) = ap (λ ys. x ∷ ys) (append_nil xs)
 
-same_bytes : (xs : List ℕ) → bytes_eq xs xs ≡ true
-same_bytes [] = refl
-same_bytes (x ∷ xs) = let h : (x == x) ≡ true = grind (arith, nat_tests) in rw (h, same_bytes xs) refl
+onto_none : (o : Option Session) → o ≡ option_map (onto []) o
+onto_none None = refl
+onto_none (Some session) = refl
 
--- an `update` of another, with what was fetched
-pub update_fetched : (s : State) (path : List ℕ) (wanting : Bool) (entry : Entry) (rest : List ℕ) → is_file_path path ≡ true
-    → update_turn s path wanting (Some (record { path = path; entry = entry })) rest ≡ fetched_turn s path wanting entry rest
-unfolding update_turn
-update_fetched s path wanting entry rest e = rw (e, same_bytes path) refl
+onto_onto : (front back : List ℕ) (o : Option Session) → option_map (onto front) (option_map (onto back) o) ≡ option_map (onto (front ++ back)) o
+onto_onto front back None = refl
+onto_onto front back (Some session) = ap (λ zs. Some (record { text = zs; ending = session.ending })) (sym (append_assoc front back session.text))
 
-pub act_update : (s : State) (path : List ℕ) (wanting : Bool) (fetched : Option Fetch) (rest : List ℕ)
-    → act_with s (update path) wanting fetched rest ≡ update_turn s path wanting fetched rest
-act_update s path wanting None rest = refl
-act_update s path wanting (Some fetch) rest = refl
+further_none : (o : Option Progress) → o ≡ option_map (further []) o
+further_none None = refl
+further_none (Some later) = refl
+
+further_further : (front back : List ℕ) (o : Option Progress) → option_map (further front) (option_map (further back) o) ≡ option_map (further (front ++ back)) o
+further_further front back None = refl
+further_further front back (Some later) = ap (λ zs. Some (record later { text = zs })) (sym (append_assoc front back later.text))
+
+module _ (events more : List Event) (p : Progress) where
+  -- what holds of the commands after a turn
+  abbrev Later : State → List ℕ → Type 0
+  Later s rest = (q : Progress) → progress s rest events ≡ Some q → session_from s rest (events ++ more) ≡ option_map (onto q.text) (session_from q.state q.rest more)
+
+  session_by_progress : (reply : List ℕ) (later : Option Session) (o : Option Progress)
+      → ((q : Progress) → o ≡ Some q → later ≡ option_map (onto q.text) (session_from q.state q.rest more)) → option_map (further reply) o ≡ Some p
+      → option_map (onto reply) later ≡ option_map (onto p.text) (session_from p.state p.rest more)
+  session_by_progress reply later None known e = cc
+  session_by_progress reply later (Some q) known e =
+      let same : further reply q ≡ p = cc in
+      rw (known q refl, ← same) (onto_onto reply q.text (session_from q.state q.rest more))
+
+  session_by_onward : (reply : List ℕ) (onward : Onward) (s : State) (rest : List ℕ) → Later s rest
+      → go_on reply onward (progress s rest events) ≡ Some p
+      → after_turn reply onward (events ++ more) (session_from s rest (events ++ more)) ≡ option_map (onto p.text) (session_from p.state p.rest more)
+  session_by_onward reply goes_on s rest known e = session_by_progress reply (session_from s rest (events ++ more)) (progress s rest events) known e
+  session_by_onward reply (ends end) s rest known e = cc
+
+  session_by_turn : (o : Option Turn) → ((t : Turn) → Later t.state t.rest)
+      → option_and_then (λ t. go_on t.reply t.onward (progress t.state t.rest events)) o ≡ Some p
+      → option_and_then (λ t. after_turn t.reply t.onward (events ++ more) (session_from t.state t.rest (events ++ more))) o ≡ option_map (onto p.text) (session_from p.state p.rest more)
+  session_by_turn None known e = cc
+  session_by_turn (Some t) known e = session_by_onward t.reply t.onward t.state t.rest (known t) e
+
+-- what comes after the first commands
+pub session_after : (s : State) (input : List ℕ) (events more : List Event) (p : Progress) → progress s input events ≡ Some p
+    → session_from s input (events ++ more) ≡ option_map (onto p.text) (session_from p.state p.rest more)
+session_after s input [] more p e =
+    let same : record { text = []; state = s; rest = input } ≡ p = cc in
+    rw (← same) (onto_none (session_from s input more))
+session_after s input (event ∷ events) more p e =
+    session_by_turn events more p (turn s input event) (λ t q is. session_after t.state t.rest events more q is) e
+
+module _ (events more : List Event) (p : Progress) where
+  abbrev LaterCommands : State → List ℕ → Type 0
+  LaterCommands s rest = (q : Progress) → progress s rest events ≡ Some q → progress s rest (events ++ more) ≡ option_map (further q.text) (progress q.state q.rest more)
+
+  progress_by_progress : (reply : List ℕ) (later o : Option Progress)
+      → ((q : Progress) → o ≡ Some q → later ≡ option_map (further q.text) (progress q.state q.rest more)) → option_map (further reply) o ≡ Some p
+      → option_map (further reply) later ≡ option_map (further p.text) (progress p.state p.rest more)
+  progress_by_progress reply later None known e = cc
+  progress_by_progress reply later (Some q) known e =
+      let same : further reply q ≡ p = cc in
+      rw (known q refl, ← same) (further_further reply q.text (progress q.state q.rest more))
+
+  progress_by_onward : (reply : List ℕ) (onward : Onward) (s : State) (rest : List ℕ) → LaterCommands s rest
+      → go_on reply onward (progress s rest events) ≡ Some p
+      → go_on reply onward (progress s rest (events ++ more)) ≡ option_map (further p.text) (progress p.state p.rest more)
+  progress_by_onward reply goes_on s rest known e = progress_by_progress reply (progress s rest (events ++ more)) (progress s rest events) known e
+  progress_by_onward reply (ends end) s rest known e = cc
+
+  progress_by_turn : (o : Option Turn) → ((t : Turn) → LaterCommands t.state t.rest)
+      → option_and_then (λ t. go_on t.reply t.onward (progress t.state t.rest events)) o ≡ Some p
+      → option_and_then (λ t. go_on t.reply t.onward (progress t.state t.rest (events ++ more))) o ≡ option_map (further p.text) (progress p.state p.rest more)
+  progress_by_turn None known e = cc
+  progress_by_turn (Some t) known e = progress_by_onward t.reply t.onward t.state t.rest (known t) e
+
+-- further commands after the first ones
+pub progress_after : (s : State) (input : List ℕ) (events more : List Event) (p : Progress) → progress s input events ≡ Some p
+    → progress s input (events ++ more) ≡ option_map (further p.text) (progress p.state p.rest more)
+progress_after s input [] more p e =
+    let same : record { text = []; state = s; rest = input } ≡ p = cc in
+    rw (← same) (further_none (progress s input more))
+progress_after s input (event ∷ events) more p e =
+    progress_by_turn events more p (turn s input event) (λ t q is. progress_after t.state t.rest events more q is) e
+
+-- one more command after which the session goes on
+pub progress_on : (s : State) (input : List ℕ) (events : List Event) (event : Event) (p : Progress) (t : Turn) → progress s input events ≡ Some p
+    → turn p.state p.rest event ≡ Some t → t.onward ≡ goes_on
+    → progress s input (events ++ event ∷ []) ≡ Some (record { text = p.text ++ t.reply; state = t.state; rest = t.rest })
+progress_on s input events event p t e is on =
+    progress_after s input events (event ∷ []) p e ∙ rw (is, on, append_nil t.reply) refl
+
+-- a command that ends the session
+pub session_over : (s : State) (input : List ℕ) (events : List Event) (event : Event) (p : Progress) (t : Turn) (end : End) → progress s input events ≡ Some p
+    → turn p.state p.rest event ≡ Some t → t.onward ≡ ends end
+    → session_from s input (events ++ event ∷ []) ≡ Some (record { text = p.text ++ t.reply; ending = end })
+session_over s input events event p t end e is last =
+    session_after s input events (event ∷ []) p e ∙ rw (is, last) refl
+
+events_nil : (events : List Event) → events ++ [] ≡ events
+events_nil [] = refl
+events_nil (event ∷ events) = ap (λ es. event ∷ es) (events_nil events)
+
+-- an input that ends after commands
+pub session_ended : (s : State) (input : List ℕ) (events : List Event) (p : Progress) → progress s input events ≡ Some p → p.rest ≡ []
+    → session_from s input events ≡ Some (record { text = p.text; ending = EndOfInput })
+session_ended s input events p e none =
+    ap (session_from s input) (sym (events_nil events)) ∙ session_after s input events [] p e ∙ rw (none, append_nil p.text) refl
+
+-- what the first commands wrote comes first in the session
+pub text_begins : (text : List ℕ) (o : Option Session) (session : Session) → option_map (onto text) o ≡ Some session → (later : List ℕ) × (session.text ≡ text ++ later)
+text_begins text None session e = cc
+text_begins text (Some after) session e =
+    let same : onto text after ≡ session = cc in (after.text, sym (ap (λ (o : Session). o.text) same))
+
+pub commands_first : CommandsComeFirst
+commands_first s input events more first session e is =
+    text_begins first.text (session_from first.state first.rest more) session (sym (session_after s input events more first e) ∙ is)
+
+text_after : (front reply : List ℕ) (onward : Onward) (more : List Event) (o : Option Session) (session : Session)
+    → option_map (onto front) (after_turn reply onward more o) ≡ Some session → (later : List ℕ) × (session.text ≡ (front ++ reply) ++ later)
+text_after front reply goes_on more None session e = cc
+text_after front reply goes_on more (Some after) session e =
+    let same : onto front (onto reply after) ≡ session = cc in
+    (after.text, sym (ap (λ (x : Session). x.text) same) ∙ sym (append_assoc front reply after.text))
+text_after front reply (ends end) [] o session e =
+    let same : onto front (record { text = reply; ending = end }) ≡ session = cc in
+    ([], sym (ap (λ (x : Session). x.text) same) ∙ sym (append_nil (front ++ reply)))
+text_after front reply (ends end) (event ∷ more) o session e = cc
+
+-- what the first commands wrote, and the reply of the next, come first in the session
+pub turn_first : (s : State) (input : List ℕ) (events : List Event) (event : Event) (more : List Event) (p : Progress) (t : Turn) (session : Session)
+    → progress s input events ≡ Some p → turn p.state p.rest event ≡ Some t → session_from s input ((events ++ event ∷ []) ++ more) ≡ Some session
+    → (later : List ℕ) × (session.text ≡ (p.text ++ t.reply) ++ later)
+turn_first s input events event more p t session e is whole =
+    let after = session_after s input events (event ∷ more) p e in
+    let joined : (events ++ event ∷ []) ++ more ≡ events ++ (event ∷ more) = append_assoc events (event ∷ []) more in
+    text_after p.text t.reply t.onward more (session_from t.state t.rest more) session
+    (sym (rw is at after) ∙ ap (session_from s input) (sym joined) ∙ whole)
+
+-- a call that is refused late is refused
+pub told_late : (how : Keep) (files : List File) (path : List ℕ) (size : ℕ) (answer : Result (Unit {0}) Refusal) → early_refusal how files path size ≡ None
+    → IfErr answer (λ why. (wanting : Bool) × (late_refusal how files path size wanting ≡ Some why))
+    → IfErr answer (λ why. (wanting : Bool) × (keep_refusal how files path size wanting ≡ Some why))
+told_late how files path size (Ok x) early e = tt
+told_late how files path size (Err why) early e = (e.0, late_told how files path size e.0 early ∙ e.1)
 
 pub if_ok : {T E : Type 0} (r : Result T E) (P Q : T → Type 0) → ((x : T) → P x → Q x) → IfOk r P → IfOk r Q
 if_ok (Ok x) P Q f p = f x p

@@ -3,6 +3,7 @@ use Rattle.std.specs.Prelude.{ℕ, ◌+◌, ◌*◌, ◌-◌, Bool, ◌==◌, �
 use Rattle.std.specs.Prelude.{length, fold, codes, bytes_eq}
 use Rattle.std.specs.Char.{is_ascii_digit}
 use Rattle.std.specs.List.{slice_split, list_all}
+use Rattle.pyc_session.specs.Limits.{longest_line, most_digits}
 use Rattle.pyc_session.specs.declared.command.Command.{Command}
 use Rattle.pyc_session.specs.declared.command.Command.TheVariants as command
 
@@ -11,7 +12,7 @@ pub data Spelled : Type 0 where
   add : List ℕ → ℕ → Spelled
   -- the same, for a file that is present
   change : List ℕ → ℕ → Spelled
-  -- either of these whose number has more than 10 digits
+  -- either of these whose number has more digits than any file needs
   endless : Spelled
   -- the path of a file whose bytes the source hands over
   update : List ℕ → Spelled
@@ -41,7 +42,7 @@ number_of digits = fold (λ n d. 10 * n + (d - 48)) 0 digits
 unfoldable pub counted_command_of : (List ℕ → ℕ → Spelled) → List ℕ → List ℕ → Spelled
 counted_command_of keep path count =
     if length path == 0 || not (is_number count) then unknown
-    else if nat_lt 10 (length count) then endless
+    else if nat_lt most_digits (length count) then endless
     else keep path (number_of count)
 
 -- a command of one word
@@ -74,9 +75,9 @@ command_of (word ∷ path ∷ []) = path_command_of word path
 command_of (word ∷ path ∷ count ∷ []) = file_command_of word path count
 command_of _ = unknown
 
--- the command that a line spells; one of more than 512 bytes spells none
+-- the command that a line spells; one that is too long spells none
 unfoldable pub spelled : List ℕ → Spelled
-spelled line = if nat_lt 512 (length line) then unknown else command_of (words_of line)
+spelled line = if nat_lt longest_line (length line) then unknown else command_of (words_of line)
 
 -- a parsed command as plain values
 abbrev pub said : Command → Spelled
@@ -89,3 +90,9 @@ said command.Check = check
 said command.Status = status
 said command.Stop = stop
 said command.Unknown = unknown
+
+-- how many bytes after its line belong to a command
+abbrev pub bytes_after : Spelled → ℕ
+bytes_after (add path size) = size
+bytes_after (change path size) = size
+bytes_after other = 0

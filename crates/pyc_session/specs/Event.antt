@@ -12,15 +12,6 @@ pub record Event : Type 0 where
   pub wants_memory : Bool
   pub fetched : Option Fetch
 
--- nothing
-abbrev pub quiet : Event
-quiet = record { wants_memory = false; fetched = None }
-
--- what the first command met
-abbrev pub first_event : List Event → Event
-first_event [] = quiet
-first_event (event ∷ events) = event
-
 -- the source at the fetch of one command, where `step` is what a fetch does to a source; with no fetch it stays
 abbrev pub FetchStep : {S : Type 0} → (S → List ℕ → Entry → S → Type 0) → S → Option Fetch → S → Type 0
 FetchStep step before None after = after ≡ before

@@ -3,6 +3,7 @@ pub mod Ending
 pub mod Entry
 pub mod Event
 pub mod Input
+pub mod Limits
 pub mod MemorySource
 pub mod Refusal
 pub mod Session

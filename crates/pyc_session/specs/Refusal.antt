@@ -1,9 +1,11 @@
 -- Why a command is refused.
-use Rattle.std.specs.Prelude.{ℕ, Bool, true, false, not, nat_lt, if◌then◌else◌, List, length, codes, Option, None, Some}
+use Rattle.std.specs.Prelude.{ℕ, Bool, false, not, nat_lt, if◌then◌else◌, List, [], ◌∷◌, length, take, drop, codes}
+use Rattle.std.specs.Prelude.{Option, None, Some}
 use Rattle.pyc_session.specs.declared.refusal.Refusal.{Refusal}
 use Rattle.pyc_session.specs.declared.refusal.Refusal.TheVariants as refusal
 use Rattle.pyc_session.specs.declared.keep.Keep.{Keep}
 use Rattle.pyc_session.specs.declared.keep.Keep.TheVariants as keep
+use Rattle.pyc_session.specs.Limits.{largest_file, most_files}
 use Rattle.pyc_names.specs.ModuleName.{module_of}
 use Rattle.pyc_workspace.specs.Path.{is_file_path}
 use Rattle.pyc_workspace.specs.Workspace.{File, has_file, is_module_taken}
@@ -21,57 +23,55 @@ refusal_text refusal.Truncated = codes "refused 8 truncated\n"
 refusal_text refusal.Memory = codes "refused 9 memory\n"
 refusal_text refusal.Unreadable = codes "refused 10 unreadable\n"
 
--- why a file of this path and size is not added to these files, as far as it is told before the name of its module is
--- formed; the reasons stand in the order in which they are told, and a file has at most 1,048,576 bytes
-unfoldable pub add_refusal : List File → List ℕ → ℕ → Option Refusal
-add_refusal files path size =
-    if not (is_file_path path) then Some refusal.Path
-    else if nat_lt 1048576 size then Some refusal.Large
-    else if has_file files path then Some refusal.Present
-    else None
+-- a reason to refuse a command, and whether it stands
+pub record Reason : Type 0 where
+  pub stands : Bool
+  pub refusal : Refusal
 
--- why a file is not added whose module's name is formed; a session holds at most 1,024 files
-unfoldable pub module_refusal : List File → List ℕ → Option Refusal
-module_refusal files path =
-    if is_module_taken files (module_of path) then Some refusal.Module
-    else if not (nat_lt (length files) 1024) then Some refusal.Many
-    else None
+-- the first reason that stands
+abbrev pub first_standing : List Reason → Option Refusal
+first_standing [] = None
+first_standing (reason ∷ reasons) = if reason.stands then Some reason.refusal else first_standing reasons
 
--- why a file of this path is not changed to one of this size
-unfoldable pub change_refusal : List File → List ℕ → ℕ → Option Refusal
-change_refusal files path size =
-    if not (is_file_path path) then Some refusal.Path
-    else if nat_lt 1048576 size then Some refusal.Large
-    else if not (has_file files path) then Some refusal.Absent
-    else None
+-- a new file is of a path that is not present, another of one that is
+abbrev pub presence : Keep → List File → List ℕ → Reason
+presence keep.Add files path = record { stands = has_file files path; refusal = refusal.Present }
+presence keep.Change files path = record { stands = not (has_file files path); refusal = refusal.Absent }
+
+-- what a new file needs besides: a module of its own, and room for one more file
+abbrev pub room : Keep → List File → List ℕ → List Reason
+room keep.Add files path =
+    record { stands = is_module_taken files (module_of path); refusal = refusal.Module }
+    ∷ record { stands = not (nat_lt (length files) most_files); refusal = refusal.Many } ∷ []
+room keep.Change files path = []
+
+-- Why a file of this path and size is not kept so among these files: the reasons, in the order in which they are told.
+-- `wanting` is whether memory is refused. The first three are told before the name of the module is formed.
+unfoldable pub reasons : Keep → List File → List ℕ → ℕ → Bool → List Reason
+reasons how files path size wanting =
+    record { stands = not (is_file_path path); refusal = refusal.Path }
+    ∷ record { stands = nat_lt largest_file size; refusal = refusal.Large }
+    ∷ presence how files path
+    ∷ record { stands = wanting; refusal = refusal.Memory }
+    ∷ room how files path
+
+-- the first reason that stands, of all
+abbrev pub keep_refusal : Keep → List File → List ℕ → ℕ → Bool → Option Refusal
+keep_refusal how files path size wanting = first_standing (reasons how files path size wanting)
+
+-- of those that are told before the name of the module is formed, for which no memory is needed
+abbrev pub early_refusal : Keep → List File → List ℕ → ℕ → Option Refusal
+early_refusal how files path size = first_standing (take 3 (reasons how files path size false))
+
+-- of those that are told then
+abbrev pub late_refusal : Keep → List File → List ℕ → ℕ → Bool → Option Refusal
+late_refusal how files path size wanting = first_standing (drop 3 (reasons how files path size wanting))
 
 -- why no file of this path is removed
 unfoldable pub remove_refusal : List File → List ℕ → Option Refusal
-remove_refusal files path =
-    if not (is_file_path path) then Some refusal.Path
-    else if not (has_file files path) then Some refusal.Absent
-    else None
-
--- the first of two refusals
-abbrev pub or_else : Option Refusal → Option Refusal → Option Refusal
-or_else (Some why) later = Some why
-or_else None later = later
-
--- what is told before the name of the module is formed, by how the file is kept
-abbrev pub early_refusal : Keep → List File → List ℕ → ℕ → Option Refusal
-early_refusal keep.Add files path size = add_refusal files path size
-early_refusal keep.Change files path size = change_refusal files path size
-
--- what is told then: want of memory, else why the module refuses a new file
-abbrev pub late_refusal : Keep → List File → List ℕ → Bool → Option Refusal
-late_refusal how files path true = Some refusal.Memory
-late_refusal keep.Add files path false = module_refusal files path
-late_refusal keep.Change files path false = None
-
--- what refuses to keep a file, where memory may be wanting
-abbrev pub keep_refusal : Keep → List File → List ℕ → ℕ → Bool → Option Refusal
-keep_refusal how files path size wanting =
-    or_else (early_refusal how files path size) (late_refusal how files path wanting)
+remove_refusal files path = first_standing
+    (record { stands = not (is_file_path path); refusal = refusal.Path }
+    ∷ record { stands = not (has_file files path); refusal = refusal.Absent } ∷ [])
 
 -- how bytes that a source hands over are kept: a file that is present is changed, another added
 abbrev pub kept_as : List File → List ℕ → Keep

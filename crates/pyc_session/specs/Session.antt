@@ -1,35 +1,42 @@
 -- What a session writes: the replies to the commands that its input spells, and how it ends.
-use Rattle.std.specs.Prelude.{ℕ, zero, suc, Bool, nat_lt, if◌then◌else◌, List, [], ◌∷◌, ◌++◌, length, take, drop, codes}
-use Rattle.std.specs.Prelude.{decimal, bytes_eq, ◌&&◌, Option, None, Some, Result, Ok, Err}
+use Rattle.std.specs.Prelude.{◌≡◌, ℕ, Bool, true, nat_lt, not, if◌then◌else◌, List, [], ◌∷◌, ◌++◌, length, take, drop}
+use Rattle.std.specs.Prelude.{codes, decimal, bytes_eq, ◌&&◌, Option, None, Some, Result, Ok, Err, option_map}
+use Rattle.std.specs.Prelude.{option_and_then}
 use Rattle.pyc_session.specs.declared.ending.End.{End}
 use Rattle.pyc_session.specs.declared.ending.End.TheVariants.{Stopped, EndOfInput, Broken}
 use Rattle.pyc_session.specs.declared.options.Options.{Options}
 use Rattle.pyc_session.specs.declared.refusal.Refusal.{Refusal}
 use Rattle.pyc_session.specs.declared.refusal.Refusal.TheVariants as refusal
 use Rattle.pyc_session.specs.Command.{Spelled, add, change, endless, update, remove, check, status, stop, unknown}
-use Rattle.pyc_session.specs.Command.{spelled}
+use Rattle.pyc_session.specs.Command.{spelled, bytes_after}
 use Rattle.pyc_session.specs.Entry.{Entry, bytes, unreadable, no_memory}
-use Rattle.pyc_session.specs.Event.{Event, Fetch, first_event}
+use Rattle.pyc_session.specs.Event.{Event, Fetch}
 use Rattle.pyc_workspace.specs.Fresh.{fresh, units_of}
 use Rattle.pyc_session.specs.Input.{has_line_feed, first_line, after_line, command_line}
 use Rattle.pyc_session.specs.Refusal.{refusal_text, keep_refusal, kept_as, remove_refusal}
+use Rattle.pyc_session.specs.declared.keep.Keep.{Keep}
 use Rattle.pyc_session.specs.declared.keep.Keep.TheVariants as keep
 use Rattle.pyc_body.specs.Report.{Report}
 use Rattle.pyc_workspace.specs.Path.{is_file_path}
 use Rattle.pyc_session.specs.State.{State, start}
 use Rattle.pyc_workspace.specs.Workspace.{File, with_file, without_file}
 
--- the reply of a command that is done and has nothing to tell
-abbrev pub ok : List ℕ
-ok = codes "ok\n"
+-- ---- what a command does to the files
 
--- the reply to `check`: the report, then its status
-abbrev pub check_reply : Report → List ℕ
-check_reply report = report.text ++ (if report.clean then codes "status 0\n" else codes "status 1\n")
+-- what a command came to that keeps or removes a file: why it is refused, if it is, and the state after it
+pub record Outcome : Type 0 where
+  pub refusal : Option Refusal
+  pub state : State
 
--- the state after a completed check
-abbrev pub after_check : State → State
-after_check s = record s { last = s.present; examined = units_of s.present }
+-- why a call refused, if it did
+abbrev pub refusal_in : Result (Unit {0}) Refusal → Option Refusal
+refusal_in (Ok done) = None
+refusal_in (Err why) = Some why
+
+-- a refused command leaves the state as it was, another leaves `s'`
+abbrev pub unless : Option Refusal → State → State → Outcome
+unless (Some why) s s' = record { refusal = Some why; state = s }
+unless None s s' = record { refusal = None; state = s' }
 
 -- the state with this file, in place of the file of its path if there is one
 abbrev pub keeping : State → File → State
@@ -39,11 +46,65 @@ keeping s file = record s { present = with_file s.present file }
 abbrev pub dropping : State → List ℕ → State
 dropping s path = record s { present = without_file s.present path }
 
+-- a file of these bytes is kept, unless it is refused
+abbrev pub kept : Keep → State → List ℕ → List ℕ → Bool → Outcome
+kept how s path held wanting =
+    unless (keep_refusal how s.present path (length held) wanting) s (keeping s (record { path = path; bytes = held }))
+
+-- the file of a path is removed, unless that is refused
+abbrev pub removed : State → List ℕ → Outcome
+removed s path = unless (remove_refusal s.present path) s (dropping s path)
+
+-- a file is kept as the source hands it over; an update whose fetch wanted memory is one that wants memory
+abbrev pub handed_over : State → List ℕ → Bool → Entry → Option Outcome
+handed_over s path wanting (bytes held) = Some (kept (kept_as s.present path) s path held wanting)
+handed_over s path wanting unreadable = Some (record { refusal = Some refusal.Unreadable; state = s })
+handed_over s path wanting no_memory =
+    if wanting then Some (record { refusal = Some refusal.Memory; state = s }) else None
+
+-- a value where nothing was fetched
+abbrev pub unfetched : {T : Type 0} → Option Fetch → T → Option T
+unfetched None value = Some value
+unfetched (Some fetch) value = None
+
+-- a value that an entry gives, where just this path was fetched
+abbrev pub fetched_at : {T : Type 0} → Option Fetch → List ℕ → (Entry → Option T) → Option T
+fetched_at None path given = None
+fetched_at (Some fetch) path given = if bytes_eq fetch.path path then given fetch.entry else None
+
+-- an update with what it met: it fetches where a file may have the path, and just that path; absent where it met
+-- something else
+unfoldable pub updated : State → List ℕ → Event → Option Outcome
+updated s path event =
+    if is_file_path path then fetched_at event.fetched path (handed_over s path event.wants_memory)
+    else unfetched event.fetched (record { refusal = Some refusal.Path; state = s })
+
+-- the state after a completed check
+abbrev pub after_check : State → State
+after_check s = record s { last = s.present; examined = units_of s.present }
+
+-- ---- replies
+
+-- the reply of a command that is done and has nothing to tell
+abbrev pub ok : List ℕ
+ok = codes "ok\n"
+
+-- the reply that tells whether a command is refused
+abbrev pub refusal_reply : Option Refusal → List ℕ
+refusal_reply None = ok
+refusal_reply (Some why) = refusal_text why
+
+-- the reply to `check`: the report, then its status
+abbrev pub check_reply : Report → List ℕ
+check_reply report = report.text ++ (if report.clean then codes "status 0\n" else codes "status 1\n")
+
 -- the reply to `status`: how many files and units the last completed check saw, and how many units it examined
 unfoldable pub status_reply : State → List ℕ
 status_reply s =
     codes "files " ++ (decimal (length s.last) ++ (codes " bodies " ++ (decimal (length (units_of s.last))
     ++ (codes " rechecked " ++ (decimal (length s.examined) ++ codes "\n")))))
+
+-- ---- commands
 
 -- whether a session goes on after a command
 pub data Onward : Type 0 where
@@ -57,100 +118,58 @@ pub record Turn : Type 0 where
   pub onward : Onward
   pub rest : List ℕ
 
--- a refused command leaves the state as it was
-abbrev pub refused : Refusal → State → List ℕ → Turn
-refused why s rest = record { reply = refusal_text why; state = s; onward = goes_on; rest = rest }
+-- a command after which the session goes on
+abbrev pub replied : List ℕ → State → List ℕ → Turn
+replied reply s rest = record { reply = reply; state = s; onward = goes_on; rest = rest }
 
 -- the last command of a session; nothing after it is read
 abbrev pub last_turn : List ℕ → State → End → Turn
 last_turn reply s end = record { reply = reply; state = s; onward = ends end; rest = [] }
 
--- a command that is done and has nothing to tell
-abbrev pub done : State → List ℕ → Turn
-done s rest = record { reply = ok; state = s; onward = goes_on; rest = rest }
+-- a command that tells whether it is refused
+abbrev pub told : Outcome → List ℕ → Turn
+told outcome rest = replied (refusal_reply outcome.refusal) outcome.state rest
 
--- a command that leaves another state, unless it is refused
-abbrev pub unless : Option Refusal → State → State → List ℕ → Turn
-unless (Some why) s s' rest = refused why s rest
-unless None s s' rest = done s' rest
-
--- the turn of a call that answered so, and left this state
-abbrev pub told_turn : Result (Unit {0}) Refusal → State → List ℕ → Turn
-told_turn (Ok _) s rest = done s rest
-told_turn (Err why) s rest = refused why s rest
-
--- a file is kept, unless it is refused
-abbrev pub keep_turn : Option Refusal → State → List ℕ → List ℕ → List ℕ → Turn
-keep_turn told s path held rest = unless told s (keeping s (record { path = path; bytes = held })) rest
-
--- a command with `size` bytes after it, which begin `rest`; they are used up also where the file is refused
-unfoldable pub file_turn : Option Refusal → State → List ℕ → ℕ → List ℕ → Turn
-file_turn told s path size rest =
+-- `add PATH N` or `change PATH N`: the next N bytes are the file's, also where it is refused
+unfoldable pub file_turn : Keep → State → List ℕ → ℕ → Bool → List ℕ → Turn
+file_turn how s path size wanting rest =
     if nat_lt (length rest) size then last_turn (refusal_text refusal.Truncated) s Broken
-    else keep_turn told s path (take size rest) (drop size rest)
-
--- `add PATH N`
-abbrev pub add_turn : State → List ℕ → ℕ → Bool → List ℕ → Turn
-add_turn s path size wanting rest = file_turn (keep_refusal keep.Add s.present path size wanting) s path size rest
-
--- `change PATH N`
-abbrev pub change_turn : State → List ℕ → ℕ → Bool → List ℕ → Turn
-change_turn s path size wanting rest = file_turn (keep_refusal keep.Change s.present path size wanting) s path size rest
-
--- `remove PATH`
-unfoldable pub remove_turn : State → List ℕ → List ℕ → Turn
-remove_turn s path rest = unless (remove_refusal s.present path) s (dropping s path) rest
+    else told (kept how s path (take size rest) wanting) (drop size rest)
 
 -- `check`
 unfoldable pub check_turn : State → Bool → List ℕ → Turn
 check_turn s wanting rest =
-    if wanting then refused refusal.Memory s rest
-    else record { reply = check_reply (fresh s.present); state = after_check s; onward = goes_on; rest = rest }
+    if wanting then replied (refusal_text refusal.Memory) s rest
+    else replied (check_reply (fresh s.present)) (after_check s) rest
 
--- no turn of a session: what was fetched does not belong to the command. Nothing is written, and the session breaks off
-abbrev pub no_turn : State → Turn
-no_turn s = last_turn [] s Broken
+-- What a command does with what it met, a row a command; absent where what it met does not fit it. `update` alone
+-- fetches.
+abbrev pub act : State → Spelled → Event → List ℕ → Option Turn
+act s (add path size) event rest =
+    unfetched event.fetched (file_turn keep.Add s path size event.wants_memory rest)
+act s (change path size) event rest =
+    unfetched event.fetched (file_turn keep.Change s path size event.wants_memory rest)
+act s (update path) event rest = option_map (λ outcome. told outcome rest) (updated s path event)
+act s (remove path) event rest = unfetched event.fetched (told (removed s path) rest)
+act s check event rest = unfetched event.fetched (check_turn s event.wants_memory rest)
+act s status event rest = unfetched event.fetched (replied (status_reply s) s rest)
+act s stop event rest = unfetched event.fetched (last_turn ok s Stopped)
+act s unknown event rest = unfetched event.fetched (replied (refusal_text refusal.Command) s rest)
+act s endless event rest = unfetched event.fetched (last_turn (refusal_text refusal.Command) s Broken)
 
--- `update PATH` with what the source handed over; an update whose fetch wanted memory is one that wants memory
-abbrev pub fetched_turn : State → List ℕ → Bool → Entry → List ℕ → Turn
-fetched_turn s path wanting (bytes handed) rest =
-    keep_turn (keep_refusal (kept_as s.present path) s.present path (length handed) wanting) s path handed rest
-fetched_turn s path wanting unreadable rest = refused refusal.Unreadable s rest
-fetched_turn s path wanting no_memory rest = if wanting then refused refusal.Memory s rest else no_turn s
+-- the first command of an input, with what it met; absent at the end of the input
+unfoldable pub turn : State → List ℕ → Event → Option Turn
+turn s [] event = None
+turn s (b ∷ bs) event =
+    act s (spelled (command_line (first_line (b ∷ bs)) (has_line_feed (b ∷ bs)))) event (after_line (b ∷ bs))
 
--- `update PATH`, which fetches where a file may have the path, and just that path
-unfoldable pub update_turn : State → List ℕ → Bool → Option Fetch → List ℕ → Turn
-update_turn s path wanting None rest = if is_file_path path then no_turn s else refused refusal.Path s rest
-update_turn s path wanting (Some fetch) rest =
-    if is_file_path path && bytes_eq fetch.path path then fetched_turn s path wanting fetch.entry rest else no_turn s
+-- whether a whole command, with the bytes that belong to it, stands at the front of some bytes
+unfoldable pub has_command : List ℕ → Bool
+has_command input =
+    has_line_feed input
+    && not (nat_lt (length (after_line input)) (bytes_after (spelled (command_line (first_line input) true))))
 
--- a command for which nothing is fetched
-abbrev pub act : State → Spelled → Bool → List ℕ → Turn
-act s (add path size) wanting rest = add_turn s path size wanting rest
-act s (change path size) wanting rest = change_turn s path size wanting rest
-act s endless wanting rest = last_turn (refusal_text refusal.Command) s Broken
-act s (update path) wanting rest = update_turn s path wanting None rest
-act s (remove path) wanting rest = remove_turn s path rest
-act s check wanting rest = check_turn s wanting rest
-act s status wanting rest = record { reply = status_reply s; state = s; onward = goes_on; rest = rest }
-act s stop wanting rest = last_turn ok s Stopped
-act s unknown wanting rest = refused refusal.Command s rest
-
--- a command for which something was fetched: `update` alone fetches
-abbrev pub act_fetched : State → Spelled → Bool → Fetch → List ℕ → Turn
-act_fetched s (update path) wanting fetch rest = update_turn s path wanting (Some fetch) rest
-act_fetched s said wanting fetch rest = no_turn s
-
--- what a command does with what it met
-abbrev pub act_with : State → Spelled → Bool → Option Fetch → List ℕ → Turn
-act_with s said wanting None rest = act s said wanting rest
-act_with s said wanting (Some fetch) rest = act_fetched s said wanting fetch rest
-
--- the first command of an input that is not empty
-unfoldable pub turn : State → List ℕ → Event → Turn
-turn s input event =
-    act_with s (spelled (command_line (first_line input) (has_line_feed input))) event.wants_memory event.fetched
-    (after_line input)
+-- ---- sessions
 
 -- what a session writes, and how it ends
 pub record Session : Type 0 where
@@ -158,26 +177,61 @@ pub record Session : Type 0 where
   pub ending : End
 
 -- a reply, and what comes after it
-abbrev pub onto : List ℕ → Onward → Session → Session
-onto reply goes_on later = record { text = reply ++ later.text; ending = later.ending }
-onto reply (ends end) later = record { text = reply; ending = end }
+abbrev pub onto : List ℕ → Session → Session
+onto reply later = record { text = reply ++ later.text; ending = later.ending }
 
--- a session of at most so many commands
-abbrev pub session_within : ℕ → State → List ℕ → List Event → Session
-session_within zero s input events = record { text = []; ending = EndOfInput }
-session_within (suc n) s [] events = record { text = []; ending = EndOfInput }
-session_within (suc n) s (b ∷ bs) events =
-    let t = turn s (b ∷ bs) (first_event events) in
-    onto t.reply t.onward (session_within n t.state t.rest (drop 1 events))
+-- a session that is over, if no event is left
+abbrev pub over : List ℕ → End → List Event → Option Session
+over reply end [] = Some (record { text = reply; ending = end })
+over reply end (event ∷ events) = None
 
--- a session from a state on, with what each command met; no command takes less than a byte
-unfoldable pub session_from : State → List ℕ → List Event → Session
-session_from s input events = session_within (length input) s input events
+-- what an input without commands is: a session that is over, if there is no input
+abbrev pub at_end : List ℕ → Option Session
+at_end [] = Some (record { text = []; ending = EndOfInput })
+at_end (b ∷ bs) = None
 
--- what a session writes for an input
-abbrev pub session_text : Options → List ℕ → List Event → List ℕ
-session_text options input events = (session_from (start options) input events).text
+-- a reply, whether the session goes on, and the session after it
+abbrev pub after_turn : List ℕ → Onward → List Event → Option Session → Option Session
+after_turn reply goes_on events later = option_map (onto reply) later
+after_turn reply (ends end) events later = over reply end events
 
--- how it ends
-abbrev pub session_end : Options → List ℕ → List Event → End
-session_end options input events = (session_from (start options) input events).ending
+-- The session of an input from a state on, with what its commands met, an event a command. It is absent where an event
+-- does not fit its command, where a command has no event, and where an event is left over.
+abbrev pub session_from : State → List ℕ → List Event → Option Session
+session_from s input [] = at_end input
+session_from s input (event ∷ events) =
+    option_and_then (λ t. after_turn t.reply t.onward events (session_from t.state t.rest events)) (turn s input event)
+
+-- the session of an input
+abbrev pub session_of : Options → List ℕ → List Event → Option Session
+session_of options input events = session_from (start options) input events
+
+-- ---- the first commands of a session
+
+-- what the first commands of a session wrote, the state after them, and the input that is left
+pub record Progress : Type 0 where
+  pub text : List ℕ
+  pub state : State
+  pub rest : List ℕ
+
+-- a reply, and the commands after it
+abbrev pub further : List ℕ → Progress → Progress
+further reply later = record later { text = reply ++ later.text }
+
+-- a reply, whether the session goes on, and the commands after it
+abbrev pub go_on : List ℕ → Onward → Option Progress → Option Progress
+go_on reply goes_on later = option_map (further reply) later
+go_on reply (ends end) later = None
+
+-- the first commands, one for each event; absent where one does not fit, or ends the session
+abbrev pub progress : State → List ℕ → List Event → Option Progress
+progress s input [] = Some (record { text = []; state = s; rest = input })
+progress s input (event ∷ events) =
+    option_and_then (λ t. go_on t.reply t.onward (progress t.state t.rest events)) (turn s input event)
+
+-- what the first commands of a session wrote comes first in its text
+abbrev pub CommandsComeFirst : Type 0
+CommandsComeFirst =
+    (s : State) (input : List ℕ) (events more : List Event) (first : Progress) (session : Session)
+    → progress s input events ≡ Some first → session_from s input (events ++ more) ≡ Some session
+    → (later : List ℕ) × (session.text ≡ first.text ++ later)

@@ -1,15 +1,15 @@
 //! The files of a session, and what its last check left.
 
-ghost use Rattle.std.specs.Prelude.{◌≡◌, ℕ, Bool, List, Option, None, Some, true, false, length, IfOk, IfErr, OnOk};
+ghost use Rattle.std.specs.Prelude.{◌≡◌, ◌∷◌, [], ℕ, Bool, List, None, Some, true, false, length, IfOk, IfErr, OnOk};
 ghost use Rattle.std.specs.Prelude.{OnErr, vec_len, if◌then◌else◌};
-ghost use Rattle.pyc_session.specs.Event.{Fetch, FetchStep};
+ghost use Rattle.pyc_session.specs.Event.{Event, FetchStep};
 ghost use Rattle.pyc_workspace.specs.Fresh.{fresh, units_of};
 ghost use Rattle.pyc_names.specs.ModuleName.{module_of};
 ghost use Rattle.pyc_workspace.specs.Path.{is_file_path};
-ghost use Rattle.pyc_session.specs.Refusal.{add_refusal, change_refusal, remove_refusal, early_refusal, late_refusal};
-ghost use Rattle.pyc_session.specs.Refusal.{keep_refusal, kept_as};
+ghost use Rattle.pyc_session.specs.Refusal.{early_refusal, late_refusal, keep_refusal, remove_refusal, kept_as};
+ghost use Rattle.pyc_session.specs.Refusal.{first_standing, presence};
 ghost use Rattle.pyc_body.specs.Report.{report_in};
-ghost use Rattle.pyc_session.specs.Session.{after_check, keeping, dropping, update_turn, told_turn};
+ghost use Rattle.pyc_session.specs.Session.{after_check, keeping, dropping, updated, refusal_in};
 ghost use Rattle.pyc_session.specs.State.{State, start};
 ghost use Rattle.pyc_workspace.specs.Workspace.{has_file};
 
@@ -69,10 +69,7 @@ impl Daemon {
     pub fn early_refusal(&self, keep: Keep, path: &[u8], size: usize) -> Option<Refusal>
         ensures { result ≡ early_refusal keep self.now.present path.now size }
     {
-        match keep {
-            Keep::Add => add_refusal(&self.present, path, size),
-            Keep::Change => change_refusal(&self.present, path, size),
-        }
+        early_refusal(&self.present, keep, path, size)
     }
 
     /// Adds a file. Where it is refused all is as before.
@@ -102,8 +99,8 @@ impl Daemon {
     /// Adds the file whose bytes the source hands over at this path, or changes it if it is present. Where that is
     /// refused all is as before.
     pub fn update<S: Sources>(&mut self, sources: &mut S, path: &[u8]) -> Result<(), Refusal>
-        ensures told { (wanting : Bool) × (fetched : Option Fetch) × FetchStep S.step sources.old fetched sources.new
-            × ((rest : List ℕ) → update_turn self.old path.now wanting fetched rest ≡ told_turn result self.new rest) }
+        ensures told { (event : Event) × FetchStep S.step sources.old event.fetched sources.new
+            × (updated self.old path.now event ≡ Some (record { refusal = refusal_in result; state = self.new })) }
         ensures same { OnErr result (self.new ≡ self.old) }
     {
         if !is_file_path(path) {
@@ -190,10 +187,11 @@ impl Daemon {
     /// before.
     pub fn keep(&mut self, keep: Keep, path: &[u8], bytes: Vec<u8>) -> Result<(), Refusal>
         requires { early_refusal keep self.old.present path.now (vec_len bytes) ≡ None }
-        ensures ok { OnOk result (late_refusal keep self.old.present path.now false ≡ None) }
+        ensures ok { OnOk result (late_refusal keep self.old.present path.now (vec_len bytes) false ≡ None) }
         ensures after { OnOk result (self.new ≡ keeping self.old (record { path = path.now; bytes = bytes.items })) }
         ensures refusal { IfErr result
-            (λ why. (wanting : Bool) × (late_refusal keep self.old.present path.now wanting ≡ Some why)) }
+            (λ why. (wanting : Bool)
+            × (late_refusal keep self.old.present path.now (vec_len bytes) wanting ≡ Some why)) }
         ensures same { OnErr result (self.new ≡ self.old) }
     {
         let path = str::from_utf8(path).unwrap();
@@ -220,35 +218,29 @@ impl Daemon {
     }
 }
 
-/// Why a file of this path and size is not added to these files, as far as that takes no memory to tell.
-#[tactic(auto, unfolding(crate::specs::Refusal::add_refusal))]
-fn add_refusal(files: &Workspace, path: &[u8], size: usize) -> Option<Refusal>
-    ensures { result ≡ add_refusal files.now path.now size }
+/// Why a file of this path and size is not kept so among these files, as far as that takes no memory to tell.
+#[tactic(auto, unfolding(crate::specs::Refusal::reasons))]
+fn early_refusal(files: &Workspace, keep: Keep, path: &[u8], size: usize) -> Option<Refusal>
+    ensures { result ≡ early_refusal keep files.now path.now size }
 {
     if !is_file_path(path) {
         Some(Refusal::Path)
     } else if size > LARGEST_FILE {
         Some(Refusal::Large)
-    } else if files.contains(path) {
-        Some(Refusal::Present)
     } else {
-        None
+        presence_refusal(files, keep, path)
     }
 }
 
-/// Why a file of this path is not changed to one of this size.
-#[tactic(auto, unfolding(crate::specs::Refusal::change_refusal))]
-fn change_refusal(files: &Workspace, path: &[u8], size: usize) -> Option<Refusal>
-    ensures { result ≡ change_refusal files.now path.now size }
+/// Why a file is not kept so, for a file of its path that is present, or none.
+fn presence_refusal(files: &Workspace, keep: Keep, path: &[u8]) -> Option<Refusal>
+    ensures { result ≡ first_standing (presence keep files.now path.now ∷ []) }
 {
-    if !is_file_path(path) {
-        Some(Refusal::Path)
-    } else if size > LARGEST_FILE {
-        Some(Refusal::Large)
-    } else if !files.contains(path) {
-        Some(Refusal::Absent)
-    } else {
-        None
+    let is_present = files.contains(path);
+    match keep {
+        Keep::Add if is_present => Some(Refusal::Present),
+        Keep::Change if !is_present => Some(Refusal::Absent),
+        _ => None,
     }
 }
 
@@ -267,9 +259,10 @@ fn remove_refusal(files: &Workspace, path: &[u8]) -> Option<Refusal>
 }
 
 /// Why the module that its path names refuses a file that is kept so.
-#[tactic(auto, unfolding(crate::specs::Refusal::module_refusal))]
+#[tactic(auto, unfolding(crate::specs::Refusal::reasons))]
 fn module_refusal(files: &Workspace, keep: Keep, name: &ModuleName) -> Option<Refusal>
-    ensures { (path : List ℕ) → name.now ≡ module_of path → result ≡ late_refusal keep files.now path false }
+    ensures { (path : List ℕ) (size : ℕ) → name.now ≡ module_of path
+        → result ≡ late_refusal keep files.now path size false }
 {
     if keep == Keep::Change {
         None

@@ -1,6 +1,6 @@
 //! How a session ends, or what stops it.
 
-ghost use Rattle.std.specs.Prelude.{Some};
+ghost use Rattle.std.specs.Prelude.{◌≡◌, Some};
 ghost use Rattle.pyc_session.specs.Ending.{run_fault_text};
 
 use std::error::Error;
@@ -30,16 +30,25 @@ pub enum RunFault {
     Memory,
 }
 
-impl fmt::Display for RunFault {
-    ghost output = { λ fault. Some (run_fault_text fault) };
-
-    fn fmt<W: fmt::Write>(&self, f: &mut fmt::Formatter<W>) -> fmt::Result {
-        f.write_str(match self {
+impl RunFault {
+    /// The text that tells it.
+    pub fn text(self) -> &'static str
+        ensures { result.now ≡ run_fault_text self }
+    {
+        match self {
             RunFault::Read => "the input cannot be read",
             RunFault::Write => "the output cannot be written",
             RunFault::TooManyTurns => "the input does not end",
             RunFault::Memory => "out of memory",
-        })
+        }
+    }
+}
+
+impl fmt::Display for RunFault {
+    ghost output = { λ fault. Some (run_fault_text fault) };
+
+    fn fmt<W: fmt::Write>(&self, f: &mut fmt::Formatter<W>) -> fmt::Result {
+        f.write_str(self.text())
     }
 }
 

@@ -5,6 +5,7 @@ mod command;
 mod daemon;
 mod ending;
 mod keep;
+pub mod laws;
 mod memory_source;
 mod options;
 mod refusal;

@@ -37,16 +37,16 @@ fn what_was_written_is_fetched(rt: HostRuntime) -> Result<(), Fail> {
 }
 
 #[test]
-fn folders_and_missing_files_are_counted(rt: HostRuntime) -> Result<(), Fail> {
+fn folders_devices_and_missing_files_are_counted(rt: HostRuntime) -> Result<(), Fail> {
     let mut disk = Disk::new(&rt);
-    for path in &[".", "no_such_folder/a.py", "", "a\0.py"] {
+    for path in &[".", "/dev/null", "no_such_folder/a.py", "", "a\0.py"] {
         assert_eq!(rt;
             disk.fetch(rt.alloc(), path).err(),
             Some(FetchFault::Unreadable),
             "at {path:?}"
         );
     }
-    assert_eq!(rt; disk.failures(), 4);
+    assert_eq!(rt; disk.failures(), 5);
     Ok(())
 }
 

@@ -100,18 +100,3 @@ fn words_that_are_no_job(rt: HostRuntime) -> Result<(), Fail> {
     }
     Ok(())
 }
-
-#[test]
-fn statuses(rt: HostRuntime) {
-    for (answer, status) in &[
-        (Ok(End::Stopped), 0),
-        (Ok(End::EndOfInput), 0),
-        (Ok(End::Broken), 2),
-        (Err(RunFault::Read), 2),
-        (Err(RunFault::Write), 2),
-        (Err(RunFault::TooManyTurns), 2),
-        (Err(RunFault::Memory), 2),
-    ] {
-        assert_eq!(rt; session_status(answer), *status);
-    }
-}

@@ -10,7 +10,7 @@ returns-in-Ok c = (
       let whole = rw c.in-Whole.is at c.requires.whole in
       let all = rw c.in-Whole.is at came in
       rw (c.line.ensures.reply, c.line.ensures.end)
-      (file_done _ _ _ _ _ held rest all.1 (sym c.requires.refusal ∙ whole.0) c.in-Ok.ensures.ok (rw all.0 at c.in-Ok.ensures.after)),
+      (file_done _ _ _ _ _ held rest all.1 (sym c.requires.refusal ∙ whole.0) (rw whole.1 at c.in-Ok.ensures.ok) (rw all.0 at c.in-Ok.ensures.after)),
 )
 
 pub returns-in-Err : goal.returns-in-Err
@@ -21,7 +21,7 @@ returns-in-Err c =
           let whole = rw c.in-Whole.is at c.requires.whole in
           let all = rw c.in-Whole.is at came in
           rw (c.line-in-Err.ensures.reply, c.line-in-Err.ensures.end, c.text.ensures)
-          (file_late _ _ _ _ _ late.0 _ held rest all.1 (sym c.requires.refusal ∙ whole.0) late.1 c.in-Err.ensures.same),
+          (file_late _ _ _ _ _ late.0 _ held rest all.1 (sym c.requires.refusal ∙ whole.0) (rw whole.1 at late.1) c.in-Err.ensures.same),
     )
 
 pub returns-in-NotKept : goal.returns-in-NotKept
@@ -38,5 +38,5 @@ returns-in-Truncated c = (
   λ held wanted ended rest came last.
       let short = rw c.in-Truncated.is at came in
       rw (c.last.ensures.reply, c.last.ensures.end, c.text-in-Truncated.ensures)
-      (file_broken _ _ _ _ ended held rest short.0 short.1 last),
+      (file_broken _ _ _ _ true ended held rest short.0 short.1 last),
 )

@@ -1,13 +1,14 @@
-use Rattle.std.proofs.Common.{false, None, [], refl, sym, ◌∙◌}
+use Rattle.std.proofs.Common.{false, None, Some, [], refl, sym, ap, ◌∙◌, option_map}
+use Rattle.pyc_session.specs.Session.{told}
 use Rattle.pyc_daemon.proofs.Moving.{advances_none}
-use Rattle.pyc_session.proofs.Turns.{act_update, told_remove, if_ok}
+use Rattle.pyc_session.proofs.Turns.{told_remove, if_ok}
 use Rattle.pyc_daemon.proofs.Ended.{status_told}
 use Rattle.pyc_daemon.proofs.serving.obey.Goals as goal
 
 pub returns-in-Check-clause-obeyed : goal.returns-in-Check-clause-obeyed
 returns-in-Check-clause-obeyed g c =
     let p = c.check.ensures in
-    ([], record { wants_memory = p.0; fetched = None }, advances_none _ _, λ rest last. rw c.in-Check.is (p.1 rest), λ e. (refl, e), refl)
+    ([], record { wants_memory = p.0; fetched = None }, advances_none _ _, λ rest last. rw c.in-Check.is (ap Some (p.1 rest)), λ e. (refl, e), refl)
 
 pub returns-in-Status-clause-obeyed : goal.returns-in-Status-clause-obeyed
 returns-in-Status-clause-obeyed g c =
@@ -16,12 +17,12 @@ returns-in-Status-clause-obeyed g c =
 pub returns-in-Update-clause-obeyed : goal.returns-in-Update-clause-obeyed
 returns-in-Update-clause-obeyed g c =
     let p = c.update.ensures.told in
-    ([], record { wants_memory = p.0; fetched = p.1 }, advances_none _ _, λ rest last. rw c.in-Update.is (act_update _ _ p.0 p.1 rest ∙ p.3 rest ∙ sym (c.tell.ensures _ rest)), λ e. (refl, e), p.2)
+    ([], p.0, advances_none _ _, λ rest last. rw c.in-Update.is (ap (option_map (λ outcome. told outcome rest)) p.2 ∙ ap Some (sym (c.tell.ensures _ rest))), λ e. (refl, e), p.1)
 
 pub returns-in-Remove-clause-obeyed : goal.returns-in-Remove-clause-obeyed
 returns-in-Remove-clause-obeyed g c =
     let left = c.remove.ensures in
-    ([], record { wants_memory = false; fetched = None }, advances_none _ _, λ rest last. rw c.in-Remove.is (told_remove _ _ _ c.remove.result left.ok left.after left.refusal left.same rest ∙ sym (c.tell-in-Remove.ensures _ rest)), λ e. (refl, e), refl)
+    ([], record { wants_memory = false; fetched = None }, advances_none _ _, λ rest last. rw c.in-Remove.is (ap (λ outcome. Some (told outcome rest)) (told_remove _ _ _ c.remove.result left.ok left.after left.refusal left.same) ∙ ap Some (sym (c.tell-in-Remove.ensures _ rest))), λ e. (refl, e), refl)
 
 pub returns-in-Stop-clause-obeyed : goal.returns-in-Stop-clause-obeyed
 returns-in-Stop-clause-obeyed g c =
@@ -37,10 +38,10 @@ returns-in-Unknown-clause-obeyed g c =
 
 pub returns-in-Add-clause-obeyed : goal.returns-in-Add-clause-obeyed
 returns-in-Add-clause-obeyed g c =
-    if_ok c.keep_file.result _ _ (λ answer kept. (kept.0, record { wants_memory = kept.1; fetched = None }, kept.2, λ rest last. rw c.in-Add.is (kept.3 rest last), kept.4, refl))
+    if_ok c.keep_file.result _ _ (λ answer kept. (kept.0, record { wants_memory = kept.1; fetched = None }, kept.2, λ rest last. rw c.in-Add.is (ap Some (kept.3 rest last)), kept.4, refl))
     c.keep_file.ensures.kept
 
 pub returns-in-Change-clause-obeyed : goal.returns-in-Change-clause-obeyed
 returns-in-Change-clause-obeyed g c =
-    if_ok c.keep_file-in-Change.result _ _ (λ answer kept. (kept.0, record { wants_memory = kept.1; fetched = None }, kept.2, λ rest last. rw c.in-Change.is (kept.3 rest last), kept.4, refl))
+    if_ok c.keep_file-in-Change.result _ _ (λ answer kept. (kept.0, record { wants_memory = kept.1; fetched = None }, kept.2, λ rest last. rw c.in-Change.is (ap Some (kept.3 rest last)), kept.4, refl))
     c.keep_file-in-Change.ensures.kept

@@ -1,16 +1,35 @@
-use Rattle.std.proofs.Common.{refl, ◌++◌, ◌∷◌, [], if◌then◌else◌, sym, ◌∙◌}
+use Rattle.std.proofs.Common.{refl, ◌++◌, ◌∷◌, [], if◌then◌else◌, sym, ◌∙◌, false, None}
 use Rattle.std.proofs.lemmas.Result.{err_from_is_err_and}
-use Rattle.pyc_session.specs.Event.{quiet}
-use Rattle.pyc_daemon.proofs.Moving.{advances_trans}
-use Rattle.pyc_daemon.proofs.Served.{served, some_line, end_line}
+use Rattle.pyc_daemon.proofs.Moving.{advances_trans, sound_trans, fault_after}
+use Rattle.pyc_session.proofs.Turns.{no_line}
+use Rattle.pyc_daemon.proofs.Served.{served, some_line, end_line, less_than_command}
 use Rattle.pyc_daemon.proofs.serving.serve.Goals as goal
+
+pub returns-in_err-fed-clause-err : goal.returns-in_err-fed-clause-err
+returns-in_err-fed-clause-err g c =
+    let raw = c.in_err-fed.ensures.err in
+    let p = err_from_is_err_and c.from_residual.result c.from_residual.ensures.1 in
+    rw p.1 (raw.0, raw.1, no_line raw.0 raw.2)
 
 pub returns-in_err-answer-clause-err : goal.returns-in_err-answer-clause-err
 returns-in_err-answer-clause-err g c =
     let line = c.in_ok-fed.ensures.line in
     let more = c.in_err-answer.ensures.err in
     let p = err_from_is_err_and c.from_residual-in_err-answer.result c.from_residual-in_err-answer.ensures.1 in
-    rw p.1 ((line.0 ++ (if c.in_ok-fed.fed then 10 ∷ [] else [])) ++ more.0, advances_trans _ _ _ _ _ _ _ _ line.1 more.1)
+    rw p.1 (
+      (line.0 ++ (if c.in_ok-fed.fed then 10 ∷ [] else [])) ++ more.0,
+      advances_trans _ _ _ _ _ _ _ _ line.1 more.1,
+      less_than_command line.0 _ more.0 c.in_ok-fed.fed _ line.2 line.3 c.in_ok-fed.ensures.last c.in_err-answer.ensures.begun
+          (rw (c.parse-command.ensures, c.command_line.ensures, c.deref-2.ensures.value) at more.2),
+    )
+
+pub returns-in_err-answer-clause-fault : goal.returns-in_err-answer-clause-fault
+returns-in_err-answer-clause-fault g c =
+    let p = err_from_is_err_and c.from_residual-in_err-answer.result c.from_residual-in_err-answer.ensures.1 in
+    rw (p.1, p.2) (fault_after _ _ _ _ _ c.in_ok-fed.ensures.sound c.in_err-answer.ensures.fault)
+
+pub returns-clause-sound : goal.returns-clause-sound
+returns-clause-sound g c = sound_trans _ _ _ c.in_ok-fed.ensures.sound c.in_ok-answer.ensures.sound
 
 pub returns-clause-served : goal.returns-clause-served
 returns-clause-served g c =
@@ -29,4 +48,4 @@ pub returns-then-is_end-clause-served : goal.returns-then-is_end-clause-served
 returns-then-is_end-clause-served g c =
     let line = c.in_ok-fed.ensures.line in
     let over = end_line line.0 _ c.in_ok-fed.fed line.3 (rw c.deref.ensures.value at (sym c.is_end.ensures ∙ c.if-is_end.true)) in
-    (line.0 ++ (if c.in_ok-fed.fed then 10 ∷ [] else []), quiet, line.1, (over.0, c.in_ok-fed.ensures.last over.1, refl, refl), refl)
+    (line.0 ++ (if c.in_ok-fed.fed then 10 ∷ [] else []), record { wants_memory = false; fetched = None }, line.1, (over.0, c.in_ok-fed.ensures.last over.1, refl, refl), refl)

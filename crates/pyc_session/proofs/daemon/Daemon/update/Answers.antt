@@ -1,4 +1,4 @@
-use Rattle.std.proofs.Common.{true, false, None, Some, sym, ◌∙◌, refl}
+use Rattle.std.proofs.Common.{true, false, None, Some, sym, ◌∙◌, refl, ap}
 use Rattle.pyc_session.specs.Entry as entry
 use Rattle.pyc_session.proofs.Refusals.{path_is_text}
 use Rattle.pyc_workspace.proofs.Texts.{IsOk-utf8}
@@ -6,8 +6,11 @@ use Rattle.pyc_session.proofs.Turns.{update_bad, update_fetched, told_keep}
 use Rattle.pyc_session.proofs.daemon.Daemon.update.Goals as goal
 
 pub returns-then-not-is_file_path-clause-told : goal.returns-then-not-is_file_path-clause-told
-returns-then-not-is_file_path-clause-told g c =
-    (false, None, refl, λ rest. update_bad _ _ false rest (sym c.is_file_path.ensures ∙ c.if-not-is_file_path.true))
+returns-then-not-is_file_path-clause-told g c = (
+  record { wants_memory = false; fetched = None },
+  refl,
+  update_bad _ _ (sym c.is_file_path.ensures ∙ c.if-not-is_file_path.true),
+)
 
 pub unwrap-requires : goal.unwrap-requires
 unwrap-requires g c =
@@ -19,28 +22,25 @@ returns-in-Ok-clause-told g c =
     let text = (rw c.unwrap.ensures at c.from_utf8.ensures.cases).0 in
     let kept = c.keep_unless.ensures in
     let told = told_keep _ _ _ _ _ c.in-Ok.bytes.items c.keep_unless.result c.in-Ok.bytes.ok.0 kept.ok kept.after kept.refusal kept.same in (
-      told.0,
-      Some (record { path = c.args.path.now; entry = entry.bytes c.in-Ok.bytes.items }),
+      record { wants_memory = told.0; fetched = Some (record { path = c.args.path.now; entry = entry.bytes c.in-Ok.bytes.items }) },
       rw text at c.in-Ok.ensures.step,
-      λ rest. update_fetched _ _ told.0 (entry.bytes c.in-Ok.bytes.items) rest good ∙ rw (← c.kept_as-keep.ensures) (told.1 rest),
+      update_fetched _ _ told.0 (entry.bytes c.in-Ok.bytes.items) good ∙ rw (← c.kept_as-keep.ensures) (ap Some told.1),
     )
 
 pub returns-in-Err-Unreadable-clause-told : goal.returns-in-Err-Unreadable-clause-told
 returns-in-Err-Unreadable-clause-told g c =
     let good = sym c.is_file_path.ensures ∙ c.if-not-is_file_path.false in
     let text = (rw c.unwrap.ensures at c.from_utf8.ensures.cases).0 in (
-      false,
-      Some (record { path = c.args.path.now; entry = entry.unreadable }),
+      record { wants_memory = false; fetched = Some (record { path = c.args.path.now; entry = entry.unreadable }) },
       rw (text, c.in-Err-Unreadable.is, c.in-Err-Unreadable.field-0-is) at c.fetch.ensures.step,
-      λ rest. update_fetched _ _ false entry.unreadable rest good,
+      update_fetched _ _ false entry.unreadable good,
     )
 
 pub returns-in-Err-Memory-clause-told : goal.returns-in-Err-Memory-clause-told
 returns-in-Err-Memory-clause-told g c =
     let good = sym c.is_file_path.ensures ∙ c.if-not-is_file_path.false in
     let text = (rw c.unwrap.ensures at c.from_utf8.ensures.cases).0 in (
-      true,
-      Some (record { path = c.args.path.now; entry = entry.no_memory }),
+      record { wants_memory = true; fetched = Some (record { path = c.args.path.now; entry = entry.no_memory }) },
       rw (text, c.in-Err-Memory.is, c.in-Err-Memory.field-0-is) at c.fetch.ensures.step,
-      λ rest. update_fetched _ _ true entry.no_memory rest good,
+      update_fetched _ _ true entry.no_memory good,
     )
