@@ -5,7 +5,7 @@
 
 The source is one text: the `.py` files below FOLDER that scan without a fault, one after another in order of their paths,
 up to 20 MB; FOLDER is this Python's standard library where none is given. A second text has the most tokens and lines that
-so many bytes can have. PROGRAM is built from `bench/tokens.rt.txt` (`scripts/build_tokens.py`, which is called where no
+so many bytes can have. PROGRAM is built from `bench/tokens.rt.txt` (`scripts/by_hand/build.py tokens`, which is called where no
 PROGRAM is given). It scans the text several times in one thread, and times each scan alone, without the reading of the
 text. What is printed is the speed by the processor time of all scans, and that of the quickest scan by the clock; on a busy
 machine the first is the truer one. The memory is the most that the program holds with one scan, less the bytes of the text.
@@ -23,7 +23,7 @@ import sysconfig
 import tempfile
 from pathlib import Path
 
-BUILD = Path(__file__).resolve().parent.parent / "scripts" / "build_tokens.py"
+BUILD = [Path(__file__).resolve().parent.parent / "scripts" / "by_hand" / "build.py", "tokens"]
 MOST = 20_000_000
 SCANS = 15
 SECONDS = 120
@@ -107,7 +107,7 @@ def main():
         try:
             if not program:
                 program = str(Path(name) / "tokens")
-                subprocess.run([sys.executable, BUILD, program], check=True)
+                subprocess.run([sys.executable, *BUILD, program], check=True)
             measure_all(program, words.folder, Path(name))
         except (OSError, Stop, subprocess.SubprocessError) as why:
             print(f"bench: {why}", file=sys.stderr)

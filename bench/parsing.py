@@ -6,7 +6,7 @@
 The sources are texts of up to 1 MiB, which is the most that a file of a session may have: the `.py` files below FOLDER that
 have a tree, one after another in order of their paths; FOLDER is this Python's standard library, without its packages,
 where none is given. Four further texts of 1 MiB have as many statements, items or operands as bytes can have. PROGRAM is
-built from `bench/outcomes.rt.txt` (`scripts/build_outcomes.py`, which is called where no PROGRAM is given). It reads each
+built from `bench/outcomes.rt.txt` (`scripts/by_hand/build.py outcomes`, which is called where no PROGRAM is given). It reads each
 text several times in one thread, and counts the processor time of each alone, first of the outcome and then of its
 removal. The quickest of a text's turns is taken. The memory is the most that the program held in one turn (VmHWM), its
 source included, less that in a turn with an empty source.
@@ -24,7 +24,7 @@ import tempfile
 from pathlib import Path
 from typing import NamedTuple
 
-BUILD = Path(__file__).resolve().parent.parent / "scripts" / "build_outcomes.py"
+BUILD = [Path(__file__).resolve().parent.parent / "scripts" / "by_hand" / "build.py", "outcomes"]
 MOST = 1 << 20
 TEXTS = 16
 TURNS = 9
@@ -132,7 +132,7 @@ def main():
         try:
             if not program:
                 program = str(Path(name) / "outcomes")
-                subprocess.run([sys.executable, BUILD, program], check=True)
+                subprocess.run([sys.executable, *BUILD, program], check=True)
             measure_all(program, words.folder)
         except (OSError, Stop, subprocess.SubprocessError) as why:
             print(f"bench: {why}", file=sys.stderr)

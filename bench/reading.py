@@ -4,7 +4,7 @@
     bench/reading.py [--program PROGRAM] [FOLDER]
 
 The sources are those of `bench/parsing.py`: texts of up to 1 MiB made of the files below FOLDER that have a tree, and texts
-that are dense. PROGRAM is built from `bench/reading.rt.txt` (`scripts/build_reading.py`, which is called where no PROGRAM
+that are dense. PROGRAM is built from `bench/reading.rt.txt` (`scripts/by_hand/build.py reading`, which is called where no PROGRAM
 is given). It reads each text several times in one thread, and counts the processor time of each alone, first of the
 reading, from bytes to abstract tree, and then of the removal. The quickest of a text's turns is taken. Two memories are
 told, both without the source: the most that the program holds in one turn (VmHWM) less that in a turn with an empty
@@ -25,7 +25,7 @@ from typing import NamedTuple
 
 from parsing import DENSE, SECONDS, TURNS, Stop, processor, ran, speed, texts_of, trees_of
 
-BUILD = Path(__file__).resolve().parent.parent / "scripts" / "build_reading.py"
+BUILD = [Path(__file__).resolve().parent.parent / "scripts" / "by_hand" / "build.py", "reading"]
 KEPT = 5
 
 
@@ -92,7 +92,7 @@ def main():
         try:
             if not program:
                 program = str(Path(name) / "reading")
-                subprocess.run([sys.executable, BUILD, program], check=True)
+                subprocess.run([sys.executable, *BUILD, program], check=True)
             measure_all(program, words.folder)
         except (OSError, Stop, subprocess.SubprocessError) as why:
             print(f"bench: {why}", file=sys.stderr)

@@ -39,10 +39,11 @@ run() {
 # Four checks side by side, each with one job: `rt ci` alone reckons with twice the memory that these crates take, and lets
 # half of the processors wait for it.
 run env RT_JOBS="${RT_JOBS:-4}" rt ci
-run python3 scripts/check_layout.py
-run python3 scripts/check_names.py
-run python3 scripts/refused_growths.py
-run python3 scripts/real_files.py
+run python3 scripts/gate/check_layout.py
+run python3 scripts/gate/check_names.py
+run python3 scripts/gate/readme.py
+run python3 scripts/gate/refused_growths.py
+run python3 scripts/gate/real_files.py
 
 echo "gate: $passed passed, $failed failed"
 [[ $failed -eq 0 ]]

@@ -1,7 +1,11 @@
-"""Builds a program of `bench/` over a library of the repository.
+#!/usr/bin/env python3
+"""Proves and builds a program of `bench/` over a library of the repository.
 
-The gate takes no crate that is not listed, and these programs are none of the repository's: each is proved and built in a
-workspace of its own, in a temporary folder, beside a copy of the built libraries.
+    scripts/by_hand/build.py NAME PROGRAM
+
+NAME is that of a program in the table below, `bench/NAME.rt.txt`, and PROGRAM the file to write. The gate takes no crate
+that is not listed, and these programs are none of the repository's: each is proved and built in a workspace of its own, in
+a temporary folder, beside a copy of the built libraries.
 """
 
 import shutil
@@ -10,7 +14,14 @@ import sys
 import tempfile
 from pathlib import Path
 
-ROOT = Path(__file__).resolve().parent.parent
+ROOT = Path(__file__).resolve().parents[2]
+# each program with the libraries that it names; the first one stands on the others, and is built first
+LIBRARIES = {
+    "tokens": ["pyc_lex"],
+    "outcomes": ["pyc_parse"],
+    "trees": ["pyc_lower", "pyc_ast"],
+    "reading": ["pyc_lower", "pyc_ast"],
+}
 
 
 def rows():
@@ -27,9 +38,10 @@ def crates_of(library, named):
     return found
 
 
-def made(folder, name, library, beside):
-    """A workspace with the libraries, as they were built, and the program; it may name some of them beside its own."""
+def made(folder, name):
+    """A workspace with the libraries, as they were built, and the program; it may name others beside the first."""
     named = rows()
+    library, *beside = LIBRARIES[name]
     crates = crates_of(library, named)
     for crate in crates:
         leave_out = shutil.ignore_patterns("incremental")
@@ -43,23 +55,26 @@ def made(folder, name, library, beside):
     return source.parent
 
 
-def build(name, library, program, *beside):
-    """Proves and builds the library, then the program `bench/NAME.rt.txt`, into a file."""
-    subprocess.run(["rt", "lib"], cwd=ROOT / "crates" / library, stdout=sys.stderr, check=True)
+def build(name, program):
+    """Proves and builds the library, then the program, into a file."""
+    subprocess.run(["rt", "lib"], cwd=ROOT / "crates" / LIBRARIES[name][0], stdout=sys.stderr, check=True)
     with tempfile.TemporaryDirectory(prefix=f"{name}-") as folder:
-        crate = made(Path(folder), name, library, beside)
+        crate = made(Path(folder), name)
         subprocess.run(["rt", "run"], cwd=crate, input=b"", stdout=sys.stderr, check=True)
         shutil.copy(crate / "out" / name, program)
 
 
-def build_by_words(name, library, usage, *beside):
-    """Builds the program into the file that the only word of the command line names, and gives the script's status."""
-    if len(sys.argv) != 2:
-        print(usage)
+def main():
+    if len(sys.argv) != 3 or sys.argv[1] not in LIBRARIES:
+        print(__doc__)
         return 2
     try:
-        build(name, library, sys.argv[1], *beside)
+        build(*sys.argv[1:])
     except (OSError, subprocess.CalledProcessError) as why:
-        print(f"{Path(sys.argv[0]).stem}: {why}", file=sys.stderr)
+        print(f"build: {why}", file=sys.stderr)
         return 1
     return 0
+
+
+if __name__ == "__main__":
+    sys.exit(main())

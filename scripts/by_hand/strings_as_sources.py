@@ -1,11 +1,11 @@
 #!/usr/bin/env python3
 """Writes the strings that stand in Python files as sources of their own, as they are and without their common indent.
 
-    scripts/strings_as_sources.py FROM TO
+    scripts/by_hand/strings_as_sources.py FROM TO
 
 Each string of each `.py` file below the folder FROM is taken, and each example of a doctest in it; strings of more than
 20,000 characters and of names alone are left. The folder TO is made. Tests of Python's own parser hold many sources
-that `scripts/compare_parses.py TO` can then compare.
+that `scripts/by_hand/compare_parses.py TO` can then compare.
 """
 
 import ast

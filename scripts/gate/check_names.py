@@ -1,7 +1,7 @@
 #!/usr/bin/env python3
 """Looks whether what the documents name is there.
 
-    scripts/check_names.py
+    scripts/gate/check_names.py
 
 In README.md and docs/*.md each link to a file of the repository has its target, and the heading that it may name. Where
 a link's text is one name in backticks and its target a file of code, of definitions or an edit, that file defines the
@@ -14,7 +14,7 @@ import re
 import sys
 from pathlib import Path
 
-ROOT = Path(__file__).resolve().parent.parent
+ROOT = Path(__file__).resolve().parents[2]
 DOCS = ROOT / "docs"
 PAGES = [ROOT / "README.md", *sorted(DOCS.glob("*.md"))]
 MAPS = {"README.md", "ARCHITECTURE.md", "INDEX.md", "THEOREMS.md"}

@@ -1,5 +1,6 @@
 """Checks of files: the files, and for each command line of `dmypy check` what it prints and tells."""
 
+import os
 from typing import NamedTuple
 
 ERROR = 'error: Incompatible types in assignment (expression has type "str", variable has type "int")  [assignment]'
@@ -41,6 +42,8 @@ CHECKS = [
     Check((), ("../good.py",), NONE, "dmypy: ../good.py: refused 2 path\n", 2),
     Check((), ("good.py", "good/__init__.py"), CLEAN, "dmypy: good/__init__.py: refused 7 module\n", 2),
     Check((), ("large.py",), NONE, "dmypy: large.py: refused 5 large\n", 2),
+    # nothing writes to the pipe: a check that opened it would wait
+    Check((), ("pipe.py", "good.py"), CLEAN, "dmypy: pipe.py: refused 10 unreadable\n", 2),
 ]
 
 
@@ -53,4 +56,5 @@ def make_files(folder):
     (folder / "good" / "__init__.py").write_text("")
     (folder / "bad.py").write_text('x: int = "a"\n')
     (folder / "inner" / "bad.py").write_text('\ny: int = "a"\n')
+    os.mkfifo(folder / "pipe.py")
     (folder / "large.py").write_text("\n" * 1_048_577)

@@ -1,9 +1,9 @@
 #!/usr/bin/env python3
 """Finds how much stack `outcome` of `pyc_parse` takes for the deepest trees, and looks whether any source exhausts it.
 
-    scripts/stack_depth.py [--program PROGRAM]
+    scripts/by_hand/stack_depth.py [--program PROGRAM]
 
-PROGRAM is built from `bench/outcomes.rt.txt` (`scripts/build_outcomes.py`, which is called where no PROGRAM is given). For
+PROGRAM is built from `bench/outcomes.rt.txt` (`scripts/by_hand/build.py outcomes`, which is called where no PROGRAM is given). For
 each shape of source that nests or repeats something N times:
 
 - the largest N for which there is a tree, up to what 1 MiB of source holds, and the smallest limit on the stack, in steps
@@ -22,7 +22,7 @@ import sys
 import tempfile
 from pathlib import Path
 
-BUILD = Path(__file__).resolve().parent / "build_outcomes.py"
+BUILD = [Path(__file__).resolve().parent / "build.py", "outcomes"]
 MOST = 1 << 20
 USUAL = 8192
 # more than the height of a tree, which is 1,000 at most
@@ -197,7 +197,7 @@ def main():
         program = words.program
         if not program:
             program = str(Path(room) / "outcomes")
-            subprocess.run([sys.executable, BUILD, program], check=True)
+            subprocess.run([sys.executable, *BUILD, program], check=True)
         return 0 if judge_all(program) else 1
 
 

@@ -1,10 +1,10 @@
 #!/usr/bin/env python3
 """Compares which sources `pyc_parse` reads with those that Python's own `ast` reads, on every `.py` file below a folder.
 
-    scripts/compare_parses.py [--program PROGRAM] FOLDER
+    scripts/by_hand/compare_parses.py [--program PROGRAM] FOLDER
 
 PROGRAM prints what the files are that its standard input names (`bench/outcomes.rt.txt`); without it, it is built first
-(`scripts/build_outcomes.py`), which takes minutes. Each file is counted under one heading:
+(`scripts/by_hand/build.py outcomes`), which takes minutes. Each file is counted under one heading:
 
 - `tree in both`, where the file has none of the forms that are left out here;
 - the rule by which a file that `ast` reads has a fault here (`LEFT_OUT` of `profile_rules.py`): the fault must be told on
@@ -30,7 +30,7 @@ from pathlib import Path
 from compare_tokens import BYTE_ORDER_MARK, with_line_feeds
 from profile_rules import BEYOND, LATER, LEFT_OUT, LIMITS, Expected, beyond, by_limits, expected
 
-BUILD = Path(__file__).resolve().parent / "build_outcomes.py"
+BUILD = [Path(__file__).resolve().parent / "build.py", "outcomes"]
 SECONDS = 600
 TREE = "tree"
 BOTH = "tree in both"
@@ -138,7 +138,7 @@ def main():
         program = words.program
         if not program:
             program = str(Path(room) / "outcomes")
-            subprocess.run([sys.executable, BUILD, program], check=True)
+            subprocess.run([sys.executable, *BUILD, program], check=True)
         return 1 if compare(program, words.folder) else 0
 
 

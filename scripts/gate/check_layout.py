@@ -1,7 +1,7 @@
 #!/usr/bin/env python3
 """Looks whether each file of code has a head, and whether the lines of code and definitions fit into 120 columns.
 
-    scripts/check_layout.py
+    scripts/gate/check_layout.py
 
 A file below `src/` begins with `//!`. No line of a file in `src/` or `specs/` is wider than 120 columns, string literals
 left out: they are told with their files by no line breaks of their own. An attribute is on one line, however wide, since
@@ -12,7 +12,7 @@ import re
 import sys
 from pathlib import Path
 
-CRATES = Path(__file__).resolve().parent.parent / "crates"
+CRATES = Path(__file__).resolve().parents[2] / "crates"
 COLUMNS = 120
 STRING = re.compile(r'"(?:\\.|[^"\\])*(?:"|\\?$)')
 

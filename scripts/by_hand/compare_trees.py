@@ -1,10 +1,10 @@
 #!/usr/bin/env python3
 """Compares the abstract trees of `pyc_lower` with those that CPython's own `ast` gives, on every `.py` file below a folder.
 
-    scripts/compare_trees.py [--program PROGRAM] FOLDER
+    scripts/by_hand/compare_trees.py [--program PROGRAM] FOLDER
 
 PROGRAM prints the abstract trees of the files that its standard input names (`bench/trees.rt.txt`); without it, it is built
-first (`scripts/build_trees.py`), which takes minutes. A file passes where its tree is, node for node, the one that
+first (`scripts/by_hand/build.py trees`), which takes minutes. A file passes where its tree is, node for node, the one that
 `abstract_trees.py` makes of `ast` and of Python's tokens: each form, operator, name, parameter, default, decorator, alias,
 position and mark. Each file that differs is named with the first difference, what the program gives before what Python says.
 
@@ -30,7 +30,7 @@ from pathlib import Path
 from abstract_trees import ANY, tree_rows
 from compare_parses import NOT_READ, text_of
 
-BUILD = Path(__file__).resolve().parent / "build_trees.py"
+BUILD = [Path(__file__).resolve().parent / "build.py", "trees"]
 SECONDS = 600
 BATCH = 50
 MOST_RECURSIONS = 20_000
@@ -135,7 +135,7 @@ def main():
         program = words.program
         if not program:
             program = str(Path(room) / "trees")
-            subprocess.run([sys.executable, BUILD, program], check=True)
+            subprocess.run([sys.executable, *BUILD, program], check=True)
         return 0 if compare(program, words.folder) else 1
 
 

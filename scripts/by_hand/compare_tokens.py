@@ -1,10 +1,10 @@
 #!/usr/bin/env python3
 """Compares the tokens of `pyc_lex` with those of Python's own `tokenize`, on every `.py` file below a folder.
 
-    scripts/compare_tokens.py [--program PROGRAM] FOLDER
+    scripts/by_hand/compare_tokens.py [--program PROGRAM] FOLDER
 
 PROGRAM prints the tokens of the source on its standard input (`bench/tokens.rt.txt`); without it, it is built first
-(`scripts/build_tokens.py`), which takes minutes. A file is equal where the texts of all tokens, their lines and columns,
+(`scripts/by_hand/build.py tokens`), which takes minutes. A file is equal where the texts of all tokens, their lines and columns,
 the logical lines with their indents, and the ignore comments are the same. Each other file is named with the reason, which
 is one of:
 
@@ -31,7 +31,7 @@ import tokenize
 import warnings
 from pathlib import Path
 
-BUILD = Path(__file__).resolve().parent / "build_tokens.py"
+BUILD = [Path(__file__).resolve().parent / "build.py", "tokens"]
 SECONDS = 60
 BYTE_ORDER_MARK = b"\xef\xbb\xbf"
 SKIPPED = {tokenize.COMMENT, tokenize.NL, tokenize.NEWLINE, tokenize.INDENT, tokenize.DEDENT, tokenize.ENDMARKER}
@@ -280,7 +280,7 @@ def main():
         program = words.program
         if not program:
             program = str(Path(room) / "tokens")
-            subprocess.run([sys.executable, BUILD, program], check=True)
+            subprocess.run([sys.executable, *BUILD, program], check=True)
         return 1 if compare(program, words.folder) else 0
 
 

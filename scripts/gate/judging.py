@@ -2,7 +2,7 @@
 
 from pathlib import Path
 
-PROGRAM = Path(__file__).resolve().parent.parent / "crates" / "dmypy" / "out" / "dmypy"
+PROGRAM = Path(__file__).resolve().parents[2] / "crates" / "dmypy" / "out" / "dmypy"
 # how long a run may take
 SECONDS = 60
 
