@@ -6,6 +6,8 @@ pub mod check_files;
 mod daemon_tests;
 pub mod disk;
 #[cfg(test)]
+mod lowering_tests;
+#[cfg(test)]
 mod parser_tests;
 pub mod session;
 #[cfg(test)]

@@ -6,7 +6,5 @@ mod expression_input;
 mod ignores;
 mod reading;
 mod strings;
-#[cfg(test)]
-mod tests;
 
 pub use reading::read;

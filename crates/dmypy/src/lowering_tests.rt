@@ -1,7 +1,7 @@
 //! Sources with the abstract trees and positions that CPython's `ast` gives them, columns counted from 1.
 
-use crate::read;
 use pyc_ast::{Block, Codes, Expr, Fault, Form, Index, IndexForm, Module, Outcome, Stmt, StmtForm};
+use pyc_lower::read;
 use std::alloc::Global;
 use std::fmt::Write;
 use std::test::Fail;
