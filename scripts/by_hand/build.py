@@ -8,6 +8,7 @@ that is not listed, and these programs are none of the repository's: each is pro
 a temporary folder, beside a copy of the built libraries.
 """
 
+import contextlib
 import shutil
 import subprocess
 import sys
@@ -62,6 +63,15 @@ def build(name, program):
         crate = made(Path(folder), name)
         subprocess.run(["rt", "run"], cwd=crate, input=b"", stdout=sys.stderr, check=True)
         shutil.copy(crate / "out" / name, program)
+
+
+@contextlib.contextmanager
+def built(name, given):
+    """The program of this name: the one that is given, or else one that is built and goes with the `with`."""
+    with tempfile.TemporaryDirectory() as room:
+        if not given:
+            build(name, str(Path(room) / name))
+        yield given or str(Path(room) / name)
 
 
 def main():

@@ -23,14 +23,13 @@ import collections
 import platform
 import subprocess
 import sys
-import tempfile
 import warnings
 from pathlib import Path
 
+from build import built
 from compare_tokens import BYTE_ORDER_MARK, with_line_feeds
 from profile_rules import BEYOND, LATER, LEFT_OUT, LIMITS, Expected, beyond, by_limits, expected
 
-BUILD = [Path(__file__).resolve().parent / "build.py", "outcomes"]
 SECONDS = 600
 TREE = "tree"
 BOTH = "tree in both"
@@ -134,11 +133,7 @@ def main():
     parser.add_argument("--program", help="the built program that prints outcomes")
     parser.add_argument("folder", type=Path)
     words = parser.parse_args()
-    with tempfile.TemporaryDirectory() as room:
-        program = words.program
-        if not program:
-            program = str(Path(room) / "outcomes")
-            subprocess.run([sys.executable, *BUILD, program], check=True)
+    with built("outcomes", words.program) as program:
         return 1 if compare(program, words.folder) else 0
 
 

@@ -26,12 +26,12 @@ import platform
 import re
 import subprocess
 import sys
-import tempfile
 import tokenize
 import warnings
 from pathlib import Path
 
-BUILD = [Path(__file__).resolve().parent / "build.py", "tokens"]
+from build import built
+
 SECONDS = 60
 BYTE_ORDER_MARK = b"\xef\xbb\xbf"
 SKIPPED = {tokenize.COMMENT, tokenize.NL, tokenize.NEWLINE, tokenize.INDENT, tokenize.DEDENT, tokenize.ENDMARKER}
@@ -276,11 +276,7 @@ def main():
     parser.add_argument("--program", help="the built program that prints tokens")
     parser.add_argument("folder", type=Path)
     words = parser.parse_args()
-    with tempfile.TemporaryDirectory() as room:
-        program = words.program
-        if not program:
-            program = str(Path(room) / "tokens")
-            subprocess.run([sys.executable, *BUILD, program], check=True)
+    with built("tokens", words.program) as program:
         return 1 if compare(program, words.folder) else 0
 
 

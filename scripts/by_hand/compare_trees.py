@@ -23,14 +23,13 @@ import os
 import platform
 import subprocess
 import sys
-import tempfile
 import warnings
 from pathlib import Path
 
 from abstract_trees import ANY, tree_rows
+from build import built
 from compare_parses import NOT_READ, text_of
 
-BUILD = [Path(__file__).resolve().parent / "build.py", "trees"]
 SECONDS = 600
 BATCH = 50
 MOST_RECURSIONS = 20_000
@@ -131,11 +130,7 @@ def main():
     parser.add_argument("folder", type=Path)
     words = parser.parse_args()
     sys.setrecursionlimit(MOST_RECURSIONS)
-    with tempfile.TemporaryDirectory() as room:
-        program = words.program
-        if not program:
-            program = str(Path(room) / "trees")
-            subprocess.run([sys.executable, *BUILD, program], check=True)
+    with built("trees", words.program) as program:
         return 0 if compare(program, words.folder) else 1
 
 

@@ -19,10 +19,9 @@ import argparse
 import resource
 import subprocess
 import sys
-import tempfile
-from pathlib import Path
 
-BUILD = [Path(__file__).resolve().parent / "build.py", "outcomes"]
+from build import built
+
 MOST = 1 << 20
 USUAL = 8192
 # more than the height of a tree, which is 1,000 at most
@@ -193,11 +192,7 @@ def main():
     parser = argparse.ArgumentParser(description="Finds the stack that the deepest trees take.")
     parser.add_argument("--program", help="the built program that prints outcomes")
     words = parser.parse_args()
-    with tempfile.TemporaryDirectory() as room:
-        program = words.program
-        if not program:
-            program = str(Path(room) / "outcomes")
-            subprocess.run([sys.executable, *BUILD, program], check=True)
+    with built("outcomes", words.program) as program:
         return 0 if judge_all(program) else 1
 
 

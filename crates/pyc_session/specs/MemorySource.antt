@@ -1,10 +1,11 @@
 -- The files of a source in memory, and what a fetch from it hands over.
-use Rattle.std.specs.Prelude.{◌≡◌, ℕ, bytes_eq, if◌then◌else◌, List, [], ◌∷◌, map, take, string_bytes, String, Vec}
+use Rattle.std.specs.Prelude.{◌≡◌, ◌+◌, ℕ, bytes_eq, if◌then◌else◌, List, [], ◌∷◌, map, take, string_bytes, String, Vec}
 use Rattle.std.specs.Prelude.{Option, None, Some}
 use Rattle.std.specs.Global.{Global}
 use Rattle.std.specs.Option.{option_map}
 use Rattle.pyc_session.specs.declared.memory_source.MemorySource.{MemorySource}
 use Rattle.pyc_session.specs.Entry.{Entry, bytes, unreadable, no_memory}
+use Rattle.pyc_session.specs.Limits.{largest_file}
 
 -- a path and its bytes, as plain values
 abbrev pub file_in : String Global × Vec ℕ Global → List ℕ × List ℕ
@@ -23,10 +24,11 @@ abbrev pub bytes_at : List (List ℕ × List ℕ) → List ℕ → Option (List 
 bytes_at [] path = None
 bytes_at (file ∷ files) path = if bytes_eq file.0 path then Some file.1 else bytes_at files path
 
--- what one fetch hands over: the first 1,048,577 bytes of the file of this path, or nothing where no file has this path
--- or memory is refused; the files stay as they were
+-- what one fetch hands over: the first bytes of the file of this path, at most one more than a file may have, or none
+-- where no file has this path or memory is refused; the files stay as they were
 abbrev pub Fetches : MemorySource → List ℕ → Entry → MemorySource → Type 0
 Fetches before path (bytes handed) after =
-    (option_map (take 1048577) (bytes_at (files_of before) path) ≡ Some handed) × (files_of after ≡ files_of before)
+    (option_map (take (largest_file + 1)) (bytes_at (files_of before) path) ≡ Some handed)
+    × (files_of after ≡ files_of before)
 Fetches before path unreadable after = (bytes_at (files_of before) path ≡ None) × (files_of after ≡ files_of before)
 Fetches before path no_memory after = files_of after ≡ files_of before

@@ -18,8 +18,12 @@ names_python_file path =
     ends_with nat_eq path (codes ".py") && not (ends_with nat_eq path (codes "/.py"))
     && not (bytes_eq path (codes ".py"))
 
+-- the most bytes of a path
+abbrev pub longest_path : ℕ
+longest_path = 255
+
 -- a path that a file may have; `__init__.py` at the top would name no module
 unfoldable pub is_file_path : List ℕ → Bool
 is_file_path path =
-    nat_le (length path) 255 && list_all is_path_byte path && list_all is_path_part (slice_split is_slash path)
+    nat_le (length path) longest_path && list_all is_path_byte path && list_all is_path_part (slice_split is_slash path)
     && names_python_file path && not (bytes_eq path (codes "__init__.py")) && is_utf8 path
