@@ -1,6 +1,7 @@
 //! One check of the files that the command line names.
 
-ghost use Rattle.std.specs.Prelude.{◌≡◌, ◌<◌, [], ℕ, Result, Ok, map, string_bytes, if◌then◌else◌, IfOk, OnErr, OnOk};
+ghost use Rattle.std.specs.Prelude.{◌≡◌, ◌<◌, [], ℕ, Result, Ok, map, string_bytes, if◌then◌else◌, IfOk, IfErr};
+ghost use Rattle.std.specs.Prelude.{OnErr, OnOk};
 ghost use Rattle.std.specs.Io.KnownBytes.{Appends};
 ghost use Rattle.pyc_daemon.specs.Counted.{inner_of, faults_of, zeros_of, IsSound, FailsOnce};
 ghost use Rattle.pyc_session.specs.Event.{Event, FetchStep};
@@ -67,6 +68,7 @@ fn check_and_tell<S: Sources, O: Write, E: Write>(
         (outputs sources.old (O.contents (inner_of out.old)) (E.contents (inner_of err.old)))
         (outputs sources.new (O.contents (inner_of out.new)) (E.contents (inner_of err.new)))
         (map string_bytes files.now) result }
+    ensures fault { IfErr result (λ e. e ≡ RunFault.Write) }
     ensures counts { ComesOfCheck result out.old out.new err.old err.new }
 {
     let mut daemon = Daemon::new(alloc, *options);
@@ -89,6 +91,7 @@ fn update_all<S: Sources, E: Write>(
         (BeginsUpdates S.step sources.old sources.new (E.contents (inner_of err.old)) (E.contents (inner_of err.new))
         daemon.old (map string_bytes files.now)) }
     ensures sound { OnOk result (IsSound err.old err.new) }
+    ensures fault { IfErr result (λ e. e ≡ RunFault.Write) }
     ensures cause { OnErr result (FailsOnce err.old err.new) }
 {
     let mut refused = false;
@@ -109,6 +112,7 @@ fn update_one<S: Sources, E: Write>(
         × UpdatesOne (E.contents (inner_of err.old)) (E.contents (inner_of err.new)) file.now daemon.old daemon.new
         event result }
     ensures sound { OnOk result (IsSound err.old err.new) }
+    ensures fault { IfErr result (λ e. e ≡ RunFault.Write) }
     ensures cause { OnErr result (FailsOnce err.old err.new) }
 {
     match daemon.update(sources, file.as_bytes()) {
@@ -127,6 +131,7 @@ fn tell_refusal<E: Write>(err: &mut Counted<E>, file: &str, why: Refusal) -> Res
     ensures part { OnErr result
         (WritesPart (E.contents (inner_of err.old)) (E.contents (inner_of err.new)) (refusal_line file.now why)) }
     ensures sound { OnOk result (IsSound err.old err.new) }
+    ensures fault { IfErr result (λ e. e ≡ RunFault.Write) }
     ensures cause { OnErr result (FailsOnce err.old err.new) }
 {
     write_parts(err, &["dmypy: ", file, ": "])?;
@@ -142,6 +147,7 @@ fn print_report<O: Write, E: Write>(
 ) -> Result<u8, RunFault>
     ensures checks { Prints (O.contents (inner_of out.old)) (O.contents (inner_of out.new))
         (E.contents (inner_of err.old)) (E.contents (inner_of err.new)) (fresh daemon.old.present) refused result }
+    ensures fault { IfErr result (λ e. e ≡ RunFault.Write) }
     ensures counts { ComesOfCheck result out.old out.new err.old err.new }
 {
     let Ok(report) = daemon.check() else {

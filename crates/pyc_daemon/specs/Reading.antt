@@ -1,5 +1,5 @@
 -- What reading an input in pieces does: bytes are read from the reader, held in a window, and used.
-use Rattle.std.specs.Prelude.{◌≡◌, ℕ, ◌+◌, ◌-◌, ◌*◌, ◌<◌, ◌≤◌, Bool, IsTrue, if◌then◌else◌, List, ◌++◌, Option}
+use Rattle.std.specs.Prelude.{◌≡◌, ℕ, ◌+◌, ◌-◌, ◌*◌, ◌≤◌, Bool, IsTrue, if◌then◌else◌, List, ◌++◌, Option}
 use Rattle.std.specs.Io.KnownBytes.{Consumes, IsAtEnd}
 use Rattle.pyc_daemon.specs.Counted.{IsSound, calls_of, faults_of, one_more}
 use Rattle.pyc_daemon.specs.declared.counted.Counted.{Counted}

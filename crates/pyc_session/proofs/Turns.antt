@@ -1,5 +1,5 @@
 -- Commands at the front of an input, and the sessions that follow them.
-use Rattle.std.proofs.Common.{◌≡◌, ℕ, ◌<◌, ◌≤◌, Bool, true, false, not, if◌then◌else◌, ◌==◌, ◌&&◌, nat_lt, List, [], ◌∷◌, ◌++◌, length, take, drop, bytes_eq, zero, suc, Option, None, Some, option_map, option_and_then, Result, Ok, Err, OnOk, OnErr, IfOk, IfErr, unwrap_or, refl, sym, ap, subst, ◌∙◌, arith, append_assoc, length-append}
+use Rattle.std.proofs.Common.{◌≡◌, ℕ, ◌<◌, ◌≤◌, Bool, true, false, if◌then◌else◌, ◌==◌, nat_lt, List, [], ◌∷◌, ◌++◌, length, take, drop, bytes_eq, zero, suc, Option, None, Some, option_map, option_and_then, Result, Ok, Err, OnOk, OnErr, IfOk, IfErr, unwrap_or, refl, sym, ap, subst, ◌∙◌, arith, append_assoc, length-append}
 use Rattle.std.proofs.Math.Seq.{take-append_seam, drop-append_seam}
 use Rattle.std.proofs.lemmas.Bool.Decides.{nat_tests}
 use Rattle.pyc_session.specs.Command.{bytes_after, spelled}
@@ -9,7 +9,7 @@ use Rattle.pyc_session.specs.Input.{has_line_feed, first_line, after_line, comma
 use Rattle.pyc_session.specs.Refusal.{Reason, first_standing, reasons, refusal_text, early_refusal, late_refusal, keep_refusal, remove_refusal}
 use Rattle.pyc_workspace.specs.Path.{is_file_path}
 use Rattle.pyc_session.specs.declared.keep.Keep.{Keep}
-use Rattle.pyc_session.specs.Session.{Turn, Onward, Outcome, Session, Progress, turn, has_command, file_turn, unless, told, kept, removed, updated, handed_over, refusal_in, check_turn, check_reply, after_check, keeping, dropping, replied, ok, last_turn, goes_on, ends, onto, after_turn, session_from, further, go_on, progress, CommandsComeFirst}
+use Rattle.pyc_session.specs.Session.{Turn, Onward, Session, Progress, turn, has_command, file_turn, told, kept, removed, updated, handed_over, refusal_in, check_turn, check_reply, after_check, keeping, dropping, replied, ok, last_turn, goes_on, ends, onto, after_turn, session_from, further, go_on, progress, CommandsComeFirst}
 use Rattle.pyc_session.specs.State.{State}
 use Rattle.pyc_workspace.specs.Workspace.{File}
 use Rattle.pyc_workspace.specs.Fresh.{fresh}

@@ -1,5 +1,5 @@
 -- What a session meets outside its input, command by command.
-use Rattle.std.specs.Prelude.{◌≡◌, ℕ, Bool, false, List, [], ◌∷◌, Option, None, Some}
+use Rattle.std.specs.Prelude.{◌≡◌, ℕ, Bool, List, [], ◌∷◌, Option, None, Some}
 use Rattle.pyc_session.specs.Entry.{Entry}
 
 -- a fetch: its path, and what the source handed over

@@ -1,7 +1,7 @@
 use Rattle.std.proofs.Common.{◌∙◌, ◌++◌, ap, sym, take}
 use Rattle.std.proofs.lemmas.List.{take-append-drop}
 use Rattle.std.proofs.lemmas.Result.{err_from_is_err_and}
-use Rattle.pyc_daemon.proofs.Going.{written_none, written_on, written_part, written_all}
+use Rattle.pyc_daemon.proofs.Going.{written_none, written_on}
 use Rattle.pyc_daemon.proofs.Moving.{sound_none, sound_trans, write_fault}
 use Rattle.pyc_session.proofs.CommandWords.{take_rest}
 use Rattle.pyc_daemon.proofs.writing.write_bytes.Goals as goal
