@@ -3,7 +3,8 @@
 Each file sessions/NAME.session is run with its first growth refused, then with its second, and so on, until a run in
 which none was refused. Such a run writes sessions/NAME.stdout. Each other run does one of two:
 
-- It reads nothing, writes nothing to standard output, and ends with status 2.
+- It reads nothing, writes nothing to standard output, tells on standard error that memory ran out, and ends with
+  status 2.
 - It writes the session in which exactly one command that takes memory (`add`, `change`, `update` or `check`) was
   answered `refused 9 memory`. A refused command changes nothing, so the rest of that session is what the program
   writes, with memory enough, for the session without that command.
@@ -20,6 +21,8 @@ from preloaded import OUT_OF_MEMORY, SCRIPTS, Stop, growth_numbers
 
 SESSIONS = SCRIPTS / "sessions"
 REFUSAL = b"refused 9 memory\n"
+# what is told where memory is refused before the first read, each with what it was wanted for
+BEFORE_THE_FIRST_READ = {OUT_OF_MEMORY: "words", b"dmypy: out of memory\n": "buffers"}
 # the commands that take memory, each with the refusals that are told only after memory was taken
 LATE_REFUSALS = {"add": ("6", "7"), "change": (), "update": ("5", "6", "7", "10"), "check": ()}
 
@@ -156,9 +159,9 @@ class Sessions:
     def judge_refused(self, done, where, commands, variants):
         """Judges a run of a session in which a growth was refused."""
         if done.output == b"":
-            is_told = done.told in (b"", OUT_OF_MEMORY)
-            self.tally.judge(is_told and done.status == 2 and done.count == 0, where)
-            self.seen.add("start")
+            kind = BEFORE_THE_FIRST_READ.get(done.told)
+            self.tally.judge(kind is not None and done.status == 2 and done.count == 0, where)
+            self.seen.add(kind)
             return
         place = refused_place(done.output, variants)
         self.tally.judge(place is not None and done.told == b"" and done.status == 0, where)
@@ -177,7 +180,8 @@ class Sessions:
 
     def judge_seen(self):
         """Judges that each kind of refusal occurred."""
-        self.tally.judge("start" in self.seen, "no session was refused before its first read")
+        for kind in BEFORE_THE_FIRST_READ.values():
+            self.tally.judge(kind in self.seen, f"no session was refused its {kind}")
         for word in LATE_REFUSALS:
             self.tally.judge(word in self.seen, f"no session was refused at a command `{word}`")
             self.tally.judge(f"{word} again" in self.seen, f"no refused `{word}` was given again and done")
