@@ -1,4 +1,5 @@
 pub mod IgnoreLemmas
+pub mod IgnoreSpans
 pub mod MarkLemmas
 pub mod OrderLemmas
 pub mod ReadLemmas

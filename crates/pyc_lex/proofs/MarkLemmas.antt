@@ -1,15 +1,14 @@
 -- Where a source may be cut: after its byte order mark.
-use Rattle.std.proofs.Common.{ℕ, zero, suc, ◌+◌, ◌<◌, ◌≤◌, Bool, true, List, length, drop, slice_index, nat_eq, false, ◌≡◌, refl, if◌then◌else◌, ◌++◌, sym, ap, ◌∙◌, IsUtf8, IsCharBoundary, subst, arith, add-one}
-use Rattle.std.proofs.lemmas.Str.{IsCharBoundary-start, IsCharBoundary-after_ascii}
-use Rattle.std.proofs.lemmas.List.Sums.{prefix_len_passes, prefix_len-le-length}
+use Rattle.std.proofs.Common.{ℕ, true, List, drop, nat_eq, false, ◌≡◌, refl, if◌then◌else◌, ◌++◌, sym, ap, ◌∙◌, IsUtf8, IsCharBoundary, arith}
+use Rattle.std.proofs.lemmas.Str.{IsCharBoundary-start}
 use Rattle.std.proofs.lemmas.Str.{IsCharBoundary-past_char}
 use Rattle.std.proofs.lemmas.Bool.Decides.{nat_tests}
 use Rattle.std.proofs.lemmas.Slice.Eq.{starts_is}
 use Rattle.std.specs.Char.{encode_utf8}
-use Rattle.std.specs.List.{prefix_len, starts_with}
+use Rattle.std.specs.List.{starts_with}
 use Rattle.pyc_lex.specs.Lines.{mark_len, byte_order_mark}
 
-nat_decides : (a b : ℕ) → (nat_eq a b ≡ true → a ≡ b) × (a ≡ b → nat_eq a b ≡ true)
+pub nat_decides : (a b : ℕ) → (nat_eq a b ≡ true → a ≡ b) × (a ≡ b → nat_eq a b ≡ true)
 nat_decides a b = (λ e. grind (arith, nat_tests), λ e. grind (arith, nat_tests))
 
 -- the mark is one character

@@ -12,9 +12,10 @@ use Rattle.pyc_lex.specs.declared.fault.LexFault.{LexFault}
 use Rattle.pyc_lex.specs.declared.fault.LexFault.TheVariants.{NotUtf8, Memory}
 use Rattle.pyc_token.specs.Cuts.{cuts}
 use Rattle.pyc_lex.specs.Lines.{Lexis, start_at, and_then, read, finished, mark_len, lexemes_of, lines_of}
-use Rattle.pyc_lex.specs.Texts.{tokens_of, slice_at, IsTextSpan, token_texts}
+use Rattle.pyc_lex.specs.Texts.{tokens_of, slice_at, IsTextSpan, listed_spans, token_texts}
 use Rattle.pyc_lex.specs.View.{line_in, lexis_in, AnswersScan}
 use Rattle.pyc_lex.specs.Limits.{IsBefore, IsWithinLimits}
+use Rattle.pyc_lex.proofs.IgnoreSpans.{codes_of_lexis}
 use Rattle.pyc_lex.proofs.OrderLemmas.{AreOrderly, lexis_orderly}
 use Rattle.pyc_lex.proofs.TextLemmas.{IsText, tokens_of_lexis}
 
@@ -66,6 +67,11 @@ pub spans_answer : (source : List ℕ) → IsUtf8 source → (r : Result Scan Le
 spans_answer source utf8 (Ok scan) e =
     each_line (IsText source) scan.lines.items (tokens_of_lexis source (lexis_in scan) utf8 (sym (lines_of-utf8 source utf8) ∙ e)).spans
 spans_answer source utf8 (Err fault) e = tt
+
+pub codes_answer : (source : List ℕ) → IsUtf8 source → (r : Result Scan LexFault) → IfOk r (λ scan. lines_of source ≡ Ok (lexis_in scan))
+    → IfOk r (λ scan. All (λ ignore. All (IsTextSpan source) (listed_spans ignore.codes)) (lexis_in scan).ignores)
+codes_answer source utf8 (Ok scan) e = codes_of_lexis source (lexis_in scan) utf8 (sym (lines_of-utf8 source utf8) ∙ e)
+codes_answer source utf8 (Err fault) e = tt
 
 -- the order of a source's tokens, and the limits of its lines
 orderly_lexis : (source : List ℕ) → IsUtf8 source → (scan : Scan) → lines_of source ≡ Ok (lexis_in scan) → AreOrderly (lexis_in scan).lines

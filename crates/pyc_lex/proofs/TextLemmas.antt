@@ -73,21 +73,21 @@ tokens-follows r lexeme.Joined text next f = same_tokens r next (ap read_tokens 
 -- ---- a token's slice
 
 -- these bytes of a source stand at a position
-record StandsAt (source : List ℕ) (from : ℕ) (text : List ℕ) : Type 0 where
-  front : List ℕ
-  rest : List ℕ
-  parts : source ≡ front ++ (text ++ rest)
-  position : length front ≡ from
-  utf8 : IsUtf8 text
-  some : 0 < length text
+pub record StandsAt (source : List ℕ) (from : ℕ) (text : List ℕ) : Type 0 where
+  pub front : List ℕ
+  pub rest : List ℕ
+  pub parts : source ≡ front ++ (text ++ rest)
+  pub position : length front ≡ from
+  pub utf8 : IsUtf8 text
+  pub some : 0 < length text
 
-slice_from_place : (source text : List ℕ) (from : ℕ) → StandsAt source from text → take (from + length text - from) (drop from source) ≡ text
+pub slice_from_place : (source text : List ℕ) (from : ℕ) → StandsAt source from text → take (from + length text - from) (drop from source) ≡ text
 slice_from_place source text from at =
     let count : from + length text - from ≡ length text = omega arith in
     let dropped : drop from source ≡ text ++ at.rest = ap (drop from) at.parts ∙ drop_at at.front (text ++ at.rest) from at.position in
     ap (λ (n : ℕ). take n (drop from source)) count ∙ ap (take (length text)) dropped ∙ take_at text at.rest (length text) refl
 
-end_from_place : (source text : List ℕ) (from : ℕ) → StandsAt source from text → from + length text ≤ length source
+pub end_from_place : (source text : List ℕ) (from : ℕ) → StandsAt source from text → from + length text ≤ length source
 end_from_place source text from at =
     omega (arith, ap length at.parts, length-append at.front (text ++ at.rest), length-append text at.rest, at.position)
 

@@ -5,6 +5,7 @@ use Rattle.pyc_token.specs.declared.tokens.Token.{Token}
 use Rattle.pyc_token.specs.declared.lexeme.Lexeme.{Lexeme}
 use Rattle.pyc_token.specs.declared.lexeme.Lexeme.TheVariants as lexeme
 use Rattle.pyc_token.specs.Cuts.{Cut, found, bad}
+use Rattle.pyc_lex.specs.Ignores.{Codes, all, listed}
 use Rattle.pyc_lex.specs.Lines.{Line, lexemes_of}
 
 -- the tokens of some lines, in order
@@ -21,6 +22,11 @@ pub record IsTextSpan (source : List ℕ) (span : Span) : Type 0 where
   pub not_empty : span.start < span.end
   pub within : span.end ≤ length source
   pub is_utf8 : IsUtf8 (slice_range source span.start span.end)
+
+-- where the codes that a comment lists stand
+abbrev pub listed_spans : Codes → List Span
+listed_spans all = []
+listed_spans (listed spans) = spans
 
 -- a token's text before other texts; what is no token adds none
 abbrev pub with_token_text : Lexeme → List ℕ → List (List ℕ) → List (List ℕ)

@@ -7,7 +7,7 @@ ghost use Rattle.pyc_lex.specs.Lines.{lines_of};
 ghost use Rattle.pyc_lex.specs.View.{AnswersScan, lexis_in};
 ghost use Rattle.pyc_token.specs.Cuts.{cuts};
 ghost use Rattle.pyc_lex.specs.Limits.{IsBefore, IsWithinLimits};
-ghost use Rattle.pyc_lex.specs.Texts.{tokens_of, token_texts, slice_at, IsTextSpan};
+ghost use Rattle.pyc_lex.specs.Texts.{tokens_of, token_texts, slice_at, IsTextSpan, listed_spans};
 
 use crate::fault::LexFault;
 use crate::logical_lines::Scan;
@@ -75,6 +75,10 @@ pub fn scan(alloc: Global, bytes: &[u8]) -> Result<Scan, LexFault>
         (λ scan. map (slice_at bytes.now) (tokens_of (lexis_in scan).lines) ≡ token_texts bytes.now) }
     ensures spans { IfOk result
         (λ scan. All (λ line. All (λ token. IsTextSpan bytes.now token.span) line.tokens.items) scan.lines.items) }
+
+    // Each code of an ignore comment is a slice of the source too.
+    ensures codes { IfOk result
+        (λ scan. All (λ ignore. All (IsTextSpan bytes.now) (listed_spans ignore.codes)) (lexis_in scan).ignores) }
 
     // Lines and tokens are in text order, and no two tokens overlap.
     ensures order { IfOk result (λ scan. AllPairs IsBefore (tokens_of (lexis_in scan).lines)) }

@@ -2,7 +2,7 @@ use Rattle.std.proofs.Common.{◌≡◌, drop, ap, ◌∙◌}
 use Rattle.pyc_token.specs.Cuts.{cuts}
 use Rattle.pyc_lex.specs.Lines.{start_at, and_then, read, finished, lines_of}
 use Rattle.pyc_lex.proofs.MarkLemmas.{mark_boundary}
-use Rattle.pyc_lex.proofs.ScanLemmas.{lines_of-no_utf8, lines_of-text, lines_answer, fault_answer, texts_answer, spans_answer, order_answer, limits_answer}
+use Rattle.pyc_lex.proofs.ScanLemmas.{lines_of-no_utf8, lines_of-text, lines_answer, fault_answer, texts_answer, spans_answer, codes_answer, order_answer, limits_answer}
 use Rattle.pyc_lex.proofs.lines.scan.Goals as goal
 
 pub returns-in_default-clause-fault : goal.returns-in_default-clause-fault
@@ -26,6 +26,9 @@ returns-clause-texts c = texts_answer c.args.bytes.now c.in-Ok.ensures.cases.1 c
 
 pub returns-clause-spans : goal.returns-clause-spans
 returns-clause-spans c = spans_answer c.args.bytes.now c.in-Ok.ensures.cases.1 c.read.result (returns-clause-lines c)
+
+pub returns-clause-codes : goal.returns-clause-codes
+returns-clause-codes c = codes_answer c.args.bytes.now c.in-Ok.ensures.cases.1 c.read.result (returns-clause-lines c)
 
 pub returns-clause-order : goal.returns-clause-order
 returns-clause-order c = order_answer c.args.bytes.now c.in-Ok.ensures.cases.1 c.read.result (returns-clause-lines c)
