@@ -5,3 +5,6 @@ pub mod ModuleLemmas
 pub mod SoundModules
 pub mod OutcomeLemmas
 pub mod BadLineLemmas
+pub mod MisplacedBlocks
+pub mod MisplacedLemmas
+pub mod MisplacedSteps

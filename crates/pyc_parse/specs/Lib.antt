@@ -6,6 +6,7 @@ pub mod BlockYield
 pub mod Modules
 pub mod Outcome
 pub mod BadLines
+pub mod Misplaced
 pub use Rattle.pyc_line.specs.LineFault
 pub use Rattle.pyc_tree.specs.Headers
 pub use Rattle.pyc_tree.specs.LineView

@@ -5,6 +5,7 @@ mod block_fault;
 mod blocks;
 mod file_outcome;
 mod file_parser;
+pub mod laws;
 mod module_tree;
 
 pub use file_outcome::{Fault, Outcome};
