@@ -2,7 +2,7 @@
 
 ghost use Rattle.std.specs.Prelude.{◌≡◌, Result};
 ghost use Rattle.pyc_daemon.specs.Counted.{inner_of, calls_of, faults_of, zeros_of, IsSound};
-ghost use Rattle.pyc_daemon.specs.Runs.{Runs, streams};
+ghost use Rattle.pyc_daemon.specs.Runs.{Runs, ComesOfRun, streams};
 ghost use Rattle.pyc_session.specs.declared.ending.End.{End};
 ghost use Rattle.pyc_session.specs.declared.ending.RunFault.{RunFault};
 ghost use Rattle.dmypy.specs.Status.{TellsLine, ending_line, status_of};
@@ -26,11 +26,13 @@ pub fn session<R: Read, W: Write, E: Write, S: Sources>(
 ) -> u8
     requires unread { (calls_of reader.old ≡ 0) × (faults_of reader.old ≡ 0) × (zeros_of reader.old ≡ 0) }
     requires unwritten { (calls_of writer.old ≡ 0) × (faults_of writer.old ≡ 0) × (zeros_of writer.old ≡ 0) }
-    // The session ran, its status is told, and so is the line on why it stopped.
+    // The session ran, its answer comes of what its reader and its writer met, and its status and the line on why it
+    // stopped are told.
     ensures session { (answer : Result End RunFault)
         × Runs S.step options.now
         (streams sources.old (R.remaining (inner_of reader.old)) (W.contents (inner_of writer.old)))
         (streams sources.new (R.remaining (inner_of reader.new)) (W.contents (inner_of writer.new))) answer
+        × ComesOfRun answer reader.old reader.new writer.old writer.new options.now.turns
         × (result ≡ status_of answer)
         × TellsLine err.old err.new (E.contents (inner_of err.old)) (E.contents (inner_of err.new))
         (ending_line answer) }

@@ -6,7 +6,7 @@ use Rattle.std.proofs.Math.ListN.{drop_of_length-le}
 use native.Mathlib.Numerals.{unary_clauses}
 use Rattle.std.specs.Io.KnownBytes.{Consumes}
 use Rattle.pyc_daemon.specs.Counted.{IsSound, FailsOnce, at_fault, at_empty, one_more}
-use Rattle.pyc_daemon.specs.Runs.{ComesOfRun}
+use Rattle.pyc_daemon.specs.Runs.{ComesOfServing}
 use Rattle.pyc_daemon.specs.declared.counted.Counted.{Counted}
 use Rattle.pyc_daemon.specs.Reading.{Advances, ComesOfReading, work_left}
 use Rattle.pyc_session.specs.declared.ending.RunFault.{RunFault}
@@ -226,7 +226,7 @@ not_begun_over false over' open_end idle = refl
 
 -- a fault of reading is one of the run, where no write failed
 pub read_fault : {R W : Type 0} (reader reader' : Counted R) (writer writer' : Counted W) (why : RunFault) (turns : ℕ) → ComesOfReading why reader reader' turns → IsSound writer writer'
-    → ComesOfRun (Err why) reader reader' writer writer' turns
+    → ComesOfServing (Err why) reader reader' writer writer' turns
 read_fault reader reader' writer writer' Read turns e sound = (e, sound)
 read_fault reader reader' writer writer' Write turns e sound = absurd e
 read_fault reader reader' writer writer' TooManyTurns turns e sound = (e.0, sound, e.1)

@@ -98,13 +98,20 @@ pub record Runs {S : Type 0} (step : S → List ℕ → Entry → S → Type 0) 
   pub tells : Tells options work result
   pub first : WroteFirst options work
 
--- what a run that answered so did to the counts of its reader and its writer
+-- what commands that were served until this answer did to the counts of their reader and their writer
+abbrev pub ComesOfServing :
+    {R W : Type 0} → Result End RunFault → Counted R → Counted R → Counted W → Counted W → ℕ → Type 0
+ComesOfServing (Ok end) reader reader' writer writer' turns = IsSound reader reader' × IsSound writer writer'
+ComesOfServing (Err fault.Read) reader reader' writer writer' turns =
+    (faults_of reader' ≡ one_more (faults_of reader)) × IsSound writer writer'
+ComesOfServing (Err fault.Write) reader reader' writer writer' turns =
+    IsSound reader reader' × FailsOnce writer writer'
+ComesOfServing (Err fault.TooManyTurns) reader reader' writer writer' turns =
+    IsSound reader reader' × IsSound writer writer' × (calls_of reader' ≡ turns)
+ComesOfServing (Err fault.Memory) reader reader' writer writer' turns = ⊥
+
+-- what a run that answered so did to the counts of its reader and its writer: one that could not begin did nothing
 abbrev pub ComesOfRun :
     {R W : Type 0} → Result End RunFault → Counted R → Counted R → Counted W → Counted W → ℕ → Type 0
-ComesOfRun (Ok end) reader reader' writer writer' turns = IsSound reader reader' × IsSound writer writer'
-ComesOfRun (Err fault.Read) reader reader' writer writer' turns =
-    (faults_of reader' ≡ one_more (faults_of reader)) × IsSound writer writer'
-ComesOfRun (Err fault.Write) reader reader' writer writer' turns = IsSound reader reader' × FailsOnce writer writer'
-ComesOfRun (Err fault.TooManyTurns) reader reader' writer writer' turns =
-    IsSound reader reader' × IsSound writer writer' × (calls_of reader' ≡ turns)
-ComesOfRun (Err fault.Memory) reader reader' writer writer' turns = ⊥
+ComesOfRun (Err fault.Memory) reader reader' writer writer' turns = (reader' ≡ reader) × (writer' ≡ writer)
+ComesOfRun answer reader reader' writer writer' turns = ComesOfServing answer reader reader' writer writer' turns

@@ -5,7 +5,7 @@ ghost use Rattle.std.specs.Io.KnownBytes.{Appends};
 ghost use Rattle.pyc_daemon.specs.Counted.{inner_of, calls_of, faults_of, zeros_of, IsSound, FailsOnce};
 ghost use Rattle.pyc_session.specs.Event.{Event, Links};
 ghost use Rattle.pyc_daemon.specs.Reading.{IsReading};
-ghost use Rattle.pyc_daemon.specs.Runs.{Runs, ComesOfRun, streams};
+ghost use Rattle.pyc_daemon.specs.Runs.{Runs, ComesOfServing, streams};
 ghost use Rattle.pyc_session.specs.Session.{Session, session_of};
 ghost use Rattle.pyc_daemon.specs.Window.{held_of, ended_of};
 ghost use Rattle.pyc_session.specs.State.{start};
@@ -90,7 +90,7 @@ fn serve_all<R: Read, W: Write, S: Sources>(
     ensures runs { Runs S.step daemon.old.options (streams sources.old (R.remaining (inner_of reader.old))
         (W.contents (inner_of writer.old)))
         (streams sources.new (R.remaining (inner_of reader.new)) (W.contents (inner_of writer.new))) result }
-    ensures fault { ComesOfRun result reader.old reader.new writer.old writer.new turns }
+    ensures fault { ComesOfServing result reader.old reader.new writer.old writer.new turns }
 {
     'commands: while !window.is_ended() {
         let Some(answer) = serve(alloc, reader, window, line, sources, daemon, turns)? else {
