@@ -1,0 +1,4 @@
+pub mod BuiltinClasses
+pub mod Class
+pub mod ClassEquality
+pub mod Order

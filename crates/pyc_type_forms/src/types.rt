@@ -1,0 +1,81 @@
+//! Types.
+
+use pyc_ast::Text;
+use pyc_class::ClassId;
+use std::rc::Rc;
+
+/// A type. Its parts are shared, so that a copy costs a reference count.
+#[cycle(ty)]
+#[derive(Debug, Drop)]
+pub enum Ty {
+    /// Not known: assignable both ways to every type.
+    Any,
+    /// The type of `None`.
+    None,
+    /// A module.
+    Module,
+    /// The instances of a class; those of list, dict and tuple have forms of their own.
+    Instance(ClassId),
+    /// `type[C]`, the class object itself.
+    Class(ClassId),
+    /// `list[T]`
+    List(Rc<Ty>),
+    /// `dict[K, V]`
+    Dict(Rc<DictTypes>),
+    /// A tuple with these items.
+    Tuple(Rc<Vec<Ty>>),
+    /// `tuple[T, ...]`, a tuple of any length.
+    TupleOf(Rc<Ty>),
+    /// One of these types.
+    Union(Rc<Vec<Ty>>),
+    /// What can be called.
+    Callable(Rc<Signature>),
+}
+
+/// The types of the keys and values of a dictionary.
+#[cycle(ty)]
+#[derive(Debug, Drop)]
+pub struct DictTypes {
+    pub key: Ty,
+    pub value: Ty,
+}
+
+/// What a call takes and gives.
+#[cycle(ty)]
+#[derive(Debug, Drop)]
+pub struct Signature {
+    pub params: Params,
+    pub result: Ty,
+}
+
+/// What a call takes.
+#[cycle(ty)]
+#[derive(Debug, Drop)]
+pub enum Params {
+    /// `...`: any arguments.
+    Dots,
+    /// These parameters, in the order in which they are written.
+    Listed(Vec<Param>),
+}
+
+/// A parameter: its kind with its name, its type, and whether a call may leave it out.
+#[cycle(ty)]
+#[derive(Debug, Drop)]
+pub struct Param {
+    pub kind: ParamKind,
+    pub ty: Ty,
+    pub is_optional: bool,
+}
+
+/// The kind of a parameter, with its name.
+#[derive(Debug, Drop)]
+pub enum ParamKind {
+    /// Filled by place, or by its name where it has one.
+    Plain(Option<Text>),
+    /// `*args`: each further place.
+    Star,
+    /// Filled by its name alone.
+    KeywordOnly(Text),
+    /// `**kwargs`: each further name.
+    DoubleStar,
+}
