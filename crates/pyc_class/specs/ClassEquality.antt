@@ -1,5 +1,5 @@
 -- Being one class is an equivalence.
-use Rattle.std.specs.Prelude.{ℕ, List, Bool, true, false, ◌≡◌, ◌&&◌, bytes_eq, refl}
+use Rattle.std.specs.Prelude.{ℕ, List, Bool, true, ◌≡◌, ◌&&◌, bytes_eq, refl}
 use Rattle.std.specs.Cmp.{IsEquivalence, and_equiv, on_equiv, nat_eq_equiv}
 use Rattle.std.proofs.lemmas.Bool.{false≢true}
 use Rattle.std.specs.Cmp.Lexicographic.{pointwise, lists_equiv, nat_list_eq_equiv}

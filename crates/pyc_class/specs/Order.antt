@@ -1,6 +1,6 @@
 -- The order of a class: the class itself, then its ancestors in method resolution order
 -- (Python language reference, "Data model", `type.__mro__`).
-use Rattle.std.specs.Prelude.{List, Bool, true, false, Option, None, Some, is_some}
+use Rattle.std.specs.Prelude.{List, Bool, Option, is_some}
 use Rattle.std.specs.List.{list_any}
 use Rattle.pyc_class.specs.Class.{Id, same_class}
 use Rattle.pyc_class.specs.declared.order.Lin.{Lin}

@@ -182,5 +182,6 @@ fn is_same_user(class: &UserClass, other: &UserClass) -> bool
     ensures { result ≡ same_class (user class.now.module_parts.items class.now.own_name)
         (user other.now.module_parts.items other.now.own_name) }
 {
-    class.own_name == other.own_name && class.module_parts.as_slice() == other.module_parts.as_slice()
+    class.own_name == other.own_name
+        && class.module_parts.as_slice() == other.module_parts.as_slice()
 }

@@ -1,7 +1,11 @@
 //! Types.
 
+ghost use Rattle.std.specs.Prelude.{◌≡◌};
+ghost use Rattle.pyc_type_forms.specs.TypeView.{ty_of};
+
 use pyc_ast::Text;
 use pyc_class::ClassId;
+use std::alloc::AllocError;
 use std::rc::Rc;
 
 /// A type. Its parts are shared, so that a copy costs a reference count.
@@ -78,4 +82,25 @@ pub enum ParamKind {
     KeywordOnly(Text),
     /// `**kwargs`: each further name.
     DoubleStar,
+}
+
+impl Clone for Ty {
+    ghost is_clone = { λ ty copy. ty_of copy ≡ ty_of ty };
+
+    /// The same type: it takes no memory, and costs a reference count. The only error is a full count.
+    fn clone(&self) -> Result<Ty, AllocError> {
+        Ok(match self {
+            Ty::Any => Ty::Any,
+            Ty::None => Ty::None,
+            Ty::Module => Ty::Module,
+            Ty::Instance(class) => Ty::Instance(class.clone()?),
+            Ty::Class(class) => Ty::Class(class.clone()?),
+            Ty::List(item) => Ty::List(item.clone()?),
+            Ty::Dict(types) => Ty::Dict(types.clone()?),
+            Ty::Tuple(items) => Ty::Tuple(items.clone()?),
+            Ty::TupleOf(item) => Ty::TupleOf(item.clone()?),
+            Ty::Union(items) => Ty::Union(items.clone()?),
+            Ty::Callable(signature) => Ty::Callable(signature.clone()?),
+        })
+    }
 }
