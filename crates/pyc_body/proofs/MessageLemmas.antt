@@ -4,8 +4,9 @@ use Rattle.std.specs.List.{filter_map, cons_option}
 use Rattle.std.proofs.lemmas.Bool.{false≢true}
 use Rattle.std.proofs.lemmas.List.{map-append}
 use Rattle.std.proofs.lemmas.List.Elements.{filter_map-append}
-use Rattle.pyc_types.specs.Builtin.{ty_of, builtin_orders}
-use Rattle.pyc_types.specs.Assignable.{assignable, MeetsTheRules}
+use Rattle.pyc_builtins.specs.Orders.{builtin_orders}
+use Rattle.pyc_builtins.specs.Builtin.{builtin_type}
+use Rattle.pyc_types.specs.Ways.{assignable, MeetsTheRules}
 use Rattle.pyc_body.specs.declared.literals.LiteralForm.{LiteralForm}
 use Rattle.pyc_body.specs.declared.message.Message.{Message as Declared}
 use Rattle.pyc_body.specs.LiteralForms.{literal_forms}
@@ -41,8 +42,8 @@ reports_forms : MeetsTheRules → (forms : List LiteralForm) → Reports forms (
 unfolding form_message
 reports_forms meets [] = nothing
 reports_forms meets (form ∷ forms) =
-    reports_more (assignable builtin_orders (ty_of form.value) (ty_of form.annotation)) form forms _
-    (meets builtin_orders (ty_of form.value) (ty_of form.annotation)) (reports_forms meets forms)
+    reports_more (assignable builtin_orders (builtin_type form.value) (builtin_type form.annotation)) form forms _
+    (meets builtin_orders (builtin_type form.value) (builtin_type form.annotation)) (reports_forms meets forms)
 
 pub reports_exactly : MeetsTheRules → ReportsExactly
 reports_exactly meets statements = reports_forms meets (literal_forms statements)

@@ -4,10 +4,12 @@ use Rattle.std.specs.Prelude.{ℕ, List, [], ◌∷◌, ◌++◌, Option, None, 
 use Rattle.std.specs.List.{filter_map}
 use Rattle.pyc_ast.specs.Modules.{Outcome, tree, fault}
 use Rattle.pyc_ast.specs.Statements.{Stmts}
-use Rattle.pyc_types.specs.Shape.{T}
-use Rattle.pyc_types.specs.Text.{text_of}
-use Rattle.pyc_types.specs.Builtin.{ty_of, builtin_orders}
-use Rattle.pyc_types.specs.Assignable.{Assignable, assignable}
+use Rattle.pyc_type_forms.specs.Text.{text_of}
+use Rattle.pyc_type_forms.specs.Types.{Ty}
+use Rattle.pyc_builtins.specs.Orders.{builtin_orders}
+use Rattle.pyc_builtins.specs.Builtin.{builtin_type}
+use Rattle.pyc_types.specs.Assignable.{Assignable}
+use Rattle.pyc_types.specs.Ways.{assignable}
 use Rattle.pyc_body.specs.declared.literals.LiteralForm.{LiteralForm}
 use Rattle.pyc_body.specs.declared.message.Code.TheVariants.{Assignment, Syntax}
 use Rattle.pyc_body.specs.LiteralForms.{literal_forms}
@@ -15,7 +17,7 @@ use Rattle.pyc_body.specs.Message.{Message}
 use Rattle.pyc_body.specs.Silencing.{without_silenced}
 
 -- what is told of a value of one type for a variable of another
-unfoldable pub assignment_text : T → T → List ℕ
+unfoldable pub assignment_text : Ty → Ty → List ℕ
 assignment_text got want =
     codes "Incompatible types in assignment (expression has type \""
     ++ (text_of got ++ (codes "\", variable has type \"" ++ (text_of want ++ codes "\")")))
@@ -26,13 +28,13 @@ assignment_message form = record {
   line = form.at.line;
   column = form.at.column;
   code = Assignment;
-  text = assignment_text (ty_of form.value) (ty_of form.annotation);
+  text = assignment_text (builtin_type form.value) (builtin_type form.annotation);
 }
 
 -- the message on an annotated literal: none where its type is assignable to its annotation
 unfoldable pub form_message : LiteralForm → Option Message
 form_message form =
-    if assignable builtin_orders (ty_of form.value) (ty_of form.annotation) then None
+    if assignable builtin_orders (builtin_type form.value) (builtin_type form.annotation) then None
     else Some (assignment_message form)
 
 -- the message on a fault
@@ -55,7 +57,7 @@ unsilenced (fault line text) = found (fault line text)
 
 -- whether the rules of assignability lead from the type of a literal to its annotation
 abbrev pub IsAssignable : LiteralForm → Type 0
-IsAssignable form = Assignable builtin_orders (ty_of form.value) (ty_of form.annotation)
+IsAssignable form = Assignable builtin_orders (builtin_type form.value) (builtin_type form.annotation)
 
 -- the messages report the annotated literals, by exactly these rules
 pub data Reports : List LiteralForm → List Message → Type 0 where

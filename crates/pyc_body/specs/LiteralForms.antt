@@ -10,8 +10,8 @@ use Rattle.pyc_ast.specs.Exprs as form
 use Rattle.pyc_ast.specs.Statements.{AnnotatedAssignment, Stmt, stmt, Stmts, annotate}
 use Rattle.pyc_ast.specs.Targets.{Target, target}
 use Rattle.pyc_ast.specs.Targets as to
-use Rattle.pyc_types.specs.declared.builtin_classes.Builtin.{Builtin}
-use Rattle.pyc_types.specs.declared.builtin_classes.Builtin.TheVariants as builtin
+use Rattle.pyc_builtins.specs.declared.builtin.Builtin.{Builtin}
+use Rattle.pyc_builtins.specs.declared.builtin.Builtin.TheVariants as builtin
 use Rattle.pyc_body.specs.declared.literals.LiteralForm.{LiteralForm}
 use Rattle.pyc_body.specs.Scopes.{parts_of}
 

@@ -3,7 +3,7 @@
 ghost use Rattle.std.specs.Prelude.{◌≡◌, map, IfOk, option_map, string_bytes};
 ghost use Rattle.std.specs.List.{filter_map};
 ghost use Rattle.pyc_ast.specs.Modules.{outcome_of};
-ghost use Rattle.pyc_types.specs.Shape.{shape};
+ghost use Rattle.pyc_type_forms.specs.TypeView.{ty_of};
 ghost use Rattle.pyc_body.specs.FoundMessages as spec;
 ghost use Rattle.pyc_body.specs.FoundMessages.{found, unsilenced};
 ghost use Rattle.pyc_body.specs.Message.{message_in};
@@ -92,7 +92,7 @@ fn form_message(
 /// What is told of a value of type `got` for a variable of type `want`.
 #[tactic(auto, unfolding(crate::specs::FoundMessages::assignment_text))]
 fn assignment_text(alloc: Global, got: &Ty, want: &Ty) -> Result<String, AllocError>
-    ensures { IfOk result (λ text. string_bytes text ≡ spec.assignment_text (shape got.now) (shape want.now)) }
+    ensures { IfOk result (λ text. string_bytes text ≡ spec.assignment_text (ty_of got.now) (ty_of want.now)) }
 {
     let got = show(alloc, got)?;
     let want = show(alloc, want)?;

@@ -1,3 +1,4 @@
 pub mod Types
 pub mod TypeView
 pub mod Instances
+pub mod Text

@@ -1,6 +1,5 @@
-pub mod Class
-pub mod Order
-pub mod Shape
+pub mod Parameters
 pub mod Assignable
-pub mod Text
-pub mod Builtin
+pub mod Pairs
+pub mod Ways
+pub mod Slots

@@ -1,36 +1,96 @@
 //! When a value of one type may stand where another is wanted.
-ghost use Rattle.std.specs.Prelude.{◌≡◌, ◌↔◌, IsTrue};
-ghost use Rattle.pyc_types.specs.Class.{id_of};
-ghost use Rattle.pyc_types.specs.Shape.{shape};
-ghost use Rattle.pyc_types.specs.Assignable.{assignable, instance_assignable, Assignable};
 
-use crate::{ClassId, Lins, Ty};
+ghost use Rattle.std.specs.Prelude.{◌≡◌, ◌↔◌, IsTrue};
+ghost use Rattle.pyc_type_forms.specs.Types as plain;
+ghost use Rattle.pyc_type_forms.specs.TypeView.{ty_of, row};
+ghost use Rattle.pyc_types.specs.Assignable.{Assignable};
+ghost use Rattle.pyc_types.specs.Ways as spec;
+ghost use Rattle.pyc_types.specs.Ways.{assignable, ways};
+
+mod bare;
+mod instances;
+mod parameters;
+mod rules;
+mod unions;
+
+use crate::ways::Ways;
+use instances::{instance_ways, is_object, is_unknown_instance};
+use pyc_class::Lins;
+use pyc_type_forms::Ty;
+use rules::own_rule;
+use unions::union_ways;
 
 /// Whether a value of type `got` may stand where `want` is wanted. Takes no memory.
 pub fn assignable<L: Lins>(lins: &L, got: &Ty, want: &Ty) -> bool
-    ensures test { result ≡ assignable (L.orders lins.now) (shape got.now) (shape want.now) }
-    ensures rules { IsTrue result ↔ Assignable (L.orders lins.now) (shape got.now) (shape want.now) }
+    ensures test { result ≡ assignable (L.orders lins.now) (ty_of got.now) (ty_of want.now) }
+    ensures rules { IsTrue result ↔ Assignable (L.orders lins.now) (ty_of got.now) (ty_of want.now) }
 {
     is_assignable(lins, got, want)
 }
 
-/// Whether a value of type `got` may stand where `want` is wanted, by the forms of both.
+/// Whether a value of type `got` may stand where `want` is wanted, by the walk of both.
 fn is_assignable<L: Lins>(lins: &L, got: &Ty, want: &Ty) -> bool
-    ensures { result ≡ assignable (L.orders lins.now) (shape got.now) (shape want.now) }
+    ensures { result ≡ assignable (L.orders lins.now) (ty_of got.now) (ty_of want.now) }
+{
+    walk(lins, got, want).there
+}
+
+/// The ways between two types: one walk for both, since the rules for list, dict and callables ask both.
+#[cycle(walk)]
+fn walk<L: Lins>(lins: &L, got: &Ty, want: &Ty) -> Ways
+    ensures { result ≡ ways (L.orders lins.now) (ty_of got.now) (ty_of want.now) }
 {
     match got {
-        Ty::None => matches!(want, Ty::None),
-        Ty::Instance(class) => match want {
-            Ty::None => false,
-            Ty::Instance(wanted) => is_instance_assignable(lins, class, wanted),
-        },
+        Ty::Any => Ways::each(),
+        Ty::Instance(class) => instance_ways(lins, class, want),
+        Ty::Union(items) => union_ways(lins, items, want),
+        _ => whole_ways(lins, got, want),
     }
 }
 
-/// Whether an instance of one class may stand where one of another is wanted.
-fn is_instance_assignable<L: Lins>(lins: &L, got: &ClassId, want: &ClassId) -> bool
-    ensures { result ≡ instance_assignable (L.orders lins.now) (id_of got.now) (id_of want.now) }
+/// The ways between a type that is no union and any type: into a union by some item, from one by each.
+#[cycle(walk)]
+fn whole_ways<L: Lins>(lins: &L, got: &Ty, want: &Ty) -> Ways
+    ensures { result ≡ spec.into (L.orders lins.now) (ty_of got.now)
+        (spec.own_rule (L.orders lins.now) (ty_of got.now)) (ty_of want.now) }
 {
-    let order = lins.lin(got);
-    order.contains(want) || (order.contains_builtin("int") && want.is_builtin("float"))
+    let by_form = match want {
+        Ty::Union(items) => item_ways(lins, got, items),
+        _ => own_rule(lins, got, want),
+    };
+    by_form.either(Ways {
+        there: is_simple(lins, got, want),
+        back: is_simple(lins, want, got),
+    })
+}
+
+/// The ways between a type that is no union and the items of a union.
+#[cycle(walk)]
+#[tactic(auto, using(crate::proofs::WalkLemmas::joins))]
+fn item_ways<L: Lins>(lins: &L, got: &Ty, items: &[Ty]) -> Ways
+    ensures { result ≡ spec.into_items (L.orders lins.now) (ty_of got.now)
+        (spec.own_rule (L.orders lins.now) (ty_of got.now)) (row items.now) }
+{
+    let mut all = Ways {
+        there: false,
+        back: true,
+    };
+    for item in items {
+        all = all.choose(whole_ways(lins, got, item));
+    }
+    all
+}
+
+/// Whether a type goes to another by Any, by an unknown order or to object.
+fn is_simple<L: Lins>(lins: &L, got: &Ty, want: &Ty) -> bool
+    ensures { result ≡ spec.is_simple (L.orders lins.now) (ty_of got.now) (ty_of want.now) }
+{
+    is_any(got) || is_any(want) || is_unknown_instance(lins, got) || is_object(want)
+}
+
+/// Whether a type is Any.
+fn is_any(ty: &Ty) -> bool
+    ensures { result ≡ spec.is_any (ty_of ty.now) }
+{
+    matches!(ty, Ty::Any)
 }

@@ -1,18 +1,12 @@
-//! Types of annotated Python, when one is assignable to another, and how they are printed.
+//! When one type of annotated Python is assignable to another. The types, the classes and the builtins are passed on.
 #![tactic(auto)]
 
 mod assigning;
-mod builtin_classes;
-mod classes;
+mod fitting;
 pub mod laws;
-mod printing;
-mod types;
+mod ways;
 
 pub use assigning::assignable;
-pub use builtin_classes::{Builtin, Builtins};
-pub use classes::{ClassId, Lin, Lins};
-pub use printing::show;
-pub use types::Ty;
-
-#[cfg(test)]
-mod tests;
+pub use pyc_builtins::{Builtin, BuiltinName, Builtins, FunctionResult, builtin_name};
+pub use pyc_class::{BuiltinClass, ClassId, InstanceForm, Lin, Lins, UnknownOrder};
+pub use pyc_type_forms::{DictTypes, Param, ParamKind, Params, Signature, Ty, show};

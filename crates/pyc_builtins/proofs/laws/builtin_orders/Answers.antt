@@ -1,0 +1,5 @@
+use Rattle.pyc_builtins.proofs.OrderLemmas.{follow_the_bases}
+use Rattle.pyc_builtins.proofs.laws.builtin_orders.Goals as goal
+
+pub returns : goal.returns
+returns c = follow_the_bases

@@ -1,0 +1,4 @@
+pub mod Builtin
+pub mod Names
+pub mod Orders
+pub mod Tables

@@ -1,0 +1,97 @@
+use Rattle.std.proofs.Common.{rules, ◌≡◌, ◌≤◌, false, true, ap, sym, ◌∙◌, refl, arith}
+use Rattle.pyc_class.specs.Class.{form_of}
+use Rattle.pyc_type_forms.specs.Types.{class_object}
+use Rattle.pyc_type_forms.specs.Instances.{instance_of}
+use Rattle.pyc_types.specs.Pairs as pairs
+use Rattle.pyc_types.specs.Ways as spec
+use Rattle.pyc_type_forms.specs.declared.types.Params.TheFolds.{the_lemmas}
+use Rattle.pyc_type_forms.specs.TypeView.{ty_of, row, param_row}
+use Rattle.pyc_types.specs.Slots.{slots_in}
+use Rattle.pyc_types.proofs.Measures.{nodes, row_nodes, listed_nodes, node_in_row, node_in_params}
+use Rattle.pyc_types.proofs.WalkLemmas.{slots_row, other_lengths, row_step, rows_step}
+use Rattle.pyc_types.proofs.WayLemmas.{is_whole, ways_whole, made_by_form}
+use Rattle.pyc_types.proofs.Rules.{turned}
+use Rattle.pyc_types.proofs.assigning.+walk.Goals as goal
+
+pub item_ways-whole_ways-requires : goal.item_ways-whole_ways-requires
+item_ways-whole_ways-requires g t c κs within =
+    let h : nodes (ty_of c.item-item.result) ≤ row_nodes (row c.args.items.now) = node_in_row _ c.loop-item.item-index _ (omega arith) c.item-item.is in
+    search rules
+
+pub rules::is_each_back-walk-requires : goal.rules::is_each_back-walk-requires
+rules::is_each_back-walk-requires g t c κs within =
+    let h : nodes (ty_of c.other-item.result) ≤ row_nodes (row c.args.others.now) = node_in_row _ c.loop-other.other-index _ (omega arith) c.other-item.is in
+    search rules
+
+pub unions::is_each_back_to-is_back_to-requires : goal.unions::is_each_back_to-is_back_to-requires
+unions::is_each_back_to-is_back_to-requires g t c κs within =
+    let h : nodes (ty_of c.other-item.result) ≤ row_nodes (row c.args.others.now) = node_in_row _ c.loop-other.other-index _ (omega arith) c.other-item.is in
+    search rules
+
+pub unions::is_each_there-walk-requires : goal.unions::is_each_there-walk-requires
+unions::is_each_there-walk-requires g t c κs within =
+    let h : nodes (ty_of c.item-item.result) ≤ row_nodes (row c.args.items.now) = node_in_row _ c.loop-item.item-index _ (omega arith) c.item-item.is in
+    search rules
+
+pub unions::is_some_back-walk-requires : goal.unions::is_some_back-walk-requires
+unions::is_some_back-walk-requires g t c κs within =
+    let h : nodes (ty_of c.item-item.result) ≤ row_nodes (row c.args.items.now) = node_in_row _ c.loop-item.item-index _ (omega arith) c.item-item.is in
+    search rules
+
+pub unions::one_ways-walk-requires : goal.unions::one_ways-walk-requires
+unions::one_ways-walk-requires g t c κs within =
+    let h : nodes (ty_of c.item-item.result) ≤ row_nodes (row c.args.items.now) = node_in_row _ c.loop-item.item-index _ (omega arith) c.item-item.is in
+    search rules
+
+pub parameters::row_ways-pair_ways-requires : goal.parameters::row_ways-pair_ways-requires
+parameters::row_ways-pair_ways-requires g t c κs within =
+    let h : nodes (ty_of c.index-wants-j.result.ty) ≤ listed_nodes (param_row c.args.wants.now) = node_in_params _ c.loop-j.j _ (omega arith) c.index-wants-j.is in
+    search rules
+
+pub parameters::rows_ways-row_ways-requires : goal.parameters::rows_ways-row_ways-requires
+parameters::rows_ways-row_ways-requires g t c κs within =
+    let h : nodes (ty_of c.index-gots-i.result.ty) ≤ listed_nodes (param_row c.args.gots.now) = node_in_params _ c.loop-i.i _ (omega arith) c.index-gots-i.is in
+    search rules
+
+pub rules::place_ways-walk-requires : goal.rules::place_ways-walk-requires
+rules::place_ways-walk-requires g t c κs within =
+    let h : nodes (ty_of c.index-items-i.result) ≤ row_nodes (row c.args.items.now) = node_in_row _ c.loop-i.i _ (omega arith) c.index-items-i.is in
+    let k : nodes (ty_of c.index-others-i.result) ≤ row_nodes (row c.args.others.now) = node_in_row _ c.loop-i.i _ (omega arith) c.index-others-i.is in
+    search rules
+
+pub parameters::listed_ways-returns-then-not-fitting-2 : goal.parameters::listed_ways-returns-then-not-fitting-2
+parameters::listed_ways-returns-then-not-fitting-2 g t c =
+    let a : c.fits.result ≡ false = search rules in
+    let b : c.fits-2.result ≡ false = search rules in
+    rw (slots_row c.args.gots.now, slots_row c.args.wants.now, ← c.fits.ensures, ← c.fits-2.ensures, a, b) refl
+
+pub parameters::listed_ways-returns : goal.parameters::listed_ways-returns
+parameters::listed_ways-returns g t c =
+    rw (slots_row c.args.gots.now, slots_row c.args.wants.now, ← c.fits.ensures, ← c.fits-2.ensures, ← c.rows_ways.ensures) c.meet.ensures
+
+pub parameters::row_ways-loop-j-preserved : goal.parameters::row_ways-loop-j-preserved
+parameters::row_ways-loop-j-preserved g t c =
+    row_step (pairs.pair_ways (slots_in c.args.gots.now) (slots_in c.args.wants.now) c.args.i) (spec.ways (g.L.Lins.orders c.args.lins.now) (ty_of c.args.got.now.ty)) c.args.wants.now c.loop-j.j c.index-wants-j.result c.loop-j.all c.pair_ways.result c.meet-all.result _ (omega arith) c.index-wants-j.is c.pair_ways.ensures c.meet-all.ensures c.loop-j.invariant
+
+pub parameters::rows_ways-loop-i-preserved : goal.parameters::rows_ways-loop-i-preserved
+parameters::rows_ways-loop-i-preserved g t c =
+    rows_step (g.L.Lins.orders c.args.lins.now) (pairs.pair_ways (slots_in c.args.gots.now) (slots_in c.args.wants.now)) (param_row c.args.wants.now) c.args.gots.now c.loop-i.i c.index-gots-i.result c.loop-i.all c.row_ways.result c.meet-all.result _ (omega arith) c.index-gots-i.is c.row_ways.ensures c.meet-all.ensures c.loop-i.invariant
+
+pub rules::callable_rule-returns-in-Class : goal.rules::callable_rule-returns-in-Class
+rules::callable_rule-returns-in-Class g t c =
+    let o = g.L.Lins.orders c.args.lins.now in
+    let r = ty_of c.args.signature.now.result in
+    let d = c.in-Class.class in
+    let k : ty_of c.args.want.now ≡ class_object d = rw c.in-Class.is (search (rules, the_lemmas)) in
+    let m : c.made_ways.result.there ≡ (spec.ways o r (instance_of d)).back =
+    ap (λ w. w.there) (c.made_ways.ensures ∙ made_by_form o (form_of d) d r) ∙ sym (turned o r (instance_of d)) in
+    rw (k, m) refl
+
+pub rules::place_ways-returns-then-items-others : goal.rules::place_ways-returns-then-items-others
+rules::place_ways-returns-then-items-others g t c =
+    c.neither.ensures ∙ sym (other_lengths _ c.args.items.now c.args.others.now (λ same. absurd (omega (arith, same))))
+
+pub walk-returns-in_default : goal.walk-returns-in_default
+walk-returns-in_default g t c =
+    let h : is_whole (ty_of c.args.got.now) ≡ true = search (rules, the_lemmas) in
+    rw (ways_whole _ _ h) c.whole_ways.ensures

@@ -1,0 +1,12 @@
+use Rattle.std.proofs.Common.{◌≡◌, drop}
+use Rattle.pyc_type_forms.specs.TypeView.{row}
+use Rattle.pyc_types.specs.Pairs as pairs
+use Rattle.pyc_types.specs.Ways as spec
+use Rattle.pyc_types.proofs.assigning.bare.+bare.Given as goal
+
+-- the items so far joined with those left are all
+abbrev pub invariant-bare_item_ways-loop-item : goal.invariant-bare_item_ways-loop-item
+invariant-bare_item_ways-loop-item g l =
+    let o = g.L.Lins.orders l.lins in
+    pairs.choose l.all (spec.into_items o (spec.bare_type l.form) (spec.bare_rule l.form) (row (drop l.item-index l.items)))
+    ≡ spec.into_items o (spec.bare_type l.form) (spec.bare_rule l.form) (row l.items)

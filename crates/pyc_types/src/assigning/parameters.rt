@@ -1,0 +1,100 @@
+//! The parameters of two callables: the ways between their types.
+
+ghost use Rattle.std.specs.Prelude.{◌≡◌};
+ghost use Rattle.pyc_type_forms.specs.TypeView.{ty_of, params_of, param_row};
+ghost use Rattle.pyc_types.specs.Assignable.{slots_of};
+ghost use Rattle.pyc_types.specs.Pairs as spec;
+ghost use Rattle.pyc_types.specs.Slots.{slots_in};
+ghost use Rattle.pyc_types.specs.Ways.{ways, params_ways, params_ways_of, listed_ways_of};
+
+use super::walk;
+use crate::fitting::{fits, serves};
+use crate::ways::Ways;
+use pyc_class::Lins;
+use pyc_type_forms::{Param, Params};
+
+/// The ways between what two callables take.
+#[cycle(walk)]
+pub(super) fn params_ways<L: Lins>(lins: &L, got: &Params, want: &Params) -> Ways
+    ensures { result ≡ params_ways (params_of got.now) (params_ways_of (L.orders lins.now) (params_of got.now))
+        (params_of want.now) }
+{
+    match got {
+        Params::Dots => Ways::each(),
+        Params::Listed(gots) => match want {
+            Params::Dots => Ways::each(),
+            Params::Listed(wants) => listed_ways(lins, gots, wants),
+        },
+    }
+}
+
+/// The ways between two rows of parameters.
+#[cycle(walk)]
+#[tactic(auto, using(crate::proofs::WalkLemmas::joins))]
+fn listed_ways<L: Lins>(lins: &L, gots: &[Param], wants: &[Param]) -> Ways
+    ensures { result ≡ spec.listed_ways (slots_of (param_row gots.now))
+        (listed_ways_of (L.orders lins.now) (param_row gots.now)) (param_row wants.now) }
+{
+    let fitting = Ways {
+        there: fits(gots, wants),
+        back: fits(wants, gots),
+    };
+    if !fitting.there && !fitting.back {
+        return fitting;
+    }
+    fitting.meet(rows_ways(lins, gots, wants))
+}
+
+/// What all pairs of parameters ask.
+#[cycle(walk)]
+#[tactic(auto, using(crate::proofs::WalkLemmas::joins))]
+fn rows_ways<L: Lins>(lins: &L, gots: &[Param], wants: &[Param]) -> Ways
+    ensures { result ≡ spec.rows_ways (spec.pair_ways (slots_in gots.now) (slots_in wants.now)) 0
+        (listed_ways_of (L.orders lins.now) (param_row gots.now)) (param_row wants.now) }
+{
+    let mut all = Ways::each();
+    for (i, got) in gots.iter().enumerate() {
+        all = all.meet(row_ways(lins, gots, wants, i, got));
+    }
+    all
+}
+
+/// What the pairs of got's i-th parameter ask.
+#[cycle(walk)]
+#[tactic(auto, using(crate::proofs::WalkLemmas::joins))]
+fn row_ways<L: Lins>(lins: &L, gots: &[Param], wants: &[Param], i: usize, got: &Param) -> Ways
+    ensures { result ≡ spec.row_ways (spec.pair_ways (slots_in gots.now) (slots_in wants.now) i) 0
+        (ways (L.orders lins.now) (ty_of got.now.ty)) (param_row wants.now) }
+{
+    let mut all = Ways::each();
+    for (j, want) in wants.iter().enumerate() {
+        all = all.meet(pair_ways(lins, gots, wants, i, j, got, want));
+    }
+    all
+}
+
+/// What the pair of got's i-th and the wanted j-th parameter asks of their types.
+#[cycle(walk)]
+fn pair_ways<L: Lins>(
+    lins: &L,
+    gots: &[Param],
+    wants: &[Param],
+    i: usize,
+    j: usize,
+    got: &Param,
+    want: &Param,
+) -> Ways
+    ensures { result ≡ spec.pair_ways (slots_in gots.now) (slots_in wants.now) i j
+        (ways (L.orders lins.now) (ty_of got.now.ty) (ty_of want.now.ty)) }
+{
+    let is_served = serves(gots, wants, i, j);
+    let is_serving = serves(wants, gots, j, i);
+    if !is_served && !is_serving {
+        return Ways::each();
+    }
+    let ways = walk(lins, &got.ty, &want.ty);
+    Ways {
+        there: !is_served || ways.back,
+        back: !is_serving || ways.there,
+    }
+}
