@@ -19,7 +19,9 @@ abbrev is_same_place : Place → Place → Bool
 is_same_place a b = pointwise bytes_eq a.parts b.parts && bytes_eq a.name b.name
 
 same_place : IsEquivalence is_same_place
-same_place = and_equiv (on_equiv (λ (a : Place). a.parts) (lists_equiv nat_list_eq_equiv)) (on_equiv (λ (a : Place). a.name) nat_list_eq_equiv)
+same_place =
+    and_equiv (on_equiv (λ (a : Place). a.parts) (lists_equiv nat_list_eq_equiv))
+    (on_equiv (λ (a : Place). a.name) nat_list_eq_equiv)
 
 same_refl : (a : Id) → same_class a a ≡ true
 same_refl (builtin a) = nat_eq_equiv.refl (number_of a)

@@ -1,7 +1,8 @@
 //! Classes.
 
 ghost use Rattle.std.specs.Prelude.{◌≡◌, IfOk};
-ghost use Rattle.pyc_class.specs.Class.{builtin, user, same_class, name_of, module_of, builtin_of, builtin_form, form_of};
+ghost use Rattle.pyc_class.specs.Class.{builtin, user, same_class, name_of, module_of, builtin_of};
+ghost use Rattle.pyc_class.specs.Class.{builtin_form, form_of};
 
 use crate::BuiltinClass;
 use pyc_ast::Text;
@@ -61,8 +62,8 @@ impl ClassId {
         }
     }
 
-    /// The class of this name in its home, the module that defines it, by the parts of the module's name. The only error is that memory
-    /// runs out.
+    /// The class of this name in its home, the module that defines it, by the parts of the module's name. The only
+    /// error is that memory runs out.
     pub fn user(alloc: Global, home: Vec<Text>, name: Text) -> Result<ClassId, AllocError>
         ensures { IfOk result (λ class. class ≡ user home.items name) }
     {

@@ -3,7 +3,8 @@ use Rattle.std.specs.Prelude.{ℕ, List, [], ◌∷◌, ◌++◌, Bool, true, fa
 use Rattle.std.specs.List.{flat_map}
 use Rattle.pyc_class.specs.Class.{name_of}
 use Rattle.pyc_type_forms.specs.Types.{Kind, plain, star, keyword_only, double_star}
-use Rattle.pyc_type_forms.specs.Types.{Ty, Tys, Params, Listed, any, none, module_type, instance, class_object, list, dict}
+use Rattle.pyc_type_forms.specs.Types.{Ty, Tys, Params, Listed, any, none, module_type, instance, class_object}
+use Rattle.pyc_type_forms.specs.Types.{list, dict}
 use Rattle.pyc_type_forms.specs.Types.{tuple, tuple_of, union, callable, nil, cons, dots, listed, no_param, param}
 
 -- each text, after the separator

@@ -10,7 +10,8 @@ use Rattle.pyc_type_forms.specs.declared.types.Params.TheOpen as layer
 use Rattle.pyc_type_forms.specs.declared.types.Signature.{Signature as SignatureOf}
 use Rattle.pyc_type_forms.specs.declared.types.Ty.{Ty as TyOf}
 use Rattle.pyc_type_forms.specs.Types.{Kind, plain, star, keyword_only, double_star, Slot, Ty, Tys, Params, Listed}
-use Rattle.pyc_type_forms.specs.Types.{any, none, module_type, instance, class_object, list, dict, tuple, tuple_of, union}
+use Rattle.pyc_type_forms.specs.Types.{any, none, module_type, instance, class_object, list, dict, tuple}
+use Rattle.pyc_type_forms.specs.Types.{tuple_of, union}
 use Rattle.pyc_type_forms.specs.Types.{callable, nil, cons, dots, listed, no_param, param}
 
 -- the kind that a `ParamKind` is

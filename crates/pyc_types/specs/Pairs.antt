@@ -28,7 +28,8 @@ gather a b = both (a.there && b.there) (a.back || b.back)
 -- what the pair of got's i-th and the wanted j-th parameter asks of the ways between their types: the served one goes
 -- backwards to the one that serves it
 abbrev pub pair_ways : List Slot → List Slot → ℕ → ℕ → Ways → Ways
-pair_ways gots wants i j ways = both (not (serves gots wants i j) || ways.back) (not (serves wants gots j i) || ways.there)
+pair_ways gots wants i j ways =
+    both (not (serves gots wants i j) || ways.back) (not (serves wants gots j i) || ways.there)
 
 -- what the pairs of one of got's parameters ask, from the j-th wanted one on
 abbrev pub row_ways : (ℕ → Ways → Ways) → ℕ → (Ty → Ways) → Listed → Ways

@@ -41,7 +41,8 @@ fn is_served(gots: &[Param], wants: &[Param], j: usize) -> bool
 
 /// Whether a wanted parameter that may be left out may still be so in what serves it.
 fn keeps_optional(want: Option<&Param>, got: Option<&Param>) -> bool
-    ensures { result ≡ spec.keeps_optional (option_map (λ p. slot_of p.now) want.entry) (option_map (λ p. slot_of p.now) got.entry) }
+    ensures { result ≡ spec.keeps_optional (option_map (λ p. slot_of p.now) want.entry)
+        (option_map (λ p. slot_of p.now) got.entry) }
 {
     match (want, got) {
         (Some(want), Some(got)) => !want.is_optional || may_be_left_out(got),

@@ -10,3 +10,6 @@ pub use assigning::assignable;
 pub use pyc_builtins::{Builtin, BuiltinName, Builtins, FunctionResult, builtin_name};
 pub use pyc_class::{BuiltinClass, ClassId, InstanceForm, Lin, Lins, UnknownOrder};
 pub use pyc_type_forms::{DictTypes, Param, ParamKind, Params, Signature, Ty, show};
+
+#[cfg(test)]
+mod tests;

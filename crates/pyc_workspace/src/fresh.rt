@@ -12,12 +12,23 @@ use std::alloc::{AllocError, Global};
 use std::rc::Rc;
 
 /// The report of a check of these files from scratch.
-#[tactic(auto, unfolding(crate::specs::Fresh::fresh))]
 pub fn fresh_report(alloc: Global, files: &[Rc<File>]) -> Result<Report, AllocError>
     ensures { IfOk result (λ report. report_in report ≡ fresh (files_in files.now)) }
 {
     let builtins = Builtins::new(alloc)?;
-    let found = found_in_files(alloc, &builtins, files)?;
+    report_of(alloc, &builtins, files)
+}
+
+/// The report of a check of these files from scratch, over the builtins.
+#[tactic(auto, unfolding(crate::specs::Fresh::fresh))]
+fn report_of(
+    alloc: Global,
+    builtins: &Builtins,
+    files: &[Rc<File>],
+) -> Result<Report, AllocError>
+    ensures { IfOk result (λ report. report_in report ≡ fresh (files_in files.now)) }
+{
+    let found = found_in_files(alloc, builtins, files)?;
     report(alloc, found.as_slice())
 }
 
