@@ -6,3 +6,5 @@ pub mod PairLemmas
 pub mod Complete
 pub mod Sound
 pub mod Rules
+pub mod AnyLemmas
+pub mod AgreeLemmas

@@ -15,7 +15,7 @@ pub answer_meets_the_rules : (o : Orders) (got want : Ty) (answer : Bool) → an
 answer_meets_the_rules o got want answer same = rw same (meets_the_rules o got want)
 
 -- two tests are one where each follows from the other
-same_tests : (x y : Bool) → (x ≡ true → y ≡ true) → (y ≡ true → x ≡ true) → x ≡ y
+pub same_tests : (x y : Bool) → (x ≡ true → y ≡ true) → (y ≡ true → x ≡ true) → x ≡ y
 same_tests true y there back = sym (there refl)
 same_tests false true there back = back refl
 same_tests false false there back = refl

@@ -3,3 +3,4 @@ pub mod Assignable
 pub mod Pairs
 pub mod Ways
 pub mod Slots
+pub mod Laws
