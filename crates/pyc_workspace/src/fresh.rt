@@ -21,11 +21,7 @@ pub fn fresh_report(alloc: Global, files: &[Rc<File>]) -> Result<Report, AllocEr
 
 /// The report of a check of these files from scratch, over the builtins.
 #[tactic(auto, unfolding(crate::specs::Fresh::fresh))]
-fn report_of(
-    alloc: Global,
-    builtins: &Builtins,
-    files: &[Rc<File>],
-) -> Result<Report, AllocError>
+fn report_of(alloc: Global, builtins: &Builtins, files: &[Rc<File>]) -> Result<Report, AllocError>
     ensures { IfOk result (λ report. report_in report ≡ fresh (files_in files.now)) }
 {
     let found = found_in_files(alloc, builtins, files)?;
