@@ -1,3 +1,4 @@
+pub mod MemberLemmas
 pub mod NameLemmas
 pub mod OrderLemmas
 pub mod TableLemmas

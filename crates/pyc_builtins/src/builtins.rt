@@ -94,7 +94,7 @@ impl Lins for Builtins {
 }
 
 /// The type of the instances of a builtin class of no form of its own.
-fn instance_of(class: BuiltinClass) -> Ty
+pub(crate) fn instance_of(class: BuiltinClass) -> Ty
     ensures { result ≡ form.Instance (builtin class) }
 {
     Ty::Instance(ClassId::builtin(class))

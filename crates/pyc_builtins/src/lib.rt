@@ -5,8 +5,16 @@ mod builtin;
 mod builtins;
 mod chains;
 pub mod laws;
+mod member_types;
+mod members;
 mod names;
+mod tables;
 
 pub use builtin::Builtin;
 pub use builtins::Builtins;
+pub use member_types::member_type;
+pub use members::{FoundMember, Member, MethodResult, builtin_member, is_dunder, own_member};
 pub use names::{BuiltinName, FunctionResult, builtin_name};
+
+#[cfg(test)]
+mod tests;

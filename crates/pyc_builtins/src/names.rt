@@ -1,9 +1,9 @@
 //! What the names of Python's builtins stand for.
 
-ghost use Rattle.std.specs.Prelude.{◌≡◌, map};
-ghost use Rattle.pyc_builtins.specs.Tables.{lookup};
+ghost use Rattle.std.specs.Prelude.{◌≡◌};
 ghost use Rattle.pyc_builtins.specs.Names as spec;
 
+use crate::tables::value_in;
 use pyc_class::BuiltinClass;
 
 /// What a name of Python's builtins stands for.
@@ -290,47 +290,34 @@ const OF_TWENTY_FIVE: [(&[u8], BuiltinName); 1] = [(
     BuiltinName::Any,
 )];
 
-/// What a table has under this name.
-fn name_in(mut table: &[(&[u8], BuiltinName)], name: &[u8]) -> Option<BuiltinName>
-    ensures { result ≡ lookup (map (λ entry. (entry.0.now, entry.1)) table.entry.now) name.now }
-{
-    while let [entry, rest @ ..] = table {
-        if entry.0 == name {
-            return Some(entry.1);
-        }
-        table = rest;
-    }
-    None
-}
-
 /// What the name of these bytes stands for.
 fn name_of_bytes(name: &[u8]) -> Option<BuiltinName>
     ensures { result ≡ spec.builtin_name name.now }
 {
     match name.len() {
-        2 => name_in(&OF_TWO, name),
-        3 => name_in(&OF_THREE, name),
-        4 => name_in(&OF_FOUR, name),
-        5 => name_in(&OF_FIVE, name),
-        6 => name_in(&OF_SIX, name),
-        7 => name_in(&OF_SEVEN, name),
-        8 => name_in(&OF_EIGHT, name),
-        9 => name_in(&OF_NINE, name),
-        10 => name_in(&OF_TEN, name),
-        11 => name_in(&OF_ELEVEN, name),
-        12 => name_in(&OF_TWELVE, name),
-        13 => name_in(&OF_THIRTEEN, name),
-        14 => name_in(&OF_FOURTEEN, name),
-        15 => name_in(&OF_FIFTEEN, name),
-        16 => name_in(&OF_SIXTEEN, name),
-        17 => name_in(&OF_SEVENTEEN, name),
-        18 => name_in(&OF_EIGHTEEN, name),
-        19 => name_in(&OF_NINETEEN, name),
-        20 => name_in(&OF_TWENTY, name),
-        21 => name_in(&OF_TWENTY_ONE, name),
-        22 => name_in(&OF_TWENTY_TWO, name),
-        23 => name_in(&OF_TWENTY_THREE, name),
-        25 => name_in(&OF_TWENTY_FIVE, name),
+        2 => value_in(&OF_TWO, name),
+        3 => value_in(&OF_THREE, name),
+        4 => value_in(&OF_FOUR, name),
+        5 => value_in(&OF_FIVE, name),
+        6 => value_in(&OF_SIX, name),
+        7 => value_in(&OF_SEVEN, name),
+        8 => value_in(&OF_EIGHT, name),
+        9 => value_in(&OF_NINE, name),
+        10 => value_in(&OF_TEN, name),
+        11 => value_in(&OF_ELEVEN, name),
+        12 => value_in(&OF_TWELVE, name),
+        13 => value_in(&OF_THIRTEEN, name),
+        14 => value_in(&OF_FOURTEEN, name),
+        15 => value_in(&OF_FIFTEEN, name),
+        16 => value_in(&OF_SIXTEEN, name),
+        17 => value_in(&OF_SEVENTEEN, name),
+        18 => value_in(&OF_EIGHTEEN, name),
+        19 => value_in(&OF_NINETEEN, name),
+        20 => value_in(&OF_TWENTY, name),
+        21 => value_in(&OF_TWENTY_ONE, name),
+        22 => value_in(&OF_TWENTY_TWO, name),
+        23 => value_in(&OF_TWENTY_THREE, name),
+        25 => value_in(&OF_TWENTY_FIVE, name),
         _ => None,
     }
 }

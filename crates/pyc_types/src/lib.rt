@@ -7,7 +7,10 @@ pub mod laws;
 mod ways;
 
 pub use assigning::assignable;
-pub use pyc_builtins::{Builtin, BuiltinName, Builtins, FunctionResult, builtin_name};
+pub use pyc_builtins::{
+    Builtin, BuiltinName, Builtins, FoundMember, FunctionResult, Member, MethodResult,
+    builtin_member, builtin_name, is_dunder, member_type, own_member,
+};
 pub use pyc_class::{BuiltinClass, ClassId, InstanceForm, Lin, Lins, UnknownOrder};
 pub use pyc_type_forms::{DictTypes, Param, ParamKind, Params, Signature, Ty, show};
 
