@@ -8,3 +8,5 @@ pub mod Sound
 pub mod Rules
 pub mod AnyLemmas
 pub mod AgreeLemmas
+pub mod RegularLemmas
+pub mod ItselfLemmas
