@@ -10,3 +10,6 @@ pub mod AnyLemmas
 pub mod AgreeLemmas
 pub mod RegularLemmas
 pub mod ItselfLemmas
+pub mod ClassLemmas
+pub mod ThroughLemmas
+pub mod BuiltinOrderLemmas

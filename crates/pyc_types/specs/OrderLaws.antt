@@ -9,7 +9,7 @@ use Rattle.pyc_class.specs.Order.{Orders, leads, is_unknown}
 use Rattle.pyc_type_forms.specs.Types.{Kind, plain, star, keyword_only, double_star, Slot, Ty, Tys, Params, Listed, any}
 use Rattle.pyc_type_forms.specs.Types.{none, module_type, instance, class_object, list, dict, tuple, tuple_of, union}
 use Rattle.pyc_type_forms.specs.Types.{callable, nil, cons, dots, listed, no_param, param}
-use Rattle.pyc_builtins.specs.Orders.{builtin_order}
+use Rattle.pyc_builtins.specs.Orders.{builtin_order, builtin_orders}
 use Rattle.pyc_types.specs.Assignable.{slots_of}
 use Rattle.pyc_types.specs.Ways.{assignable}
 
@@ -106,17 +106,17 @@ abbrev mutual
   IsPlainRow orders nil = Unit
   IsPlainRow orders (cons x xs) = IsPlain orders x × IsPlainRow orders xs
 
--- the order of each class holds the order of each class in it, where it is known
+-- the order of a class, where it is known, holds the order of each class in it
 abbrev pub HoldsOrders : Orders → Type 0
 HoldsOrders orders =
     (c d e : Id) → IsTrue (not (is_unknown (orders c))) → IsTrue (leads orders c d) → IsTrue (leads orders d e)
     → IsTrue (leads orders c e)
 
--- each builtin class has its order
+-- the order of each builtin class is its builtin order
 abbrev pub HasBuiltins : Orders → Type 0
 HasBuiltins orders = (class : BuiltinClass) → (orders (builtin class)).classes ≡ map builtin (builtin_order class)
 
--- orders that hold the orders of their classes, and those of the builtin classes
+-- each known order holds the orders of its classes, and the builtin classes have theirs
 abbrev pub AreOrderly : Orders → Type 0
 AreOrderly orders = HoldsOrders orders × HasBuiltins orders
 
@@ -125,3 +125,9 @@ abbrev pub IsTransitive : Type 0
 IsTransitive =
     (orders : Orders) → AreOrderly orders → (a b c : Ty) → IsPlain orders a → IsPlain orders b → IsPlain orders c
     → IsTrue (assignable orders a b) → IsTrue (assignable orders b c) → IsTrue (assignable orders a c)
+
+-- ---- orders that meet the premises
+
+-- the orders of the builtin classes alone meet what both laws ask of orders
+abbrev pub BuiltinOrdersAreOrderly : Type 0
+BuiltinOrdersAreOrderly = HoldsItself builtin_orders × AreOrderly builtin_orders

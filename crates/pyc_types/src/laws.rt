@@ -1,6 +1,6 @@
 //! Laws of assignability, proved for all orders and types.
 ghost use Rattle.pyc_types.specs.Laws.{AgreeingOrdersAnswerAlike, AnyPartHolds};
-ghost use Rattle.pyc_types.specs.OrderLaws.{IsReflexive};
+ghost use Rattle.pyc_types.specs.OrderLaws.{BuiltinOrdersAreOrderly, IsReflexive, IsTransitive};
 ghost use Rattle.pyc_types.specs.Ways.{MeetsTheRules};
 
 /// `assignable` answers yes exactly where the written rules lead.
@@ -22,4 +22,16 @@ pub fn agreeing_orders()
 /// which Python has them written, no two of one name.
 pub fn reflexive()
     ensures { IsReflexive }
+{}
+
+/// What is assignable to a type is assignable to all that this one is assignable to, where no Any, no callable and no
+/// class of unknown order stands in the three, each known order holds the orders of its classes, and the builtin
+/// classes have theirs.
+pub fn transitive()
+    ensures { IsTransitive }
+{}
+
+/// The orders of the builtin classes meet what `reflexive` and `transitive` ask of orders.
+pub fn builtin_orders_are_orderly()
+    ensures { BuiltinOrdersAreOrderly }
 {}
