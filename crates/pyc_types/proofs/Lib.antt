@@ -8,3 +8,8 @@ pub mod Sound
 pub mod Rules
 pub mod AnyLemmas
 pub mod AgreeLemmas
+pub mod RegularLemmas
+pub mod ItselfLemmas
+pub mod ClassLemmas
+pub mod ThroughLemmas
+pub mod BuiltinOrderLemmas

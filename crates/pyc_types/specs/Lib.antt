@@ -4,3 +4,4 @@ pub mod Pairs
 pub mod Ways
 pub mod Slots
 pub mod Laws
+pub mod OrderLaws

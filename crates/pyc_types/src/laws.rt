@@ -1,5 +1,6 @@
 //! Laws of assignability, proved for all orders and types.
 ghost use Rattle.pyc_types.specs.Laws.{AgreeingOrdersAnswerAlike, AnyPartHolds};
+ghost use Rattle.pyc_types.specs.OrderLaws.{BuiltinOrdersAreOrderly, IsReflexive, IsTransitive};
 ghost use Rattle.pyc_types.specs.Ways.{MeetsTheRules};
 
 /// `assignable` answers yes exactly where the written rules lead.
@@ -15,4 +16,22 @@ pub fn any_part()
 /// Two orders that agree on the classes written in two types give the same answer.
 pub fn agreeing_orders()
     ensures { AgreeingOrdersAnswerAlike }
+{}
+
+/// A type is assignable to itself, where no module stands in it and its callables have their parameters in the order in
+/// which Python has them written, no two of one name.
+pub fn reflexive()
+    ensures { IsReflexive }
+{}
+
+/// What is assignable to a type is assignable to all that this one is assignable to, where no Any, no callable and no
+/// class of unknown order stands in the three, each known order holds the orders of its classes, and the builtin
+/// classes have theirs.
+pub fn transitive()
+    ensures { IsTransitive }
+{}
+
+/// The orders of the builtin classes meet what `reflexive` and `transitive` ask of orders.
+pub fn builtin_orders_are_orderly()
+    ensures { BuiltinOrdersAreOrderly }
 {}
