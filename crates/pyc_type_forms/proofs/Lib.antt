@@ -1,1 +1,3 @@
 pub mod TextLemmas
+pub mod EqualityLemmas
+pub mod UnionLemmas

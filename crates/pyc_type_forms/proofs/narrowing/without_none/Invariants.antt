@@ -1,0 +1,12 @@
+use Rattle.std.proofs.Common.{◌≡◌, ◌++◌, drop, map}
+use Rattle.std.specs.List.{flat_map}
+use Rattle.pyc_type_forms.specs.TypeView.{ty_of}
+use Rattle.pyc_type_forms.specs.Unions.{items_of}
+use Rattle.pyc_type_forms.specs.Narrowing.{unless, is_none}
+use Rattle.pyc_type_forms.proofs.narrowing.without_none.Given as goal
+
+-- what was added, with what the items that are left leave, is the whole
+abbrev pub invariant-loop-item : goal.invariant-loop-item
+invariant-loop-item l =
+    map ty_of l.left.items ++ flat_map (λ item. unless (is_none item) item) (map ty_of (drop l.item-index l.item-items))
+    ≡ flat_map (λ item. unless (is_none item) item) (items_of (ty_of l.ty))

@@ -1,0 +1,10 @@
+use Rattle.std.proofs.Common.{◌≡◌, drop, map}
+use Rattle.pyc_type_forms.specs.TypeView.{ty_of}
+use Rattle.pyc_type_forms.specs.Unions.{with_items}
+use Rattle.pyc_type_forms.proofs.unions.add_new.Given as goal
+
+-- what is kept, with the types that are left, is the whole
+abbrev pub invariant-loop-ty : goal.invariant-loop-ty
+invariant-loop-ty l =
+    with_items (map ty_of l.kept.items) (map ty_of (drop l.ty-index l.types))
+    ≡ with_items (map ty_of l.fn.kept.items) (map ty_of l.types)
