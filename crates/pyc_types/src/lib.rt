@@ -12,7 +12,12 @@ pub use pyc_builtins::{
     builtin_member, builtin_name, is_dunder, member_type, own_member,
 };
 pub use pyc_class::{BuiltinClass, ClassId, InstanceForm, Lin, Lins, UnknownOrder};
-pub use pyc_type_forms::{DictTypes, Param, ParamKind, Params, Signature, Ty, show};
+pub use pyc_type_forms::{
+    DictTypes, Param, ParamKind, Params, Signature, Ty, instance_of, narrow_away, narrow_to,
+    same_type, show, union_of, without_none,
+};
 
 #[cfg(test)]
 mod tests;
+#[cfg(test)]
+mod union_tests;
