@@ -5,9 +5,10 @@ use Rattle.pyc_class.specs.Class.{same_class, object_id, int_id, float_id, form_
 use Rattle.pyc_class.specs.Order.{Orders, leads, is_unknown}
 use Rattle.pyc_type_forms.specs.Types.{Ty, Tys, Params, any, instance, dots, listed}
 use Rattle.pyc_types.specs.Assignable.{Assignable, Every, ToSome, Places, from_any, to_any, of_unknown, each_item, some_item, nothing, to_object, along, to_float, lists, dicts, by_places, each_place, any_length, class_objects, any_arguments, callables, with_call, makes, no_more, and_more, this_item, later_item, no_place, and_place, is_dots}
+use Rattle.pyc_types.specs.Cross.{goes_to_some}
 use Rattle.pyc_types.specs.Ways.{is_any, is_unknown_instance, is_object, is_simple, instance_goes, place_ways, gathered, all_back, params_ways, ways, ways_of, params_ways_of}
 use Rattle.pyc_types.proofs.PairLemmas.{rows_there, rows_back}
-use Rattle.pyc_types.proofs.WayLemmas.{goes_to_some, simple_there, simple_back, union_there, union_back, some_back, made_by_form}
+use Rattle.pyc_types.proofs.WayLemmas.{simple_there, simple_back, union_there, union_back, some_back, made_by_form}
 
 -- the test answers yes there, and yes back where it is asked the other way round
 abbrev pub Yes : Orders → Ty → Ty → Type 0

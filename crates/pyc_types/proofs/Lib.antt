@@ -2,6 +2,7 @@ pub mod Measures
 pub mod WalkLemmas
 pub mod PlaceLemmas
 pub mod WayLemmas
+pub mod CrossLemmas
 pub mod PairLemmas
 pub mod Complete
 pub mod Sound

@@ -9,13 +9,9 @@ use Rattle.pyc_type_forms.specs.Types.{Ty, Tys, any, none, module_type, instance
 use Rattle.pyc_type_forms.specs.Instances.{instance_in}
 use Rattle.pyc_types.specs.declared.ways.Ways.{Ways}
 use Rattle.pyc_types.specs.Assignable.{is_union}
+use Rattle.pyc_types.specs.Cross.{goes_to_some}
 use Rattle.pyc_types.specs.Pairs.{both}
 use Rattle.pyc_types.specs.Ways.{is_simple, with_simple, none_rule, instance_rule, list_rule, dict_rule, gathered, all_back, tuple_rule, tuple_of_rule, callable_rule, into, into_items, form_ways, class_rule, back_to, all_back_to, ways, ways_of, params_ways_of, own_rule}
-
--- whether a type goes to some of a row
-abbrev pub goes_to_some : (Ty → Ways) → Tys → Bool
-goes_to_some item nil = false
-goes_to_some item (cons other others) = (item other).there || goes_to_some item others
 
 -- ---- into a union
 

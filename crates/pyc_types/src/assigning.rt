@@ -8,6 +8,7 @@ ghost use Rattle.pyc_types.specs.Ways as spec;
 ghost use Rattle.pyc_types.specs.Ways.{assignable, ways};
 
 mod bare;
+mod crossing;
 mod instances;
 mod parameters;
 mod rules;

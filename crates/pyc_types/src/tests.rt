@@ -304,6 +304,24 @@ fn deep_types_are_answered(rt: HostRuntime) -> Result<(), Fail> {
 }
 
 #[test]
+fn deep_unions_are_answered(rt: HostRuntime) -> Result<(), Fail> {
+    let a = rt.alloc();
+    let builtins = Builtins::new(a)?;
+    let mut got = of(BuiltinClass::Int);
+    let mut want = of(BuiltinClass::Int);
+    let mut other = of(BuiltinClass::Bool);
+    for _ in 0..480 {
+        got = list(a, either(a, got, Ty::None)?)?;
+        want = list(a, either(a, Ty::None, want)?)?;
+        other = list(a, either(a, other, Ty::None)?)?;
+    }
+    assert!(rt; assignable(&builtins, &got, &got.clone()?));
+    assert!(rt; assignable(&builtins, &got, &want));
+    assert!(rt; !assignable(&builtins, &got, &other));
+    Ok(())
+}
+
+#[test]
 fn types_print(rt: HostRuntime) -> Result<(), Fail> {
     let a = rt.alloc();
     let pair = vec![in a; of(BuiltinClass::Int), Ty::None]?;

@@ -4,6 +4,7 @@ ghost use Rattle.std.specs.Prelude.{◌≡◌};
 ghost use Rattle.pyc_type_forms.specs.TypeView.{ty_of, row};
 ghost use Rattle.pyc_types.specs.Ways as spec;
 
+use super::crossing::{cross_ways, is_crossable};
 use super::instances::{is_object, is_unknown_instance};
 use super::{is_any, walk};
 use crate::ways::Ways;
@@ -18,10 +19,16 @@ pub(super) fn union_ways<L: Lins>(lins: &L, items: &[Ty], want: &Ty) -> Ways
 {
     match want {
         Ty::Any => Ways::each(),
-        Ty::Union(others) => Ways {
-            there: is_each_there(lins, items, want),
-            back: is_each_back_to(lins, items, others),
-        },
+        Ty::Union(others) => {
+            if is_crossable(items, others) {
+                cross_ways(lins, items, others)
+            } else {
+                Ways {
+                    there: is_each_there(lins, items, want),
+                    back: is_each_back_to(lins, items, others),
+                }
+            }
+        }
         _ => {
             let ways = one_ways(lins, items, want);
             Ways {

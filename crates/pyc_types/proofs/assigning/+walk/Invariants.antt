@@ -1,5 +1,6 @@
-use Rattle.std.proofs.Common.{◌≡◌, drop, ◌+◌, ◌*◌}
+use Rattle.std.proofs.Common.{◌≡◌, false, drop, take, replicate, length, ◌++◌, ◌&&◌, ◌||◌, ◌+◌, ◌*◌}
 use Rattle.pyc_type_forms.specs.TypeView.{ty_of, params_of, row, param_row}
+use Rattle.pyc_types.specs.Cross as cross
 use Rattle.pyc_types.specs.Pairs as pairs
 use Rattle.pyc_types.specs.Slots.{slots_in}
 use Rattle.pyc_types.specs.Ways as spec
@@ -116,6 +117,32 @@ abbrev pub invariant-unions::is_some_back-loop-item : goal.invariant-unions::is_
 invariant-unions::is_some_back-loop-item g l =
     let o = g.L.Lins.orders l.lins in
     (spec.gathered (ways_of o (row (drop l.item-index l.items))) (ty_of l.other)).back ≡ (spec.gathered (ways_of o (row l.items)) (ty_of l.other)).back
+
+abbrev pub decreases-crossing::cross_ways : goal.decreases-crossing::cross_ways
+decreases-crossing::cross_ways g l = 8 * (row_nodes (row l.items.now) + row_nodes (row l.others.now)) + 5
+
+abbrev pub decreases-crossing::cross_row : goal.decreases-crossing::cross_row
+decreases-crossing::cross_row g l = 8 * (nodes (ty_of l.item.now) + row_nodes (row l.others.now)) + 4
+
+-- the items left give the rest of what all give
+abbrev pub invariant-crossing::cross_ways-loop-item : goal.invariant-crossing::cross_ways-loop-item
+invariant-crossing::cross_ways-loop-item g l =
+    let o = g.L.Lins.orders l.lins in
+    record {
+      there : (l.there && cross.each_goes (ways_of o (row (drop l.item-index l.items))) (row l.others)) ≡ cross.each_goes (ways_of o (row l.items)) (row l.others);
+      reached : cross.reach_all (ways_of o (row (drop l.item-index l.items))) (row l.others) l.reached ≡ cross.reach_all (ways_of o (row l.items)) (row l.others) (replicate 64 false);
+      marks : length l.reached ≡ 64;
+    }
+
+-- the others left give the rest of what all give
+abbrev pub invariant-crossing::cross_row-loop-i : goal.invariant-crossing::cross_row-loop-i
+invariant-crossing::cross_row-loop-i g l =
+    let f = ways (g.L.Lins.orders l.lins) (ty_of l.item) in
+    record {
+      goes : (l.goes || cross.goes_to_some f (row (drop l.i l.others))) ≡ cross.goes_to_some f (row l.others);
+      reached : take l.i l.reached ++ cross.reach f (row (drop l.i l.others)) (drop l.i l.reached) ≡ cross.reach f (row l.others) l.fn.reached;
+      marks : length l.reached ≡ length l.fn.reached;
+    }
 
 -- the rows so far with those left are all
 abbrev pub invariant-parameters::rows_ways-loop-i : goal.invariant-parameters::rows_ways-loop-i
