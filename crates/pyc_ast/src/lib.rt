@@ -27,6 +27,3 @@ pub use stmt::{
 };
 pub use target::{Target, TargetElement, TargetForm};
 pub use text::Text;
-
-#[cfg(test)]
-mod tests;

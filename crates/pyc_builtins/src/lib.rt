@@ -15,6 +15,3 @@ pub use builtins::Builtins;
 pub use member_types::member_type;
 pub use members::{FoundMember, Member, MethodResult, builtin_member, is_dunder, own_member};
 pub use names::{BuiltinName, FunctionResult, builtin_name};
-
-#[cfg(test)]
-mod tests;

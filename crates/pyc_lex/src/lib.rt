@@ -11,8 +11,6 @@ mod logical_lines;
 mod positions;
 mod reader;
 mod stack;
-#[cfg(test)]
-mod tests;
 
 pub use fault::LexFault;
 pub use lines::{ident, scan};

@@ -4,6 +4,3 @@
 mod module_name;
 
 pub use module_name::ModuleName;
-
-#[cfg(test)]
-mod tests;

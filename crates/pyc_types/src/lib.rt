@@ -16,8 +16,3 @@ pub use pyc_type_forms::{
     DictTypes, Param, ParamKind, Params, Signature, Ty, instance_of, narrow_away, narrow_to,
     same_type, show, union_of, without_none,
 };
-
-#[cfg(test)]
-mod tests;
-#[cfg(test)]
-mod union_tests;

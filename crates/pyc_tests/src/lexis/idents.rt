@@ -3,7 +3,7 @@
 ghost use Rattle.std.specs.Prelude.{All};
 ghost use Rattle.pyc_lex.specs.Texts.{IsTextSpan};
 
-use crate::{Scan, ident, scan};
+use pyc_lex::{Scan, ident, scan};
 use std::test::Fail;
 
 /// The text of a token, by the places of its line and of itself.

@@ -16,7 +16,7 @@ mod operators;
 mod strings;
 mod tables;
 
-use crate::{Codes, Ignore, LexFault, Scan, Token, scan};
+use pyc_lex::{Codes, Ignore, LexFault, Scan, Token, scan};
 use std::alloc::Global;
 use std::fmt::Write;
 use std::str;

@@ -1,6 +1,6 @@
 //! Sources that are not UTF-8.
 
-use crate::LexFault;
+use pyc_lex::LexFault;
 
 pub(super) const CASES: &[(&[u8], LexFault)] = &[
     (b"\x80", LexFault::NotUtf8),

@@ -1,7 +1,7 @@
 //! Unions, and what tests leave of types.
 
-use super::*;
 use pyc_ast::Text;
+use pyc_types::*;
 use std::alloc::{AllocError, Global};
 use std::rc::Rc;
 use std::test::Fail;

@@ -1,7 +1,7 @@
 //! Pairs of types, by the rule that decides; names of builtins; printed types.
 
-use super::*;
 use pyc_ast::Text;
+use pyc_types::*;
 use std::alloc::{AllocError, Global};
 use std::rc::Rc;
 use std::test::Fail;
@@ -108,6 +108,46 @@ fn instances(rt: HostRuntime) -> Result<(), Fail> {
     assert!(rt; assignable(&builtins, &bool_class, &int_class));
     assert!(rt; !assignable(&builtins, &int_class, &bool_class));
     assert!(rt; !assignable(&builtins, &int_class, &float_class));
+    Ok(())
+}
+
+/// Each type against each, got by got: `y` where it goes. Any goes both ways and all go to object; None goes to None; the
+/// order of bool leads to int, and int to float; a class object is a callable that gives its instances; a module goes
+/// nowhere else.
+#[test]
+fn types_against_types(rt: HostRuntime) -> Result<(), Fail> {
+    let a = rt.alloc();
+    let builtins = Builtins::new(a)?;
+    let types = vec![in a;
+        Ty::Any,
+        Ty::None,
+        of(BuiltinClass::Object),
+        of(BuiltinClass::Int),
+        of(BuiltinClass::Bool),
+        of(BuiltinClass::Float),
+        of(BuiltinClass::Str),
+        Ty::Class(ClassId::builtin(BuiltinClass::Bool)),
+        Ty::Module,
+        dots(a, of(BuiltinClass::Int))?,
+    ]?;
+    let rows = [
+        "y y y y y y y y y y",
+        "y y y - - - - - - -",
+        "y - y - - - - - - -",
+        "y - y y - y - - - -",
+        "y - y y y y - - - -",
+        "y - y - - y - - - -",
+        "y - y - - - y - - -",
+        "y - y - - - - y - y",
+        "y - y - - - - - - -",
+        "y - y - - - - - - y",
+    ];
+    for (got, row) in types.iter().zip(rows) {
+        for (want, goes) in types.iter().zip(row.split(' ')) {
+            let answer = assignable(&builtins, got, want);
+            assert_eq!(rt; answer, goes == "y", "{got:?} to {want:?}");
+        }
+    }
     Ok(())
 }
 

@@ -1,6 +1,6 @@
 //! Paths, with the modules that they name.
 
-use super::*;
+use pyc_names::ModuleName;
 use std::test::Fail;
 
 #[test]

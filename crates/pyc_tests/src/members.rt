@@ -1,7 +1,7 @@
 //! The members of the builtin classes, and their types.
 
-use super::*;
 use pyc_ast::Text;
+use pyc_builtins::*;
 use pyc_class::{BuiltinClass, ClassId};
 use pyc_type_forms::{DictTypes, Ty, show};
 use std::alloc::{AllocError, Global};

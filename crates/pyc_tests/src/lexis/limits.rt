@@ -1,6 +1,6 @@
 //! 64 brackets and 64 indents, and one more.
 
-use crate::{LexFault, scan};
+use pyc_lex::{LexFault, scan};
 use std::alloc::Global;
 use std::test::Fail;
 

@@ -1,6 +1,6 @@
 //! Strings that are open, and f-strings with an open field.
 
-use crate::LexFault;
+use pyc_lex::LexFault;
 
 pub(super) const CASES: &[(&[u8], LexFault)] = &[
     (b"'", LexFault::OpenString(1)),

@@ -1,6 +1,6 @@
 //! Brackets that match nothing or are left open, dedents to no entry, and tabs against spaces.
 
-use crate::LexFault;
+use pyc_lex::LexFault;
 
 pub(super) const CASES: &[(&[u8], LexFault)] = &[
     (b")", LexFault::Bracket(1)),

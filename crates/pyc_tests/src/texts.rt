@@ -1,6 +1,6 @@
 //! Texts: as they are made, shared and compared.
 
-use super::*;
+use pyc_ast::Text;
 use std::test::Fail;
 
 #[test]

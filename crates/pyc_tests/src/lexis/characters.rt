@@ -1,6 +1,6 @@
 //! Characters that begin no token.
 
-use crate::LexFault;
+use pyc_lex::LexFault;
 
 pub(super) const CASES: &[(&[u8], LexFault)] = &[
     (b"$", LexFault::BadCharacter(1)),

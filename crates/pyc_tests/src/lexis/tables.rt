@@ -4,7 +4,7 @@ use super::{
     brackets, characters, encoding, ignores, indents, joined_lines, names, nesting, numbers,
     open_strings, operators, shown, strings,
 };
-use crate::{LexFault, scan};
+use pyc_lex::{LexFault, scan};
 use std::alloc::Global;
 use std::process::Abort;
 use std::test::Fail;
