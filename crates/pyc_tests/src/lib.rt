@@ -1,4 +1,5 @@
-//! Tests of the crates below the program, in a crate of their own: a crate with tests is proved a second time with them.
+//! Tests of the crates below the program, in a crate of their own: a crate with tests is proved a second time with
+//! them.
 #![tactic(auto)]
 
 #[cfg(test)]

@@ -111,9 +111,9 @@ fn instances(rt: HostRuntime) -> Result<(), Fail> {
     Ok(())
 }
 
-/// Each type against each, got by got: `y` where it goes. Any goes both ways and all go to object; None goes to None; the
-/// order of bool leads to int, and int to float; a class object is a callable that gives its instances; a module goes
-/// nowhere else.
+/// Each type against each, got by got: `y` where it goes. Any goes both ways and all go to object; None goes to None;
+/// the order of bool leads to int, and int to float; a class object is a callable that gives its instances; a module
+/// goes nowhere else.
 #[test]
 fn types_against_types(rt: HostRuntime) -> Result<(), Fail> {
     let a = rt.alloc();

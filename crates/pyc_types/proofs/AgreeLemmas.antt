@@ -1,16 +1,13 @@
 -- Orders that agree on the classes written in two types answer alike.
-use Rattle.std.proofs.Common.{◌≡◌, ℕ, zero, suc, Bool, true, false, ◌||◌, List, [], ◌∷◌, Option, Some, None, IsTrue, refl, sym, ap, subst}
-use Rattle.std.proofs.lemmas.Bool.{false≢true}
+use Rattle.std.proofs.Common.{◌≡◌, ℕ, zero, suc, ◌||◌, Some, IsTrue, sym, subst}
 use Rattle.pyc_class.specs.declared.class_id.InstanceForm.{InstanceForm}
 use Rattle.pyc_class.specs.declared.class_id.InstanceForm.TheVariants as form
 use Rattle.pyc_class.specs.Class.{Id, form_of, int_id}
-use Rattle.pyc_class.specs.Order.{Order, Orders, order_contains, is_unknown}
-use Rattle.pyc_type_forms.specs.Types.{Slot, Ty, Tys, Params, Listed, any, none, module_type, instance, class_object, list, dict, tuple, tuple_of, union, callable, nil, cons, dots, listed, no_param, param}
-use Rattle.pyc_type_forms.specs.Instances.{instance_of, instance_in}
-use Rattle.pyc_types.specs.Parameters.{fits, serves}
-use Rattle.pyc_types.specs.Assignable.{Assignable, Every, ToSome, Places, from_any, to_any, of_unknown, each_item, some_item, nothing, to_object, along, to_float, lists, dicts, by_places, each_place, any_length, class_objects, any_arguments, callables, with_call, makes, no_more, and_more, this_item, later_item, no_place, and_place, is_union, is_dots, slots_of, type_at}
+use Rattle.pyc_class.specs.Order.{Orders, order_contains, is_unknown}
+use Rattle.pyc_type_forms.specs.Types.{Ty, Tys, Params, Listed, any, none, module_type, instance, class_object, list, dict, tuple, tuple_of, union, callable, nil, cons, dots, listed, no_param, param}
+use Rattle.pyc_type_forms.specs.Instances.{instance_in}
+use Rattle.pyc_types.specs.Assignable.{Assignable, Every, ToSome, Places, from_any, to_any, of_unknown, each_item, some_item, nothing, to_object, along, to_float, lists, dicts, by_places, each_place, any_length, class_objects, any_arguments, callables, with_call, makes, no_more, and_more, this_item, later_item, no_place, and_place, type_at}
 use Rattle.pyc_types.specs.Laws.{AgreeOn, AgreeOnRow, AgreeOnParams, AgreeOnListed, AgreeingOrdersAnswerAlike}
-use Rattle.pyc_types.specs.Ways.{assignable}
 use Rattle.pyc_types.proofs.PairLemmas.{some_is, none≢some}
 use Rattle.pyc_types.proofs.Rules.{meets_the_rules, same_tests}
 

@@ -1,13 +1,12 @@
 -- Replacing parts of types by Any keeps what is assignable.
-use Rattle.std.proofs.Common.{◌≡◌, ℕ, zero, suc, Bool, true, false, ◌||◌, List, [], ◌∷◌, Option, Some, None, IsTrue, refl, sym, ap, subst}
+use Rattle.std.proofs.Common.{◌≡◌, ℕ, zero, suc, false, ◌∷◌, Some, refl, sym, ap, subst}
 use Rattle.std.proofs.lemmas.Bool.{false≢true}
 use Rattle.pyc_class.specs.declared.class_id.InstanceForm.{InstanceForm}
 use Rattle.pyc_class.specs.declared.class_id.InstanceForm.TheVariants as form
 use Rattle.pyc_class.specs.Class.{Id, form_of}
 use Rattle.pyc_class.specs.Order.{Orders}
-use Rattle.pyc_type_forms.specs.Types.{Slot, Ty, Tys, Params, Listed, any, none, module_type, instance, class_object, list, dict, tuple, tuple_of, union, callable, nil, cons, dots, listed, no_param, param}
-use Rattle.pyc_type_forms.specs.Instances.{instance_of, instance_in}
-use Rattle.pyc_types.specs.Parameters.{fits, serves}
+use Rattle.pyc_type_forms.specs.Types.{Ty, Tys, Params, Listed}
+use Rattle.pyc_type_forms.specs.Instances.{instance_in}
 use Rattle.pyc_types.specs.Assignable.{Assignable, Every, ToSome, Places, from_any, to_any, of_unknown, each_item, some_item, nothing, to_object, along, to_float, lists, dicts, by_places, each_place, any_length, class_objects, any_arguments, callables, with_call, makes, no_more, and_more, this_item, later_item, no_place, and_place, is_union, is_dots, slots_of, type_at}
 use Rattle.pyc_types.specs.Laws.{WithAny, RowWithAny, ParamsWithAny, ListedWithAny, replaced, same_none, same_module, same_instance, same_class_object, in_list, in_dict, in_tuple, in_tuple_of, in_union, in_callable, no_type, another_type, same_dots, in_listed, no_parameter, another_parameter, AnyPartHolds}
 use Rattle.pyc_types.proofs.PairLemmas.{some_is, none≢some}

@@ -8,7 +8,8 @@ use Rattle.pyc_types.specs.Ways as spec
 use Rattle.pyc_type_forms.specs.declared.types.Params.TheFolds.{the_lemmas}
 use Rattle.pyc_type_forms.specs.TypeView.{ty_of, row, param_row}
 use Rattle.pyc_types.specs.Slots.{slots_in}
-use Rattle.pyc_types.proofs.Measures.{nodes, row_nodes, listed_nodes, node_in_row, node_in_params}
+use Rattle.pyc_type_forms.specs.Size.{size, row_size, listed_size}
+use Rattle.pyc_types.proofs.Measures.{size_in_row, size_in_params}
 use Rattle.pyc_types.proofs.WalkLemmas.{slots_row, other_lengths, row_step, rows_step}
 use Rattle.pyc_types.proofs.WayLemmas.{is_whole, ways_whole, made_by_form}
 use Rattle.pyc_types.proofs.CrossLemmas.{rows_done, enough_marks, crossed}
@@ -17,22 +18,22 @@ use Rattle.pyc_types.proofs.assigning.+walk.Goals as goal
 
 pub item_ways-whole_ways-requires : goal.item_ways-whole_ways-requires
 item_ways-whole_ways-requires g t c κs within =
-    let h : nodes (ty_of c.item-item.result) ≤ row_nodes (row c.args.items.now) = node_in_row _ c.loop-item.item-index _ (omega arith) c.item-item.is in
+    let h : size (ty_of c.item-item.result) ≤ row_size (row c.args.items.now) = size_in_row _ c.loop-item.item-index _ (omega arith) c.item-item.is in
     search rules
 
 pub rules::is_each_back-walk-requires : goal.rules::is_each_back-walk-requires
 rules::is_each_back-walk-requires g t c κs within =
-    let h : nodes (ty_of c.other-item.result) ≤ row_nodes (row c.args.others.now) = node_in_row _ c.loop-other.other-index _ (omega arith) c.other-item.is in
+    let h : size (ty_of c.other-item.result) ≤ row_size (row c.args.others.now) = size_in_row _ c.loop-other.other-index _ (omega arith) c.other-item.is in
     search rules
 
 pub crossing::cross_row-walk-ways-requires : goal.crossing::cross_row-walk-ways-requires
 crossing::cross_row-walk-ways-requires g t c κs within =
-    let h : nodes (ty_of c.index-others-i.result) ≤ row_nodes (row c.args.others.now) = node_in_row _ c.loop-i.i _ (omega arith) c.index-others-i.is in
+    let h : size (ty_of c.index-others-i.result) ≤ row_size (row c.args.others.now) = size_in_row _ c.loop-i.i _ (omega arith) c.index-others-i.is in
     search rules
 
 pub crossing::cross_ways-cross_row-goes-requires : goal.crossing::cross_ways-cross_row-goes-requires
 crossing::cross_ways-cross_row-goes-requires g t c κs within =
-    let h : nodes (ty_of c.item-item.result) ≤ row_nodes (row c.args.items.now) = node_in_row _ c.loop-item.item-index _ (omega arith) c.item-item.is in
+    let h : size (ty_of c.item-item.result) ≤ row_size (row c.args.items.now) = size_in_row _ c.loop-item.item-index _ (omega arith) c.item-item.is in
     let k : length c.args.others.now ≤ length c.loop-item.reached = omega (arith, c.requires, c.loop-item.invariant.marks) in
     search rules
 
@@ -40,43 +41,43 @@ pub unions::union_ways-cross_ways-requires : goal.unions::union_ways-cross_ways-
 unions::union_ways-cross_ways-requires g t c κs within =
     let few : length c.deref-then-is_crossable-2.result.now ≤ 64 = enough_marks c.args.items.now c.deref-then-is_crossable-2.result.now (search rules) in
     let u : ty_of c.args.want.now ≡ union (row c.deref-then-is_crossable-2.result.now) = rw c.in-Union.is (search (rules, the_lemmas)) in
-    let m : nodes (ty_of c.args.want.now) ≡ suc (row_nodes (row c.deref-then-is_crossable-2.result.now)) = ap nodes u in
+    let m : size (ty_of c.args.want.now) ≡ suc (row_size (row c.deref-then-is_crossable-2.result.now)) = ap size u in
     (search rules, (search rules, few))
 
 pub unions::is_each_back_to-is_back_to-requires : goal.unions::is_each_back_to-is_back_to-requires
 unions::is_each_back_to-is_back_to-requires g t c κs within =
-    let h : nodes (ty_of c.other-item.result) ≤ row_nodes (row c.args.others.now) = node_in_row _ c.loop-other.other-index _ (omega arith) c.other-item.is in
+    let h : size (ty_of c.other-item.result) ≤ row_size (row c.args.others.now) = size_in_row _ c.loop-other.other-index _ (omega arith) c.other-item.is in
     search rules
 
 pub unions::is_each_there-walk-requires : goal.unions::is_each_there-walk-requires
 unions::is_each_there-walk-requires g t c κs within =
-    let h : nodes (ty_of c.item-item.result) ≤ row_nodes (row c.args.items.now) = node_in_row _ c.loop-item.item-index _ (omega arith) c.item-item.is in
+    let h : size (ty_of c.item-item.result) ≤ row_size (row c.args.items.now) = size_in_row _ c.loop-item.item-index _ (omega arith) c.item-item.is in
     search rules
 
 pub unions::is_some_back-walk-requires : goal.unions::is_some_back-walk-requires
 unions::is_some_back-walk-requires g t c κs within =
-    let h : nodes (ty_of c.item-item.result) ≤ row_nodes (row c.args.items.now) = node_in_row _ c.loop-item.item-index _ (omega arith) c.item-item.is in
+    let h : size (ty_of c.item-item.result) ≤ row_size (row c.args.items.now) = size_in_row _ c.loop-item.item-index _ (omega arith) c.item-item.is in
     search rules
 
 pub unions::one_ways-walk-requires : goal.unions::one_ways-walk-requires
 unions::one_ways-walk-requires g t c κs within =
-    let h : nodes (ty_of c.item-item.result) ≤ row_nodes (row c.args.items.now) = node_in_row _ c.loop-item.item-index _ (omega arith) c.item-item.is in
+    let h : size (ty_of c.item-item.result) ≤ row_size (row c.args.items.now) = size_in_row _ c.loop-item.item-index _ (omega arith) c.item-item.is in
     search rules
 
 pub parameters::row_ways-pair_ways-requires : goal.parameters::row_ways-pair_ways-requires
 parameters::row_ways-pair_ways-requires g t c κs within =
-    let h : nodes (ty_of c.index-wants-j.result.ty) ≤ listed_nodes (param_row c.args.wants.now) = node_in_params _ c.loop-j.j _ (omega arith) c.index-wants-j.is in
+    let h : size (ty_of c.index-wants-j.result.ty) ≤ listed_size (param_row c.args.wants.now) = size_in_params _ c.loop-j.j _ (omega arith) c.index-wants-j.is in
     search rules
 
 pub parameters::rows_ways-row_ways-requires : goal.parameters::rows_ways-row_ways-requires
 parameters::rows_ways-row_ways-requires g t c κs within =
-    let h : nodes (ty_of c.index-gots-i.result.ty) ≤ listed_nodes (param_row c.args.gots.now) = node_in_params _ c.loop-i.i _ (omega arith) c.index-gots-i.is in
+    let h : size (ty_of c.index-gots-i.result.ty) ≤ listed_size (param_row c.args.gots.now) = size_in_params _ c.loop-i.i _ (omega arith) c.index-gots-i.is in
     search rules
 
 pub rules::place_ways-walk-requires : goal.rules::place_ways-walk-requires
 rules::place_ways-walk-requires g t c κs within =
-    let h : nodes (ty_of c.index-items-i.result) ≤ row_nodes (row c.args.items.now) = node_in_row _ c.loop-i.i _ (omega arith) c.index-items-i.is in
-    let k : nodes (ty_of c.index-others-i.result) ≤ row_nodes (row c.args.others.now) = node_in_row _ c.loop-i.i _ (omega arith) c.index-others-i.is in
+    let h : size (ty_of c.index-items-i.result) ≤ row_size (row c.args.items.now) = size_in_row _ c.loop-i.i _ (omega arith) c.index-items-i.is in
+    let k : size (ty_of c.index-others-i.result) ≤ row_size (row c.args.others.now) = size_in_row _ c.loop-i.i _ (omega arith) c.index-others-i.is in
     search rules
 
 pub parameters::listed_ways-returns-then-not-fitting-2 : goal.parameters::listed_ways-returns-then-not-fitting-2

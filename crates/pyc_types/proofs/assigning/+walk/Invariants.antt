@@ -5,74 +5,74 @@ use Rattle.pyc_types.specs.Pairs as pairs
 use Rattle.pyc_types.specs.Slots.{slots_in}
 use Rattle.pyc_types.specs.Ways as spec
 use Rattle.pyc_types.specs.Ways.{ways, ways_of, listed_ways_of}
-use Rattle.pyc_types.proofs.Measures.{nodes, row_nodes, params_nodes, listed_nodes}
+use Rattle.pyc_type_forms.specs.Size.{size, row_size, params_size, listed_size}
 use Rattle.pyc_types.proofs.assigning.+walk.Given as goal
 
 abbrev pub decreases-walk : goal.decreases-walk
-decreases-walk g l = 8 * (nodes (ty_of l.got.now) + nodes (ty_of l.want.now)) + 3
+decreases-walk g l = 8 * (size (ty_of l.got.now) + size (ty_of l.want.now)) + 3
 
 abbrev pub decreases-whole_ways : goal.decreases-whole_ways
-decreases-whole_ways g l = 8 * (nodes (ty_of l.got.now) + nodes (ty_of l.want.now)) + 2
+decreases-whole_ways g l = 8 * (size (ty_of l.got.now) + size (ty_of l.want.now)) + 2
 
 abbrev pub decreases-item_ways : goal.decreases-item_ways
-decreases-item_ways g l = 8 * (nodes (ty_of l.got.now) + row_nodes (row l.items.now)) + 3
+decreases-item_ways g l = 8 * (size (ty_of l.got.now) + row_size (row l.items.now)) + 3
 
 abbrev pub decreases-rules::own_rule : goal.decreases-rules::own_rule
-decreases-rules::own_rule g l = 8 * (nodes (ty_of l.got.now) + nodes (ty_of l.want.now)) + 1
+decreases-rules::own_rule g l = 8 * (size (ty_of l.got.now) + size (ty_of l.want.now)) + 1
 
 abbrev pub decreases-rules::list_rule : goal.decreases-rules::list_rule
-decreases-rules::list_rule g l = 8 * (nodes (ty_of l.item.now) + nodes (ty_of l.want.now)) + 1
+decreases-rules::list_rule g l = 8 * (size (ty_of l.item.now) + size (ty_of l.want.now)) + 1
 
 abbrev pub decreases-rules::dict_rule : goal.decreases-rules::dict_rule
-decreases-rules::dict_rule g l = 8 * ((nodes (ty_of l.types.now.key) + nodes (ty_of l.types.now.value)) + nodes (ty_of l.want.now)) + 1
+decreases-rules::dict_rule g l = 8 * ((size (ty_of l.types.now.key) + size (ty_of l.types.now.value)) + size (ty_of l.want.now)) + 1
 
 abbrev pub decreases-rules::tuple_rule : goal.decreases-rules::tuple_rule
-decreases-rules::tuple_rule g l = 8 * (row_nodes (row l.items.now) + nodes (ty_of l.want.now)) + 1
+decreases-rules::tuple_rule g l = 8 * (row_size (row l.items.now) + size (ty_of l.want.now)) + 1
 
 abbrev pub decreases-rules::tuple_of_rule : goal.decreases-rules::tuple_of_rule
-decreases-rules::tuple_of_rule g l = 8 * (nodes (ty_of l.item.now) + nodes (ty_of l.want.now)) + 1
+decreases-rules::tuple_of_rule g l = 8 * (size (ty_of l.item.now) + size (ty_of l.want.now)) + 1
 
 abbrev pub decreases-rules::place_ways : goal.decreases-rules::place_ways
-decreases-rules::place_ways g l = 8 * (row_nodes (row l.items.now) + row_nodes (row l.others.now)) + 4
+decreases-rules::place_ways g l = 8 * (row_size (row l.items.now) + row_size (row l.others.now)) + 4
 
 abbrev pub decreases-rules::is_each_back : goal.decreases-rules::is_each_back
-decreases-rules::is_each_back g l = 8 * (nodes (ty_of l.item.now) + row_nodes (row l.others.now)) + 4
+decreases-rules::is_each_back g l = 8 * (size (ty_of l.item.now) + row_size (row l.others.now)) + 4
 
 abbrev pub decreases-rules::callable_rule : goal.decreases-rules::callable_rule
-decreases-rules::callable_rule g l = 8 * ((params_nodes (params_of l.signature.now.params) + nodes (ty_of l.signature.now.result)) + nodes (ty_of l.want.now)) + 1
+decreases-rules::callable_rule g l = 8 * ((params_size (params_of l.signature.now.params) + size (ty_of l.signature.now.result)) + size (ty_of l.want.now)) + 1
 
 abbrev pub decreases-unions::union_ways : goal.decreases-unions::union_ways
-decreases-unions::union_ways g l = 8 * (row_nodes (row l.items.now) + nodes (ty_of l.want.now)) + 7
+decreases-unions::union_ways g l = 8 * (row_size (row l.items.now) + size (ty_of l.want.now)) + 7
 
 abbrev pub decreases-unions::one_ways : goal.decreases-unions::one_ways
-decreases-unions::one_ways g l = 8 * (row_nodes (row l.items.now) + nodes (ty_of l.want.now)) + 4
+decreases-unions::one_ways g l = 8 * (row_size (row l.items.now) + size (ty_of l.want.now)) + 4
 
 abbrev pub decreases-unions::is_each_there : goal.decreases-unions::is_each_there
-decreases-unions::is_each_there g l = 8 * (row_nodes (row l.items.now) + nodes (ty_of l.want.now)) + 4
+decreases-unions::is_each_there g l = 8 * (row_size (row l.items.now) + size (ty_of l.want.now)) + 4
 
 abbrev pub decreases-unions::is_each_back_to : goal.decreases-unions::is_each_back_to
-decreases-unions::is_each_back_to g l = 8 * (row_nodes (row l.items.now) + row_nodes (row l.others.now)) + 6
+decreases-unions::is_each_back_to g l = 8 * (row_size (row l.items.now) + row_size (row l.others.now)) + 6
 
 abbrev pub decreases-unions::is_back_to : goal.decreases-unions::is_back_to
-decreases-unions::is_back_to g l = 8 * (row_nodes (row l.items.now) + nodes (ty_of l.other.now)) + 5
+decreases-unions::is_back_to g l = 8 * (row_size (row l.items.now) + size (ty_of l.other.now)) + 5
 
 abbrev pub decreases-unions::is_some_back : goal.decreases-unions::is_some_back
-decreases-unions::is_some_back g l = 8 * (row_nodes (row l.items.now) + nodes (ty_of l.other.now)) + 4
+decreases-unions::is_some_back g l = 8 * (row_size (row l.items.now) + size (ty_of l.other.now)) + 4
 
 abbrev pub decreases-parameters::params_ways : goal.decreases-parameters::params_ways
-decreases-parameters::params_ways g l = 8 * (params_nodes (params_of l.got.now) + params_nodes (params_of l.want.now)) + 8
+decreases-parameters::params_ways g l = 8 * (params_size (params_of l.got.now) + params_size (params_of l.want.now)) + 8
 
 abbrev pub decreases-parameters::listed_ways : goal.decreases-parameters::listed_ways
-decreases-parameters::listed_ways g l = 8 * (listed_nodes (param_row l.gots.now) + listed_nodes (param_row l.wants.now)) + 7
+decreases-parameters::listed_ways g l = 8 * (listed_size (param_row l.gots.now) + listed_size (param_row l.wants.now)) + 7
 
 abbrev pub decreases-parameters::rows_ways : goal.decreases-parameters::rows_ways
-decreases-parameters::rows_ways g l = 8 * (listed_nodes (param_row l.gots.now) + listed_nodes (param_row l.wants.now)) + 6
+decreases-parameters::rows_ways g l = 8 * (listed_size (param_row l.gots.now) + listed_size (param_row l.wants.now)) + 6
 
 abbrev pub decreases-parameters::pair_ways : goal.decreases-parameters::pair_ways
-decreases-parameters::pair_ways g l = 8 * (nodes (ty_of l.got.now.ty) + nodes (ty_of l.want.now.ty)) + 4
+decreases-parameters::pair_ways g l = 8 * (size (ty_of l.got.now.ty) + size (ty_of l.want.now.ty)) + 4
 
 abbrev pub decreases-parameters::row_ways : goal.decreases-parameters::row_ways
-decreases-parameters::row_ways g l = 8 * (nodes (ty_of l.got.now.ty) + listed_nodes (param_row l.wants.now)) + 5
+decreases-parameters::row_ways g l = 8 * (size (ty_of l.got.now.ty) + listed_size (param_row l.wants.now)) + 5
 
 -- the items so far joined with those left are all
 abbrev pub invariant-item_ways-loop-item : goal.invariant-item_ways-loop-item
@@ -119,10 +119,10 @@ invariant-unions::is_some_back-loop-item g l =
     (spec.gathered (ways_of o (row (drop l.item-index l.items))) (ty_of l.other)).back ≡ (spec.gathered (ways_of o (row l.items)) (ty_of l.other)).back
 
 abbrev pub decreases-crossing::cross_ways : goal.decreases-crossing::cross_ways
-decreases-crossing::cross_ways g l = 8 * (row_nodes (row l.items.now) + row_nodes (row l.others.now)) + 5
+decreases-crossing::cross_ways g l = 8 * (row_size (row l.items.now) + row_size (row l.others.now)) + 5
 
 abbrev pub decreases-crossing::cross_row : goal.decreases-crossing::cross_row
-decreases-crossing::cross_row g l = 8 * (nodes (ty_of l.item.now) + row_nodes (row l.others.now)) + 4
+decreases-crossing::cross_row g l = 8 * (size (ty_of l.item.now) + row_size (row l.others.now)) + 4
 
 -- the items left give the rest of what all give
 abbrev pub invariant-crossing::cross_ways-loop-item : goal.invariant-crossing::cross_ways-loop-item
