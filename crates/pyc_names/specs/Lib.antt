@@ -1,1 +1,4 @@
 pub mod ModuleName
+pub mod FixedModules
+pub mod Imports
+pub mod Presence

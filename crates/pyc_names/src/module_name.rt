@@ -11,7 +11,7 @@ use std::marker::Model;
 /// The name of a module. Contracts see its parts in Normalization Form KC, those of its folders first.
 #[derive(Debug, Drop)]
 pub struct ModuleName {
-    parts: Vec<Text>,
+    pub(crate) parts: Vec<Text>,
 }
 
 impl Model for ModuleName {

@@ -3,6 +3,8 @@
 #![tactic(auto)]
 
 #[cfg(test)]
+mod imports;
+#[cfg(test)]
 mod lexis;
 #[cfg(test)]
 mod members;
