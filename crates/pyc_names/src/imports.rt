@@ -8,7 +8,7 @@ use pyc_ast::Text;
 use std::alloc::{AllocError, Global};
 
 /// The module that an import names in the file of a module, by the dots before its parts: without dots by its parts
-/// alone; else from the package of the file, which a package's `__init__.py` stands in itself, one level up for each dot
+/// alone; else from the package of the file, which for an `__init__.py` is its own folder, one level up for each dot
 /// after the first. Above the root there is none. The only error is that memory runs out.
 pub fn named_module(
     alloc: Global,
