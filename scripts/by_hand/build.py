@@ -22,6 +22,8 @@ LIBRARIES = {
     "outcomes": ["pyc_parse"],
     "trees": ["pyc_lower", "pyc_ast"],
     "reading": ["pyc_lower", "pyc_ast"],
+    "assigning": ["pyc_types", "pyc_ast"],
+    "types": ["pyc_types"],
 }
 
 
