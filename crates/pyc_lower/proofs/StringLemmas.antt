@@ -4,7 +4,7 @@ use Rattle.pyc_ast.specs.declared.position.Position.{Position}
 use Rattle.pyc_ast.specs.Exprs.{Expr}
 use Rattle.pyc_lower.specs.ExpressionInput.{of_outcome}
 use Rattle.pyc_lower.specs.Strings.{is_passed_over, content, spelled_in}
-use Rattle.pyc_lower_expression.specs.declared.role.Role.TheVariants.{Annotation}
+use Rattle.pyc_lower_atom.specs.declared.role.Role.TheVariants.{Annotation}
 use Rattle.pyc_lower_expression.specs.Expressions.{expr_in}
 use Rattle.pyc_parse.specs.Outcome.{Outcome, outcome_of}
 use Rattle.pyc_tree.specs.Tree.{Tree}

@@ -3,7 +3,7 @@
 use Rattle.std.specs.Prelude.{ℕ, List, map}
 use Rattle.pyc_ast.specs.Modules.{Codes, all, listed, Ignore}
 use Rattle.pyc_lex.specs.Ignores as lex
-use Rattle.pyc_lower_expression.specs.Origins.{text_at}
+use Rattle.pyc_lower_atom.specs.Origins.{text_at}
 
 -- the codes that stand at spans of a source
 abbrev pub codes_in : List ℕ → lex.Codes → Codes

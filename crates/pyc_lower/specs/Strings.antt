@@ -9,7 +9,7 @@ use Rattle.pyc_ast.specs.Exprs.{Expr}
 use Rattle.pyc_lex.specs.Ignores.{is_space}
 use Rattle.pyc_lex.specs.Lines.{byte_order_mark}
 use Rattle.pyc_lower.specs.ExpressionInput.{of_outcome}
-use Rattle.pyc_lower_expression.specs.declared.role.Role.TheVariants.{Annotation}
+use Rattle.pyc_lower_atom.specs.declared.role.Role.TheVariants.{Annotation}
 use Rattle.pyc_lower_expression.specs.Expressions.{expr_in}
 use Rattle.pyc_parse.specs.Outcome.{outcome_of}
 use Rattle.pyc_token.specs.Strings.{quotes_len}

@@ -4,7 +4,7 @@ ghost use Rattle.std.specs.Prelude.{◌≡◌, IfOk, map};
 ghost use Rattle.pyc_ast.specs.Modules.{codes_of, ignore_of};
 ghost use Rattle.pyc_lex.specs.View.{codes_in, ignore_in};
 ghost use Rattle.pyc_lower.specs.Ignores as spec;
-ghost use Rattle.pyc_lower_expression.specs.Origins as origin;
+ghost use Rattle.pyc_lower_atom.specs.Origins as origin;
 
 use pyc_ast::{Codes, Ignore, Text};
 use pyc_lex::{Codes as Found, Ignore as FoundIgnore};

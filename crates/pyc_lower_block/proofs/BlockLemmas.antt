@@ -16,9 +16,9 @@ use Rattle.pyc_lower_block.specs.declared.ending.Ending.{Ending}
 use Rattle.pyc_lower_block.specs.Blocks.{Parts, is_ending, decorators_in, branch_in, handler_in, form_in, stmts_in, stmt_in, suite_in, branches_in, handlers_in, ended_in, parts_in}
 use Rattle.pyc_lower_block.specs.Suspends.{suite_suspends}
 use Rattle.pyc_lower_block.proofs.JoinLemmas.{cons_first}
-use Rattle.pyc_lower_expression.specs.declared.role.Role.TheVariants.{Value}
+use Rattle.pyc_lower_atom.specs.declared.role.Role.TheVariants.{Value}
 use Rattle.pyc_lower_expression.specs.Expressions.{expr_in}
-use Rattle.pyc_lower_expression.specs.Origins.{Origin, position_at}
+use Rattle.pyc_lower_atom.specs.Origins.{Origin, position_at}
 use Rattle.pyc_lower_statement.specs.Headers.{header_at}
 use Rattle.pyc_lower_statement.specs.Statements.{statement_in, separated_in, alias_in}
 use Rattle.pyc_token.specs.declared.tokens.Token.{Token}

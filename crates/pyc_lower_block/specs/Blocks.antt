@@ -9,9 +9,9 @@ use Rattle.pyc_ast.specs.Statements as plain
 use Rattle.pyc_lower_block.specs.declared.ending.Ending.{Ending}
 use Rattle.pyc_lower_block.specs.declared.ending.Ending.TheVariants.{Else, Finally}
 use Rattle.pyc_lower_block.specs.Suspends.{suite_suspends}
-use Rattle.pyc_lower_expression.specs.declared.role.Role.TheVariants.{Value}
+use Rattle.pyc_lower_atom.specs.declared.role.Role.TheVariants.{Value}
 use Rattle.pyc_lower_expression.specs.Expressions.{expr_in}
-use Rattle.pyc_lower_expression.specs.Origins.{Origin, position_at}
+use Rattle.pyc_lower_atom.specs.Origins.{Origin, position_at}
 use Rattle.pyc_lower_statement.specs.Headers.{header_at, for_in, with_items_in, definition_in}
 use Rattle.pyc_lower_statement.specs.Statements.{statement_in, separated_in, alias_in}
 use Rattle.pyc_token.specs.declared.tokens.Keyword.TheVariants as word

@@ -6,7 +6,7 @@ ghost use Rattle.pyc_ast.specs.ExprView.{expr_of};
 ghost use Rattle.pyc_ast.specs.StatementView.{stmt_of as made_of, block_of, branch_of, handler_of};
 ghost use Rattle.pyc_lower_block.specs.Blocks as spec;
 ghost use Rattle.pyc_lower_block.specs.PartsView.{parts_of};
-ghost use Rattle.pyc_lower_expression.specs.OriginView.{origin_of};
+ghost use Rattle.pyc_lower_atom.specs.OriginView.{origin_of};
 ghost use Rattle.pyc_lower_statement.specs.Statements.{separated_in, statement_in};
 ghost use Rattle.pyc_tree.specs.BlockTrees as tree;
 ghost use Rattle.pyc_tree.specs.BlockView.{decorator_of, stmt_of, suite_of, clauses_before, stmts_before};

@@ -7,10 +7,10 @@ ghost use Rattle.pyc_ast.specs.StatementView.{block_of, branch_of, handler_of, s
 ghost use Rattle.pyc_lower_block.specs.Blocks as spec;
 ghost use Rattle.pyc_lower_block.specs.PartsView.{parts_of};
 ghost use Rattle.pyc_lower_block.specs.Suspends.{suite_suspends};
-ghost use Rattle.pyc_lower_expression.specs.declared.role.Role.TheVariants.{Value};
+ghost use Rattle.pyc_lower_atom.specs.declared.role.Role.TheVariants.{Value};
 ghost use Rattle.pyc_lower_expression.specs.Expressions.{expr_in};
-ghost use Rattle.pyc_lower_expression.specs.Origins.{position_at};
-ghost use Rattle.pyc_lower_expression.specs.OriginView.{origin_of};
+ghost use Rattle.pyc_lower_atom.specs.Origins.{position_at};
+ghost use Rattle.pyc_lower_atom.specs.OriginView.{origin_of};
 ghost use Rattle.pyc_lower_statement.specs.Headers.{with_items_in};
 ghost use Rattle.pyc_lower_statement.specs.Statements.{alias_in};
 ghost use Rattle.pyc_tree.specs.BlockView.{suite_of};

@@ -1,4 +1,3 @@
-pub mod OriginLemmas
 pub mod OtherForms
 pub mod ItemLemmas
 pub mod LoweredForms

@@ -8,11 +8,11 @@ use Rattle.pyc_ast.specs.declared.constant.Opaque.TheVariants.{Lambda}
 use Rattle.pyc_ast.specs.declared.position.Position.{Position}
 use Rattle.pyc_ast.specs.Exprs.{elements, arguments, comparisons}
 use Rattle.pyc_ast.specs.Exprs as plain
-use Rattle.pyc_lower_expression.specs.declared.role.Role.{Role}
-use Rattle.pyc_lower_expression.specs.Constants.{number_constant, word_constant, comprehension}
+use Rattle.pyc_lower_atom.specs.declared.role.Role.{Role}
+use Rattle.pyc_lower_atom.specs.Constants.{number_constant, word_constant, comprehension}
 use Rattle.pyc_lower_expression.specs.Expressions.{begun, following, enclosed, display_form, first_at, first_role, only_or, subscript_of, last_index, many_indices, is_single, strings_form, expr_in, optional_in, elements_in, dict_items_in, dict_item_in, arguments_in, comparisons_in, index_in, indices_in, optional_at, element_of, argument_of}
-use Rattle.pyc_lower_expression.specs.Operators.{unary_operator, operation, comparison_operator}
-use Rattle.pyc_lower_expression.specs.Origins.{Origin, name_at, position_at, text_at}
+use Rattle.pyc_lower_atom.specs.Operators.{unary_operator, operation, comparison_operator}
+use Rattle.pyc_lower_atom.specs.Origins.{Origin, name_at, position_at, text_at}
 use Rattle.pyc_token.specs.declared.tokens.Token.{Token}
 use Rattle.pyc_tree.specs.declared.display_kind.DisplayKind.{DisplayKind}
 use Rattle.pyc_tree.specs.declared.tree.Comprehension.{Comprehension}

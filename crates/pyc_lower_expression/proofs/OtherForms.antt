@@ -7,10 +7,10 @@ use Rattle.pyc_ast.specs.declared.expr.ArgumentKind.TheVariants.{Positional}
 use Rattle.pyc_ast.specs.declared.position.Position.{Position}
 use Rattle.pyc_ast.specs.Exprs.{at_of}
 use Rattle.pyc_ast.specs.Exprs as plain
-use Rattle.pyc_lower_expression.specs.declared.role.Role.{Role}
+use Rattle.pyc_lower_atom.specs.declared.role.Role.{Role}
 use Rattle.pyc_lower_expression.specs.Expressions.{star_at, optional_at, element_of, argument_of, is_generator, nowhere, expr_in, dict_item_in, index_in}
 use Rattle.pyc_lower_expression.specs.Forms.{is_atom, is_operation}
-use Rattle.pyc_lower_expression.specs.Origins.{Origin}
+use Rattle.pyc_lower_atom.specs.Origins.{Origin}
 use Rattle.pyc_token.specs.declared.tokens.Token.{Token}
 use Rattle.pyc_tree.specs.declared.display_kind.DisplayKind.{DisplayKind}
 use Rattle.pyc_tree.specs.declared.tree.Comprehension.{Comprehension}

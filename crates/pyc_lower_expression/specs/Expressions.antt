@@ -9,22 +9,18 @@ use Rattle.pyc_ast.specs.declared.position.Position.{Position}
 use Rattle.pyc_ast.specs.Exprs.{Expr, Form, OptionalExpr, Element, DictItem, Argument, Comparison, Index, IndexForm}
 use Rattle.pyc_ast.specs.Exprs.{at_of, inside_of, form_in, elements, dict_items, arguments, comparisons, indices_of}
 use Rattle.pyc_ast.specs.Exprs as plain
-use Rattle.pyc_lower_expression.specs.declared.role.Role.{Role}
-use Rattle.pyc_lower_expression.specs.declared.role.Role.TheVariants.{Value, Annotation}
-use Rattle.pyc_lower_expression.specs.Constants.{number_constant, word_constant, strings_constant, is_plain}
-use Rattle.pyc_lower_expression.specs.Constants.{comprehension}
-use Rattle.pyc_lower_expression.specs.Operators.{unary_operator, operation, comparison_operator}
-use Rattle.pyc_lower_expression.specs.Origins.{Origin, text_at, name_at, position_at}
+use Rattle.pyc_lower_atom.specs.declared.role.Role.{Role}
+use Rattle.pyc_lower_atom.specs.declared.role.Role.TheVariants.{Annotation}
+use Rattle.pyc_lower_atom.specs.Constants.{number_constant, word_constant, strings_constant, is_plain}
+use Rattle.pyc_lower_atom.specs.Constants.{comprehension}
+use Rattle.pyc_lower_atom.specs.Operators.{unary_operator, operation, comparison_operator}
+use Rattle.pyc_lower_atom.specs.Origins.{Origin, text_at, name_at, position_at}
+use Rattle.pyc_lower_atom.specs.Roles.{is_annotation}
 use Rattle.pyc_token.specs.declared.tokens.Token.{Token}
 use Rattle.pyc_tree.specs.declared.display_kind.DisplayKind.{DisplayKind}
 use Rattle.pyc_tree.specs.declared.display_kind.DisplayKind.TheVariants as display
 use Rattle.pyc_tree.specs.Tree.{Tree, Pieces, Links, Perhaps}
 use Rattle.pyc_tree.specs.Tree as tree
-
--- whether an expression is read as an annotation
-abbrev pub is_annotation : Role → Bool
-is_annotation Annotation = true
-is_annotation Value = false
 
 -- ---- one form, of parts that are lowered
 

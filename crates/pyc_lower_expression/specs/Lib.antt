@@ -1,6 +1,2 @@
-pub mod Origins
-pub mod OriginView
-pub mod Operators
-pub mod Constants
 pub mod Expressions
 pub mod Forms

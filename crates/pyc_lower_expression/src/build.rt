@@ -7,20 +7,17 @@ ghost use Rattle.pyc_ast.specs.ExprView.{expr_of, form_of, optional_of, argument
 ghost use Rattle.pyc_ast.specs.ExprView.{element_of, index_of};
 ghost use Rattle.pyc_tree.specs.Tree.{last};
 ghost use Rattle.pyc_tree.specs.View.{tree_of, pieces_of};
-ghost use Rattle.pyc_lower_expression.specs.OriginView.{origin_of};
+ghost use Rattle.pyc_lower_atom.specs.OriginView.{origin_of};
 ghost use Rattle.pyc_ast.specs.declared.constant.Opaque.TheVariants.{Generator};
 ghost use Rattle.pyc_ast.specs.declared.expr.ArgumentKind.TheVariants.{Positional};
 ghost use Rattle.pyc_lower_expression.specs.Expressions as spec;
-ghost use Rattle.pyc_lower_expression.specs.Operators.{operation};
+ghost use Rattle.pyc_lower_atom.specs.Operators.{operation};
 
-use crate::names::Names;
-use crate::operators;
-use crate::origin::Origin;
-use crate::role::Role;
 use pyc_ast::{
     Argument, ArgumentKind, Comparison, Constant, DictItem, Element, Expr, Form, Index, IndexForm,
     Opaque, OptionalExpr, Position, Text, UnaryOperator,
 };
+use pyc_lower_atom::{Names, Origin, Role};
 use pyc_token::Kind;
 use pyc_tree::{Expr as Tree, Pieces};
 use std::alloc::{AllocError, Global};
@@ -137,7 +134,7 @@ pub fn binary(alloc: Global, left: Expr, sign: Kind, right: Expr) -> Result<Expr
     let at = left.at;
     let left = Box::new(alloc, left)?;
     let right = Box::new(alloc, right)?;
-    Ok(begun(at, operators::operation(sign, left, right)))
+    Ok(begun(at, pyc_lower_atom::operation(sign, left, right)))
 }
 
 /// A chain of comparisons.

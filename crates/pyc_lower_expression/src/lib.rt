@@ -2,18 +2,10 @@
 #![tactic(auto)]
 
 mod build;
-mod constants;
 mod lower;
-mod names;
-mod operators;
-mod origin;
-mod quotes;
-mod role;
 
-pub use constants::{comprehension, is_plain, number_constant, strings_constant, word_constant};
 pub use lower::Lowering;
-pub use names::Names;
-pub use operators::{augmented, comparison_operator, operation, unary_operator};
-pub use origin::{Origin, text_at};
-pub use quotes::{Quotes, Unread};
-pub use role::Role;
+pub use pyc_lower_atom::{
+    Names, Origin, Quotes, Role, Unread, augmented, comparison_operator, comprehension, is_plain,
+    number_constant, operation, strings_constant, text_at, unary_operator, word_constant,
+};

@@ -6,21 +6,19 @@ ghost use Rattle.pyc_ast.specs.ExprView.{expr_of, form_of, optional_of, element_
 ghost use Rattle.pyc_ast.specs.ExprView.{comparison_of, index_of};
 ghost use Rattle.pyc_lower_expression.specs.Expressions as spec;
 ghost use Rattle.pyc_ast.specs.Exprs as plain;
-ghost use Rattle.pyc_lower_expression.specs.Constants as constants;
-ghost use Rattle.pyc_lower_expression.specs.Origins.{name_at, position_at, text_at};
+ghost use Rattle.pyc_lower_atom.specs.Constants as constants;
+ghost use Rattle.pyc_lower_atom.specs.Origins.{name_at, position_at, text_at};
 ghost use Rattle.pyc_lower_expression.specs.Forms.{is_atom, is_operation};
-ghost use Rattle.pyc_lower_expression.specs.OriginView.{origin_of};
+ghost use Rattle.pyc_lower_atom.specs.OriginView.{origin_of};
 ghost use Rattle.pyc_tree.specs.View.{tree_of, pieces_of, perhaps_of, links_before};
 ghost use Rattle.pyc_tree.specs.Tree as tree;
 
 use crate::build;
-use crate::constants::{comprehension, is_plain, number_constant, strings_constant, word_constant};
-use crate::names::Names;
-use crate::operators::{comparison_operator, unary_operator};
-use crate::origin::Origin;
-use crate::quotes::Quotes;
-use crate::role::Role;
 use pyc_ast::{Argument, Comparison, DictItem, Element, Expr, Index, Opaque, OptionalExpr};
+use pyc_lower_atom::{
+    Names, Origin, Quotes, Role, comparison_operator, comprehension, is_plain, number_constant,
+    strings_constant, unary_operator, word_constant,
+};
 use pyc_token::Token;
 use pyc_tree::{DisplayKind, Expr as Tree, Link, Pieces};
 use std::alloc::{AllocError, Global};

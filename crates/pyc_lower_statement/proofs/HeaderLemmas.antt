@@ -4,7 +4,7 @@ use Rattle.std.specs.declared.alloc.Global.{Global}
 use Rattle.std.specs.declared.boxed.Box.{Box}
 use Rattle.pyc_ast.specs.declared.position.Position.{Position}
 use Rattle.pyc_ast.specs.Exprs.{Expr as Plain}
-use Rattle.pyc_lower_expression.specs.Origins.{Origin}
+use Rattle.pyc_lower_atom.specs.Origins.{Origin}
 use Rattle.pyc_token.specs.declared.tokens.Token.{Token}
 use Rattle.pyc_tree.specs.declared.tree.Expr.{Expr}
 use Rattle.pyc_tree.specs.declared.tree.Expr.TheVariants as e

@@ -5,10 +5,10 @@ use Rattle.std.specs.declared.boxed.Box.{Box}
 use Rattle.std.specs.List.{cons_option}
 use Rattle.pyc_ast.specs.declared.position.Position.{Position}
 use Rattle.pyc_ast.specs.Exprs.{Expr as Plain}
-use Rattle.pyc_lower_expression.specs.declared.role.Role.{Role}
-use Rattle.pyc_lower_expression.specs.declared.role.Role.TheVariants.{Value, Annotation}
+use Rattle.pyc_lower_atom.specs.declared.role.Role.{Role}
+use Rattle.pyc_lower_atom.specs.declared.role.Role.TheVariants.{Value, Annotation}
 use Rattle.pyc_lower_expression.specs.Expressions.{expr_in}
-use Rattle.pyc_lower_expression.specs.Origins.{Origin, name_at, position_at}
+use Rattle.pyc_lower_atom.specs.Origins.{Origin, name_at, position_at}
 use Rattle.pyc_token.specs.declared.tokens.Token.{Token}
 use Rattle.pyc_tree.specs.declared.tree.Expr.{Expr}
 use Rattle.pyc_tree.specs.declared.tree.Expr.TheVariants as e

@@ -4,9 +4,9 @@ use Rattle.std.specs.declared.alloc.Global.{Global}
 use Rattle.std.specs.declared.boxed.Box.{Box}
 use Rattle.pyc_ast.specs.declared.position.Position.{Position}
 use Rattle.pyc_ast.specs.Exprs.{Expr as Plain, at_of}
-use Rattle.pyc_lower_expression.specs.declared.role.Role.TheVariants.{Value}
+use Rattle.pyc_lower_atom.specs.declared.role.Role.TheVariants.{Value}
 use Rattle.pyc_lower_expression.specs.Expressions.{expr_in, indices_in, subscript_of, star_at}
-use Rattle.pyc_lower_expression.specs.Origins.{Origin, name_at, position_at}
+use Rattle.pyc_lower_atom.specs.Origins.{Origin, name_at, position_at}
 use Rattle.pyc_token.specs.declared.tokens.Token.{Token}
 use Rattle.pyc_tree.specs.declared.display_kind.DisplayKind.{DisplayKind}
 use Rattle.pyc_tree.specs.declared.tree.Expr.{Expr}

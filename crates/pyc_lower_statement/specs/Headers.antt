@@ -5,9 +5,9 @@ use Rattle.pyc_ast.specs.Exprs.{Expr}
 use Rattle.pyc_ast.specs.Statements.{For, WithItem, Stmts, StmtForm}
 use Rattle.pyc_ast.specs.Statements as plain
 use Rattle.pyc_ast.specs.Targets.{Target}
-use Rattle.pyc_lower_expression.specs.declared.role.Role.TheVariants.{Value, Annotation}
+use Rattle.pyc_lower_atom.specs.declared.role.Role.TheVariants.{Value, Annotation}
 use Rattle.pyc_lower_expression.specs.Expressions.{expr_in, arguments_in, first_role}
-use Rattle.pyc_lower_expression.specs.Origins.{Origin, name_at, position_at}
+use Rattle.pyc_lower_atom.specs.Origins.{Origin, name_at, position_at}
 use Rattle.pyc_lower_statement.specs.Parameters.{parameters_in, tail_in}
 use Rattle.pyc_lower_statement.specs.Targets.{target_in}
 use Rattle.pyc_token.specs.declared.tokens.Token.{Token}

@@ -6,10 +6,10 @@ use Rattle.pyc_ast.specs.declared.parameter.ParameterKind.TheVariants.{Plain, St
 use Rattle.pyc_ast.specs.declared.position.Position.{Position}
 use Rattle.pyc_ast.specs.Exprs.{Expr}
 use Rattle.pyc_ast.specs.Statements.{Parameter}
-use Rattle.pyc_lower_expression.specs.declared.role.Role.{Role}
-use Rattle.pyc_lower_expression.specs.declared.role.Role.TheVariants.{Value, Annotation}
+use Rattle.pyc_lower_atom.specs.declared.role.Role.{Role}
+use Rattle.pyc_lower_atom.specs.declared.role.Role.TheVariants.{Value, Annotation}
 use Rattle.pyc_lower_expression.specs.Expressions.{expr_in}
-use Rattle.pyc_lower_expression.specs.Origins.{Origin, name_at, position_at}
+use Rattle.pyc_lower_atom.specs.Origins.{Origin, name_at, position_at}
 use Rattle.pyc_tree.specs.Tree.{Tree, Pieces, Perhaps, Tail}
 use Rattle.pyc_tree.specs.Tree as tree
 

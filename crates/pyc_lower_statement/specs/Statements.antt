@@ -6,10 +6,10 @@ use Rattle.pyc_ast.specs.Exprs.{Expr, at_of}
 use Rattle.pyc_ast.specs.Statements.{ImportedModule, ImportFrom, Stmt, StmtForm, stmt}
 use Rattle.pyc_ast.specs.Statements as plain
 use Rattle.pyc_ast.specs.Targets.{Target}
-use Rattle.pyc_lower_expression.specs.declared.role.Role.TheVariants.{Value, Annotation}
+use Rattle.pyc_lower_atom.specs.declared.role.Role.TheVariants.{Value, Annotation}
 use Rattle.pyc_lower_expression.specs.Expressions.{expr_in}
-use Rattle.pyc_lower_expression.specs.Operators.{augmented}
-use Rattle.pyc_lower_expression.specs.Origins.{Origin, name_at, position_at}
+use Rattle.pyc_lower_atom.specs.Operators.{augmented}
+use Rattle.pyc_lower_atom.specs.Origins.{Origin, name_at, position_at}
 use Rattle.pyc_lower_statement.specs.Parameters.{perhaps_in, tail_in}
 use Rattle.pyc_lower_statement.specs.Targets.{target_in, target_at, nowhere}
 use Rattle.pyc_token.specs.declared.tokens.Delimiter.TheVariants as delimiter

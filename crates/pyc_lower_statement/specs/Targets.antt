@@ -5,10 +5,10 @@ use Rattle.pyc_ast.specs.declared.position.Position.{Position}
 use Rattle.pyc_ast.specs.Exprs.{Expr, at_of}
 use Rattle.pyc_ast.specs.Targets.{Target, TargetForm, TargetElement, target_elements}
 use Rattle.pyc_ast.specs.Targets as plain
-use Rattle.pyc_lower_expression.specs.declared.role.Role.TheVariants.{Value}
+use Rattle.pyc_lower_atom.specs.declared.role.Role.TheVariants.{Value}
 use Rattle.pyc_lower_expression.specs.Expressions.{expr_in, indices_in, subscript_of, star_at, first_of}
 use Rattle.pyc_lower_expression.specs.Expressions as expression
-use Rattle.pyc_lower_expression.specs.Origins.{Origin, name_at, position_at}
+use Rattle.pyc_lower_atom.specs.Origins.{Origin, name_at, position_at}
 use Rattle.pyc_tree.specs.Tree.{Tree, Pieces}
 use Rattle.pyc_tree.specs.Tree as tree
 

@@ -5,7 +5,7 @@ ghost use Rattle.std.specs.Prelude.{◌≡◌, IfOk, Option, map, option_map};
 ghost use Rattle.pyc_ast.specs.ExprView.{expr_of};
 ghost use Rattle.pyc_ast.specs.StatementView.{block_of, for_of, stmt_form_of, with_item_of};
 ghost use Rattle.pyc_ast.specs.TargetView.{target_of};
-ghost use Rattle.pyc_lower_expression.specs.OriginView.{origin_of};
+ghost use Rattle.pyc_lower_atom.specs.OriginView.{origin_of};
 ghost use Rattle.pyc_lower_statement.specs.Headers as spec;
 ghost use Rattle.pyc_tree.specs.LineView.{header_of};
 ghost use Rattle.pyc_tree.specs.View.{tree_of, pieces_of, tail_of};

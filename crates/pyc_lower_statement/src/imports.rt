@@ -4,8 +4,8 @@
 ghost use Rattle.std.specs.Prelude.{◌≡◌, IfOk, map, option_map};
 ghost use Rattle.pyc_ast.specs.StatementView.{imported_module_of, import_from_of};
 ghost use Rattle.pyc_ast.specs.Statements as plain;
-ghost use Rattle.pyc_lower_expression.specs.Origins.{name_at};
-ghost use Rattle.pyc_lower_expression.specs.OriginView.{origin_of};
+ghost use Rattle.pyc_lower_atom.specs.Origins.{name_at};
+ghost use Rattle.pyc_lower_atom.specs.OriginView.{origin_of};
 ghost use Rattle.pyc_lower_statement.specs.Statements as spec;
 ghost use Rattle.pyc_tree.specs.StatementView.{alias_of, dotted_of, module_of, name_of, source_of, separated_of};
 ghost use Rattle.pyc_tree.specs.StatementView.{token_of};

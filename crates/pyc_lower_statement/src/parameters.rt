@@ -5,7 +5,7 @@ ghost use Rattle.std.specs.Prelude.{◌≡◌, ◌||◌, ◌++◌, [], IfOk, map
 ghost use Rattle.std.specs.List.{cons_option};
 ghost use Rattle.pyc_ast.specs.ExprView.{expr_of};
 ghost use Rattle.pyc_ast.specs.StatementView.{boxed_expr_of, parameter_of};
-ghost use Rattle.pyc_lower_expression.specs.OriginView.{origin_of};
+ghost use Rattle.pyc_lower_atom.specs.OriginView.{origin_of};
 ghost use Rattle.pyc_lower_statement.specs.Parameters as spec;
 ghost use Rattle.pyc_tree.specs.View.{tree_of, pieces_of, perhaps_of, tail_of};
 

@@ -7,9 +7,9 @@ ghost use Rattle.pyc_ast.specs.StatementView.{stmt_of, stmt_form_of, annotated_o
 ghost use Rattle.pyc_ast.specs.Statements as plain;
 ghost use Rattle.pyc_ast.specs.TargetView.{target_of};
 ghost use Rattle.pyc_lower_expression.specs.Expressions.{expr_in};
-ghost use Rattle.pyc_lower_expression.specs.Origins.{position_at};
-ghost use Rattle.pyc_lower_expression.specs.OriginView.{origin_of};
-ghost use Rattle.pyc_lower_expression.specs.Operators.{augmented};
+ghost use Rattle.pyc_lower_atom.specs.Origins.{position_at};
+ghost use Rattle.pyc_lower_atom.specs.OriginView.{origin_of};
+ghost use Rattle.pyc_lower_atom.specs.Operators.{augmented};
 ghost use Rattle.pyc_lower_statement.specs.Parameters.{tail_in};
 ghost use Rattle.pyc_lower_statement.specs.Statements as spec;
 ghost use Rattle.pyc_lower_statement.specs.Targets.{target_in};

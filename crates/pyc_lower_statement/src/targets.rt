@@ -7,7 +7,7 @@ ghost use Rattle.pyc_ast.specs.Exprs.{at_of};
 ghost use Rattle.pyc_ast.specs.Targets as plain;
 ghost use Rattle.pyc_ast.specs.TargetView.{target_of, target_form_of, target_element_of};
 ghost use Rattle.pyc_lower_expression.specs.Expressions.{star_at, first_of};
-ghost use Rattle.pyc_lower_expression.specs.OriginView.{origin_of};
+ghost use Rattle.pyc_lower_atom.specs.OriginView.{origin_of};
 ghost use Rattle.pyc_lower_statement.specs.Targets as spec;
 ghost use Rattle.pyc_tree.specs.View.{tree_of, pieces_of};
 

@@ -1,5 +1,5 @@
 use Rattle.std.proofs.Common.{◌≡◌, map, take}
-use Rattle.pyc_lower_expression.specs.Origins.{text_at}
+use Rattle.pyc_lower_atom.specs.Origins.{text_at}
 use Rattle.pyc_lower.proofs.ignores.texts.Given as goal
 
 -- the texts of the spans so far

@@ -10,7 +10,7 @@ use Rattle.pyc_lower_block.proofs.JoinLemmas.{joined_at, chosen_at, skipped_at}
 use Rattle.pyc_lower_block.specs.Blocks as spec
 use Rattle.pyc_lower_block.specs.PartsView.{parts_of}
 use Rattle.pyc_lower_block.specs.Suspends.{suite_suspends}
-use Rattle.pyc_lower_expression.specs.OriginView.{origin_of}
+use Rattle.pyc_lower_atom.specs.OriginView.{origin_of}
 use Rattle.pyc_lower_statement.specs.Headers.{header_at}
 use Rattle.pyc_lower_expression.proofs.Loops.{pushed, ended_at, no_more}
 use Rattle.pyc_tree.specs.declared.block.CompoundClause.{CompoundClause}

@@ -1,7 +1,7 @@
 use Rattle.std.proofs.Common.{◌≡◌, ◌++◌, map, drop}
 use Rattle.pyc_ast.specs.StatementView.{stmt_of as made_of, branch_of, handler_of}
 use Rattle.pyc_lower_block.specs.Blocks.{stmts_in, branches_in, handlers_in, ended_in}
-use Rattle.pyc_lower_expression.specs.OriginView.{origin_of}
+use Rattle.pyc_lower_atom.specs.OriginView.{origin_of}
 use Rattle.pyc_tree.specs.BlockTrees as tree
 use Rattle.pyc_tree.specs.BlockView.{clauses_before, stmts_before}
 use Rattle.pyc_lower_block.proofs.blocks.+blocks.Given as goal

@@ -1,7 +1,7 @@
 use Rattle.std.proofs.Common.{◌≡◌, ◌++◌, map, drop}
 use Rattle.pyc_ast.specs.ExprView.{expr_of}
 use Rattle.pyc_lower_block.specs.Blocks.{decorators_in}
-use Rattle.pyc_lower_expression.specs.OriginView.{origin_of}
+use Rattle.pyc_lower_atom.specs.OriginView.{origin_of}
 use Rattle.pyc_tree.specs.BlockView.{decorator_of}
 use Rattle.pyc_lower_block.proofs.blocks.decorators.Given as goal
 

@@ -1,6 +1,6 @@
 use Rattle.std.proofs.Common.{◌≡◌, ◌++◌, map, drop}
 use Rattle.pyc_ast.specs.StatementView.{stmt_of as made_of}
-use Rattle.pyc_lower_expression.specs.OriginView.{origin_of}
+use Rattle.pyc_lower_atom.specs.OriginView.{origin_of}
 use Rattle.pyc_lower_statement.specs.Statements.{separated_in, statement_in}
 use Rattle.pyc_tree.specs.StatementView.{separated_of, separated_before, last_item_of, statement_of}
 use Rattle.pyc_lower_block.proofs.blocks.push_line.Given as goal

@@ -1,6 +1,6 @@
 use Rattle.pyc_ast.specs.ExprView.{expr_of}
 use Rattle.pyc_lower_expression.proofs.OtherForms.{argument_other}
-use Rattle.pyc_lower_expression.specs.OriginView.{origin_of}
+use Rattle.pyc_lower_atom.specs.OriginView.{origin_of}
 use Rattle.pyc_lower_expression.proofs.build.argument.Goals as goal
 
 pub returns-in_default : goal.returns-in_default

@@ -1,5 +1,5 @@
 use Rattle.pyc_lower_expression.proofs.OtherForms.{star_other}
-use Rattle.pyc_lower_expression.specs.OriginView.{origin_of}
+use Rattle.pyc_lower_atom.specs.OriginView.{origin_of}
 use Rattle.pyc_lower_expression.proofs.build.star_of.Goals as goal
 
 pub returns-in_default : goal.returns-in_default

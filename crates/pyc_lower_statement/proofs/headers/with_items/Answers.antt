@@ -1,7 +1,7 @@
 use Rattle.std.proofs.Common.{ap, ◌∙◌, ◌++◌, List, map, Option}
 use Rattle.std.specs.declared.alloc.Global.{Global}
 use Rattle.std.specs.declared.boxed.Box.{Box}
-use Rattle.pyc_lower_expression.specs.OriginView.{origin_of}
+use Rattle.pyc_lower_atom.specs.OriginView.{origin_of}
 use Rattle.pyc_lower_statement.proofs.ItemLemmas.{items_begin}
 use Rattle.pyc_lower_expression.proofs.Loops.{pushed, pushed_at, ended_at, last_at, none_left}
 use Rattle.pyc_tree.specs.declared.tree.Expr.{Expr}

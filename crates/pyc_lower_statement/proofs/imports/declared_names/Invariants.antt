@@ -1,6 +1,6 @@
 use Rattle.std.proofs.Common.{◌≡◌, ◌++◌, drop}
-use Rattle.pyc_lower_expression.specs.Origins.{name_at}
-use Rattle.pyc_lower_expression.specs.OriginView.{origin_of}
+use Rattle.pyc_lower_atom.specs.Origins.{name_at}
+use Rattle.pyc_lower_atom.specs.OriginView.{origin_of}
 use Rattle.pyc_lower_statement.specs.Statements.{separated_in}
 use Rattle.pyc_tree.specs.StatementView.{separated_of, separated_before, last_item_of, token_of}
 use Rattle.pyc_lower_statement.proofs.imports.declared_names.Given as goal

@@ -1,5 +1,5 @@
 use Rattle.std.proofs.Common.{◌≡◌, ◌++◌, drop}
-use Rattle.pyc_lower_expression.specs.OriginView.{origin_of}
+use Rattle.pyc_lower_atom.specs.OriginView.{origin_of}
 use Rattle.pyc_lower_statement.specs.Statements.{separated_in, imported_in}
 use Rattle.pyc_tree.specs.StatementView.{separated_of, separated_before, last_item_of, name_of}
 use Rattle.pyc_lower_statement.proofs.imports.imported_names.Given as goal

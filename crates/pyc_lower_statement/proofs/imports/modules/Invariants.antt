@@ -1,6 +1,6 @@
 use Rattle.std.proofs.Common.{◌≡◌, ◌++◌, map, drop}
 use Rattle.pyc_ast.specs.StatementView.{imported_module_of}
-use Rattle.pyc_lower_expression.specs.OriginView.{origin_of}
+use Rattle.pyc_lower_atom.specs.OriginView.{origin_of}
 use Rattle.pyc_lower_statement.specs.Statements.{separated_in, module_in}
 use Rattle.pyc_tree.specs.StatementView.{separated_of, separated_before, last_item_of, module_of}
 use Rattle.pyc_lower_statement.proofs.imports.modules.Given as goal

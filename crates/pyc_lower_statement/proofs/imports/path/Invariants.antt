@@ -1,6 +1,6 @@
 use Rattle.std.proofs.Common.{◌≡◌, ◌++◌, map, drop}
-use Rattle.pyc_lower_expression.specs.Origins.{name_at}
-use Rattle.pyc_lower_expression.specs.OriginView.{origin_of}
+use Rattle.pyc_lower_atom.specs.Origins.{name_at}
+use Rattle.pyc_lower_atom.specs.OriginView.{origin_of}
 use Rattle.pyc_lower_statement.specs.Statements.{path_in}
 use Rattle.pyc_tree.specs.StatementView.{dotted_of, part_of}
 use Rattle.pyc_lower_statement.proofs.imports.path.Given as goal

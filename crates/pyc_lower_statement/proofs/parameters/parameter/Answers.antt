@@ -1,5 +1,5 @@
 use Rattle.std.proofs.Common.{sym}
-use Rattle.pyc_lower_expression.specs.OriginView.{origin_of}
+use Rattle.pyc_lower_atom.specs.OriginView.{origin_of}
 use Rattle.pyc_lower_statement.proofs.ParameterLemmas.{parameter_other}
 use Rattle.pyc_lower_statement.proofs.parameters.parameter.Goals as goal
 

@@ -2,7 +2,7 @@ use Rattle.std.proofs.Common.{ap, ◌∙◌, ◌++◌, ◌||◌, Bool, false, Li
 use Rattle.std.specs.declared.alloc.Global.{Global}
 use Rattle.std.specs.declared.boxed.Box.{Box}
 use Rattle.std.specs.List.{cons_option}
-use Rattle.pyc_lower_expression.specs.OriginView.{origin_of}
+use Rattle.pyc_lower_atom.specs.OriginView.{origin_of}
 use Rattle.pyc_lower_statement.proofs.ItemLemmas.{items_begin}
 use Rattle.pyc_lower_expression.proofs.Loops.{put_at, ended_at, last_at, none_left}
 use Rattle.pyc_tree.specs.declared.tree.Expr.{Expr}

@@ -1,6 +1,6 @@
 use Rattle.std.proofs.Common.{◌≡◌, ◌++◌, map, drop, false}
 use Rattle.pyc_ast.specs.StatementView.{parameter_of}
-use Rattle.pyc_lower_expression.specs.OriginView.{origin_of}
+use Rattle.pyc_lower_atom.specs.OriginView.{origin_of}
 use Rattle.pyc_lower_statement.specs.Parameters.{parameters_in}
 use Rattle.pyc_tree.specs.declared.tree.Pieces.{out-Pieces}
 use Rattle.pyc_tree.specs.View.{pieces_of, pieces_before, last_of}

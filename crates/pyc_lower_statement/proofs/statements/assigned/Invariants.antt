@@ -1,6 +1,6 @@
 use Rattle.std.proofs.Common.{◌≡◌, ◌++◌, map, drop}
 use Rattle.pyc_ast.specs.TargetView.{target_of}
-use Rattle.pyc_lower_expression.specs.OriginView.{origin_of}
+use Rattle.pyc_lower_atom.specs.OriginView.{origin_of}
 use Rattle.pyc_lower_statement.specs.Statements.{assigned_in}
 use Rattle.pyc_tree.specs.StatementView.{assigned_of}
 use Rattle.pyc_lower_statement.proofs.statements.assigned.Given as goal

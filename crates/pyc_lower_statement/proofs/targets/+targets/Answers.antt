@@ -3,7 +3,7 @@ use Rattle.std.specs.declared.alloc.Global.{Global}
 use Rattle.std.specs.declared.boxed.Box.{Box}
 use Rattle.pyc_ast.specs.declared.target.TargetElement.{TargetElement as TargetElementOf}
 use Rattle.pyc_ast.specs.TargetView.{target_element_of}
-use Rattle.pyc_lower_expression.specs.OriginView.{origin_of}
+use Rattle.pyc_lower_atom.specs.OriginView.{origin_of}
 use Rattle.pyc_lower_statement.proofs.ItemLemmas.{items_begin}
 use Rattle.pyc_lower_expression.proofs.Loops.{pushed, pushed_at, ended_at, last_at, none_left}
 use Rattle.pyc_lower_statement.proofs.TargetLemmas.{target_other, elements_Piece, elements_None, elements_Some, element_is}

@@ -1,6 +1,6 @@
 use Rattle.std.proofs.Common.{◌≡◌, ◌++◌, map, drop}
 use Rattle.pyc_ast.specs.TargetView.{target_element_of}
-use Rattle.pyc_lower_expression.specs.OriginView.{origin_of}
+use Rattle.pyc_lower_atom.specs.OriginView.{origin_of}
 use Rattle.pyc_lower_statement.specs.Targets.{elements_in}
 use Rattle.pyc_tree.specs.declared.tree.Pieces.{out-Pieces}
 use Rattle.pyc_tree.specs.View.{pieces_of, pieces_before, last_of}

@@ -2,8 +2,8 @@ use Rattle.std.proofs.Common.{◌≡◌, ◌∙◌, ap, subst, ◌<◌, ◌≤�
 use Rattle.std.specs.Option.{option_and_then}
 use Rattle.pyc_ast.specs.declared.position.Position.{Position}
 use Rattle.pyc_lower_expression.specs.Expressions.{star_at}
-use Rattle.pyc_lower_expression.specs.Origins.{Origin}
-use Rattle.pyc_lower_expression.specs.OriginView.{origin_of}
+use Rattle.pyc_lower_atom.specs.Origins.{Origin}
+use Rattle.pyc_lower_atom.specs.OriginView.{origin_of}
 use Rattle.pyc_lower_statement.proofs.ItemLemmas.{first_of-last, first_of-none, first_of-each}
 use Rattle.pyc_tree.specs.declared.tree.Expr.{Expr}
 use Rattle.pyc_tree.specs.declared.tree.Piece.{Piece}

@@ -9,9 +9,9 @@ use Rattle.pyc_lower_expression.proofs.Loops.{started_at, turned_at, pushed, pus
 use Rattle.pyc_lower_expression.proofs.LoweredForms.{lowered_piece, lowered_last, lowered_none, entry_piece, entry_last, entry_none, index_piece, index_last, index_none, lowered_Stride, subscript_many, subscript_one, argument_piece, argument_last, argument_none, link_more, link_none}
 use Rattle.pyc_lower_expression.proofs.OtherForms.{atom_other, operation_other, nowhere_other, dict_item_other, index_other, slice_at}
 use Rattle.pyc_lower_expression.specs.Expressions as spec
-use Rattle.pyc_lower_expression.specs.declared.role.Role.{Role}
-use Rattle.pyc_lower_expression.specs.Operators.{comparison_operator}
-use Rattle.pyc_lower_expression.specs.OriginView.{origin_of}
+use Rattle.pyc_lower_atom.specs.declared.role.Role.{Role}
+use Rattle.pyc_lower_atom.specs.Operators.{comparison_operator}
+use Rattle.pyc_lower_atom.specs.OriginView.{origin_of}
 use Rattle.pyc_tree.specs.declared.tree.Expr.{Expr}
 use Rattle.pyc_tree.specs.declared.tree.Link.{Link}
 use Rattle.pyc_tree.specs.declared.tree.Piece.{Piece}

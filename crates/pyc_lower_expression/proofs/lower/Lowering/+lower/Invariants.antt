@@ -1,7 +1,7 @@
 use Rattle.std.proofs.Common.{◌≡◌, ◌++◌, map, drop}
 use Rattle.pyc_ast.specs.ExprView.{element_of, dict_item_of, argument_of, comparison_of, index_of}
 use Rattle.pyc_lower_expression.specs.Expressions as spec
-use Rattle.pyc_lower_expression.specs.OriginView.{origin_of}
+use Rattle.pyc_lower_atom.specs.OriginView.{origin_of}
 use Rattle.pyc_tree.specs.declared.tree.Pieces.{out-Pieces}
 use Rattle.pyc_tree.specs.View.{pieces_of, pieces_before, last_of, links_before}
 use Rattle.pyc_tree.specs.Tree as tree

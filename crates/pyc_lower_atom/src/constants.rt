@@ -2,7 +2,7 @@
 
 ghost use Rattle.std.specs.Prelude.{◌≡◌};
 ghost use Rattle.std.specs.List.{list_any};
-ghost use Rattle.pyc_lower_expression.specs.Constants as spec;
+ghost use Rattle.pyc_lower_atom.specs.Constants as spec;
 
 use pyc_ast::{Constant, Opaque};
 use pyc_token::{Keyword, Kind, Number, Prefix, Token};

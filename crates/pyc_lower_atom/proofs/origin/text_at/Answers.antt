@@ -1,6 +1,6 @@
 use Rattle.std.proofs.Common.{◌∙◌}
-use Rattle.pyc_lower_expression.proofs.OriginLemmas.{text_at-text, text_at-bytes}
-use Rattle.pyc_lower_expression.proofs.origin.text_at.Goals as goal
+use Rattle.pyc_lower_atom.proofs.OriginLemmas.{text_at-text, text_at-bytes}
+use Rattle.pyc_lower_atom.proofs.origin.text_at.Goals as goal
 
 pub returns-in-Ok : goal.returns-in-Ok
 returns-in-Ok c =

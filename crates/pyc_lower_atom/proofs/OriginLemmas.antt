@@ -4,7 +4,7 @@ use Rattle.std.proofs.lemmas.Bool.{cond-true}
 use Rattle.std.proofs.lemmas.Bool.Decides.{nat_tests}
 use Rattle.std.proofs.lemmas.Str.{is_utf8-from_IsUtf8, IsUtf8-from_is_utf8}
 use Rattle.std.specs.Str.{IsUtf8, is_utf8}
-use Rattle.pyc_lower_expression.specs.Origins.{text_at, is_text_span}
+use Rattle.pyc_lower_atom.specs.Origins.{text_at, is_text_span}
 use Rattle.pyc_token.specs.declared.tokens.Span.{Span}
 
 within_is : (a b c : ℕ) (u : Bool) → a ≤ b → b ≤ c → u ≡ true → nat_le a b && (nat_le b c && u) ≡ true

@@ -3,7 +3,7 @@ use Rattle.std.specs.Bool.{OnTrue}
 use Rattle.std.specs.Cmp.Lexicographic.{pointwise, same_text}
 use Rattle.pyc_ast.specs.Names.{nfkc_text}
 use Rattle.pyc_ast.proofs.NameLemmas.{nfkc_text-ascii}
-use Rattle.pyc_lower_expression.proofs.names.is_spelled.Goals as goal
+use Rattle.pyc_lower_atom.proofs.names.is_spelled.Goals as goal
 
 spelled : (b : Bool) (name text : List ℕ) → b ≡ pointwise nat_eq name text → IsAscii text → OnTrue b (name ≡ nfkc_text text)
 spelled true name text e low = same_text name text e ∙ sym (nfkc_text-ascii text low)

@@ -2,7 +2,7 @@
 
 ghost use Rattle.std.specs.Prelude.{◌≡◌, IfOk};
 ghost use Rattle.pyc_ast.specs.ExprView.{expr_of, form_of};
-ghost use Rattle.pyc_lower_expression.specs.Operators as spec;
+ghost use Rattle.pyc_lower_atom.specs.Operators as spec;
 
 use pyc_ast::{BooleanOperator, ComparisonOperator, Expr, Form, Operator, UnaryOperator};
 use pyc_token::{Arithmetic, Comparison, Delimiter, Keyword, Kind};

@@ -1,9 +1,9 @@
 //! What a token of the grammar is in an abstract tree: its text and its position.
 
 ghost use Rattle.std.specs.Prelude.{◌≡◌};
-ghost use Rattle.pyc_lower_expression.specs.Origins as spec;
-ghost use Rattle.pyc_lower_expression.specs.Origins.{held, text_at, position_at};
-ghost use Rattle.pyc_lower_expression.specs.OriginView.{origin_of};
+ghost use Rattle.pyc_lower_atom.specs.Origins as spec;
+ghost use Rattle.pyc_lower_atom.specs.Origins.{held, text_at, position_at};
+ghost use Rattle.pyc_lower_atom.specs.OriginView.{origin_of};
 
 use pyc_ast::Position;
 use pyc_token::{Span, Token};

@@ -1,7 +1,7 @@
 //! What an expression is there for.
 
 ghost use Rattle.std.specs.Prelude.{◌≡◌};
-ghost use Rattle.pyc_lower_expression.specs.Expressions as spec;
+ghost use Rattle.pyc_lower_atom.specs.Roles as spec;
 
 /// Whether an expression is read as a value or as an annotation, in which a string may spell an expression.
 #[derive(Clone, Copy, Debug, PartialEq, Eq)]
