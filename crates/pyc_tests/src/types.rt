@@ -65,13 +65,6 @@ fn unary(alloc: Global, kind: ParamKind, class: BuiltinClass) -> Result<Ty, Allo
     callable(alloc, params, Ty::None)
 }
 
-fn goes(builtins: &Builtins, pairs: &[(Ty, Ty)], row: usize) -> bool {
-    match pairs.get(row) {
-        Some((got, want)) => assignable(builtins, got, want),
-        None => false,
-    }
-}
-
 #[test]
 fn instances(rt: HostRuntime) -> Result<(), Fail> {
     let builtins = Builtins::new(rt.alloc())?;
@@ -155,40 +148,59 @@ fn types_against_types(rt: HostRuntime) -> Result<(), Fail> {
 fn parts_decide(rt: HostRuntime) -> Result<(), Fail> {
     let a = rt.alloc();
     let builtins = Builtins::new(a)?;
-    let pairs = vec![in a;
-        (
-            list(a, of(BuiltinClass::Int))?,
-            list(a, of(BuiltinClass::Int))?
-        ),
-        (list(a, Ty::Any)?, list(a, of(BuiltinClass::Int))?),
-        (
-            dict(a, of(BuiltinClass::Str), Ty::Any)?,
-            dict(a, Ty::Any, of(BuiltinClass::Int))?
-        ),
-        (
-            tuple(
+    assert!(rt;
+        assignable(
+            &builtins,
+            &list(a, of(BuiltinClass::Int))?,
+            &list(a, of(BuiltinClass::Int))?
+        )
+    );
+    assert!(rt;
+        assignable(
+            &builtins,
+            &list(a, Ty::Any)?,
+            &list(a, of(BuiltinClass::Int))?
+        )
+    );
+    assert!(rt;
+        assignable(
+            &builtins,
+            &dict(a, of(BuiltinClass::Str), Ty::Any)?,
+            &dict(a, Ty::Any, of(BuiltinClass::Int))?
+        )
+    );
+    assert!(rt;
+        assignable(
+            &builtins,
+            &tuple(
                 a,
                 vec![in a; of(BuiltinClass::Int), of(BuiltinClass::Bool)]?
             )?,
-            tuple_of(a, of(BuiltinClass::Float))?
-        ),
-        (
-            tuple_of(a, of(BuiltinClass::Bool))?,
-            tuple_of(a, of(BuiltinClass::Int))?
-        ),
-        (
-            of(BuiltinClass::Int),
-            either(a, of(BuiltinClass::Float), Ty::None)?
-        ),
-        (
-            list(a, either(a, Ty::None, of(BuiltinClass::Int))?)?,
-            list(a, either(a, of(BuiltinClass::Int), Ty::None)?)?
-        ),
-        (Ty::Module, of(BuiltinClass::Object)),
-    ]?;
-    for row in 0..pairs.len() {
-        assert!(rt; goes(&builtins, &pairs, row), "row {row}");
-    }
+            &tuple_of(a, of(BuiltinClass::Float))?
+        )
+    );
+    assert!(rt;
+        assignable(
+            &builtins,
+            &tuple_of(a, of(BuiltinClass::Bool))?,
+            &tuple_of(a, of(BuiltinClass::Int))?
+        )
+    );
+    assert!(rt;
+        assignable(
+            &builtins,
+            &of(BuiltinClass::Int),
+            &either(a, of(BuiltinClass::Float), Ty::None)?
+        )
+    );
+    assert!(rt;
+        assignable(
+            &builtins,
+            &list(a, either(a, Ty::None, of(BuiltinClass::Int))?)?,
+            &list(a, either(a, of(BuiltinClass::Int), Ty::None)?)?
+        )
+    );
+    assert!(rt; assignable(&builtins, &Ty::Module, &of(BuiltinClass::Object)));
     Ok(())
 }
 
@@ -196,40 +208,56 @@ fn parts_decide(rt: HostRuntime) -> Result<(), Fail> {
 fn parts_refuse(rt: HostRuntime) -> Result<(), Fail> {
     let a = rt.alloc();
     let builtins = Builtins::new(a)?;
-    let pairs = vec![in a;
-        (
-            list(a, of(BuiltinClass::Int))?,
-            list(a, of(BuiltinClass::Float))?
-        ),
-        (
-            list(a, of(BuiltinClass::Bool))?,
-            list(a, of(BuiltinClass::Int))?
-        ),
-        (
-            dict(a, of(BuiltinClass::Str), of(BuiltinClass::Bool))?,
-            dict(a, of(BuiltinClass::Str), of(BuiltinClass::Int))?
-        ),
-        (
-            tuple(a, vec![in a; of(BuiltinClass::Int)]?)?,
-            tuple(a, vec![in a; of(BuiltinClass::Int), of(BuiltinClass::Int)]?)?
-        ),
-        (
-            tuple_of(a, of(BuiltinClass::Int))?,
-            tuple(a, vec![in a; of(BuiltinClass::Int)]?)?
-        ),
-        (
-            either(a, of(BuiltinClass::Int), Ty::None)?,
-            of(BuiltinClass::Int)
-        ),
-        (
-            list(a, of(BuiltinClass::Int))?,
-            list(a, either(a, of(BuiltinClass::Int), Ty::None)?)?
-        ),
-        (Ty::Module, Ty::Module),
-    ]?;
-    for row in 0..pairs.len() {
-        assert!(rt; !goes(&builtins, &pairs, row), "row {row}");
-    }
+    assert!(rt;
+        !assignable(
+            &builtins,
+            &list(a, of(BuiltinClass::Int))?,
+            &list(a, of(BuiltinClass::Float))?
+        )
+    );
+    assert!(rt;
+        !assignable(
+            &builtins,
+            &list(a, of(BuiltinClass::Bool))?,
+            &list(a, of(BuiltinClass::Int))?
+        )
+    );
+    assert!(rt;
+        !assignable(
+            &builtins,
+            &dict(a, of(BuiltinClass::Str), of(BuiltinClass::Bool))?,
+            &dict(a, of(BuiltinClass::Str), of(BuiltinClass::Int))?
+        )
+    );
+    assert!(rt;
+        !assignable(
+            &builtins,
+            &tuple(a, vec![in a; of(BuiltinClass::Int)]?)?,
+            &tuple(a, vec![in a; of(BuiltinClass::Int), of(BuiltinClass::Int)]?)?
+        )
+    );
+    assert!(rt;
+        !assignable(
+            &builtins,
+            &tuple_of(a, of(BuiltinClass::Int))?,
+            &tuple(a, vec![in a; of(BuiltinClass::Int)]?)?
+        )
+    );
+    assert!(rt;
+        !assignable(
+            &builtins,
+            &either(a, of(BuiltinClass::Int), Ty::None)?,
+            &of(BuiltinClass::Int)
+        )
+    );
+    assert!(rt;
+        !assignable(
+            &builtins,
+            &list(a, of(BuiltinClass::Int))?,
+            &list(a, either(a, of(BuiltinClass::Int), Ty::None)?)?
+        )
+    );
+    assert!(rt; !assignable(&builtins, &Ty::Module, &Ty::Module));
     Ok(())
 }
 
@@ -238,39 +266,55 @@ fn callables_decide(rt: HostRuntime) -> Result<(), Fail> {
     let a = rt.alloc();
     let builtins = Builtins::new(a)?;
     let n = Text::new(a, "n")?;
-    let pairs = vec![in a;
-        (
-            dots(a, of(BuiltinClass::Int))?,
-            dots(a, of(BuiltinClass::Float))?
-        ),
-        (
-            unary(a, ParamKind::Plain(None), BuiltinClass::Float)?,
-            unary(a, ParamKind::Plain(None), BuiltinClass::Int)?
-        ),
-        (
-            unary(a, ParamKind::Star, BuiltinClass::Int)?,
-            unary(a, ParamKind::Plain(None), BuiltinClass::Int)?
-        ),
-        (
-            unary(a, ParamKind::Plain(Some(n.clone()?)), BuiltinClass::Int)?,
-            unary(a, ParamKind::KeywordOnly(n.clone()?), BuiltinClass::Int)?
-        ),
-        (
-            unary(a, ParamKind::DoubleStar, BuiltinClass::Int)?,
-            unary(a, ParamKind::KeywordOnly(n.clone()?), BuiltinClass::Bool)?
-        ),
-        (
-            Ty::Class(ClassId::builtin(BuiltinClass::Bool)),
-            dots(a, of(BuiltinClass::Float))?
-        ),
-        (
-            Ty::Class(ClassId::builtin(BuiltinClass::List)),
-            dots(a, list(a, Ty::None)?)?
-        ),
-    ]?;
-    for row in 0..pairs.len() {
-        assert!(rt; goes(&builtins, &pairs, row), "row {row}");
-    }
+    assert!(rt;
+        assignable(
+            &builtins,
+            &dots(a, of(BuiltinClass::Int))?,
+            &dots(a, of(BuiltinClass::Float))?
+        )
+    );
+    assert!(rt;
+        assignable(
+            &builtins,
+            &unary(a, ParamKind::Plain(None), BuiltinClass::Float)?,
+            &unary(a, ParamKind::Plain(None), BuiltinClass::Int)?
+        )
+    );
+    assert!(rt;
+        assignable(
+            &builtins,
+            &unary(a, ParamKind::Star, BuiltinClass::Int)?,
+            &unary(a, ParamKind::Plain(None), BuiltinClass::Int)?
+        )
+    );
+    assert!(rt;
+        assignable(
+            &builtins,
+            &unary(a, ParamKind::Plain(Some(n.clone()?)), BuiltinClass::Int)?,
+            &unary(a, ParamKind::KeywordOnly(n.clone()?), BuiltinClass::Int)?
+        )
+    );
+    assert!(rt;
+        assignable(
+            &builtins,
+            &unary(a, ParamKind::DoubleStar, BuiltinClass::Int)?,
+            &unary(a, ParamKind::KeywordOnly(n.clone()?), BuiltinClass::Bool)?
+        )
+    );
+    assert!(rt;
+        assignable(
+            &builtins,
+            &Ty::Class(ClassId::builtin(BuiltinClass::Bool)),
+            &dots(a, of(BuiltinClass::Float))?
+        )
+    );
+    assert!(rt;
+        assignable(
+            &builtins,
+            &Ty::Class(ClassId::builtin(BuiltinClass::List)),
+            &dots(a, list(a, Ty::None)?)?
+        )
+    );
     Ok(())
 }
 
@@ -280,36 +324,49 @@ fn callables_refuse(rt: HostRuntime) -> Result<(), Fail> {
     let builtins = Builtins::new(a)?;
     let n = Text::new(a, "n")?;
     let optional = param(ParamKind::Plain(None), BuiltinClass::Int, true);
-    let pairs = vec![in a;
-        (
-            unary(a, ParamKind::Plain(None), BuiltinClass::Int)?,
-            unary(a, ParamKind::Plain(None), BuiltinClass::Float)?
-        ),
-        (
-            unary(a, ParamKind::Plain(None), BuiltinClass::Int)?,
-            callable(a, vec![in a; optional]?, Ty::None)?
-        ),
-        (
-            unary(a, ParamKind::Plain(None), BuiltinClass::Int)?,
-            unary(a, ParamKind::Star, BuiltinClass::Int)?
-        ),
-        (
-            unary(a, ParamKind::KeywordOnly(n.clone()?), BuiltinClass::Int)?,
-            unary(a, ParamKind::Plain(None), BuiltinClass::Int)?
-        ),
-        (
-            unary(a, ParamKind::Plain(None), BuiltinClass::Int)?,
-            callable(a, Vec::new(a), Ty::None)?
-        ),
-        (
-            Ty::Class(ClassId::builtin(BuiltinClass::Int)),
-            dots(a, of(BuiltinClass::Str))?
-        ),
-        (of(BuiltinClass::Int), dots(a, Ty::Any)?),
-    ]?;
-    for row in 0..pairs.len() {
-        assert!(rt; !goes(&builtins, &pairs, row), "row {row}");
-    }
+    assert!(rt;
+        !assignable(
+            &builtins,
+            &unary(a, ParamKind::Plain(None), BuiltinClass::Int)?,
+            &unary(a, ParamKind::Plain(None), BuiltinClass::Float)?
+        )
+    );
+    assert!(rt;
+        !assignable(
+            &builtins,
+            &unary(a, ParamKind::Plain(None), BuiltinClass::Int)?,
+            &callable(a, vec![in a; optional]?, Ty::None)?
+        )
+    );
+    assert!(rt;
+        !assignable(
+            &builtins,
+            &unary(a, ParamKind::Plain(None), BuiltinClass::Int)?,
+            &unary(a, ParamKind::Star, BuiltinClass::Int)?
+        )
+    );
+    assert!(rt;
+        !assignable(
+            &builtins,
+            &unary(a, ParamKind::KeywordOnly(n.clone()?), BuiltinClass::Int)?,
+            &unary(a, ParamKind::Plain(None), BuiltinClass::Int)?
+        )
+    );
+    assert!(rt;
+        !assignable(
+            &builtins,
+            &unary(a, ParamKind::Plain(None), BuiltinClass::Int)?,
+            &callable(a, Vec::new(a), Ty::None)?
+        )
+    );
+    assert!(rt;
+        !assignable(
+            &builtins,
+            &Ty::Class(ClassId::builtin(BuiltinClass::Int)),
+            &dots(a, of(BuiltinClass::Str))?
+        )
+    );
+    assert!(rt; !assignable(&builtins, &of(BuiltinClass::Int), &dots(a, Ty::Any)?));
     Ok(())
 }
 
@@ -366,32 +423,19 @@ fn types_print(rt: HostRuntime) -> Result<(), Fail> {
     let a = rt.alloc();
     let pair = vec![in a; of(BuiltinClass::Int), Ty::None]?;
     let takes = vec![in a; param(ParamKind::Plain(None), BuiltinClass::Int, true)]?;
-    let types = vec![in a;
-        tuple(a, Vec::new(a))?,
-        tuple(a, pair)?,
-        tuple_of(a, of(BuiltinClass::Str))?,
-        dict(
-            a,
-            of(BuiltinClass::Str),
-            either(a, of(BuiltinClass::Int), Ty::None)?
-        )?,
-        callable(a, takes, list(a, Ty::Any)?)?,
-        unary(a, ParamKind::Star, BuiltinClass::Int)?,
-        Ty::Class(ClassId::builtin(BuiltinClass::KeyError)),
-    ]?;
-    let texts = [
-        "tuple[()]",
-        "tuple[int, None]",
-        "tuple[str, ...]",
-        "dict[str, int | None]",
-        "Callable[[int], list[Any]]",
-        "Callable[..., None]",
-        "type[KeyError]",
-    ];
-    for (ty, text) in types.iter().zip(texts) {
-        let shown = show(a, ty)?;
-        assert_eq!(rt; shown.as_str(), text);
-    }
+    assert_eq!(rt; show(a, &tuple(a, Vec::new(a))?)?.as_str(), "tuple[()]");
+    assert_eq!(rt; show(a, &tuple(a, pair)?)?.as_str(), "tuple[int, None]");
+    let strings = tuple_of(a, of(BuiltinClass::Str))?;
+    assert_eq!(rt; show(a, &strings)?.as_str(), "tuple[str, ...]");
+    let optional = either(a, of(BuiltinClass::Int), Ty::None)?;
+    let table = dict(a, of(BuiltinClass::Str), optional)?;
+    assert_eq!(rt; show(a, &table)?.as_str(), "dict[str, int | None]");
+    let plain = callable(a, takes, list(a, Ty::Any)?)?;
+    assert_eq!(rt; show(a, &plain)?.as_str(), "Callable[[int], list[Any]]");
+    let starred = unary(a, ParamKind::Star, BuiltinClass::Int)?;
+    assert_eq!(rt; show(a, &starred)?.as_str(), "Callable[..., None]");
+    let class = Ty::Class(ClassId::builtin(BuiltinClass::KeyError));
+    assert_eq!(rt; show(a, &class)?.as_str(), "type[KeyError]");
     Ok(())
 }
 

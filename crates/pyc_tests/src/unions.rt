@@ -57,41 +57,56 @@ fn shown(alloc: Global, left: &Option<Ty>) -> Result<String, AllocError> {
     }
 }
 
+/// How what `isinstance` by `int` leaves of a type is written.
+fn narrowed(alloc: Global, builtins: &Builtins, ty: &Ty) -> Result<String, AllocError> {
+    let int = [ClassId::builtin(BuiltinClass::Int)];
+    shown(alloc, &narrow_to(alloc, builtins, ty, &int)?)
+}
+
+/// How what `isinstance` by `int` does not take of a type is written.
+fn narrowed_away(alloc: Global, builtins: &Builtins, ty: &Ty) -> Result<String, AllocError> {
+    let int = [ClassId::builtin(BuiltinClass::Int)];
+    shown(alloc, &narrow_away(alloc, builtins, ty, &int)?)
+}
+
 #[test]
 fn unions_form(rt: HostRuntime) -> Result<(), Fail> {
     let a = rt.alloc();
     let optional = either(a, BuiltinClass::Int, Ty::None)?;
-    let rows = [
-        (
-            union_of(a, &[of(BuiltinClass::Int), Ty::None, of(BuiltinClass::Int)])?,
-            "int | None",
-        ),
-        (
-            union_of(a, &[optional.clone()?, of(BuiltinClass::Str), Ty::None])?,
-            "int | None | str",
-        ),
-        (
-            union_of(a, &[of(BuiltinClass::Str), optional])?,
-            "str | int | None",
-        ),
-        (union_of(a, &[of(BuiltinClass::Bytes)])?, "bytes"),
-        (
-            union_of(a, &[list(a, Ty::Any)?, list(a, Ty::Any)?])?,
-            "list[Any]",
-        ),
-        (
-            union_of(a, &[ints(a, 2)?, ints(a, 1)?, ints(a, 2)?])?,
-            "tuple[int, int] | tuple[int]",
-        ),
-    ];
-    for (ty, text) in rows {
-        let written = show(a, &ty)?;
-        assert_eq!(rt; written.as_str(), text);
-    }
+    assert_eq!(rt; show(a, &optional)?.as_str(), "int | None");
+    let again = either(a, BuiltinClass::Int, optional.clone()?)?;
+    assert_eq!(rt; show(a, &again)?.as_str(), "int | None");
+    let longer = either(a, BuiltinClass::Str, optional.clone()?)?;
+    assert_eq!(rt; show(a, &longer)?.as_str(), "str | int | None");
+    let seen = union_of(a, &[optional, of(BuiltinClass::Str), Ty::None])?;
+    assert_eq!(rt; show(a, &seen)?.as_str(), "int | None | str");
+    let alone = union_of(a, &[of(BuiltinClass::Bytes)])?;
+    assert_eq!(rt; show(a, &alone)?.as_str(), "bytes");
+    Ok(())
+}
+
+#[test]
+fn unions_tell_types_apart(rt: HostRuntime) -> Result<(), Fail> {
+    let a = rt.alloc();
+    let first = list(a, Ty::Any)?;
+    let same = union_of(a, &[first.clone()?, first])?;
+    assert_eq!(rt; show(a, &same)?.as_str(), "list[Any]");
+    let pair = ints(a, 2)?;
+    let single = ints(a, 1)?;
+    assert!(rt; !same_type(&pair, &single));
+    let both = union_of(a, &[pair.clone()?, single, pair])?;
+    assert_eq!(rt; show(a, &both)?.as_str(), "tuple[int, int] | tuple[int]");
+    Ok(())
+}
+
+#[test]
+fn unions_have_a_limit(rt: HostRuntime) -> Result<(), Fail> {
+    let a = rt.alloc();
     let largest = ints(a, 999)?;
-    assert!(rt; same_type(&union_of(a, &[largest.clone()?])?, &largest));
-    assert!(rt; same_type(&union_of(a, &[ints(a, 1000)?])?, &Ty::Any));
-    assert!(rt; !same_type(&ints(a, 2)?, &ints(a, 3)?));
+    let kept = union_of(a, &[largest.clone()?])?;
+    assert!(rt; same_type(&kept, &largest));
+    let larger = union_of(a, &[ints(a, 1000)?])?;
+    assert!(rt; same_type(&larger, &Ty::Any));
     Ok(())
 }
 
@@ -99,38 +114,44 @@ fn unions_form(rt: HostRuntime) -> Result<(), Fail> {
 fn isinstance_leaves(rt: HostRuntime) -> Result<(), Fail> {
     let a = rt.alloc();
     let builtins = Builtins::new(a)?;
-    let int = ClassId::builtin(BuiltinClass::Int);
-    let rows = [
-        (Ty::Any, "int"),
-        (of(BuiltinClass::Object), "int"),
-        (of(BuiltinClass::Float), "int"),
-        (of(BuiltinClass::Bool), "bool"),
-        (of(BuiltinClass::Str), "-"),
-        (Ty::None, "-"),
-        (Ty::Module, "-"),
-        (unknown(a)?, "C"),
-        (callable(a, Ty::None)?, "Callable[..., None]"),
-        (Ty::Class(ClassId::builtin(BuiltinClass::Str)), "type[str]"),
-        (either(a, BuiltinClass::Str, of(BuiltinClass::Int))?, "int"),
-        (
-            either(a, BuiltinClass::Bool, of(BuiltinClass::Float))?,
-            "bool | int",
-        ),
-        (
-            either(a, BuiltinClass::Object, of(BuiltinClass::Float))?,
-            "int",
-        ),
-    ];
-    for (ty, text) in rows {
-        let left = narrow_to(a, &builtins, &ty, &[int.clone()?])?;
-        let written = shown(a, &left)?;
-        assert_eq!(rt; written.as_str(), text);
+    for (class, text) in [
+        (BuiltinClass::Object, "int"),
+        (BuiltinClass::Float, "int"),
+        (BuiltinClass::Bool, "bool"),
+        (BuiltinClass::Str, "-"),
+    ] {
+        assert_eq!(rt; narrowed(a, &builtins, &of(class))?.as_str(), text);
     }
-    let both = [int, ClassId::builtin(BuiltinClass::List)];
+    assert_eq!(rt; narrowed(a, &builtins, &Ty::Any)?.as_str(), "int");
+    assert_eq!(rt; narrowed(a, &builtins, &Ty::None)?.as_str(), "-");
+    assert_eq!(rt; narrowed(a, &builtins, &Ty::Module)?.as_str(), "-");
+    assert_eq!(rt; narrowed(a, &builtins, &unknown(a)?)?.as_str(), "C");
+    let function = callable(a, Ty::None)?;
+    assert_eq!(rt;
+        narrowed(a, &builtins, &function)?.as_str(),
+        "Callable[..., None]"
+    );
+    let class = Ty::Class(ClassId::builtin(BuiltinClass::Str));
+    assert_eq!(rt; narrowed(a, &builtins, &class)?.as_str(), "type[str]");
+    let union = either(a, BuiltinClass::Bool, of(BuiltinClass::Float))?;
+    assert_eq!(rt; narrowed(a, &builtins, &union)?.as_str(), "bool | int");
+    Ok(())
+}
+
+#[test]
+fn isinstance_by_two_classes(rt: HostRuntime) -> Result<(), Fail> {
+    let a = rt.alloc();
+    let builtins = Builtins::new(a)?;
+    let both = [
+        ClassId::builtin(BuiltinClass::Int),
+        ClassId::builtin(BuiltinClass::List),
+    ];
     let any = narrow_to(a, &builtins, &Ty::Any, &both)?;
     assert_eq!(rt; shown(a, &any)?.as_str(), "int | list[Any]");
     let known = narrow_to(a, &builtins, &list(a, Ty::None)?, &both)?;
     assert_eq!(rt; shown(a, &known)?.as_str(), "list[None]");
+    let gone = narrow_away(a, &builtins, &list(a, Ty::None)?, &both)?;
+    assert_eq!(rt; shown(a, &gone)?.as_str(), "-");
     let nothing = narrow_to(a, &builtins, &Ty::Any, &[])?;
     assert_eq!(rt; shown(a, &nothing)?.as_str(), "-");
     Ok(())
@@ -140,46 +161,33 @@ fn isinstance_leaves(rt: HostRuntime) -> Result<(), Fail> {
 fn isinstance_takes_away(rt: HostRuntime) -> Result<(), Fail> {
     let a = rt.alloc();
     let builtins = Builtins::new(a)?;
-    let int = ClassId::builtin(BuiltinClass::Int);
-    let rows = [
-        (Ty::Any, "Any"),
-        (of(BuiltinClass::Int), "-"),
-        (of(BuiltinClass::Bool), "-"),
-        (of(BuiltinClass::Float), "float"),
-        (of(BuiltinClass::Object), "object"),
-        (unknown(a)?, "C"),
-        (callable(a, Ty::None)?, "Callable[..., None]"),
-        (either(a, BuiltinClass::Bool, Ty::None)?, "None"),
-        (
-            either(a, BuiltinClass::Str, of(BuiltinClass::Float))?,
-            "str | float",
-        ),
-    ];
-    for (ty, text) in rows {
-        let left = narrow_away(a, &builtins, &ty, &[int.clone()?])?;
-        let written = shown(a, &left)?;
-        assert_eq!(rt; written.as_str(), text);
+    for (class, text) in [
+        (BuiltinClass::Int, "-"),
+        (BuiltinClass::Bool, "-"),
+        (BuiltinClass::Float, "float"),
+        (BuiltinClass::Object, "object"),
+    ] {
+        assert_eq!(rt; narrowed_away(a, &builtins, &of(class))?.as_str(), text);
     }
-    let lists = [ClassId::builtin(BuiltinClass::List)];
-    let gone = narrow_away(a, &builtins, &list(a, Ty::None)?, &lists)?;
-    assert_eq!(rt; shown(a, &gone)?.as_str(), "-");
+    assert_eq!(rt; narrowed_away(a, &builtins, &Ty::Any)?.as_str(), "Any");
+    assert_eq!(rt; narrowed_away(a, &builtins, &unknown(a)?)?.as_str(), "C");
+    let optional = either(a, BuiltinClass::Bool, Ty::None)?;
+    assert_eq!(rt; narrowed_away(a, &builtins, &optional)?.as_str(), "None");
+    let union = either(a, BuiltinClass::Str, of(BuiltinClass::Float))?;
+    assert_eq!(rt;
+        narrowed_away(a, &builtins, &union)?.as_str(),
+        "str | float"
+    );
     Ok(())
 }
 
 #[test]
 fn none_is_taken_away(rt: HostRuntime) -> Result<(), Fail> {
     let a = rt.alloc();
-    let rows = [
-        (either(a, BuiltinClass::Int, Ty::None)?, "int"),
-        (Ty::None, "-"),
-        (Ty::Any, "Any"),
-        (of(BuiltinClass::Object), "object"),
-    ];
-    for (ty, text) in rows {
-        let left = without_none(a, &ty)?;
-        let written = shown(a, &left)?;
-        assert_eq!(rt; written.as_str(), text);
-    }
+    let optional = either(a, BuiltinClass::Int, Ty::None)?;
+    assert_eq!(rt; shown(a, &without_none(a, &optional)?)?.as_str(), "int");
+    assert_eq!(rt; shown(a, &without_none(a, &Ty::None)?)?.as_str(), "-");
+    assert_eq!(rt; shown(a, &without_none(a, &Ty::Any)?)?.as_str(), "Any");
     let bare = instance_of(a, &ClassId::builtin(BuiltinClass::Dict))?;
     assert_eq!(rt; show(a, &bare)?.as_str(), "dict[Any, Any]");
     Ok(())
