@@ -23,15 +23,12 @@ import sysconfig
 import tempfile
 from pathlib import Path
 
-BUILD = [Path(__file__).resolve().parent.parent / "scripts" / "by_hand" / "build.py", "tokens"]
+from programs import Stop, measured_by
+
 MOST = 20_000_000
 SCANS = 15
 SECONDS = 120
 BYTE_ORDER_MARK = b"\xef\xbb\xbf"
-
-
-class Stop(Exception):
-    """The program does not answer as it must."""
 
 
 def rows_of(printed):
@@ -102,17 +99,7 @@ def main():
     parser.add_argument("--program", help="the built program that prints tokens")
     parser.add_argument("folder", nargs="?", type=Path, default=Path(sysconfig.get_paths()["stdlib"]))
     words = parser.parse_args()
-    with tempfile.TemporaryDirectory() as name:
-        program = words.program
-        try:
-            if not program:
-                program = str(Path(name) / "tokens")
-                subprocess.run([sys.executable, *BUILD, program], check=True)
-            measure_all(program, words.folder, Path(name))
-        except (OSError, Stop, subprocess.SubprocessError) as why:
-            print(f"bench: {why}", file=sys.stderr)
-            return 1
-    return 0
+    return measured_by(lambda program, room: measure_all(program, words.folder, room), "tokens", words.program)
 
 
 if __name__ == "__main__":

@@ -20,11 +20,11 @@ import platform
 import subprocess
 import sys
 import sysconfig
-import tempfile
 from pathlib import Path
 from typing import NamedTuple
 
-BUILD = [Path(__file__).resolve().parent.parent / "scripts" / "by_hand" / "build.py", "outcomes"]
+from programs import Stop, measured_by
+
 MOST = 1 << 20
 TEXTS = 16
 TURNS = 9
@@ -36,10 +36,6 @@ DENSE = {
     "a call an item": b"[" + b"f()," * (MOST // 4 - 2) + b"]\n",
     "two operands a line": b"x+x\n" * (MOST // 4),
 }
-
-
-class Stop(Exception):
-    """The program does not answer as it must."""
 
 
 class Measured(NamedTuple):
@@ -127,17 +123,7 @@ def main():
     parser.add_argument("--program", help="the built program that prints outcomes")
     parser.add_argument("folder", nargs="?", type=Path, default=Path(sysconfig.get_paths()["stdlib"]))
     words = parser.parse_args()
-    with tempfile.TemporaryDirectory() as name:
-        program = words.program
-        try:
-            if not program:
-                program = str(Path(name) / "outcomes")
-                subprocess.run([sys.executable, *BUILD, program], check=True)
-            measure_all(program, words.folder)
-        except (OSError, Stop, subprocess.SubprocessError) as why:
-            print(f"bench: {why}", file=sys.stderr)
-            return 1
-    return 0
+    return measured_by(lambda program, _: measure_all(program, words.folder), "outcomes", words.program)
 
 
 if __name__ == "__main__":

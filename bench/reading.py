@@ -19,13 +19,12 @@ import platform
 import subprocess
 import sys
 import sysconfig
-import tempfile
 from pathlib import Path
 from typing import NamedTuple
 
-from parsing import DENSE, SECONDS, TURNS, Stop, processor, ran, speed, texts_of, trees_of
+from parsing import DENSE, SECONDS, TURNS, processor, ran, speed, texts_of, trees_of
+from programs import Stop, measured_by
 
-BUILD = [Path(__file__).resolve().parent.parent / "scripts" / "by_hand" / "build.py", "reading"]
 KEPT = 5
 
 
@@ -87,17 +86,7 @@ def main():
     parser.add_argument("--program", help="the built program that reads sources")
     parser.add_argument("folder", nargs="?", type=Path, default=Path(sysconfig.get_paths()["stdlib"]))
     words = parser.parse_args()
-    with tempfile.TemporaryDirectory() as name:
-        program = words.program
-        try:
-            if not program:
-                program = str(Path(name) / "reading")
-                subprocess.run([sys.executable, *BUILD, program], check=True)
-            measure_all(program, words.folder)
-        except (OSError, Stop, subprocess.SubprocessError) as why:
-            print(f"bench: {why}", file=sys.stderr)
-            return 1
-    return 0
+    return measured_by(lambda program, _: measure_all(program, words.folder), "reading", words.program)
 
 
 if __name__ == "__main__":

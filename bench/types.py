@@ -16,12 +16,10 @@ import argparse
 import resource
 import subprocess
 import sys
-import tempfile
-from pathlib import Path
 
-from parsing import SECONDS, Stop, processor
+from parsing import SECONDS, processor
+from programs import Stop, measured_by
 
-BUILD = [Path(__file__).resolve().parent.parent / "scripts" / "by_hand" / "build.py", "types"]
 TIMES = 1_000_000
 TURNS = 15
 DONE = {"copy": "copies of dict[str, list[int]]", "test": "tests of int against float | None"}
@@ -55,17 +53,7 @@ def main():
     parser = argparse.ArgumentParser(description="Measures copies of types and tests of assignability.")
     parser.add_argument("--program", help="the built program that copies and tests")
     words = parser.parse_args()
-    with tempfile.TemporaryDirectory() as name:
-        program = words.program
-        try:
-            if not program:
-                program = str(Path(name) / "types")
-                subprocess.run([sys.executable, *BUILD, program], check=True)
-            measure(program)
-        except (OSError, Stop, subprocess.SubprocessError) as why:
-            print(f"bench: {why}", file=sys.stderr)
-            return 1
-    return 0
+    return measured_by(lambda program, _: measure(program), "types", words.program)
 
 
 if __name__ == "__main__":
