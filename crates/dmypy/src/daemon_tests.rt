@@ -1,5 +1,6 @@
 //! Calls below a session, with what they answer.
 
+mod bindings;
 mod counted;
 mod ending;
 mod found;

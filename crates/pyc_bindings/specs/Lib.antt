@@ -1,0 +1,4 @@
+pub mod Scopes
+pub mod ScopeView
+pub mod Bindings
+pub mod BindingView
