@@ -1,6 +1,5 @@
 //! Calls below a session, with what they answer.
 
-mod bindings;
 mod counted;
 mod ending;
 mod found;

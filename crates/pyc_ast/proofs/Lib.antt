@@ -1,4 +1,3 @@
 pub mod NameLemmas
 pub mod ViewLemmas
 pub mod StatementViewLemmas
-pub mod TargetViewLemmas

@@ -6,7 +6,6 @@ use crate::parameter::Parameter;
 use crate::position::Position;
 use crate::target::Target;
 use crate::text::Text;
-use std::rc::Rc;
 
 /// A statement and where it begins; a function or class under decorators begins at its own first word.
 #[cycle(stmt)]
@@ -16,7 +15,7 @@ pub struct Stmt {
     pub form: StmtForm,
 }
 
-/// What a statement is. Whatever a binding speaks of is shared, so that it may be kept apart from its tree.
+/// What a statement is.
 #[cycle(stmt)]
 #[derive(Drop)]
 pub enum StmtForm {
@@ -24,9 +23,9 @@ pub enum StmtForm {
     /// The targets from left to right, and the value.
     Assign {
         targets: Vec<Target>,
-        value: Rc<Expr>,
+        value: Expr,
     },
-    Annotate(Rc<AnnotatedAssignment>),
+    Annotate(Box<AnnotatedAssignment>),
     Augment(Box<AugmentedAssignment>),
     Return(Option<Box<Expr>>),
     Raise {
@@ -43,8 +42,8 @@ pub enum StmtForm {
     Continue,
     Global(Vec<Text>),
     Nonlocal(Vec<Text>),
-    Import(Vec<Rc<ImportedModule>>),
-    ImportFrom(Rc<ImportFrom>),
+    Import(Vec<ImportedModule>),
+    ImportFrom(Box<ImportFrom>),
     /// `if` and each `elif`; what stands after `else` is empty where there is none.
     If {
         branches: Vec<Branch>,
@@ -73,11 +72,11 @@ pub enum StmtForm {
         body: Block,
     },
     Function {
-        head: Rc<FunctionDefinition>,
+        head: Box<FunctionDefinition>,
         body: Block,
     },
     Class {
-        head: Rc<ClassDefinition>,
+        head: Box<ClassDefinition>,
         body: Block,
     },
 }

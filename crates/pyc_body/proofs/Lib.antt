@@ -1,7 +1,9 @@
 pub mod ErrorLemmas
+pub mod FormLemmas
 pub mod FoundLemmas
 pub mod ListLemmas
 pub mod MessageLemmas
 pub mod RepeatLemmas
+pub mod ScopeLemmas
 pub mod SortLemmas
 pub mod TextLemmas

@@ -13,7 +13,7 @@ use Rattle.pyc_ast.specs.Targets as to
 use Rattle.pyc_builtins.specs.declared.builtin.Builtin.{Builtin}
 use Rattle.pyc_builtins.specs.declared.builtin.Builtin.TheVariants as builtin
 use Rattle.pyc_body.specs.declared.literals.LiteralForm.{LiteralForm}
-use Rattle.pyc_bindings.specs.Scopes.{PartForm, Part, statement, parts_of}
+use Rattle.pyc_body.specs.Scopes.{parts_of}
 
 -- whether a part that begins at a position, and inside its parentheses at another, has no parentheses around it
 abbrev pub is_bare : Position → Position → Bool
@@ -37,7 +37,7 @@ constant_annotation constant.None = Some builtin.None
 constant_annotation _ = None
 
 -- the type that the form of an annotation means: a builtin class by its name, or `None`
-abbrev pub named_type : Form → Option Builtin
+unfoldable pub named_type : Form → Option Builtin
 named_type (form.name name) = builtin_named name
 named_type (form.constant found) = constant_annotation found
 named_type _ = None
@@ -62,7 +62,7 @@ constant_type constant.FormattedStr = Some builtin.Str
 constant_type constant.Bytes = Some builtin.Bytes
 
 -- the type of the form of a value that is one literal
-abbrev pub literal_type : Form → Option Builtin
+unfoldable pub literal_type : Form → Option Builtin
 literal_type (form.constant found) = constant_type found
 literal_type (form.quoted spelled) = Some builtin.Str
 literal_type _ = None
@@ -74,7 +74,7 @@ value_type (expr at inside found) = if is_bare at inside then literal_type found
 -- ---- statements
 
 -- whether a target is a name, with no parentheses around it
-abbrev pub is_bare_name : Target → Bool
+unfoldable pub is_bare_name : Target → Bool
 is_bare_name (target at inside (to.name name)) = is_bare at inside
 is_bare_name _ = false
 
@@ -94,15 +94,10 @@ annotated_form found =
     if is_bare_name found.target then valued_form (annotation_type found.annotation) found.value else None
 
 -- the annotated literal that a statement is
-abbrev pub literal_form : Stmt → Option LiteralForm
+unfoldable pub literal_form : Stmt → Option LiteralForm
 literal_form (stmt at (annotate found)) = annotated_form found
 literal_form _ = None
 
--- the annotated literal that a part of a scope is
-abbrev pub part_literal : PartForm → Option LiteralForm
-part_literal (statement found) = literal_form found
-part_literal _ = None
-
 -- the annotated literals of a module, in text order
 unfoldable pub literal_forms : Stmts → List LiteralForm
-literal_forms found = filter_map (λ (part : Part). part_literal part.form) (parts_of found false)
+literal_forms found = filter_map literal_form (parts_of found)

@@ -5,14 +5,13 @@ ghost use Rattle.pyc_ast.specs.ExprView.{expr_of, form_of};
 ghost use Rattle.pyc_ast.specs.Statements.{stmts};
 ghost use Rattle.pyc_ast.specs.StatementView.{annotated_of, stmt_of};
 ghost use Rattle.pyc_ast.specs.TargetView.{target_of};
-ghost use Rattle.pyc_bindings.specs.ScopeView.{part_form_of};
 ghost use Rattle.pyc_body.specs.LiteralForms as spec;
 ghost use Rattle.pyc_body.specs.LiteralForms.{literal_forms};
 
+use crate::scope::scope_parts;
 use pyc_ast::{
     AnnotatedAssignment, Constant, Expr, Form, Position, Stmt, StmtForm, Target, TargetForm,
 };
-use pyc_bindings::{PartForm, scope_parts};
 use pyc_types::Builtin;
 use std::alloc::{AllocError, Global};
 
@@ -32,24 +31,15 @@ pub fn literal_forms(alloc: Global, statements: &[Stmt]) -> Result<Vec<LiteralFo
     let parts = scope_parts(alloc, statements)?;
     let mut forms = Vec::new(alloc);
     for part in &parts {
-        if let Some(form) = part_literal(part.form) {
+        if let Some(form) = literal_form(*part) {
             forms.push(form)?;
         }
     }
     Ok(forms)
 }
 
-/// The annotated literal that a part of a scope is.
-fn part_literal(part: PartForm<'_>) -> Option<LiteralForm>
-    ensures { result ≡ spec.part_literal (part_form_of part.entry) }
-{
-    match part {
-        PartForm::Statement(statement) => literal_form(statement),
-        _ => None,
-    }
-}
-
 /// The annotated literal that a statement is.
+#[tactic(auto, using(pyc_ast::proofs::StatementViewLemmas::stmt_views), unfolding(crate::specs::LiteralForms::literal_form))]
 fn literal_form(statement: &Stmt) -> Option<LiteralForm>
     ensures { result ≡ spec.literal_form (stmt_of statement.now) }
 {
@@ -75,6 +65,7 @@ fn annotated_form(found: &AnnotatedAssignment) -> Option<LiteralForm>
 }
 
 /// Whether a target is a name, with no parentheses around it.
+#[tactic(auto, using(pyc_ast::proofs::StatementViewLemmas::target_views), unfolding(crate::specs::LiteralForms::is_bare_name))]
 fn is_bare_name(target: &Target) -> bool
     ensures { result ≡ spec.is_bare_name (target_of target.now) }
 {
@@ -103,6 +94,7 @@ fn annotation_type(annotation: &Expr) -> Option<Builtin>
 }
 
 /// The type that the form of an annotation means.
+#[tactic(auto, using(pyc_ast::proofs::ViewLemmas::views), unfolding(crate::specs::LiteralForms::named_type))]
 fn named_type(annotation: &Form) -> Option<Builtin>
     ensures { result ≡ spec.named_type (form_of annotation.now) }
 {
@@ -148,6 +140,7 @@ fn value_type(value: &Expr) -> Option<Builtin>
 }
 
 /// The type of the form of a value that is one literal.
+#[tactic(auto, using(pyc_ast::proofs::ViewLemmas::views), unfolding(crate::specs::LiteralForms::literal_type))]
 fn literal_type(value: &Form) -> Option<Builtin>
     ensures { result ≡ spec.literal_type (form_of value.now) }
 {

@@ -11,8 +11,6 @@ mod members;
 #[cfg(test)]
 mod module_names;
 #[cfg(test)]
-mod notation;
-#[cfg(test)]
 mod texts;
 #[cfg(test)]
 mod types;

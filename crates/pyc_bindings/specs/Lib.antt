@@ -1,4 +1,0 @@
-pub mod Scopes
-pub mod ScopeView
-pub mod Bindings
-pub mod BindingView
