@@ -4,14 +4,14 @@ use Rattle.std.specs.Prelude.{Result, Ok, Err}
 use Rattle.std.proofs.lemmas.List.{drop_all}
 use Rattle.std.specs.Global.{Global}
 use Rattle.std.specs.Io.KnownBytes.{Appends}
-use Rattle.pyc_session.specs.declared.options.Options.{Options}
+use Rattle.pyc_iface.specs.declared.options.Options.{Options}
 use Rattle.pyc_session.specs.Entry.{Entry}
 use Rattle.pyc_session.specs.Event.{Event, FetchStep, Links}
 use Rattle.pyc_workspace.specs.Fresh.{fresh}
 use Rattle.pyc_daemon.specs.Counted.{IsSound, FailsOnce}
 use Rattle.pyc_daemon.specs.declared.counted.Counted.{Counted}
 use Rattle.pyc_daemon.specs.Replies.{WritesPart}
-use Rattle.pyc_body.specs.Report.{Report}
+use Rattle.pyc_report.specs.Report.{Report}
 use Rattle.pyc_session.specs.Refusal.{refusal_text}
 use Rattle.pyc_session.specs.Session.{Outcome, updated, refusal_in}
 use Rattle.pyc_session.specs.State.{State, start}
@@ -144,7 +144,7 @@ updates_part step source source' source'' err err' err'' s s' s'' paths left lef
 begins_part : (left : List (List ℕ)) (reached : UpdateProgress) (wanting : Bool) (told : List ℕ) → (later : List ℕ) × (refusal_lines reached.refused ≡ told ++ later) → (wanting ≡ true)
     → WrotePart left reached wanting [] told
 begins_part [] reached wanting told begins is = (
-  (printed_report (fresh reached.state.present) wanting, refl),
+  (printed_report (fresh reached.state.options reached.state.present) wanting, refl),
   (begins.0 ++ memory_line wanting, ap (λ zs. zs ++ memory_line wanting) begins.1 ∙ append_assoc told begins.0 (memory_line wanting)),
 )
 begins_part (path ∷ paths) reached wanting told begins is = (refl, begins)
@@ -167,7 +167,7 @@ checks_broken step options source source' out err err' paths fault b = record {
 
 -- all files are updated, and then the report is printed or not
 pub checks_printed : {S : Type 0} (step : S → List ℕ → Entry → S → Type 0) (options : Options) (source source' : S) (out out' err err' err'' : Option (List ℕ)) (s' : State) (paths : List (List ℕ)) (refused : Bool) (result : Result ℕ RunFault)
-    → UpdatesFirst step source source' err err' (start options) s' paths [] refused → Prints out out' err' err'' (fresh s'.present) refused result
+    → UpdatesFirst step source source' err err' (start options) s' paths [] refused → Prints out out' err' err'' (fresh s'.options s'.present) refused result
     → Checks step options (outputs source out err) (outputs source' out' err'') paths result
 checks_printed step options source source' out out' err err' err'' s' paths refused (Ok status) u p = record {
   events = u.events;
@@ -183,7 +183,7 @@ checks_printed step options source source' out out' err err' err'' s' paths refu
     refl,
     p.wrote.0,
     ap (λ zs. refusal_lines u.files ++ zs) p.wrote.1,
-    p.wrote.2 ∙ ap (λ t. report_status (fresh s'.present) t p.wanting) u.any,
+    p.wrote.2 ∙ ap (λ t. report_status (fresh s'.options s'.present) t p.wanting) u.any,
   );
 }
 checks_printed step options source source' out out' err err' err'' s' paths refused (Err fault) u p = record {

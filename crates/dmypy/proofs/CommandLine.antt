@@ -8,8 +8,8 @@ use Rattle.clap.specs.Faults.{built_fault, check_fault, defaults_fault, entered_
 use Rattle.clap.specs.Walk.{Held, Names, finished, nothing_held, settled, stop_after, walk, walk_from}
 use Rattle.clap.specs.Simple.{argument_words, entered, names_of}
 use Rattle.clap.proofs.OnLiterals.{clap_on_literals}
-use Rattle.pyc_session.specs.declared.options.Options.{Options}
-use Rattle.pyc_session.specs.declared.options.TheConstants.{TURNS}
+use Rattle.pyc_iface.specs.declared.options.Options.{Options}
+use Rattle.pyc_iface.specs.declared.options.TheConstants.{TURNS}
 use Rattle.dmypy.specs.declared.words.Job.{Job}
 use Rattle.dmypy.specs.declared.words.Job.TheVariants.{Session, Check}
 use Rattle.dmypy.specs.Words.{IsFlag, check_untyped_id, command_line, found_text, is_check, names_check, files_id, found_files, files_id, found_files, ignore_missing_id, options_of, session_rows, option_text}

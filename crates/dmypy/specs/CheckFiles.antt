@@ -7,12 +7,12 @@ use Rattle.pyc_daemon.specs.declared.counted.Counted.{Counted}
 use Rattle.pyc_session.specs.declared.ending.RunFault.{RunFault}
 use Rattle.pyc_session.specs.declared.refusal.Refusal.{Refusal}
 use Rattle.pyc_session.specs.declared.refusal.Refusal.TheVariants as refusal
-use Rattle.pyc_session.specs.declared.options.Options.{Options}
+use Rattle.pyc_iface.specs.declared.options.Options.{Options}
 use Rattle.pyc_session.specs.Entry.{Entry}
 use Rattle.pyc_session.specs.Event.{Event, Links}
 use Rattle.pyc_workspace.specs.Fresh.{fresh}
 use Rattle.pyc_session.specs.Refusal.{refusal_text}
-use Rattle.pyc_body.specs.Report.{Report}
+use Rattle.pyc_report.specs.Report.{Report}
 use Rattle.pyc_session.specs.Session.{updated}
 use Rattle.pyc_session.specs.State.{State, start}
 
@@ -77,7 +77,7 @@ report_status report refused wanting = if refused || wanting then 2 else if repo
 
 -- what goes to the output: the report on the files that are accepted
 abbrev pub out_text : UpdateProgress → Bool → List ℕ
-out_text done wanting = printed_report (fresh done.state.present) wanting
+out_text done wanting = printed_report (fresh done.state.options done.state.present) wanting
 
 -- what goes to the error output: the lines on the files that are refused, and the one on want of memory
 abbrev pub err_text : UpdateProgress → Bool → List ℕ
@@ -85,7 +85,7 @@ err_text done wanting = refusal_lines done.refused ++ memory_line wanting
 
 -- the status
 abbrev pub check_status : UpdateProgress → Bool → ℕ
-check_status done wanting = report_status (fresh done.state.present) (is_any done.refused) wanting
+check_status done wanting = report_status (fresh done.state.options done.state.present) (is_any done.refused) wanting
 
 -- a text begins with these bytes
 abbrev pub BeginsWith : List ℕ → List ℕ → Type 0

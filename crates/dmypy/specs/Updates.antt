@@ -6,7 +6,7 @@ use Rattle.pyc_session.specs.declared.refusal.Refusal.{Refusal}
 use Rattle.pyc_session.specs.Entry.{Entry}
 use Rattle.pyc_session.specs.Event.{Event, Links}
 use Rattle.pyc_daemon.specs.Replies.{WritesPart}
-use Rattle.pyc_body.specs.Report.{Report}
+use Rattle.pyc_report.specs.Report.{Report}
 use Rattle.pyc_session.specs.Session.{updated}
 use Rattle.pyc_session.specs.State.{State}
 use Rattle.dmypy.specs.CheckFiles.{BeginsWith, RefusedFile, UpdateProgress, is_any, memory_line, printed_report}

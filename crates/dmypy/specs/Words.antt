@@ -6,7 +6,7 @@ use Rattle.clap.specs.Words.{with_subcommand, HasKind}
 use Rattle.clap.specs.declared.builder.action.ArgAction.TheVariants.{Append, SetTrue}
 use Rattle.clap.specs.declared.error.kind.ErrorKind.{ErrorKind}
 use Rattle.clap.specs.declared.error.kind.ErrorKind.TheVariants.{OutOfMemory}
-use Rattle.pyc_session.specs.declared.options.Options.{Options}
+use Rattle.pyc_iface.specs.declared.options.Options.{Options}
 use Rattle.dmypy.specs.declared.words.Job.{Job}
 use Rattle.dmypy.specs.declared.words.Job.TheVariants.{Session, Check}
 use Rattle.dmypy.specs.declared.words.Usage.{Usage}

@@ -146,7 +146,8 @@ fn print_report<O: Write, E: Write>(
     refused: bool,
 ) -> Result<u8, RunFault>
     ensures checks { Prints (O.contents (inner_of out.old)) (O.contents (inner_of out.new))
-        (E.contents (inner_of err.old)) (E.contents (inner_of err.new)) (fresh daemon.old.present) refused result }
+        (E.contents (inner_of err.old)) (E.contents (inner_of err.new)) (fresh daemon.old.options daemon.old.present)
+        refused result }
     ensures fault { IfErr result (λ e. e ≡ RunFault.Write) }
     ensures counts { ComesOfCheck result out.old out.new err.old err.new }
 {

@@ -1,3 +1,4 @@
 pub mod NameLemmas
 pub mod ViewLemmas
 pub mod StatementViewLemmas
+pub mod TargetViewLemmas

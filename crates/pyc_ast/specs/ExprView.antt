@@ -5,108 +5,140 @@ use Rattle.std.specs.declared.boxed.Box.{Box}
 use Rattle.pyc_ast.specs.declared.expr.Argument.{Argument as ArgumentOf}
 use Rattle.pyc_ast.specs.declared.expr.Comparison.{Comparison as ComparisonOf}
 use Rattle.pyc_ast.specs.declared.expr.DictItem.{DictItem as DictItemOf}
-use Rattle.pyc_ast.specs.declared.expr.DictItem.TheVariants as d
+use Rattle.pyc_ast.specs.declared.expr.DictItem.TheFolds.{fold-DictItem, fold-Form, fold-IndexForm, fold-OptionalExpr}
+use Rattle.pyc_ast.specs.declared.expr.DictItem.TheFolds.{fold-Argument, fold-Comparison, fold-Element, fold-Expr}
+use Rattle.pyc_ast.specs.declared.expr.DictItem.TheFolds.{fold-Index}
+use Rattle.pyc_ast.specs.declared.expr.DictItem.TheOpen.{DictItem-F, Form-F, IndexForm-F, OptionalExpr-F, Argument-F}
+use Rattle.pyc_ast.specs.declared.expr.DictItem.TheOpen.{Comparison-F, Element-F, Expr-F, Index-F}
+use Rattle.pyc_ast.specs.declared.expr.DictItem.TheOpen as layer
 use Rattle.pyc_ast.specs.declared.expr.Element.{Element as ElementOf}
 use Rattle.pyc_ast.specs.declared.expr.Expr.{Expr as ExprOf}
-use Rattle.pyc_ast.specs.declared.expr.Form.{Form as FormOf, Row_of-Element, end_of-Element, more_of-Element}
-use Rattle.pyc_ast.specs.declared.expr.Form.{Row_of-DictItem, end_of-DictItem, more_of-DictItem, Row_of-Argument}
-use Rattle.pyc_ast.specs.declared.expr.Form.{end_of-Argument, more_of-Argument, Row_of-Comparison, end_of-Comparison}
-use Rattle.pyc_ast.specs.declared.expr.Form.{more_of-Comparison}
-use Rattle.pyc_ast.specs.declared.expr.Form.TheVariants as f
+use Rattle.pyc_ast.specs.declared.expr.Form.{Form as FormOf}
 use Rattle.pyc_ast.specs.declared.expr.Index.{Index as IndexOf}
-use Rattle.pyc_ast.specs.declared.expr.IndexForm.{IndexForm as IndexFormOf, Row_of-Index, end_of-Index, more_of-Index}
-use Rattle.pyc_ast.specs.declared.expr.IndexForm.TheVariants as i
+use Rattle.pyc_ast.specs.declared.expr.IndexForm.{IndexForm as IndexFormOf}
 use Rattle.pyc_ast.specs.declared.expr.OptionalExpr.{OptionalExpr as OptionalExprOf}
-use Rattle.pyc_ast.specs.declared.expr.OptionalExpr.TheVariants as o
-use Rattle.pyc_ast.specs.Exprs.{Expr, Form, OptionalExpr, Element, Elements, DictItem, DictItems, Argument, Arguments}
-use Rattle.pyc_ast.specs.Exprs.{Comparison, Comparisons, Index, IndexForm, Indices}
+use Rattle.pyc_ast.specs.Exprs.{Expr, Form, OptionalExpr, Element, DictItem, Argument, Comparison, Index, IndexForm}
+use Rattle.pyc_ast.specs.Exprs.{elements, dict_items, arguments, comparisons, indices_of}
 use Rattle.pyc_ast.specs.Exprs as plain
 
-unfoldable mutual
-  -- what an expression of the code is
-  pub form_of : FormOf → Form
-  form_of (f.Name n) = plain.name n
-  form_of (f.Constant c) = plain.constant c
-  form_of (f.Quoted' _ at inside x) = plain.quoted (plain.expr at inside (form_of x))
-  form_of (f.Tuple' _ row) = plain.tuple (elements_row row)
-  form_of (f.List' _ row) = plain.list (elements_row row)
-  form_of (f.Set' _ row) = plain.set (elements_row row)
-  form_of (f.Dict' _ row) = plain.dict (dict_items_row row)
-  form_of (f.Opaque o) = plain.opaque o
-  form_of (f.Attribute' _ at inside x n) = plain.attribute (plain.expr at inside (form_of x)) n
-  form_of (f.Call' _ at inside x _ row) = plain.call (plain.expr at inside (form_of x)) (arguments_row row)
-  form_of (f.Subscript' _ at inside x _ at' i) =
-      plain.subscript (plain.expr at inside (form_of x)) (plain.index at' (index_form_of i))
-  form_of (f.Unary' o _ at inside x) = plain.unary o (plain.expr at inside (form_of x))
-  form_of (f.Binary' o _ at inside x _ at' inside' y) =
-      plain.binary o (plain.expr at inside (form_of x)) (plain.expr at' inside' (form_of y))
-  form_of (f.Boolean' o _ at inside x _ at' inside' y) =
-      plain.boolean o (plain.expr at inside (form_of x)) (plain.expr at' inside' (form_of y))
-  form_of (f.Compare' _ at inside x _ row) = plain.compare (plain.expr at inside (form_of x)) (comparisons_row row)
-  form_of (f.Conditional' _ at inside x _ at' inside' y _ at'' inside'' z) =
-      plain.conditional (plain.expr at inside (form_of x)) (plain.expr at' inside' (form_of y))
-      (plain.expr at'' inside'' (form_of z))
-  form_of (f.Await' _ at inside x) = plain.await (plain.expr at inside (form_of x))
-  form_of (f.Yield x) = plain.yield (optional_of x)
-  form_of (f.YieldFrom' _ at inside x) = plain.yield_from (plain.expr at inside (form_of x))
+-- what one layer of the code is, over what its parts are
+abbrev pub form_step : Form-F DictItem Form IndexForm OptionalExpr Argument Comparison Element Expr Index → Form
+form_step (layer.Name n) = plain.name n
+form_step (layer.Constant c) = plain.constant c
+form_step (layer.Quoted x) = plain.quoted x.value
+form_step (layer.Tuple items) = plain.tuple (elements items.items)
+form_step (layer.List items) = plain.list (elements items.items)
+form_step (layer.Set items) = plain.set (elements items.items)
+form_step (layer.Dict items) = plain.dict (dict_items items.items)
+form_step (layer.Opaque o) = plain.opaque o
+form_step (layer.Attribute x n) = plain.attribute x.value n
+form_step (layer.Call x items) = plain.call x.value (arguments items.items)
+form_step (layer.Subscript x i) = plain.subscript x.value i.value
+form_step (layer.Unary o x) = plain.unary o x.value
+form_step (layer.Binary o x y) = plain.binary o x.value y.value
+form_step (layer.Boolean o x y) = plain.boolean o x.value y.value
+form_step (layer.Compare x rest) = plain.compare x.value (comparisons rest.items)
+form_step (layer.Conditional test x y) = plain.conditional test.value x.value y.value
+form_step (layer.Await x) = plain.await x.value
+form_step (layer.Yield x) = plain.yield x
+form_step (layer.YieldFrom x) = plain.yield_from x.value
 
-  -- an expression, or none
-  pub optional_of : OptionalExprOf → OptionalExpr
-  optional_of o.Absent = plain.absent
-  optional_of (o.Present' _ at inside x) = plain.present (plain.expr at inside (form_of x))
+abbrev pub optional_step : OptionalExpr-F DictItem Form IndexForm OptionalExpr Argument Comparison Element Expr Index
+    → OptionalExpr
+optional_step layer.Absent = plain.absent
+optional_step (layer.Present x) = plain.present x.value
 
-  pub elements_row : {n : _} → Row_of-Element n → Elements
-  elements_row end_of-Element = plain.no_element
-  elements_row (more_of-Element starred at inside x rest) =
-      plain.another_element (plain.element starred (plain.expr at inside (form_of x))) (elements_row rest)
+abbrev pub dict_item_step : DictItem-F DictItem Form IndexForm OptionalExpr Argument Comparison Element Expr Index
+    → DictItem
+dict_item_step (layer.Entry x y) = plain.entry x y
+dict_item_step (layer.Unpacking x) = plain.unpacking x
 
-  -- an item of a dictionary
-  pub dict_item_of : DictItemOf → DictItem
-  dict_item_of (d.Entry' at inside x at' inside' y) =
-      plain.entry (plain.expr at inside (form_of x)) (plain.expr at' inside' (form_of y))
-  dict_item_of (d.Unpacking' at inside x) = plain.unpacking (plain.expr at inside (form_of x))
+abbrev pub index_form_step : IndexForm-F DictItem Form IndexForm OptionalExpr Argument Comparison Element Expr Index
+    → IndexForm
+index_form_step (layer.Item x) = plain.item x
+index_form_step (layer.Slice lower upper step) = plain.slice lower upper step
+index_form_step (layer.Indices items) = plain.indices (indices_of items.items)
 
-  pub dict_items_row : {n : _} → Row_of-DictItem n → DictItems
-  dict_items_row end_of-DictItem = plain.no_dict_item
-  dict_items_row (more_of-DictItem x rest) = plain.another_dict_item (dict_item_of x) (dict_items_row rest)
+abbrev pub argument_step : Argument-F DictItem Form IndexForm OptionalExpr Argument Comparison Element Expr Index
+    → Argument
+argument_step x = plain.argument x.at x.kind x.value
 
-  pub arguments_row : {n : _} → Row_of-Argument n → Arguments
-  arguments_row end_of-Argument = plain.no_argument
-  arguments_row (more_of-Argument at kind at' inside x rest) =
-      plain.another_argument (plain.argument at kind (plain.expr at' inside (form_of x))) (arguments_row rest)
+abbrev pub comparison_step : Comparison-F DictItem Form IndexForm OptionalExpr Argument Comparison Element Expr Index
+    → Comparison
+comparison_step x = plain.comparison x.operator x.right
 
-  pub comparisons_row : {n : _} → Row_of-Comparison n → Comparisons
-  comparisons_row end_of-Comparison = plain.no_comparison
-  comparisons_row (more_of-Comparison o at inside x rest) =
-      plain.another_comparison (plain.comparison o (plain.expr at inside (form_of x))) (comparisons_row rest)
+abbrev pub element_step : Element-F DictItem Form IndexForm OptionalExpr Argument Comparison Element Expr Index
+    → Element
+element_step x = plain.element x.is_starred x.value
 
-  -- what stands between the brackets of a subscript
-  pub index_form_of : IndexFormOf → IndexForm
-  index_form_of (i.Item' at inside x) = plain.item (plain.expr at inside (form_of x))
-  index_form_of (i.Slice lower upper step) = plain.slice (optional_of lower) (optional_of upper) (optional_of step)
-  index_form_of (i.Indices' _ row) = plain.indices (indices_row row)
+abbrev pub expr_step : Expr-F DictItem Form IndexForm OptionalExpr Argument Comparison Element Expr Index → Expr
+expr_step x = plain.expr x.at x.inside x.form
 
-  pub indices_row : {n : _} → Row_of-Index n → Indices
-  indices_row end_of-Index = plain.no_index
-  indices_row (more_of-Index at x rest) = plain.another_index (plain.index at (index_form_of x)) (indices_row rest)
+abbrev pub index_step : Index-F DictItem Form IndexForm OptionalExpr Argument Comparison Element Expr Index → Index
+index_step x = plain.index x.at x.form
 
--- ---- values with named fields
+-- what an expression of the code is
+abbrev pub form_of : FormOf → Form
+form_of =
+    fold-Form DictItem Form IndexForm OptionalExpr Argument Comparison Element Expr Index
+    dict_item_step form_step index_form_step optional_step argument_step comparison_step element_step expr_step
+    index_step
+
+-- an expression, or none
+abbrev pub optional_of : OptionalExprOf → OptionalExpr
+optional_of =
+    fold-OptionalExpr DictItem Form IndexForm OptionalExpr Argument Comparison Element Expr Index
+    dict_item_step form_step index_form_step optional_step argument_step comparison_step element_step expr_step
+    index_step
+
+-- an item of a dictionary
+abbrev pub dict_item_of : DictItemOf → DictItem
+dict_item_of =
+    fold-DictItem DictItem Form IndexForm OptionalExpr Argument Comparison Element Expr Index
+    dict_item_step form_step index_form_step optional_step argument_step comparison_step element_step expr_step
+    index_step
+
+-- what stands between the brackets of a subscript
+abbrev pub index_form_of : IndexFormOf → IndexForm
+index_form_of =
+    fold-IndexForm DictItem Form IndexForm OptionalExpr Argument Comparison Element Expr Index
+    dict_item_step form_step index_form_step optional_step argument_step comparison_step element_step expr_step
+    index_step
 
 -- the plain expression that one of the code is
 abbrev pub expr_of : ExprOf → Expr
-expr_of x = plain.expr x.at x.inside (form_of x.form)
+expr_of =
+    fold-Expr DictItem Form IndexForm OptionalExpr Argument Comparison Element Expr Index
+    dict_item_step form_step index_form_step optional_step argument_step comparison_step element_step expr_step
+    index_step
 
+-- an item of a tuple, a list or a set
 abbrev pub element_of : ElementOf → Element
-element_of x = plain.element x.is_starred (expr_of x.value)
+element_of =
+    fold-Element DictItem Form IndexForm OptionalExpr Argument Comparison Element Expr Index
+    dict_item_step form_step index_form_step optional_step argument_step comparison_step element_step expr_step
+    index_step
 
+-- an argument of a call
 abbrev pub argument_of : ArgumentOf → Argument
-argument_of x = plain.argument x.at x.kind (expr_of x.value)
+argument_of =
+    fold-Argument DictItem Form IndexForm OptionalExpr Argument Comparison Element Expr Index
+    dict_item_step form_step index_form_step optional_step argument_step comparison_step element_step expr_step
+    index_step
 
+-- an operator and its right operand
 abbrev pub comparison_of : ComparisonOf → Comparison
-comparison_of x = plain.comparison x.operator (expr_of x.right)
+comparison_of =
+    fold-Comparison DictItem Form IndexForm OptionalExpr Argument Comparison Element Expr Index
+    dict_item_step form_step index_form_step optional_step argument_step comparison_step element_step expr_step
+    index_step
 
+-- a subscript's index, and where it begins
 abbrev pub index_of : IndexOf → Index
-index_of x = plain.index x.at (index_form_of x.form)
+index_of =
+    fold-Index DictItem Form IndexForm OptionalExpr Argument Comparison Element Expr Index
+    dict_item_step form_step index_form_step optional_step argument_step comparison_step element_step expr_step
+    index_step
 
 -- an expression in a box, or none
 abbrev pub boxed_of : Option (Box ExprOf Global) → OptionalExpr

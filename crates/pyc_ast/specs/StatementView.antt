@@ -2,11 +2,15 @@
 use Rattle.std.specs.Prelude.{Option, map, option_map}
 use Rattle.std.specs.declared.alloc.Global.{Global}
 use Rattle.std.specs.declared.boxed.Box.{Box}
+use Rattle.std.specs.declared.rc.Rc.{Rc}
 use Rattle.pyc_ast.specs.declared.expr.Expr.{Expr as ExprOf}
 use Rattle.pyc_ast.specs.declared.parameter.Parameter.{Parameter as ParameterOf}
 use Rattle.pyc_ast.specs.declared.stmt.AnnotatedAssignment.{AnnotatedAssignment as AnnotatedAssignmentOf}
 use Rattle.pyc_ast.specs.declared.stmt.AugmentedAssignment.{AugmentedAssignment as AugmentedAssignmentOf}
-use Rattle.pyc_ast.specs.declared.stmt.Block.{Block, Of', Row_of-Stmt, end_of-Stmt, more_of-Stmt}
+use Rattle.pyc_ast.specs.declared.stmt.Block.{Block}
+use Rattle.pyc_ast.specs.declared.stmt.Block.TheFolds.{fold-Block, fold-StmtForm, fold-Branch, fold-Handler, fold-Stmt}
+use Rattle.pyc_ast.specs.declared.stmt.Block.TheOpen.{Block-F, StmtForm-F, Branch-F, Handler-F, Stmt-F}
+use Rattle.pyc_ast.specs.declared.stmt.Block.TheOpen as layer
 use Rattle.pyc_ast.specs.declared.stmt.Branch.{Branch as BranchOf}
 use Rattle.pyc_ast.specs.declared.stmt.ClassDefinition.{ClassDefinition as ClassDefinitionOf}
 use Rattle.pyc_ast.specs.declared.stmt.For.{For as ForOf}
@@ -15,15 +19,13 @@ use Rattle.pyc_ast.specs.declared.stmt.Handler.{Handler as HandlerOf}
 use Rattle.pyc_ast.specs.declared.stmt.ImportFrom.{ImportFrom as ImportFromOf}
 use Rattle.pyc_ast.specs.declared.stmt.ImportedModule.{ImportedModule as ImportedModuleOf}
 use Rattle.pyc_ast.specs.declared.stmt.Stmt.{Stmt as StmtOf}
-use Rattle.pyc_ast.specs.declared.stmt.StmtForm.{StmtForm as StmtFormOf, Row_of-Branch, end_of-Branch, more_of-Branch}
-use Rattle.pyc_ast.specs.declared.stmt.StmtForm.{Row_of-Handler, end_of-Handler, more_of-Handler}
-use Rattle.pyc_ast.specs.declared.stmt.StmtForm.TheVariants as s
+use Rattle.pyc_ast.specs.declared.stmt.StmtForm.{StmtForm as StmtFormOf}
 use Rattle.pyc_ast.specs.declared.stmt.WithItem.{WithItem as WithItemOf}
 use Rattle.pyc_ast.specs.Exprs.{Expr}
 use Rattle.pyc_ast.specs.ExprView.{expr_of, argument_of}
 use Rattle.pyc_ast.specs.Statements.{Parameter, AnnotatedAssignment, AugmentedAssignment, ImportedModule, ImportFrom}
 use Rattle.pyc_ast.specs.Statements.{For, WithItem, FunctionDefinition, ClassDefinition, Stmt, StmtForm, Stmts, Branch}
-use Rattle.pyc_ast.specs.Statements.{Branches, Handler, Handlers}
+use Rattle.pyc_ast.specs.Statements.{Handler, stmts, branches, handlers}
 use Rattle.pyc_ast.specs.Statements as plain
 use Rattle.pyc_ast.specs.TargetView.{target_of}
 
@@ -53,6 +55,10 @@ augmented_of a = record { target = target_of a.target; operator = a.operator; va
 
 abbrev pub imported_module_of : ImportedModuleOf → ImportedModule
 imported_module_of m = record { path = m.path.items; alias = m.alias }
+
+-- an imported module that is shared
+abbrev pub imported_of : Rc ImportedModuleOf Global → ImportedModule
+imported_of m = imported_module_of m.value
 
 abbrev pub import_from_of : ImportFromOf → ImportFrom
 import_from_of i = record { dots = i.dots; path = i.path.items; names = i.names.items }
@@ -87,56 +93,62 @@ class_of c =
 
 -- ---- statements
 
-unfoldable mutual
-  pub stmt_form_of : StmtFormOf → StmtForm
-  stmt_form_of (s.Expression x) = plain.expression (expr_of x)
-  stmt_form_of (s.Assign targets x) = plain.assign (map target_of targets.items) (expr_of x)
-  stmt_form_of (s.Annotate a) = plain.annotate (annotated_of a.value)
-  stmt_form_of (s.Augment a) = plain.augment (augmented_of a.value)
-  stmt_form_of (s.Return x) = plain.return (boxed_expr_of x)
-  stmt_form_of (s.Raise x cause) = plain.raise (boxed_expr_of x) (boxed_expr_of cause)
-  stmt_form_of (s.Assert x message) = plain.assert (expr_of x.value) (boxed_expr_of message)
-  stmt_form_of (s.Delete target) = plain.delete (target_of target.value)
-  stmt_form_of s.Pass = plain.pass
-  stmt_form_of s.Break = plain.break
-  stmt_form_of s.Continue = plain.continue
-  stmt_form_of (s.Global names) = plain.global names.items
-  stmt_form_of (s.Nonlocal names) = plain.nonlocal names.items
-  stmt_form_of (s.Import modules) = plain.import (map imported_module_of modules.items)
-  stmt_form_of (s.ImportFrom i) = plain.import_from (import_from_of i.value)
-  stmt_form_of (s.If' _ row orelse) = plain.if_else (branches_row row) (block_of orelse)
-  stmt_form_of (s.While x body orelse) = plain.while (expr_of x.value) (block_of body) (block_of orelse)
-  stmt_form_of (s.For head body orelse) = plain.for (for_of head.value) (block_of body) (block_of orelse)
-  stmt_form_of (s.Try' body _ row orelse finally) =
-      plain.try (block_of body) (handlers_row row) (block_of orelse) (block_of finally)
-  stmt_form_of (s.With is_async items body) = plain.with is_async (map with_item_of items.items) (block_of body)
-  stmt_form_of (s.Function head body) = plain.function (function_of head.value) (block_of body)
-  stmt_form_of (s.Class head body) = plain.class (class_of head.value) (block_of body)
+-- what one layer of the code is, over what its parts are
+abbrev pub stmt_form_step : StmtForm-F Stmts StmtForm Branch Handler Stmt → StmtForm
+stmt_form_step (layer.Expression x) = plain.expression (expr_of x)
+stmt_form_step (layer.Assign targets x) = plain.assign (map target_of targets.items) (expr_of x.value)
+stmt_form_step (layer.Annotate a) = plain.annotate (annotated_of a.value)
+stmt_form_step (layer.Augment a) = plain.augment (augmented_of a.value)
+stmt_form_step (layer.Return x) = plain.return (boxed_expr_of x)
+stmt_form_step (layer.Raise x cause) = plain.raise (boxed_expr_of x) (boxed_expr_of cause)
+stmt_form_step (layer.Assert x message) = plain.assert (expr_of x.value) (boxed_expr_of message)
+stmt_form_step (layer.Delete target) = plain.delete (target_of target.value)
+stmt_form_step layer.Pass = plain.pass
+stmt_form_step layer.Break = plain.break
+stmt_form_step layer.Continue = plain.continue
+stmt_form_step (layer.Global names) = plain.global names.items
+stmt_form_step (layer.Nonlocal names) = plain.nonlocal names.items
+stmt_form_step (layer.Import modules) = plain.import (map imported_of modules.items)
+stmt_form_step (layer.ImportFrom i) = plain.import_from (import_from_of i.value)
+stmt_form_step (layer.If row orelse) = plain.if_else (branches row.items) orelse
+stmt_form_step (layer.While x body orelse) = plain.while (expr_of x.value) body orelse
+stmt_form_step (layer.For head body orelse) = plain.for (for_of head.value) body orelse
+stmt_form_step (layer.Try body row orelse finally) = plain.try body (handlers row.items) orelse finally
+stmt_form_step (layer.With is_async items body) = plain.with is_async (map with_item_of items.items) body
+stmt_form_step (layer.Function head body) = plain.function (function_of head.value) body
+stmt_form_step (layer.Class head body) = plain.class (class_of head.value) body
 
-  -- the statements of a block
-  pub block_of : Block → Stmts
-  block_of (Of' _ row) = stmts_row row
+abbrev pub block_step : Block-F Stmts StmtForm Branch Handler Stmt → Stmts
+block_step (layer.Of statements) = stmts statements.items
 
-  pub stmts_row : {n : _} → Row_of-Stmt n → Stmts
-  stmts_row end_of-Stmt = plain.no_stmt
-  stmts_row (more_of-Stmt at x rest) = plain.another_stmt (plain.stmt at (stmt_form_of x)) (stmts_row rest)
+abbrev pub branch_step : Branch-F Stmts StmtForm Branch Handler Stmt → Branch
+branch_step x = plain.branch x.at (expr_of x.test) x.body
 
-  pub branches_row : {n : _} → Row_of-Branch n → Branches
-  branches_row end_of-Branch = plain.no_branch
-  branches_row (more_of-Branch at test body rest) =
-      plain.another_branch (plain.branch at (expr_of test) (block_of body)) (branches_row rest)
+abbrev pub handler_step : Handler-F Stmts StmtForm Branch Handler Stmt → Handler
+handler_step x = plain.handler x.at (option_map expr_of x.caught) x.name x.body
 
-  pub handlers_row : {n : _} → Row_of-Handler n → Handlers
-  handlers_row end_of-Handler = plain.no_handler
-  handlers_row (more_of-Handler at caught name body rest) =
-      plain.another_handler (plain.handler at (option_map expr_of caught) name (block_of body)) (handlers_row rest)
+abbrev pub stmt_step : Stmt-F Stmts StmtForm Branch Handler Stmt → Stmt
+stmt_step x = plain.stmt x.at x.form
+
+-- the form of a statement that one of the code is
+abbrev pub stmt_form_of : StmtFormOf → StmtForm
+stmt_form_of =
+    fold-StmtForm Stmts StmtForm Branch Handler Stmt block_step stmt_form_step branch_step handler_step stmt_step
+
+-- the statements of a block
+abbrev pub block_of : Block → Stmts
+block_of =
+    fold-Block Stmts StmtForm Branch Handler Stmt block_step stmt_form_step branch_step handler_step stmt_step
 
 -- the plain statement that one of the code is
 abbrev pub stmt_of : StmtOf → Stmt
-stmt_of x = plain.stmt x.at (stmt_form_of x.form)
+stmt_of =
+    fold-Stmt Stmts StmtForm Branch Handler Stmt block_step stmt_form_step branch_step handler_step stmt_step
 
 abbrev pub branch_of : BranchOf → Branch
-branch_of x = plain.branch x.at (expr_of x.test) (block_of x.body)
+branch_of =
+    fold-Branch Stmts StmtForm Branch Handler Stmt block_step stmt_form_step branch_step handler_step stmt_step
 
 abbrev pub handler_of : HandlerOf → Handler
-handler_of x = plain.handler x.at (option_map expr_of x.caught) x.name (block_of x.body)
+handler_of =
+    fold-Handler Stmts StmtForm Branch Handler Stmt block_step stmt_form_step branch_step handler_step stmt_step

@@ -6,6 +6,7 @@ use crate::parameter::Parameter;
 use crate::position::Position;
 use crate::target::Target;
 use crate::text::Text;
+use std::rc::Rc;
 
 /// A statement and where it begins; a function or class under decorators begins at its own first word.
 #[cycle(stmt)]
@@ -15,7 +16,7 @@ pub struct Stmt {
     pub form: StmtForm,
 }
 
-/// What a statement is.
+/// What a statement is. Whatever a binding speaks of is shared, so that it may be kept apart from its tree.
 #[cycle(stmt)]
 #[derive(Drop)]
 pub enum StmtForm {
@@ -23,9 +24,9 @@ pub enum StmtForm {
     /// The targets from left to right, and the value.
     Assign {
         targets: Vec<Target>,
-        value: Expr,
+        value: Rc<Expr>,
     },
-    Annotate(Box<AnnotatedAssignment>),
+    Annotate(Rc<AnnotatedAssignment>),
     Augment(Box<AugmentedAssignment>),
     Return(Option<Box<Expr>>),
     Raise {
@@ -42,8 +43,8 @@ pub enum StmtForm {
     Continue,
     Global(Vec<Text>),
     Nonlocal(Vec<Text>),
-    Import(Vec<ImportedModule>),
-    ImportFrom(Box<ImportFrom>),
+    Import(Vec<Rc<ImportedModule>>),
+    ImportFrom(Rc<ImportFrom>),
     /// `if` and each `elif`; what stands after `else` is empty where there is none.
     If {
         branches: Vec<Branch>,
@@ -72,11 +73,11 @@ pub enum StmtForm {
         body: Block,
     },
     Function {
-        head: Box<FunctionDefinition>,
+        head: Rc<FunctionDefinition>,
         body: Block,
     },
     Class {
-        head: Box<ClassDefinition>,
+        head: Rc<ClassDefinition>,
         body: Block,
     },
 }

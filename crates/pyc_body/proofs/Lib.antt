@@ -1,9 +1,5 @@
-pub mod ErrorLemmas
-pub mod FormLemmas
-pub mod FoundLemmas
 pub mod ListLemmas
 pub mod MessageLemmas
-pub mod RepeatLemmas
-pub mod ScopeLemmas
-pub mod SortLemmas
 pub mod TextLemmas
+pub mod HeaderLemmas
+pub mod UnitLemmas

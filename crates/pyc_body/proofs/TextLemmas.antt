@@ -1,7 +1,11 @@
--- What a text holds after a last write, whose result is returned as it is.
-use Rattle.std.proofs.Common.{◌≡◌, ℕ, List, Result, Ok, Err, OnOk, is_ok, cond, ◌∙◌}
+-- Dots.
+use Rattle.std.proofs.Common.{◌≡◌, ℕ, zero, suc, ◌+◌, [], ◌∷◌, ◌++◌, ap, ◌∙◌, refl, add-one}
+use Rattle.pyc_body.specs.Header.{dots}
 
--- where the write succeeds, the text is the whole
-pub written : {T E : Type 0} (r : Result T E) (text more less whole : List ℕ) → text ≡ cond (is_ok r) more less → more ≡ whole → OnOk r (text ≡ whole)
-written (Ok x) text more less whole is same = is ∙ same
-written (Err e) text more less whole is same = tt
+-- one dot more
+pub dots_more : (n : ℕ) → dots (n + 1) ≡ dots n ++ (46 ∷ [])
+dots_more n = ap dots (add-one n) ∙ by n
+  where
+    by : (n : ℕ) → dots (suc n) ≡ dots n ++ (46 ∷ [])
+    by zero = refl
+    by (suc n) = ap (λ l. 46 ∷ l) (by n)

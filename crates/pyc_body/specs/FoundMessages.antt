@@ -1,7 +1,8 @@
--- What is found in a file: a message for each annotated literal that is not assignable to its annotation, or one for
--- the file's fault.
-use Rattle.std.specs.Prelude.{ℕ, List, [], ◌∷◌, ◌++◌, Option, None, Some, if◌then◌else◌, codes}
-use Rattle.std.specs.List.{filter_map}
+-- What is found in the units of a file: in its header, what is told of imports and definitions; in the body of its
+-- module, a message for each annotated literal that is not assignable to its annotation.
+use Rattle.std.specs.Prelude.{ℕ, zero, suc, List, [], ◌∷◌, ◌++◌, Option, None, Some, if◌then◌else◌, codes}
+use Rattle.std.specs.Prelude.{flat_map}
+use Rattle.std.specs.List.{filter_map, range_with_len}
 use Rattle.pyc_ast.specs.Modules.{Outcome, tree, fault}
 use Rattle.pyc_ast.specs.Statements.{Stmts}
 use Rattle.pyc_type_forms.specs.Text.{text_of}
@@ -10,11 +11,19 @@ use Rattle.pyc_builtins.specs.Orders.{builtin_orders}
 use Rattle.pyc_builtins.specs.Builtin.{builtin_type}
 use Rattle.pyc_types.specs.Assignable.{Assignable}
 use Rattle.pyc_types.specs.Ways.{assignable}
+use Rattle.pyc_bindings.specs.Bindings.{Binding}
+use Rattle.pyc_iface.specs.declared.options.Options.{Options}
+use Rattle.pyc_iface.specs.Answers.{answer_of}
+use Rattle.pyc_iface.specs.Readings.{told}
+use Rattle.pyc_names.specs.SourceFiles.{SourceFile}
+use Rattle.pyc_body.specs.Header.{header_reading}
+use Rattle.pyc_body.specs.Units.{unit_count}
 use Rattle.pyc_body.specs.declared.literals.LiteralForm.{LiteralForm}
-use Rattle.pyc_body.specs.declared.message.Code.TheVariants.{Assignment, Syntax}
+use Rattle.pyc_report.specs.declared.message.Code.TheVariants.{Assignment}
+use Rattle.pyc_report.specs.declared.message.MessageKind.TheVariants.{Error}
 use Rattle.pyc_body.specs.LiteralForms.{literal_forms}
-use Rattle.pyc_body.specs.Message.{Message}
-use Rattle.pyc_body.specs.Silencing.{without_silenced}
+use Rattle.pyc_report.specs.Message.{Message}
+use Rattle.pyc_report.specs.Silencing.{without_silenced}
 
 -- what is told of a value of one type for a variable of another
 unfoldable pub assignment_text : Ty → Ty → List ℕ
@@ -27,7 +36,7 @@ abbrev pub assignment_message : LiteralForm → Message
 assignment_message form = record {
   line = form.at.line;
   column = form.at.column;
-  code = Assignment;
+  kind = Error Assignment;
   text = assignment_text (builtin_type form.value) (builtin_type form.annotation);
 }
 
@@ -37,23 +46,34 @@ form_message form =
     if assignable builtin_orders (builtin_type form.value) (builtin_type form.annotation) then None
     else Some (assignment_message form)
 
--- the message on a fault
-abbrev pub fault_message : ℕ → List ℕ → Message
-fault_message line text = record { line = line; column = 1; code = Syntax; text = text }
+-- what is found in the body of a module: the messages on its annotated literals, in text order
+abbrev pub module_messages : List Binding → Stmts → List Message
+module_messages bindings statements = filter_map form_message (literal_forms bindings statements)
 
--- what is found in a module: the messages on its annotated literals, in text order
-abbrev pub module_messages : Stmts → List Message
-module_messages statements = filter_map form_message (literal_forms statements)
+abbrev pub body_messages : SourceFile → Outcome → List Message
+body_messages file (tree m) = module_messages file.bindings m.statements
+body_messages file (fault line text) = []
 
--- what is found in a file: the messages on its module, or the one on its fault
-unfoldable pub found : Outcome → List Message
-found (tree m) = module_messages m.statements
-found (fault line text) = fault_message line text ∷ []
+-- what is found in a unit of a file, by the unit's number: in its header, over the answers of these files; in the body
+-- of its module; in its functions, classes and methods nothing yet
+unfoldable pub found : Options → List SourceFile → SourceFile → ℕ → List Message
+found options files file zero = told (answer_of files) (header_reading options file)
+found options files file (suc zero) = body_messages file file.outcome
+found options files file (suc (suc n)) = []
 
--- the unsilenced messages of a file: what is found in it and not silenced
-unfoldable pub unsilenced : Outcome → List Message
-unsilenced (tree m) = without_silenced m (found (tree m))
-unsilenced (fault line text) = found (fault line text)
+-- what is found in all units of a file
+abbrev pub found_in_units : Options → List SourceFile → SourceFile → List Message
+found_in_units options files file =
+    flat_map (found options files file) (range_with_len 0 (unit_count file.outcome))
+
+-- the messages of a file that its ignore comments do not silence; a file with a fault has none
+abbrev pub without_ignored : Outcome → List Message → List Message
+without_ignored (tree m) messages = without_silenced m messages
+without_ignored (fault line text) messages = messages
+
+-- the unsilenced messages of a file
+unfoldable pub unsilenced : Options → List SourceFile → SourceFile → List Message
+unsilenced options files file = without_ignored file.outcome (found_in_units options files file)
 
 -- whether the rules of assignability lead from the type of a literal to its annotation
 abbrev pub IsAssignable : LiteralForm → Type 0
@@ -70,6 +90,8 @@ pub data Reports : List LiteralForm → List Message → Type 0 where
   refused : {form : LiteralForm} {forms : List LiteralForm} {messages : List Message}
       → ¬ (IsAssignable form) → Reports forms messages → Reports (form ∷ forms) (assignment_message form ∷ messages)
 
--- what is found in a module reports its annotated literals
+-- what is found in the body of a module reports its annotated literals
 abbrev pub ReportsExactly : Type 0
-ReportsExactly = (statements : Stmts) → Reports (literal_forms statements) (module_messages statements)
+ReportsExactly =
+    (bindings : List Binding) (statements : Stmts)
+    → Reports (literal_forms bindings statements) (module_messages bindings statements)

@@ -1,80 +1,35 @@
 -- The annotated literals of a module: each statement `NAME: TYPE = VALUE` among its parts whose value is one literal,
 -- with no parentheses around the three (Python reference 3.13, "Annotated assignment statements", "Literals").
-use Rattle.std.specs.Prelude.{ℕ, Bool, false, ◌==◌, ◌&&◌, bytes_eq, codes, if◌then◌else◌, List, Option, None, Some}
+use Rattle.std.specs.Prelude.{ℕ, Bool, false, ◌==◌, ◌&&◌, if◌then◌else◌, List, Option, None, Some}
 use Rattle.std.specs.List.{filter_map}
-use Rattle.pyc_ast.specs.declared.constant.Constant.{Constant}
-use Rattle.pyc_ast.specs.declared.constant.Constant.TheVariants as constant
 use Rattle.pyc_ast.specs.declared.position.Position.{Position}
-use Rattle.pyc_ast.specs.Exprs.{Expr, Form, expr, at_of}
-use Rattle.pyc_ast.specs.Exprs as form
+use Rattle.pyc_ast.specs.Exprs.{Expr, expr, at_of}
 use Rattle.pyc_ast.specs.Statements.{AnnotatedAssignment, Stmt, stmt, Stmts, annotate}
 use Rattle.pyc_ast.specs.Targets.{Target, target}
 use Rattle.pyc_ast.specs.Targets as to
 use Rattle.pyc_builtins.specs.declared.builtin.Builtin.{Builtin}
-use Rattle.pyc_builtins.specs.declared.builtin.Builtin.TheVariants as builtin
 use Rattle.pyc_body.specs.declared.literals.LiteralForm.{LiteralForm}
-use Rattle.pyc_body.specs.Scopes.{parts_of}
+use Rattle.pyc_bindings.specs.Bindings.{Binding}
+use Rattle.pyc_iface.specs.DeclaredTypes.{annotation_builtin, literal_type}
+use Rattle.pyc_bindings.specs.Scopes.{PartForm, Part, statement, parts_of}
 
 -- whether a part that begins at a position, and inside its parentheses at another, has no parentheses around it
 abbrev pub is_bare : Position → Position → Bool
 is_bare at inside = at.line == inside.line && at.column == inside.column
 
--- ---- annotations
-
--- the builtin class of this name, among those that a name may stand for
-abbrev pub builtin_named : List ℕ → Option Builtin
-builtin_named name =
-    if bytes_eq name (codes "int") then Some builtin.Int
-    else if bytes_eq name (codes "str") then Some builtin.Str
-    else if bytes_eq name (codes "bool") then Some builtin.Bool
-    else if bytes_eq name (codes "float") then Some builtin.Float
-    else None
-
--- the type that a literal means as an annotation: `None` is the type of itself (typing specification, "Special types in
--- annotations")
-abbrev pub constant_annotation : Constant → Option Builtin
-constant_annotation constant.None = Some builtin.None
-constant_annotation _ = None
-
--- the type that the form of an annotation means: a builtin class by its name, or `None`
-unfoldable pub named_type : Form → Option Builtin
-named_type (form.name name) = builtin_named name
-named_type (form.constant found) = constant_annotation found
-named_type _ = None
-
--- the type that an annotation means, where no parentheses stand around it
-abbrev pub annotation_type : Expr → Option Builtin
-annotation_type (expr at inside found) = if is_bare at inside then named_type found else None
-
--- ---- values
-
--- the type of a literal; a complex number and `...` have none here
-abbrev pub constant_type : Constant → Option Builtin
-constant_type constant.None = Some builtin.None
-constant_type constant.True = Some builtin.Bool
-constant_type constant.False = Some builtin.Bool
-constant_type constant.Ellipsis = None
-constant_type (constant.Integer digit) = Some builtin.Int
-constant_type constant.Float = Some builtin.Float
-constant_type constant.Imaginary = None
-constant_type constant.Str = Some builtin.Str
-constant_type constant.FormattedStr = Some builtin.Str
-constant_type constant.Bytes = Some builtin.Bytes
-
--- the type of the form of a value that is one literal
-unfoldable pub literal_type : Form → Option Builtin
-literal_type (form.constant found) = constant_type found
-literal_type (form.quoted spelled) = Some builtin.Str
-literal_type _ = None
+-- the type that an annotation means where these bindings stand, where no parentheses stand around it
+abbrev pub annotation_type : List Binding → Expr → Option Builtin
+annotation_type bindings (expr at inside found) =
+    if is_bare at inside then annotation_builtin bindings (expr at inside found) else None
 
 -- the type of a value that is one literal, where no parentheses stand around it
 abbrev pub value_type : Expr → Option Builtin
-value_type (expr at inside found) = if is_bare at inside then literal_type found else None
+value_type (expr at inside found) = if is_bare at inside then literal_type (expr at inside found) else None
 
 -- ---- statements
 
 -- whether a target is a name, with no parentheses around it
-unfoldable pub is_bare_name : Target → Bool
+abbrev pub is_bare_name : Target → Bool
 is_bare_name (target at inside (to.name name)) = is_bare at inside
 is_bare_name _ = false
 
@@ -89,15 +44,20 @@ valued_form annotation (Some value) = form_of annotation (value_type value) (at_
 valued_form annotation None = None
 
 -- the annotated literal that an annotated assignment is
-abbrev pub annotated_form : AnnotatedAssignment → Option LiteralForm
-annotated_form found =
-    if is_bare_name found.target then valued_form (annotation_type found.annotation) found.value else None
+abbrev pub annotated_form : List Binding → AnnotatedAssignment → Option LiteralForm
+annotated_form bindings found =
+    if is_bare_name found.target then valued_form (annotation_type bindings found.annotation) found.value else None
 
 -- the annotated literal that a statement is
-unfoldable pub literal_form : Stmt → Option LiteralForm
-literal_form (stmt at (annotate found)) = annotated_form found
-literal_form _ = None
+abbrev pub literal_form : List Binding → Stmt → Option LiteralForm
+literal_form bindings (stmt at (annotate found)) = annotated_form bindings found
+literal_form bindings _ = None
 
--- the annotated literals of a module, in text order
-unfoldable pub literal_forms : Stmts → List LiteralForm
-literal_forms found = filter_map literal_form (parts_of found)
+-- the annotated literal that a part of a scope is
+abbrev pub part_literal : List Binding → PartForm → Option LiteralForm
+part_literal bindings (statement found) = literal_form bindings found
+part_literal bindings _ = None
+
+-- the annotated literals of a module that has these bindings and statements, in text order
+unfoldable pub literal_forms : List Binding → Stmts → List LiteralForm
+literal_forms bindings found = filter_map (λ (part : Part). part_literal bindings part.form) (parts_of found false)

@@ -4,11 +4,12 @@ ghost use Rattle.std.specs.Prelude.{◌≡◌, ◌++◌, map, IfOk, OnOk};
 ghost use Rattle.pyc_ast.specs.Modules.{outcome_of};
 ghost use Rattle.pyc_ast.specs.Statements.{stmts};
 ghost use Rattle.pyc_ast.specs.StatementView.{stmt_of, block_of};
+ghost use Rattle.pyc_bindings.specs.ScopeView.{part_form_of};
 ghost use Rattle.pyc_body.specs.Units as spec;
 ghost use Rattle.pyc_body.specs.Units.{methods_in, unit_count, unit_definitions, units_of};
 
-use crate::scope::scope_parts;
 use pyc_ast::{Block, Outcome, Stmt, StmtForm};
+use pyc_bindings::{PartForm, scope_parts};
 use std::alloc::{AllocError, Global};
 
 /// How many units a file with this outcome has: a header, a module body, and its classes, functions and methods, or
@@ -35,25 +36,39 @@ pub fn unit_definitions<'a>(
     let parts = scope_parts(alloc, statements)?;
     let mut units = Vec::new(alloc);
     for part in &parts {
-        push_units(alloc, *part, &mut units)?;
+        push_units(alloc, part.form, &mut units)?;
     }
     Ok(units)
 }
 
 /// Adds the units that a part of a module makes.
-#[tactic(auto, using(pyc_ast::proofs::StatementViewLemmas::stmt_views))]
 fn push_units<'a>(
     alloc: Global,
-    part: &'a Stmt,
+    part: PartForm<'a>,
     units: &mut Vec<&'a Stmt>,
 ) -> Result<(), AllocError>
     ensures { OnOk result (map (λ unit. stmt_of unit.now) units.new.items
-        ≡ map (λ unit. stmt_of unit.now) units.old.items ++ units_of (stmt_of part.now)) }
+        ≡ map (λ unit. stmt_of unit.now) units.old.items ++ units_of (part_form_of part.entry)) }
 {
-    match &part.form {
-        StmtForm::Function { .. } => Ok(units.push(part)?),
+    match part {
+        PartForm::Statement(statement) => push_definition(alloc, statement, units),
+        _ => Ok(()),
+    }
+}
+
+/// Adds the units that a statement of a module makes.
+fn push_definition<'a>(
+    alloc: Global,
+    statement: &'a Stmt,
+    units: &mut Vec<&'a Stmt>,
+) -> Result<(), AllocError>
+    ensures { OnOk result (map (λ unit. stmt_of unit.now) units.new.items
+        ≡ map (λ unit. stmt_of unit.now) units.old.items ++ spec.statement_units (stmt_of statement.now)) }
+{
+    match &statement.form {
+        StmtForm::Function { .. } => Ok(units.push(statement)?),
         StmtForm::Class { body, .. } => {
-            units.push(part)?;
+            units.push(statement)?;
             push_methods(alloc, body, units)
         }
         _ => Ok(()),
@@ -61,7 +76,6 @@ fn push_units<'a>(
 }
 
 /// Adds the methods of a class that has this block.
-#[tactic(auto, using(pyc_ast::proofs::StatementViewLemmas::stmt_views))]
 fn push_methods<'a>(
     alloc: Global,
     body: &'a Block,
@@ -73,17 +87,29 @@ fn push_methods<'a>(
     let Block::Of(statements) = body;
     let parts = scope_parts(alloc, statements)?;
     for part in &parts {
-        if is_function(*part) {
-            units.push(*part)?;
-        }
+        push_method(part.form, units)?;
     }
     Ok(())
 }
 
-/// Whether a statement is a function.
-#[tactic(auto, using(pyc_ast::proofs::StatementViewLemmas::stmt_views))]
-fn is_function(statement: &Stmt) -> bool
-    ensures { result ≡ spec.is_function (stmt_of statement.now) }
+/// Adds a part of a class, where it is a method.
+fn push_method<'a>(part: PartForm<'a>, units: &mut Vec<&'a Stmt>) -> Result<(), AllocError>
+    ensures { OnOk result (map (λ unit. stmt_of unit.now) units.new.items
+        ≡ map (λ unit. stmt_of unit.now) units.old.items ++ spec.method_of (part_form_of part.entry)) }
 {
-    matches!(statement.form, StmtForm::Function { .. })
+    match part {
+        PartForm::Statement(statement) => push_function(statement, units),
+        _ => Ok(()),
+    }
+}
+
+/// Adds a statement, where it is a function.
+fn push_function<'a>(statement: &'a Stmt, units: &mut Vec<&'a Stmt>) -> Result<(), AllocError>
+    ensures { OnOk result (map (λ unit. stmt_of unit.now) units.new.items
+        ≡ map (λ unit. stmt_of unit.now) units.old.items ++ spec.function_of (stmt_of statement.now)) }
+{
+    if let StmtForm::Function { .. } = &statement.form {
+        units.push(statement)?;
+    }
+    Ok(())
 }

@@ -9,7 +9,7 @@ use Rattle.pyc_daemon.specs.declared.reply.Reply.TheVariants.{Line, Checked, Cou
 use Rattle.pyc_session.specs.declared.status.Status.{Status}
 use Rattle.pyc_daemon.specs.declared.reply.Answer.{Answer}
 use Rattle.pyc_session.specs.Event.{Event}
-use Rattle.pyc_body.specs.Report.{report_in}
+use Rattle.pyc_report.specs.Report.{report_in}
 use Rattle.pyc_session.specs.Session.{Turn, goes_on, ends, turn, check_reply}
 use Rattle.pyc_session.specs.State.{State}
 use Rattle.pyc_daemon.specs.Runs.{IsLast}

@@ -6,7 +6,7 @@ use Rattle.pyc_daemon.specs.declared.counted.Counted.{Counted}
 use Rattle.pyc_session.specs.declared.ending.End.{End}
 use Rattle.pyc_session.specs.declared.ending.RunFault.{RunFault}
 use Rattle.pyc_session.specs.declared.ending.RunFault.TheVariants as fault
-use Rattle.pyc_session.specs.declared.options.Options.{Options}
+use Rattle.pyc_iface.specs.declared.options.Options.{Options}
 use Rattle.pyc_session.specs.Entry.{Entry}
 use Rattle.pyc_session.specs.Event.{Event, Links}
 use Rattle.pyc_session.specs.Session.{Session, Progress, Turn, turn, has_command, progress, session_of}

@@ -2,7 +2,7 @@
 
 ghost use Rattle.std.specs.Prelude.{◌≡◌, None, Some};
 
-use pyc_body::Report;
+use pyc_report::Report;
 use pyc_session::{End, Status};
 
 /// What is written for one command.

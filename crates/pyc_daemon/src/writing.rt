@@ -5,13 +5,13 @@ ghost use Rattle.std.specs.Prelude.{OnOk};
 ghost use Rattle.std.specs.Io.KnownBytes.{Appends};
 ghost use Rattle.pyc_daemon.specs.Counted.{inner_of, IsSound, FailsOnce};
 ghost use Rattle.pyc_daemon.specs.Replies.{reply_bytes, status_text, joined, WritesPart};
-ghost use Rattle.pyc_body.specs.Report.{report_in};
+ghost use Rattle.pyc_report.specs.Report.{report_in};
 ghost use Rattle.pyc_session.specs.Session.{check_reply};
 
 use crate::counted::Counted;
 use crate::reply::Reply;
 use itoa::Buffer;
-use pyc_body::Report;
+use pyc_report::Report;
 use pyc_session::{RunFault, Status};
 use std::io::Write;
 

@@ -51,7 +51,6 @@ pub fn unary_operator(kind: Kind) -> UnaryOperator
 }
 
 /// An operator between two operands, by its token's kind.
-#[tactic(auto, using(pyc_ast::proofs::ViewLemmas::views))]
 pub fn operation(kind: Kind, left: Box<Expr>, right: Box<Expr>) -> Form
     ensures { form_of result ≡ spec.operation kind (expr_of left.value) (expr_of right.value) }
 {

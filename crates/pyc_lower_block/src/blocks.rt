@@ -1,5 +1,5 @@
 //! The abstract statements of blocks.
-#![tactic(auto, using(pyc_ast::proofs::StatementViewLemmas::stmt_views, crate::proofs::BlockLemmas::blocks))]
+#![tactic(auto, using(crate::proofs::BlockLemmas::blocks))]
 
 ghost use Rattle.std.specs.Prelude.{◌≡◌, ◌++◌, [], ◌∷◌, IfOk, map};
 ghost use Rattle.pyc_ast.specs.ExprView.{expr_of};

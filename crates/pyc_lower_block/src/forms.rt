@@ -1,5 +1,5 @@
 //! The abstract forms of compound statements, of blocks that are lowered.
-#![tactic(auto, using(pyc_ast::proofs::StatementViewLemmas::stmt_views))]
+#![tactic(auto)]
 
 ghost use Rattle.std.specs.Prelude.{◌≡◌, IfOk, Some, None, is_some, option_map};
 ghost use Rattle.pyc_ast.specs.Statements as plain;

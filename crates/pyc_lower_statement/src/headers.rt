@@ -1,5 +1,5 @@
 //! The heads of compound statements.
-#![tactic(auto, using(pyc_ast::proofs::StatementViewLemmas::stmt_views, crate::proofs::HeaderLemmas::heads))]
+#![tactic(auto, using(crate::proofs::HeaderLemmas::heads))]
 
 ghost use Rattle.std.specs.Prelude.{◌≡◌, IfOk, Option, map, option_map};
 ghost use Rattle.pyc_ast.specs.ExprView.{expr_of};
@@ -20,6 +20,7 @@ use pyc_lower_expression::{Lowering, Names, Origin, Quotes, Role};
 use pyc_token::Token;
 use pyc_tree::{Expr as Tree, Header, Pieces, Tail};
 use std::alloc::AllocError;
+use std::rc::Rc;
 
 /// Where a statement begins that may be `async`.
 fn async_at(origin: Origin<'_>, word_async: Option<Token>, word: Token) -> Position
@@ -159,7 +160,7 @@ pub fn definition<Q: Quotes>(
                 returns: tail(lowering, result, Role::Annotation, names)?,
                 suspends,
             };
-            let head = Box::new(alloc, head)?;
+            let head = Rc::new(alloc, head)?;
             Ok(StmtForm::Function { head, body })
         }
         Header::Class(_, token) => {
@@ -169,7 +170,7 @@ pub fn definition<Q: Quotes>(
                 arguments: Vec::new(alloc),
                 suspends,
             };
-            let head = Box::new(alloc, head)?;
+            let head = Rc::new(alloc, head)?;
             Ok(StmtForm::Class { head, body })
         }
         Header::ClassOf(_, token, _, items, _) => {
@@ -179,7 +180,7 @@ pub fn definition<Q: Quotes>(
                 arguments: lowering.arguments(items, Role::Value, names)?,
                 suspends,
             };
-            let head = Box::new(alloc, head)?;
+            let head = Rc::new(alloc, head)?;
             Ok(StmtForm::Class { head, body })
         }
         _ => Ok(StmtForm::Pass),

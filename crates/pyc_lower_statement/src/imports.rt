@@ -2,7 +2,7 @@
 #![tactic(auto)]
 
 ghost use Rattle.std.specs.Prelude.{◌≡◌, IfOk, map, option_map};
-ghost use Rattle.pyc_ast.specs.StatementView.{imported_module_of, import_from_of};
+ghost use Rattle.pyc_ast.specs.StatementView.{imported_of, import_from_of};
 ghost use Rattle.pyc_ast.specs.Statements as plain;
 ghost use Rattle.pyc_lower_atom.specs.Origins.{name_at};
 ghost use Rattle.pyc_lower_atom.specs.OriginView.{origin_of};
@@ -18,6 +18,7 @@ use pyc_tree::{
     ImportedName, Separated,
 };
 use std::alloc::AllocError;
+use std::rc::Rc;
 
 /// The name of a token.
 pub fn name<Q: Quotes>(
@@ -86,14 +87,15 @@ fn module<Q: Quotes>(
     lowering: &Lowering<'_, Q>,
     found: &ModuleTree,
     names: &mut Names,
-) -> Result<ImportedModule, AllocError>
-    ensures { IfOk result (λ made. imported_module_of made
+) -> Result<Rc<ImportedModule>, AllocError>
+    ensures { IfOk result (λ made. imported_of made
         ≡ spec.module_in (origin_of lowering.now.origin) (module_of found.now)) }
 {
-    Ok(ImportedModule {
+    let made = ImportedModule {
         path: path(lowering, &found.path, names)?,
         alias: alias(lowering, &found.alias, names)?,
-    })
+    };
+    Ok(Rc::new(lowering.alloc, made)?)
 }
 
 /// The modules of an `import`.
@@ -101,8 +103,8 @@ pub fn modules<Q: Quotes>(
     lowering: &Lowering<'_, Q>,
     trees: &Separated<ModuleTree>,
     names: &mut Names,
-) -> Result<Vec<ImportedModule>, AllocError>
-    ensures { IfOk result (λ found. map imported_module_of found.items
+) -> Result<Vec<Rc<ImportedModule>>, AllocError>
+    ensures { IfOk result (λ found. map imported_of found.items
         ≡ spec.separated_in (spec.module_in (origin_of lowering.now.origin)) (separated_of module_of trees.now)) }
 {
     let mut found = Vec::new(lowering.alloc);

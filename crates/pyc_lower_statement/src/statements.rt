@@ -1,5 +1,5 @@
 //! The abstract statements that simple statements are.
-#![tactic(auto, using(pyc_ast::proofs::StatementViewLemmas::stmt_views))]
+#![tactic(auto)]
 
 ghost use Rattle.std.specs.Prelude.{◌≡◌, IfOk, map};
 ghost use Rattle.pyc_ast.specs.ExprView.{expr_of};
@@ -28,6 +28,7 @@ use pyc_tree::{
     Assigned, Expr as Tree, ImportFrom, ImportedModule, Separated, SimpleStatement, Tail,
 };
 use std::alloc::AllocError;
+use std::rc::Rc;
 
 /// The targets of an assignment.
 fn assigned<Q: Quotes>(
@@ -71,7 +72,10 @@ fn assign<Q: Quotes>(
     let value = lowering.expr(value, Role::Value, names)?;
     Ok(Stmt {
         at: targets_at(&targets),
-        form: StmtForm::Assign { targets, value },
+        form: StmtForm::Assign {
+            targets,
+            value: Rc::new(lowering.alloc, value)?,
+        },
     })
 }
 
@@ -94,7 +98,7 @@ fn annotate<Q: Quotes>(
     };
     Ok(Stmt {
         at: made.target.at,
-        form: StmtForm::Annotate(Box::new(lowering.alloc, made)?),
+        form: StmtForm::Annotate(Rc::new(lowering.alloc, made)?),
     })
 }
 
@@ -276,7 +280,7 @@ fn imported_from<Q: Quotes>(
         (import_from_of imported.now)) }
 {
     let found = import_from(lowering, imported, names)?;
-    let found = Box::new(lowering.alloc, found)?;
+    let found = Rc::new(lowering.alloc, found)?;
     Ok(begun(lowering, imported.word, StmtForm::ImportFrom(found)))
 }
 

@@ -1,5 +1,5 @@
 //! The targets that trees are.
-#![tactic(auto, using(pyc_ast::proofs::StatementViewLemmas::target_views, crate::proofs::TargetLemmas::targets))]
+#![tactic(auto, using(pyc_ast::proofs::TargetViewLemmas::target_views, crate::proofs::TargetLemmas::targets))]
 
 ghost use Rattle.std.specs.Prelude.{◌≡◌, IfOk, map, option_and_then};
 ghost use Rattle.pyc_ast.specs.ExprView.{expr_of, index_of};

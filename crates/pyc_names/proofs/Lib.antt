@@ -1,1 +1,5 @@
 pub mod ModuleLemmas
+pub mod FollowingLemmas
+pub mod RingLemmas
+pub mod ReturnLemmas
+pub mod PlaceLemmas

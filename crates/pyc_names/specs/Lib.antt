@@ -2,3 +2,9 @@ pub mod ModuleName
 pub mod FixedModules
 pub mod Imports
 pub mod Presence
+pub mod SourceFiles
+pub mod SourceFileView
+pub mod Following
+pub mod Rings
+pub mod FollowingView
+pub mod TableView

@@ -41,8 +41,8 @@ fn package_at(own: &[Text], is_package: bool, levels: usize) -> Option<&[Text]>
     }
 }
 
-/// The module with these parts as its name, one after another.
-fn joined(alloc: Global, base: &[Text], path: &[Text]) -> Result<ModuleName, AllocError>
+/// The module with these parts as its name, one after another. The only error is that memory runs out.
+pub fn joined(alloc: Global, base: &[Text], path: &[Text]) -> Result<ModuleName, AllocError>
     ensures { IfOk result (λ name. name ≡ base.now ++ path.now) }
 {
     let mut parts = Vec::new(alloc);

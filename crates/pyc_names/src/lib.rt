@@ -3,10 +3,17 @@
 
 mod fixed;
 mod imports;
+pub mod laws;
 mod module_name;
 mod presence;
+mod qualified_name;
+mod source_file;
+mod table;
 
 pub use fixed::{FixedModule, FixedName, fixed_module, fixed_name};
-pub use imports::named_module;
+pub use imports::{joined, named_module};
 pub use module_name::ModuleName;
 pub use presence::is_there;
+pub use qualified_name::{QualifiedName, Referent};
+pub use source_file::SourceFile;
+pub use table::Table;

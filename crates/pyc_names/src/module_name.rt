@@ -45,6 +45,17 @@ impl ModuleName {
     }
 }
 
+impl Clone for ModuleName {
+    ghost is_clone = { λ name copy. copy ≡ name };
+
+    /// The same name, whose parts are shared. The only error is that memory runs out.
+    fn clone(&self) -> Result<ModuleName, AllocError> {
+        Ok(ModuleName {
+            parts: self.parts.clone()?,
+        })
+    }
+}
+
 impl PartialEq for ModuleName {
     ghost use Rattle.std.specs.Cmp.Rules.{comparing};
     ghost use Rattle.std.proofs.Common.{rules};

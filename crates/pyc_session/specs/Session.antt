@@ -4,7 +4,7 @@ use Rattle.std.specs.Prelude.{codes, decimal, bytes_eq, ◌&&◌, Option, None, 
 use Rattle.std.specs.Prelude.{option_and_then}
 use Rattle.pyc_session.specs.declared.ending.End.{End}
 use Rattle.pyc_session.specs.declared.ending.End.TheVariants.{Stopped, EndOfInput, Broken}
-use Rattle.pyc_session.specs.declared.options.Options.{Options}
+use Rattle.pyc_iface.specs.declared.options.Options.{Options}
 use Rattle.pyc_session.specs.declared.refusal.Refusal.{Refusal}
 use Rattle.pyc_session.specs.declared.refusal.Refusal.TheVariants as refusal
 use Rattle.pyc_session.specs.Command.{Spelled, add, change, endless, update, remove, check, status, stop, unknown}
@@ -16,7 +16,7 @@ use Rattle.pyc_session.specs.Input.{has_line_feed, first_line, after_line, comma
 use Rattle.pyc_session.specs.Refusal.{refusal_text, keep_refusal, kept_as, remove_refusal}
 use Rattle.pyc_session.specs.declared.keep.Keep.{Keep}
 use Rattle.pyc_session.specs.declared.keep.Keep.TheVariants as keep
-use Rattle.pyc_body.specs.Report.{Report}
+use Rattle.pyc_report.specs.Report.{Report}
 use Rattle.pyc_workspace.specs.Path.{is_file_path}
 use Rattle.pyc_session.specs.State.{State, start}
 use Rattle.pyc_workspace.specs.Workspace.{File, with_file, without_file}
@@ -140,7 +140,7 @@ file_turn how s path size wanting rest =
 unfoldable pub check_turn : State → Bool → List ℕ → Turn
 check_turn s wanting rest =
     if wanting then replied (refusal_text refusal.Memory) s rest
-    else replied (check_reply (fresh s.present)) (after_check s) rest
+    else replied (check_reply (fresh s.options s.present)) (after_check s) rest
 
 -- What a command does with what it met, a row a command; absent where what it met does not fit it. `update` alone
 -- fetches.

@@ -1,6 +1,6 @@
 -- The state of a session.
 use Rattle.std.specs.Prelude.{List, []}
-use Rattle.pyc_session.specs.declared.options.Options.{Options}
+use Rattle.pyc_iface.specs.declared.options.Options.{Options}
 use Rattle.pyc_workspace.specs.Workspace.{File, Unit}
 
 -- a session's state: the options that it is run with, the files that are present, the files at the last completed

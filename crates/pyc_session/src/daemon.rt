@@ -8,18 +8,18 @@ ghost use Rattle.pyc_names.specs.ModuleName.{module_of};
 ghost use Rattle.pyc_workspace.specs.Path.{is_file_path};
 ghost use Rattle.pyc_session.specs.Refusal.{early_refusal, late_refusal, keep_refusal, remove_refusal, kept_as};
 ghost use Rattle.pyc_session.specs.Refusal.{first_standing, presence};
-ghost use Rattle.pyc_body.specs.Report.{report_in};
+ghost use Rattle.pyc_report.specs.Report.{report_in};
 ghost use Rattle.pyc_session.specs.Session.{after_check, keeping, dropping, updated, refusal_in};
 ghost use Rattle.pyc_session.specs.State.{State, start};
 ghost use Rattle.pyc_workspace.specs.Workspace.{has_file};
 
 use crate::keep::Keep;
-use crate::options::Options;
 use crate::refusal::Refusal;
 use crate::sources::{FetchFault, Sources};
 use crate::status::Status;
-use pyc_body::Report;
+use pyc_iface::Options;
 use pyc_names::ModuleName;
+use pyc_report::Report;
 use pyc_workspace::{File, Workspace, fresh_report, is_file_path};
 use std::alloc::{AllocError, Global};
 use std::marker::Model;
@@ -132,11 +132,11 @@ impl Daemon {
 
     /// Checks all files. Where memory is refused all is as before.
     pub fn check(&mut self) -> Result<Report, AllocError>
-        ensures fresh { IfOk result (λ report. report_in report ≡ fresh self.old.present) }
+        ensures fresh { IfOk result (λ report. report_in report ≡ fresh self.old.options self.old.present) }
         ensures after { OnOk result (self.new ≡ after_check self.old) }
         ensures same { OnErr result (self.new ≡ self.old) }
     {
-        let report = fresh_report(self.alloc, self.present.files())?;
+        let report = fresh_report(self.alloc, self.options, self.present.files())?;
         let last = self.present.share(self.alloc)?;
         let bodies = self.present.units(self.alloc)?.len();
         self.last = last;

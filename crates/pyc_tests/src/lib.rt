@@ -11,6 +11,8 @@ mod members;
 #[cfg(test)]
 mod module_names;
 #[cfg(test)]
+mod notation;
+#[cfg(test)]
 mod texts;
 #[cfg(test)]
 mod types;

@@ -1,68 +1,18 @@
 //! Pairs of types, by the rule that decides; names of builtins; printed types.
 
+use crate::notation::{of, type_of};
 use pyc_ast::Text;
 use pyc_types::*;
 use std::alloc::{AllocError, Global};
 use std::rc::Rc;
 use std::test::Fail;
 
-fn of(class: BuiltinClass) -> Ty {
-    Ty::Instance(ClassId::builtin(class))
-}
-
 fn list(alloc: Global, item: Ty) -> Result<Ty, AllocError> {
     Ok(Ty::List(Rc::new(alloc, item)?))
 }
 
-fn dict(alloc: Global, key: Ty, value: Ty) -> Result<Ty, AllocError> {
-    Ok(Ty::Dict(Rc::new(alloc, DictTypes { key, value })?))
-}
-
-fn tuple(alloc: Global, items: Vec<Ty>) -> Result<Ty, AllocError> {
-    Ok(Ty::Tuple(Rc::new(alloc, items)?))
-}
-
-fn tuple_of(alloc: Global, item: Ty) -> Result<Ty, AllocError> {
-    Ok(Ty::TupleOf(Rc::new(alloc, item)?))
-}
-
 fn either(alloc: Global, first: Ty, second: Ty) -> Result<Ty, AllocError> {
     Ok(Ty::Union(Rc::new(alloc, vec![in alloc; first, second]?)?))
-}
-
-fn callable(alloc: Global, params: Vec<Param>, gives: Ty) -> Result<Ty, AllocError> {
-    let params = Params::Listed(params);
-    Ok(Ty::Callable(Rc::new(
-        alloc,
-        Signature {
-            params,
-            result: gives,
-        },
-    )?))
-}
-
-fn dots(alloc: Global, gives: Ty) -> Result<Ty, AllocError> {
-    let params = Params::Dots;
-    Ok(Ty::Callable(Rc::new(
-        alloc,
-        Signature {
-            params,
-            result: gives,
-        },
-    )?))
-}
-
-fn param(kind: ParamKind, class: BuiltinClass, is_optional: bool) -> Param {
-    Param {
-        kind,
-        ty: of(class),
-        is_optional,
-    }
-}
-
-fn unary(alloc: Global, kind: ParamKind, class: BuiltinClass) -> Result<Ty, AllocError> {
-    let params = vec![in alloc; param(kind, class, false)]?;
-    callable(alloc, params, Ty::None)
 }
 
 #[test]
@@ -104,6 +54,19 @@ fn instances(rt: HostRuntime) -> Result<(), Fail> {
     Ok(())
 }
 
+const SINGLE: [&str; 10] = [
+    "Any",
+    "None",
+    "object",
+    "int",
+    "bool",
+    "float",
+    "str",
+    "bool type",
+    "Module",
+    "int dots",
+];
+
 /// Each type against each, got by got: `y` where it goes. Any goes both ways and all go to object; None goes to None;
 /// the order of bool leads to int, and int to float; a class object is a callable that gives its instances; a module
 /// goes nowhere else.
@@ -111,18 +74,6 @@ fn instances(rt: HostRuntime) -> Result<(), Fail> {
 fn types_against_types(rt: HostRuntime) -> Result<(), Fail> {
     let a = rt.alloc();
     let builtins = Builtins::new(a)?;
-    let types = vec![in a;
-        Ty::Any,
-        Ty::None,
-        of(BuiltinClass::Object),
-        of(BuiltinClass::Int),
-        of(BuiltinClass::Bool),
-        of(BuiltinClass::Float),
-        of(BuiltinClass::Str),
-        Ty::Class(ClassId::builtin(BuiltinClass::Bool)),
-        Ty::Module,
-        dots(a, of(BuiltinClass::Int))?,
-    ]?;
     let rows = [
         "y y y y y y y y y y",
         "y y y - - - - - - -",
@@ -135,238 +86,76 @@ fn types_against_types(rt: HostRuntime) -> Result<(), Fail> {
         "y - y - - - - - - -",
         "y - y - - - - - - y",
     ];
-    for (got, row) in types.iter().zip(rows) {
-        for (want, goes) in types.iter().zip(row.split(' ')) {
-            let answer = assignable(&builtins, got, want);
-            assert_eq!(rt; answer, goes == "y", "{got:?} to {want:?}");
+    for (got, row) in SINGLE.iter().zip(rows) {
+        let got_type = type_of(a, got)?;
+        for (want, goes) in SINGLE.iter().zip(row.split(' ')) {
+            let want_type = type_of(a, want)?;
+            let answer = assignable(&builtins, &got_type, &want_type);
+            assert_eq!(rt; answer, goes == "y", "{got} to {want}");
         }
     }
     Ok(())
 }
 
+/// Types with parts: whether the first goes to the second.
 #[test]
 fn parts_decide(rt: HostRuntime) -> Result<(), Fail> {
     let a = rt.alloc();
     let builtins = Builtins::new(a)?;
-    assert!(rt;
-        assignable(
-            &builtins,
-            &list(a, of(BuiltinClass::Int))?,
-            &list(a, of(BuiltinClass::Int))?
-        )
-    );
-    assert!(rt;
-        assignable(
-            &builtins,
-            &list(a, Ty::Any)?,
-            &list(a, of(BuiltinClass::Int))?
-        )
-    );
-    assert!(rt;
-        assignable(
-            &builtins,
-            &dict(a, of(BuiltinClass::Str), Ty::Any)?,
-            &dict(a, Ty::Any, of(BuiltinClass::Int))?
-        )
-    );
-    assert!(rt;
-        assignable(
-            &builtins,
-            &tuple(
-                a,
-                vec![in a; of(BuiltinClass::Int), of(BuiltinClass::Bool)]?
-            )?,
-            &tuple_of(a, of(BuiltinClass::Float))?
-        )
-    );
-    assert!(rt;
-        assignable(
-            &builtins,
-            &tuple_of(a, of(BuiltinClass::Bool))?,
-            &tuple_of(a, of(BuiltinClass::Int))?
-        )
-    );
-    assert!(rt;
-        assignable(
-            &builtins,
-            &of(BuiltinClass::Int),
-            &either(a, of(BuiltinClass::Float), Ty::None)?
-        )
-    );
-    assert!(rt;
-        assignable(
-            &builtins,
-            &list(a, either(a, Ty::None, of(BuiltinClass::Int))?)?,
-            &list(a, either(a, of(BuiltinClass::Int), Ty::None)?)?
-        )
-    );
-    assert!(rt; assignable(&builtins, &Ty::Module, &of(BuiltinClass::Object)));
+    let rows = [
+        ("int list_of", "int list_of", true),
+        ("Any list_of", "int list_of", true),
+        ("int list_of", "float list_of", false),
+        ("bool list_of", "int list_of", false),
+        ("str Any dict_of", "Any int dict_of", true),
+        ("str bool dict_of", "str int dict_of", false),
+        ("int bool pair", "float tuple_of", true),
+        ("int single", "int int pair", false),
+        ("bool tuple_of", "int tuple_of", true),
+        ("int tuple_of", "int single", false),
+        ("int", "float None or", true),
+        ("int None or", "int", false),
+        ("None int or list_of", "int None or list_of", true),
+        ("int list_of", "int None or list_of", false),
+        ("Module", "object", true),
+        ("Module", "Module", false),
+    ];
+    for (got, want, expected) in rows {
+        let got_type = type_of(a, got)?;
+        let want_type = type_of(a, want)?;
+        let answer = assignable(&builtins, &got_type, &want_type);
+        assert_eq!(rt; answer, expected, "{got} to {want}");
+    }
     Ok(())
 }
 
-#[test]
-fn parts_refuse(rt: HostRuntime) -> Result<(), Fail> {
-    let a = rt.alloc();
-    let builtins = Builtins::new(a)?;
-    assert!(rt;
-        !assignable(
-            &builtins,
-            &list(a, of(BuiltinClass::Int))?,
-            &list(a, of(BuiltinClass::Float))?
-        )
-    );
-    assert!(rt;
-        !assignable(
-            &builtins,
-            &list(a, of(BuiltinClass::Bool))?,
-            &list(a, of(BuiltinClass::Int))?
-        )
-    );
-    assert!(rt;
-        !assignable(
-            &builtins,
-            &dict(a, of(BuiltinClass::Str), of(BuiltinClass::Bool))?,
-            &dict(a, of(BuiltinClass::Str), of(BuiltinClass::Int))?
-        )
-    );
-    assert!(rt;
-        !assignable(
-            &builtins,
-            &tuple(a, vec![in a; of(BuiltinClass::Int)]?)?,
-            &tuple(a, vec![in a; of(BuiltinClass::Int), of(BuiltinClass::Int)]?)?
-        )
-    );
-    assert!(rt;
-        !assignable(
-            &builtins,
-            &tuple_of(a, of(BuiltinClass::Int))?,
-            &tuple(a, vec![in a; of(BuiltinClass::Int)]?)?
-        )
-    );
-    assert!(rt;
-        !assignable(
-            &builtins,
-            &either(a, of(BuiltinClass::Int), Ty::None)?,
-            &of(BuiltinClass::Int)
-        )
-    );
-    assert!(rt;
-        !assignable(
-            &builtins,
-            &list(a, of(BuiltinClass::Int))?,
-            &list(a, either(a, of(BuiltinClass::Int), Ty::None)?)?
-        )
-    );
-    assert!(rt; !assignable(&builtins, &Ty::Module, &Ty::Module));
-    Ok(())
-}
-
+/// Functions: whether the first goes to the second.
 #[test]
 fn callables_decide(rt: HostRuntime) -> Result<(), Fail> {
     let a = rt.alloc();
     let builtins = Builtins::new(a)?;
-    let n = Text::new(a, "n")?;
-    assert!(rt;
-        assignable(
-            &builtins,
-            &dots(a, of(BuiltinClass::Int))?,
-            &dots(a, of(BuiltinClass::Float))?
-        )
-    );
-    assert!(rt;
-        assignable(
-            &builtins,
-            &unary(a, ParamKind::Plain(None), BuiltinClass::Float)?,
-            &unary(a, ParamKind::Plain(None), BuiltinClass::Int)?
-        )
-    );
-    assert!(rt;
-        assignable(
-            &builtins,
-            &unary(a, ParamKind::Star, BuiltinClass::Int)?,
-            &unary(a, ParamKind::Plain(None), BuiltinClass::Int)?
-        )
-    );
-    assert!(rt;
-        assignable(
-            &builtins,
-            &unary(a, ParamKind::Plain(Some(n.clone()?)), BuiltinClass::Int)?,
-            &unary(a, ParamKind::KeywordOnly(n.clone()?), BuiltinClass::Int)?
-        )
-    );
-    assert!(rt;
-        assignable(
-            &builtins,
-            &unary(a, ParamKind::DoubleStar, BuiltinClass::Int)?,
-            &unary(a, ParamKind::KeywordOnly(n.clone()?), BuiltinClass::Bool)?
-        )
-    );
-    assert!(rt;
-        assignable(
-            &builtins,
-            &Ty::Class(ClassId::builtin(BuiltinClass::Bool)),
-            &dots(a, of(BuiltinClass::Float))?
-        )
-    );
-    assert!(rt;
-        assignable(
-            &builtins,
-            &Ty::Class(ClassId::builtin(BuiltinClass::List)),
-            &dots(a, list(a, Ty::None)?)?
-        )
-    );
-    Ok(())
-}
-
-#[test]
-fn callables_refuse(rt: HostRuntime) -> Result<(), Fail> {
-    let a = rt.alloc();
-    let builtins = Builtins::new(a)?;
-    let n = Text::new(a, "n")?;
-    let optional = param(ParamKind::Plain(None), BuiltinClass::Int, true);
-    assert!(rt;
-        !assignable(
-            &builtins,
-            &unary(a, ParamKind::Plain(None), BuiltinClass::Int)?,
-            &unary(a, ParamKind::Plain(None), BuiltinClass::Float)?
-        )
-    );
-    assert!(rt;
-        !assignable(
-            &builtins,
-            &unary(a, ParamKind::Plain(None), BuiltinClass::Int)?,
-            &callable(a, vec![in a; optional]?, Ty::None)?
-        )
-    );
-    assert!(rt;
-        !assignable(
-            &builtins,
-            &unary(a, ParamKind::Plain(None), BuiltinClass::Int)?,
-            &unary(a, ParamKind::Star, BuiltinClass::Int)?
-        )
-    );
-    assert!(rt;
-        !assignable(
-            &builtins,
-            &unary(a, ParamKind::KeywordOnly(n.clone()?), BuiltinClass::Int)?,
-            &unary(a, ParamKind::Plain(None), BuiltinClass::Int)?
-        )
-    );
-    assert!(rt;
-        !assignable(
-            &builtins,
-            &unary(a, ParamKind::Plain(None), BuiltinClass::Int)?,
-            &callable(a, Vec::new(a), Ty::None)?
-        )
-    );
-    assert!(rt;
-        !assignable(
-            &builtins,
-            &Ty::Class(ClassId::builtin(BuiltinClass::Int)),
-            &dots(a, of(BuiltinClass::Str))?
-        )
-    );
-    assert!(rt; !assignable(&builtins, &of(BuiltinClass::Int), &dots(a, Ty::Any)?));
+    let rows = [
+        ("int dots", "float dots", true),
+        ("float takes", "int takes", true),
+        ("int takes", "float takes", false),
+        ("int takes_each", "int takes", true),
+        ("int takes", "int takes_each", false),
+        ("int takes_n", "int takes_only_n", true),
+        ("int takes_only_n", "int takes", false),
+        ("int takes_words", "bool takes_only_n", true),
+        ("int takes", "int may_take", false),
+        ("int takes", "takes_nothing", false),
+        ("bool type", "float dots", true),
+        ("int type", "str dots", false),
+        ("list type", "None list_of dots", true),
+        ("int", "Any dots", false),
+    ];
+    for (got, want, expected) in rows {
+        let got_type = type_of(a, got)?;
+        let want_type = type_of(a, want)?;
+        let answer = assignable(&builtins, &got_type, &want_type);
+        assert_eq!(rt; answer, expected, "{got} to {want}");
+    }
     Ok(())
 }
 
@@ -421,21 +210,21 @@ fn deep_unions_are_answered(rt: HostRuntime) -> Result<(), Fail> {
 #[test]
 fn types_print(rt: HostRuntime) -> Result<(), Fail> {
     let a = rt.alloc();
-    let pair = vec![in a; of(BuiltinClass::Int), Ty::None]?;
-    let takes = vec![in a; param(ParamKind::Plain(None), BuiltinClass::Int, true)]?;
-    assert_eq!(rt; show(a, &tuple(a, Vec::new(a))?)?.as_str(), "tuple[()]");
-    assert_eq!(rt; show(a, &tuple(a, pair)?)?.as_str(), "tuple[int, None]");
-    let strings = tuple_of(a, of(BuiltinClass::Str))?;
-    assert_eq!(rt; show(a, &strings)?.as_str(), "tuple[str, ...]");
-    let optional = either(a, of(BuiltinClass::Int), Ty::None)?;
-    let table = dict(a, of(BuiltinClass::Str), optional)?;
-    assert_eq!(rt; show(a, &table)?.as_str(), "dict[str, int | None]");
-    let plain = callable(a, takes, list(a, Ty::Any)?)?;
-    assert_eq!(rt; show(a, &plain)?.as_str(), "Callable[[int], list[Any]]");
-    let starred = unary(a, ParamKind::Star, BuiltinClass::Int)?;
-    assert_eq!(rt; show(a, &starred)?.as_str(), "Callable[..., None]");
-    let class = Ty::Class(ClassId::builtin(BuiltinClass::KeyError));
-    assert_eq!(rt; show(a, &class)?.as_str(), "type[KeyError]");
+    let none = Ty::Tuple(Rc::new(a, Vec::new(a))?);
+    assert_eq!(rt; show(a, &none)?.as_str(), "tuple[()]");
+    let rows = [
+        ("int None pair", "tuple[int, None]"),
+        ("str tuple_of", "tuple[str, ...]"),
+        ("str int None or dict_of", "dict[str, int | None]"),
+        ("int may_take", "Callable[[int], None]"),
+        ("int takes_each", "Callable[..., None]"),
+        ("Any list_of dots", "Callable[..., list[Any]]"),
+        ("KeyError type", "type[KeyError]"),
+    ];
+    for (words, expected) in rows {
+        let ty = type_of(a, words)?;
+        assert_eq!(rt; show(a, &ty)?.as_str(), expected);
+    }
     Ok(())
 }
 

@@ -1,34 +1,11 @@
 //! Unions, and what tests leave of types.
 
+use crate::notation::{of, type_of};
 use pyc_ast::Text;
 use pyc_types::*;
 use std::alloc::{AllocError, Global};
 use std::rc::Rc;
 use std::test::Fail;
-
-fn of(class: BuiltinClass) -> Ty {
-    Ty::Instance(ClassId::builtin(class))
-}
-
-fn list(alloc: Global, item: Ty) -> Result<Ty, AllocError> {
-    Ok(Ty::List(Rc::new(alloc, item)?))
-}
-
-fn tuple(alloc: Global, items: Vec<Ty>) -> Result<Ty, AllocError> {
-    Ok(Ty::Tuple(Rc::new(alloc, items)?))
-}
-
-fn either(alloc: Global, first: BuiltinClass, second: Ty) -> Result<Ty, AllocError> {
-    union_of(alloc, &[of(first), second])
-}
-
-fn callable(alloc: Global, gives: Ty) -> Result<Ty, AllocError> {
-    let signature = Signature {
-        params: Params::Dots,
-        result: gives,
-    };
-    Ok(Ty::Callable(Rc::new(alloc, signature)?))
-}
 
 /// An instance of a class that the builtin orders do not know.
 fn unknown(alloc: Global) -> Result<Ty, AllocError> {
@@ -42,7 +19,7 @@ fn ints(alloc: Global, count: usize) -> Result<Ty, AllocError> {
     for _ in 0..count {
         items.push(of(BuiltinClass::Int))?;
     }
-    tuple(alloc, items)
+    Ok(Ty::Tuple(Rc::new(alloc, items)?))
 }
 
 /// How a type is written; a dash where there is none.
@@ -72,30 +49,23 @@ fn narrowed_away(alloc: Global, builtins: &Builtins, ty: &Ty) -> Result<String, 
 #[test]
 fn unions_form(rt: HostRuntime) -> Result<(), Fail> {
     let a = rt.alloc();
-    let optional = either(a, BuiltinClass::Int, Ty::None)?;
-    assert_eq!(rt; show(a, &optional)?.as_str(), "int | None");
-    let again = either(a, BuiltinClass::Int, optional.clone()?)?;
-    assert_eq!(rt; show(a, &again)?.as_str(), "int | None");
-    let longer = either(a, BuiltinClass::Str, optional.clone()?)?;
-    assert_eq!(rt; show(a, &longer)?.as_str(), "str | int | None");
-    let seen = union_of(a, &[optional, of(BuiltinClass::Str), Ty::None])?;
-    assert_eq!(rt; show(a, &seen)?.as_str(), "int | None | str");
+    let rows = [
+        ("int", "None", "int | None"),
+        ("int", "int None or", "int | None"),
+        ("str", "int None or", "str | int | None"),
+        ("int None or", "str None or", "int | None | str"),
+        ("Any list_of", "Any list_of", "list[Any]"),
+        ("int int pair", "int single", "tuple[int, int] | tuple[int]"),
+    ];
+    for (first, second, expected) in rows {
+        let parts = [type_of(a, first)?, type_of(a, second)?];
+        let union = union_of(a, &parts)?;
+        assert_eq!(rt; show(a, &union)?.as_str(), expected);
+    }
     let alone = union_of(a, &[of(BuiltinClass::Bytes)])?;
     assert_eq!(rt; show(a, &alone)?.as_str(), "bytes");
-    Ok(())
-}
-
-#[test]
-fn unions_tell_types_apart(rt: HostRuntime) -> Result<(), Fail> {
-    let a = rt.alloc();
-    let first = list(a, Ty::Any)?;
-    let same = union_of(a, &[first.clone()?, first])?;
-    assert_eq!(rt; show(a, &same)?.as_str(), "list[Any]");
-    let pair = ints(a, 2)?;
-    let single = ints(a, 1)?;
-    assert!(rt; !same_type(&pair, &single));
-    let both = union_of(a, &[pair.clone()?, single, pair])?;
-    assert_eq!(rt; show(a, &both)?.as_str(), "tuple[int, int] | tuple[int]");
+    let pair = type_of(a, "int int pair")?;
+    assert!(rt; !same_type(&pair, &type_of(a, "int single")?));
     Ok(())
 }
 
@@ -110,31 +80,34 @@ fn unions_have_a_limit(rt: HostRuntime) -> Result<(), Fail> {
     Ok(())
 }
 
+/// What `isinstance` by `int` leaves of a type, and what it does not take.
 #[test]
-fn isinstance_leaves(rt: HostRuntime) -> Result<(), Fail> {
+fn isinstance_splits(rt: HostRuntime) -> Result<(), Fail> {
     let a = rt.alloc();
     let builtins = Builtins::new(a)?;
-    for (class, text) in [
-        (BuiltinClass::Object, "int"),
-        (BuiltinClass::Float, "int"),
-        (BuiltinClass::Bool, "bool"),
-        (BuiltinClass::Str, "-"),
-    ] {
-        assert_eq!(rt; narrowed(a, &builtins, &of(class))?.as_str(), text);
+    let rows = [
+        ("int", "int", "-"),
+        ("object", "int", "object"),
+        ("float", "int", "float"),
+        ("bool", "bool", "-"),
+        ("str", "-", "str"),
+        ("Any", "int", "Any"),
+        ("None", "-", "None"),
+        ("Module", "-", "Module"),
+        ("None dots", "Callable[..., None]", "Callable[..., None]"),
+        ("str type", "type[str]", "type[str]"),
+        ("bool float or", "bool | int", "float"),
+        ("bool None or", "bool", "None"),
+        ("str float or", "int", "str | float"),
+    ];
+    for (words, kept, left) in rows {
+        let ty = type_of(a, words)?;
+        assert_eq!(rt; narrowed(a, &builtins, &ty)?.as_str(), kept);
+        assert_eq!(rt; narrowed_away(a, &builtins, &ty)?.as_str(), left);
     }
-    assert_eq!(rt; narrowed(a, &builtins, &Ty::Any)?.as_str(), "int");
-    assert_eq!(rt; narrowed(a, &builtins, &Ty::None)?.as_str(), "-");
-    assert_eq!(rt; narrowed(a, &builtins, &Ty::Module)?.as_str(), "-");
-    assert_eq!(rt; narrowed(a, &builtins, &unknown(a)?)?.as_str(), "C");
-    let function = callable(a, Ty::None)?;
-    assert_eq!(rt;
-        narrowed(a, &builtins, &function)?.as_str(),
-        "Callable[..., None]"
-    );
-    let class = Ty::Class(ClassId::builtin(BuiltinClass::Str));
-    assert_eq!(rt; narrowed(a, &builtins, &class)?.as_str(), "type[str]");
-    let union = either(a, BuiltinClass::Bool, of(BuiltinClass::Float))?;
-    assert_eq!(rt; narrowed(a, &builtins, &union)?.as_str(), "bool | int");
+    let unknown = unknown(a)?;
+    assert_eq!(rt; narrowed(a, &builtins, &unknown)?.as_str(), "C");
+    assert_eq!(rt; narrowed_away(a, &builtins, &unknown)?.as_str(), "C");
     Ok(())
 }
 
@@ -146,48 +119,28 @@ fn isinstance_by_two_classes(rt: HostRuntime) -> Result<(), Fail> {
         ClassId::builtin(BuiltinClass::Int),
         ClassId::builtin(BuiltinClass::List),
     ];
-    let any = narrow_to(a, &builtins, &Ty::Any, &both)?;
-    assert_eq!(rt; shown(a, &any)?.as_str(), "int | list[Any]");
-    let known = narrow_to(a, &builtins, &list(a, Ty::None)?, &both)?;
-    assert_eq!(rt; shown(a, &known)?.as_str(), "list[None]");
-    let gone = narrow_away(a, &builtins, &list(a, Ty::None)?, &both)?;
-    assert_eq!(rt; shown(a, &gone)?.as_str(), "-");
+    for (words, kept, left) in [
+        ("Any", "int | list[Any]", "Any"),
+        ("None list_of", "list[None]", "-"),
+    ] {
+        let ty = type_of(a, words)?;
+        let to = narrow_to(a, &builtins, &ty, &both)?;
+        assert_eq!(rt; shown(a, &to)?.as_str(), kept);
+        let away = narrow_away(a, &builtins, &ty, &both)?;
+        assert_eq!(rt; shown(a, &away)?.as_str(), left);
+    }
     let nothing = narrow_to(a, &builtins, &Ty::Any, &[])?;
     assert_eq!(rt; shown(a, &nothing)?.as_str(), "-");
     Ok(())
 }
 
 #[test]
-fn isinstance_takes_away(rt: HostRuntime) -> Result<(), Fail> {
-    let a = rt.alloc();
-    let builtins = Builtins::new(a)?;
-    for (class, text) in [
-        (BuiltinClass::Int, "-"),
-        (BuiltinClass::Bool, "-"),
-        (BuiltinClass::Float, "float"),
-        (BuiltinClass::Object, "object"),
-    ] {
-        assert_eq!(rt; narrowed_away(a, &builtins, &of(class))?.as_str(), text);
-    }
-    assert_eq!(rt; narrowed_away(a, &builtins, &Ty::Any)?.as_str(), "Any");
-    assert_eq!(rt; narrowed_away(a, &builtins, &unknown(a)?)?.as_str(), "C");
-    let optional = either(a, BuiltinClass::Bool, Ty::None)?;
-    assert_eq!(rt; narrowed_away(a, &builtins, &optional)?.as_str(), "None");
-    let union = either(a, BuiltinClass::Str, of(BuiltinClass::Float))?;
-    assert_eq!(rt;
-        narrowed_away(a, &builtins, &union)?.as_str(),
-        "str | float"
-    );
-    Ok(())
-}
-
-#[test]
 fn none_is_taken_away(rt: HostRuntime) -> Result<(), Fail> {
     let a = rt.alloc();
-    let optional = either(a, BuiltinClass::Int, Ty::None)?;
-    assert_eq!(rt; shown(a, &without_none(a, &optional)?)?.as_str(), "int");
-    assert_eq!(rt; shown(a, &without_none(a, &Ty::None)?)?.as_str(), "-");
-    assert_eq!(rt; shown(a, &without_none(a, &Ty::Any)?)?.as_str(), "Any");
+    for (words, expected) in [("int None or", "int"), ("None", "-"), ("Any", "Any")] {
+        let ty = type_of(a, words)?;
+        assert_eq!(rt; shown(a, &without_none(a, &ty)?)?.as_str(), expected);
+    }
     let bare = instance_of(a, &ClassId::builtin(BuiltinClass::Dict))?;
     assert_eq!(rt; show(a, &bare)?.as_str(), "dict[Any, Any]");
     Ok(())

@@ -1,3 +1,4 @@
 pub mod FreshLemmas
 pub mod Texts
 pub mod WorkspaceLemmas
+pub mod FileLemmas

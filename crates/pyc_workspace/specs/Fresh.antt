@@ -2,18 +2,24 @@
 use Rattle.std.specs.Prelude.{ℕ, zero, suc, ◌+◌, List, [], ◌∷◌, map, flat_map}
 use Rattle.pyc_body.specs.declared.unit.UnitId.{UnitId}
 use Rattle.pyc_body.specs.FoundMessages.{unsilenced}
-use Rattle.pyc_body.specs.Report.{Report, Found, report_of}
+use Rattle.pyc_report.specs.Report.{Report, Found, report_of}
 use Rattle.pyc_body.specs.Units.{unit_count}
+use Rattle.pyc_iface.specs.declared.options.Options.{Options}
+use Rattle.pyc_names.specs.SourceFiles.{SourceFile, source_file}
 use Rattle.pyc_lower.specs.Reading.{read_of}
 use Rattle.pyc_workspace.specs.Workspace.{File, Unit}
 
--- what is told of a file
-abbrev pub checked : File → Found
-checked file = record { path = file.path; messages = unsilenced (read_of file.bytes) }
+-- a file as names see it
+abbrev pub source_of : File → SourceFile
+source_of file = source_file file.path (read_of file.bytes)
+
+-- what is told of a file that stands among these
+abbrev pub checked : Options → List SourceFile → File → Found
+checked options files file = record { path = file.path; messages = unsilenced options files (source_of file) }
 
 -- the report of a check of these files from scratch
-unfoldable pub fresh : List File → Report
-fresh files = report_of (map checked files)
+unfoldable pub fresh : Options → List File → Report
+fresh options files = report_of (map (checked options (map source_of files)) files)
 
 -- so many units of the file of a path, the first with this number
 unfoldable pub numbered : List ℕ → ℕ → ℕ → List Unit

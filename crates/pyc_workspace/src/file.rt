@@ -1,33 +1,39 @@
 //! A file of a session.
 
-ghost use Rattle.std.specs.Prelude.{◌≡◌, IfOk, string_bytes};
-ghost use Rattle.pyc_ast.specs.Modules.{outcome_of};
+ghost use Rattle.std.specs.Prelude.{◌≡◌, map, IfOk};
 ghost use Rattle.pyc_body.specs.Units.{unit_count};
 ghost use Rattle.pyc_lower.specs.Reading.{read_of};
 ghost use Rattle.pyc_names.specs.ModuleName.{module_of};
+ghost use Rattle.pyc_names.specs.SourceFiles.{source_file};
+ghost use Rattle.pyc_names.specs.SourceFileView.{source_in};
 
-use pyc_ast::Outcome;
-use pyc_body::count_units;
+use pyc_body::{count_units, unsilenced};
+use pyc_iface::{Options, World};
 use pyc_lower::read;
-use pyc_names::ModuleName;
+use pyc_names::{ModuleName, SourceFile};
+use pyc_report::Message;
+use pyc_types::Builtins;
 use std::alloc::{AllocError, Global};
+use std::rc::Rc;
 
-/// A file of a session, with the module that its path names and what its bytes are: the abstract tree of a module, or a
-/// fault.
+/// A file of a session: its bytes, what they are as names see them, and how many units it has.
 #[derive(Drop)]
 pub struct File {
-    path: String,
     bytes: Vec<u8>,
-    module_name: ModuleName,
-    outcome: Outcome,
+    source: Rc<SourceFile>,
     units: usize,
-    ghost module_is: { module_name ≡ module_of (string_bytes path) },
-    ghost outcome_is: { ∥ outcome_of outcome ≡ read_of bytes.items ∥₁ },
+    ghost module_is: { (source_in source.value).name ≡ module_of (source_in source.value).path },
+    ghost source_is: { ∥ source_in source.value ≡ source_file (source_in source.value).path (read_of bytes.items) ∥₁ },
     ghost units_is: { units ≡ unit_count (read_of bytes.items) },
+    ghost units_are: { units ≡ unit_count (source_in source.value).outcome },
 }
 
 impl File {
     ghost use Rattle.pyc_workspace.specs.Files.{file_in};
+    ghost use Rattle.pyc_workspace.specs.Fresh.{source_of};
+    ghost use Rattle.pyc_body.specs.FoundMessages.{unsilenced};
+    ghost use Rattle.pyc_iface.specs.WorldView.{world_in};
+    ghost use Rattle.pyc_report.specs.Message.{message_in};
 
     /// A file of this path, the module that it names, and of these bytes. The only error is that memory runs out.
     pub fn new(
@@ -41,10 +47,9 @@ impl File {
     {
         let outcome = read(alloc, &bytes)?;
         let units = count_units(alloc, &outcome)?;
+        let source = SourceFile::new(alloc, path, name, outcome)?;
         Ok(File {
-            path: String::from_str(alloc, path)?,
-            module_name: name,
-            outcome,
+            source: Rc::new(alloc, source)?,
             units,
             bytes,
         })
@@ -54,14 +59,14 @@ impl File {
     pub fn path(&self) -> &str
         ensures { result.now ≡ (file_in self.now).path }
     {
-        self.path.as_str()
+        self.source.path()
     }
 
     /// The module that the file's path names.
     pub fn module(&self) -> &ModuleName
         ensures { result.now ≡ module_of (file_in self.now).path }
     {
-        &self.module_name
+        self.source.name()
     }
 
     /// The file's bytes.
@@ -71,11 +76,11 @@ impl File {
         &self.bytes
     }
 
-    /// What the file's bytes are: the abstract tree of a module, or a fault.
-    pub fn outcome(&self) -> &Outcome
-        ensures { ∥ outcome_of result.now ≡ read_of (file_in self.now).bytes ∥₁ }
+    /// The file as names see it.
+    pub fn source(&self) -> &Rc<SourceFile>
+        ensures { ∥ source_in result.now.value ≡ source_of (file_in self.now) ∥₁ }
     {
-        &self.outcome
+        &self.source
     }
 
     /// How many units the file has: a header, a module body, and its classes, functions and methods, or with a fault
@@ -84,5 +89,21 @@ impl File {
         ensures { result ≡ unit_count (read_of (file_in self.now).bytes) }
     {
         self.units
+    }
+
+    /// The messages of the file that no ignore comment silences, over a world that it stands in. The only error is that
+    /// memory runs out.
+    pub(crate) fn unsilenced(
+        &self,
+        alloc: Global,
+        builtins: &Builtins,
+        options: Options,
+        world: &World,
+    ) -> Result<Vec<Message>, AllocError>
+        ensures { IfOk result (λ messages. map message_in messages.items
+            ≡ unsilenced options (world_in world.now) (source_of (file_in self.now))) }
+    {
+        let found = unsilenced(alloc, builtins, options, world, &self.source, self.units)?;
+        Ok(found)
     }
 }

@@ -1,10 +1,15 @@
 //! Sources with the messages that are found in them.
 
-use pyc_body::{Message, found, unsilenced};
-use pyc_lower::read;
+use super::sources::file_of;
+use crate::session_tests::OPTIONS;
+use pyc_body::{count_units, found, unsilenced};
+use pyc_iface::World;
+use pyc_report::Message;
 use pyc_types::Builtins;
 use std::alloc::Global;
 use std::fmt::Write;
+use std::rc::Rc;
+use std::slice;
 use std::test::Fail;
 
 /// These messages, each as its line, column, code and text, and ended by a `;`.
@@ -13,26 +18,34 @@ fn shown(alloc: Global, messages: &[Message]) -> Result<String, Fail> {
     for message in messages {
         let line = message.line;
         let column = message.column;
-        let code = message.code.name();
+        let code = message.kind.code();
         let text = message.text.as_str();
         write!(shown, "{line}:{column} {code}: {text};")?;
     }
     Ok(shown)
 }
 
-/// What is found in a source.
+/// What is found in the units of a file of this source, the only one there is.
 fn found_in(alloc: Global, source: &[u8]) -> Result<String, Fail> {
     let builtins = Builtins::new(alloc)?;
-    let outcome = read(alloc, source)?;
-    shown(alloc, &found(alloc, &builtins, &outcome)?)
+    let file = Rc::new(alloc, file_of(alloc, "a.py", source)?)?;
+    let world = World::build(alloc, slice::from_ref(&file))?;
+    let mut messages = String::new(alloc);
+    for unit in 0..count_units(alloc, file.outcome())? {
+        let of_unit = found(alloc, &builtins, OPTIONS, &world, &file, unit)?;
+        messages.push_str(shown(alloc, &of_unit)?.as_str())?;
+    }
+    Ok(messages)
 }
 
 /// The lines of what is told of a source, each with a space after it.
 fn lines_told(alloc: Global, source: &[u8]) -> Result<String, Fail> {
     let builtins = Builtins::new(alloc)?;
-    let outcome = read(alloc, source)?;
+    let file = Rc::new(alloc, file_of(alloc, "a.py", source)?)?;
+    let world = World::build(alloc, slice::from_ref(&file))?;
+    let units = count_units(alloc, file.outcome())?;
     let mut lines = String::new(alloc);
-    for message in &unsilenced(alloc, &builtins, &outcome)? {
+    for message in &unsilenced(alloc, &builtins, OPTIONS, &world, &file, units)? {
         let line = message.line;
         write!(lines, "{line} ")?;
     }
@@ -64,7 +77,7 @@ fn reports_what_is_not_assignable(rt: HostRuntime) -> Result<(), Fail> {
             "3:7 assignment: Incompatible types in assignment (expression has type \"bytes\", variable has type \"int\");",
         ),
         (
-            b"def f():\n    x: int = ''\nclass C:\n    x: int = ''\nx: int = ('')\nx: C = ''\nx.y: int = ''\nx: str = 1j\n",
+            b"def f():\n    x: int = ''\nclass C:\n    x: int = ''\nx: int = ('')\nw: C = ''\nx.y: int = ''\nv: str = 1j\n",
             "",
         ),
     ];

@@ -1,6 +1,7 @@
 //! Modules, with their annotated literals.
 
 use pyc_ast::Outcome;
+use pyc_bindings::scope_bindings;
 use pyc_body::literal_forms;
 use pyc_lower::read;
 use std::alloc::Global;
@@ -13,7 +14,8 @@ fn forms_of(alloc: Global, source: &str) -> Result<String, Fail> {
         return Err("no tree".into());
     };
     let mut shown = String::new(alloc);
-    for form in &literal_forms(alloc, &module.statements)? {
+    let bindings = scope_bindings(alloc, &module.statements)?;
+    for form in &literal_forms(alloc, &bindings, &module.statements)? {
         let line = form.at.line;
         let column = form.at.column;
         let annotation = form.annotation;
@@ -74,5 +76,22 @@ fn looks_into_blocks_and_no_definitions(rt: HostRuntime) -> Result<(), Fail> {
         forms_of(rt.alloc(), source)?.as_str(),
         "2:14 Int Str;4:14 Str Int;"
     );
+    Ok(())
+}
+
+/// A name that the file binds is the file's own, wherever it is bound.
+#[test]
+fn passes_bound_names_over(rt: HostRuntime) -> Result<(), Fail> {
+    for (source, want) in &[
+        (
+            "class int: ...\nx: int = 'a'\ny: str = 1\n",
+            "3:10 Str Int;",
+        ),
+        ("x: int = 'a'\nfrom m import int\n", ""),
+        ("if x:\n    import float\ny: float = ''\n", ""),
+        ("def f():\n    int = 1\nx: int = 'a'\n", "3:10 Int Str;"),
+    ] {
+        assert_eq!(rt; forms_of(rt.alloc(), source)?.as_str(), *want);
+    }
     Ok(())
 }

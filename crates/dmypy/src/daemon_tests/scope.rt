@@ -1,7 +1,8 @@
 //! Modules, with the lines of their parts and of their units.
 
-use pyc_ast::{Module, Outcome, Stmt, StmtForm};
-use pyc_body::{scope_parts, unit_definitions};
+use pyc_ast::{Module, Outcome, StmtForm};
+use pyc_bindings::{PartForm, scope_parts};
+use pyc_body::unit_definitions;
 use pyc_lower::read;
 use std::alloc::Global;
 use std::fmt::Write;
@@ -15,25 +16,27 @@ fn module_of(alloc: Global, source: &str) -> Result<Module, Fail> {
     }
 }
 
-/// Whether a part of a scope is a function or a class.
-fn is_definition(part: &Stmt) -> bool {
-    matches!(
-        part.form,
-        StmtForm::Function { .. } | StmtForm::Class { .. }
-    )
+/// How a part of a scope is marked before its line: `d` for a function or a class, `t` for what a `for` or a `with`
+/// assigns to, `n` for the name that an `except` binds.
+fn mark(form: PartForm<'_>) -> &str {
+    match form {
+        PartForm::Statement(part) => match &part.form {
+            StmtForm::Function { .. } | StmtForm::Class { .. } => "d",
+            _ => "",
+        },
+        PartForm::Target(_) => "t",
+        PartForm::Caught(_) => "n",
+    }
 }
 
-/// The lines of the parts of a source, those of definitions with a `d`.
+/// The lines of the parts of a source with their marks, and `?` after those inside an `if` or a `try`.
 fn parts_of(alloc: Global, source: &str) -> Result<String, Fail> {
     let module = module_of(alloc, source)?;
     let mut shown = String::new(alloc);
     for part in &scope_parts(alloc, &module.statements)? {
-        let line = part.at.line;
-        if is_definition(part) {
-            write!(shown, "d{line} ")?;
-        } else {
-            write!(shown, "{line} ")?;
-        }
+        let line = part.place.at.line;
+        let guard = if part.place.is_guarded { "?" } else { "" };
+        write!(shown, "{}{line}{guard} ", mark(part.form))?;
     }
     Ok(shown)
 }
@@ -55,20 +58,25 @@ fn opens_blocks_and_no_definitions(rt: HostRuntime) -> Result<(), Fail> {
         ("a\nb; c\n", "1 2 2 "),
         (
             "if x:\n    a\nelif x: b; c\nelse:\n    d\ne\n",
-            "2 3 3 5 6 ",
+            "2? 3? 3? 5? 6 ",
         ),
         (
             "for x in y:\n    while x:\n        a\n    else: b\nelse:\n    c\n",
-            "3 4 6 ",
+            "t1 3 4 6 ",
         ),
         (
             "try:\n    a\nexcept x:\n    b\nexcept: c\nelse:\n    d\nfinally:\n    e\n",
-            "2 4 5 7 9 ",
+            "2? 4? 5? 7? 9? ",
         ),
         ("with x:\n    a\nasync with x: b\n", "2 3 "),
+        ("with x as a, y, z as b:\n    c\n", "t1 t1 2 "),
+        (
+            "try:\n    a\nexcept x as e:\n    while x: b\n",
+            "2? n3? 4? ",
+        ),
         (
             "@x\ndef f():\n    a\nb\nclass C:\n    c\nif x:\n    async def g(): d\n",
-            "d2 4 d5 d8 ",
+            "d2 4 d5 d8? ",
         ),
     ] {
         assert_eq!(rt; parts_of(rt.alloc(), source)?.as_str(), *want);

@@ -1,5 +1,5 @@
 use Rattle.std.proofs.lemmas.Result.{err_from_is_err_and}
-use Rattle.pyc_body.specs.Report.{report_in}
+use Rattle.pyc_report.specs.Report.{report_in}
 use Rattle.dmypy.proofs.CheckFilesLemmas.{prints_all, prints_part, prints_want, prints_want_part}
 use Rattle.dmypy.proofs.check_files.print_report.Goals as goal
 

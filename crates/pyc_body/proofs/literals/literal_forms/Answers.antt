@@ -1,6 +1,8 @@
-use Rattle.std.proofs.Common.{sym}
-use Rattle.pyc_ast.specs.StatementView.{stmt_of}
-use Rattle.pyc_body.specs.LiteralForms.{literal_form}
+use Rattle.std.proofs.Common.{map, sym}
+use Rattle.pyc_bindings.specs.BindingView.{binding_of}
+use Rattle.pyc_bindings.specs.Scopes.{Part}
+use Rattle.pyc_bindings.specs.ScopeView.{part_of}
+use Rattle.pyc_body.specs.LiteralForms.{part_literal}
 use Rattle.pyc_body.proofs.ListLemmas.{filter_map_some, filter_map_none}
 use Rattle.pyc_body.proofs.literals.literal_forms.Goals as goal
 use Rattle.pyc_body.proofs.literals.literal_forms.Goals.{in-Some+in_ok-push, in_default}
@@ -8,18 +10,18 @@ use Rattle.pyc_body.proofs.literals.literal_forms.Goals.{in-Some+in_ok-push, in_
 pub loop-part-preserved : goal.loop-part-preserved
 loop-part-preserved c =
     let parts = c.deref-part-items.result.now in
-    elim c.match-literal_form.branch [
+    elim c.match-part_literal.branch [
       | in-Some+in_ok-push w ↦
           (rw (
             w.forms-is,
             w.in_ok-push.ensures.items,
             c.loop-part.invariant,
-            filter_map_some (λ part. stmt_of part.now) literal_form parts c.loop-part.part-index c.part-item.result w.in-Some.form c.loop-part-test.true c.part-item.is
+            filter_map_some part_of (λ (part : Part). part_literal (map binding_of c.args.bindings.now) part.form) parts c.loop-part.part-index c.part-item.result w.in-Some.form c.loop-part-test.true c.part-item.is
                 (sym w.in-Some.ensures),
           ))
       | in_default w ↦
           (rw (
             w.forms-is,
-            filter_map_none (λ part. stmt_of part.now) literal_form parts c.loop-part.part-index c.part-item.result c.loop-part-test.true c.part-item.is (sym w.in_default.ensures),
+            filter_map_none part_of (λ (part : Part). part_literal (map binding_of c.args.bindings.now) part.form) parts c.loop-part.part-index c.part-item.result c.loop-part-test.true c.part-item.is (sym w.in_default.ensures),
           ) c.loop-part.invariant)
     ]

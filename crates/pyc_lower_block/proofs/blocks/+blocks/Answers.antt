@@ -1,6 +1,7 @@
 use Rattle.std.proofs.Common.{◌≡◌, refl, sym, ap, ◌∙◌, ◌++◌, List, map}
 use Rattle.std.proofs.lemmas.List.{append-nil}
 use Rattle.std.proofs.lemmas.Result.{IfOk-weaker}
+use Rattle.pyc_ast.proofs.StatementViewLemmas.{view_stmt}
 use Rattle.pyc_ast.specs.declared.stmt.Block.{Of}
 use Rattle.pyc_ast.specs.ExprView.{expr_of}
 use Rattle.pyc_ast.specs.StatementView.{stmt_of as made_of, block_of, branch_of, handler_of}
@@ -156,7 +157,7 @@ push_statement-returns-in_ok-push-in-Compound g t c =
     let body = c.in_ok-suite-in-Compound.field-0 in
     let made = parts_of c.in_ok-parts-in-Compound.parts in
     let marks = map expr_of c.in_ok-marks-in-Compound.marks.items in
-    pushed made_of c.args.found.now.items c.push.new.self.items _ c.in_ok-push-in-Compound.ensures.items refl
+    pushed made_of c.args.found.now.items c.push.new.self.items _ c.in_ok-push-in-Compound.ensures.items (view_stmt _ _)
     ∙ ap (λ (rest : List plain.Stmt). map made_of c.args.found.now.items ++ rest) (sym (compound_made s o c.in-Compound.marks first c.in-Compound.more c.args.statement.now c.in-Compound.is
     (c.header_at-at.ensures ∙ ap (λ (y : Header). header_at o (header_of y)) (c.deref-in-Compound-4.ensures ∙ ap (λ (y : CompoundClause). y.header.value) c.deref-in-Compound-3.ensures))
     (c.in_ok-form-in-Compound.ensures ∙ ap (λ (y : CompoundClause). spec.form_in s o (header_of y.header.value) (suite_suspends (suite_of y.suite)) made) c.deref-in-Compound-5.ensures)

@@ -4,7 +4,7 @@ use Rattle.std.specs.Vec.{vec_len}
 use Rattle.pyc_ast.specs.Exprs as plain
 use Rattle.pyc_ast.specs.ExprView.{expr_of, element_of, dict_item_of, argument_of, comparison_of, index_of}
 use Rattle.pyc_lower_expression.proofs.ItemLemmas.{pieces_of-fields, single-only, single-more, single-none}
-use Rattle.pyc_ast.proofs.ViewLemmas.{view_Unpacking}
+use Rattle.pyc_ast.proofs.ViewLemmas.{view_Unpacking, view_comparison}
 use Rattle.pyc_lower_expression.proofs.Loops.{started_at, turned_at, pushed, pushed_at, ended_at, last_at}
 use Rattle.pyc_lower_expression.proofs.LoweredForms.{lowered_piece, lowered_last, lowered_none, entry_piece, entry_last, entry_none, index_piece, index_last, index_none, lowered_Stride, subscript_many, subscript_one, argument_piece, argument_last, argument_none, link_more, link_none}
 use Rattle.pyc_lower_expression.proofs.OtherForms.{atom_other, operation_other, nowhere_other, dict_item_other, index_other, slice_at}
@@ -182,7 +182,7 @@ comparisons-loop-link-preserved g t c =
     (λ x xs. link_more s o c.args.role x.first x.second (tree_of x.right.value) (links_before xs tree.unlinked))
     c.args.links.now c.loop-link.link-index c.link-item.result (map comparison_of c.loop-link.found.items) c.loop-link-test.true c.link-item.is c.loop-link.invariant
     (pushed comparison_of _ _ _ c.in_ok-push.ensures.items
-    (ap (λ op. plain.comparison op (expr_of c.in_ok-right.right))
+    (view_comparison _ _ ∙ ap (λ op. plain.comparison op (expr_of c.in_ok-right.right))
     (c.comparison_operator-operator.ensures ∙ ap (comparison_operator c.link-item.result.first.kind) c.is_some.ensures)
     ∙ ap (plain.comparison (comparison_operator c.link-item.result.first.kind (is_some c.link-item.result.second)))
     (c.in_ok-right.ensures ∙ ap (λ (x : Expr). spec.expr_in s o c.args.role (tree_of x)) c.deref.ensures)))

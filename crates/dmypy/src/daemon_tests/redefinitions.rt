@@ -1,0 +1,143 @@
+//! Decorators, the declarations of names, and names that are defined again.
+
+use super::sources::file_of;
+use pyc_ast::{Expr, Outcome, Stmt, StmtForm, Text};
+use pyc_bindings::{
+    Decorator, declaration, decorator_of, has_other, has_setter, is_decorated, redefinitions,
+};
+use std::alloc::Global;
+use std::fmt::Write;
+use std::test::Fail;
+
+/// The decorators of the first statement, where it is a function.
+fn decorators(statements: &[Stmt]) -> &[Expr] {
+    match statements.first() {
+        Some(
+            Stmt {
+                form: StmtForm::Function { head, .. },
+                ..
+            },
+        ) => &head.decorators,
+        _ => &[],
+    }
+}
+
+/// A decorator by itself, with what it is, whether it is an unknown one, and whether it makes a setter.
+#[test]
+fn decorators_by_their_spelling(rt: HostRuntime) -> Result<(), Fail> {
+    for (spelled, want) in &[
+        ("property", Decorator::Property),
+        ("x.setter", Decorator::Setter),
+        ("staticmethod", Decorator::StaticMethod),
+        ("classmethod", Decorator::ClassMethod),
+        ("abstractmethod", Decorator::AbstractMethod),
+        ("abc.abstractmethod", Decorator::AbstractMethod),
+        ("x.abstractmethod", Decorator::Other),
+        ("x.y.setter", Decorator::Other),
+        ("setter", Decorator::Other),
+        ("overload", Decorator::Other),
+        ("property()", Decorator::Other),
+    ] {
+        let source = format!(in rt.alloc(); "@{spelled}\ndef f(): ...\n")?;
+        let file = file_of(rt.alloc(), "a.py", source.as_bytes())?;
+        let Outcome::Tree(module) = file.outcome() else {
+            return Err("no tree".into());
+        };
+        let found = decorators(&module.statements);
+        assert_eq!(rt; found.len(), 1, "{spelled}");
+        assert!(rt; found.iter().all(|x| decorator_of(x) == *want), "{spelled}");
+        assert_eq!(rt; has_other(found), *want == Decorator::Other, "{spelled}");
+        assert_eq!(rt; has_setter(found), *want == Decorator::Setter, "{spelled}");
+    }
+    Ok(())
+}
+
+#[test]
+fn one_decorator_of_several(rt: HostRuntime) -> Result<(), Fail> {
+    for (source, other, setter) in &[
+        ("def f(): ...\n", false, false),
+        ("@property\n@abstractmethod\ndef f(): ...\n", false, false),
+        ("@x.setter\n@abstractmethod\ndef f(): ...\n", false, true),
+        ("@property\n@known\ndef f(): ...\n", true, false),
+        ("@known\n@x.setter\ndef f(): ...\n", true, true),
+    ] {
+        let file = file_of(rt.alloc(), "a.py", source.as_bytes())?;
+        let Outcome::Tree(module) = file.outcome() else {
+            return Err("no tree".into());
+        };
+        let found = decorators(&module.statements);
+        assert_eq!(rt; has_other(found), *other, "{source}");
+        assert_eq!(rt; has_setter(found), *setter, "{source}");
+    }
+    Ok(())
+}
+
+/// The line of a name's declaration, and whether it stands under an unknown decorator.
+#[test]
+fn first_bindings_declare(rt: HostRuntime) -> Result<(), Fail> {
+    let source = b"if y:\n    x = 1\nx: int = 2\n@known\ndef f(): ...\nfrom m import f as g\n";
+    let file = file_of(rt.alloc(), "a.py", source)?;
+    for (name, line, decorated) in &[
+        ("x", 2, false),
+        ("f", 5, true),
+        ("g", 6, false),
+        ("y", 0, false),
+        ("m", 0, false),
+    ] {
+        let name = Text::new(rt.alloc(), name)?;
+        let found = declaration(file.bindings(), &name);
+        let at = found.map_or(0, |b| b.place.at.line);
+        let under = found.map_or(false, |b| is_decorated(&b.form));
+        assert_eq!(rt; at, *line, "{name:?}");
+        assert_eq!(rt; under, *decorated, "{name:?}");
+    }
+    Ok(())
+}
+
+/// The names that a source defines again: each with its line, and the line of its declaration.
+fn defined_again(alloc: Global, source: &str) -> Result<String, Fail> {
+    let file = file_of(alloc, "a.py", source.as_bytes())?;
+    let mut shown = String::new(alloc);
+    for found in &redefinitions(alloc, file.bindings())? {
+        let line = found.at.line;
+        let first = found.line;
+        write!(shown, "{line} {} {first}; ", found.name.as_str())?;
+    }
+    Ok(shown)
+}
+
+#[test]
+fn names_defined_again(rt: HostRuntime) -> Result<(), Fail> {
+    for (source, want) in &[
+        ("x: int = 1\nx: int = 2\n", "2 x 1; "),
+        ("x = 1\nx: int = 2\nx: int = 3\n", "2 x 1; 3 x 1; "),
+        ("def f(): ...\ndef f(): ...\n", "2 f 1; "),
+        ("import f\nclass f: ...\n", "2 f 1; "),
+        ("for i in x:\n    i: int = 1\n", "2 i 1; "),
+        ("if y:\n    x = 1\nx: int = 2\n", "3 x 2; "),
+    ] {
+        assert_eq!(rt;
+            defined_again(rt.alloc(), source)?.as_str(),
+            *want,
+            "{source}"
+        );
+    }
+    Ok(())
+}
+
+#[test]
+fn names_not_defined_again(rt: HostRuntime) -> Result<(), Fail> {
+    for source in &[
+        "x: int = 1\nx = 2\nx += 1\nimport x\nfrom m import x\ndel x\n",
+        "x: int = 1\nif y:\n    x: int = 2\nelse:\n    def x(): ...\n",
+        "x: int = 1\ntry:\n    class x: ...\nfinally:\n    x: str = 2\n",
+        "@overload\ndef f(): ...\ndef f(): ...\n",
+        "def f(): ...\n@known\ndef f(): ...\n",
+        "@known\nclass C: ...\nclass C: ...\n",
+        "@property\ndef f(): ...\n@f.setter\ndef f(x): ...\n",
+        "x: int\ndef f():\n    x: int = 1\nclass C:\n    x: int = 1\n",
+    ] {
+        assert_eq!(rt; defined_again(rt.alloc(), source)?.as_str(), "", "{source}");
+    }
+    Ok(())
+}

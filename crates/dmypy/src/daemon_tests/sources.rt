@@ -1,0 +1,61 @@
+//! Files, modules and names for the tests.
+
+use pyc_ast::Text;
+use pyc_lower::read;
+use pyc_names::{ModuleName, QualifiedName, SourceFile, joined};
+use std::alloc::{AllocError, Global};
+use std::rc::Rc;
+
+/// A file of this path and source, as names see it.
+pub fn file_of(alloc: Global, path: &str, source: &[u8]) -> Result<SourceFile, AllocError> {
+    let name = ModuleName::of_path(alloc, path)?;
+    SourceFile::new(alloc, path, name, read(alloc, source)?)
+}
+
+/// Files, each of its path and source, shared.
+pub fn files_of(
+    alloc: Global,
+    sources: &[(&str, &str)],
+) -> Result<Vec<Rc<SourceFile>>, AllocError> {
+    let mut files = Vec::new(alloc);
+    for (path, source) in sources {
+        files.push(Rc::new(alloc, file_of(alloc, path, source.as_bytes())?)?)?;
+    }
+    Ok(files)
+}
+
+/// The parts of a dotted name.
+pub fn dotted(alloc: Global, name: &str) -> Result<Vec<Text>, AllocError> {
+    let mut parts = Vec::new(alloc);
+    for part in name.split('.') {
+        if !part.is_empty() {
+            parts.push(Text::new(alloc, part)?)?;
+        }
+    }
+    Ok(parts)
+}
+
+/// The module that a dotted name names.
+pub fn module_of(alloc: Global, name: &str) -> Result<ModuleName, AllocError> {
+    joined(alloc, &[], &dotted(alloc, name)?)
+}
+
+/// A name of the module that a dotted name names.
+pub fn name_of(alloc: Global, home: &str, name: &str) -> Result<QualifiedName, AllocError> {
+    Ok(QualifiedName {
+        home: module_of(alloc, home)?,
+        name: Text::new(alloc, name)?,
+    })
+}
+
+/// A module's name with dots between its parts.
+pub fn spelled(alloc: Global, name: &ModuleName) -> Result<String, AllocError> {
+    let mut shown = String::new(alloc);
+    for part in name.parts() {
+        if !shown.is_empty() {
+            shown.push_str(".")?;
+        }
+        shown.push_str(part.as_str())?;
+    }
+    Ok(shown)
+}

@@ -1,0 +1,236 @@
+//! Keys, with what the files of a workspace answer; the types of annotations and of literals.
+
+use super::sources::{file_of, files_of, module_of, name_of, spelled};
+use pyc_ast::{Module, Outcome, StmtForm};
+use pyc_iface::{
+    Answer, Key, NameAnswer, NameKind, Presence, World, annotation_builtin, literal_type,
+};
+use pyc_types::{Builtin, show};
+use std::alloc::Global;
+use std::test::Fail;
+
+/// What a world answers to a key on presence.
+fn presence(world: &World, alloc: Global, key: &Key) -> Result<Presence, Fail> {
+    match world.ask(alloc, key)? {
+        Answer::Presence(found) => Ok(found),
+        Answer::Name(_) => Err("no presence".into()),
+    }
+}
+
+/// What a world answers to a key on a name.
+fn answer(world: &World, alloc: Global, key: &Key) -> Result<NameAnswer, Fail> {
+    match world.ask(alloc, key)? {
+        Answer::Name(found) => Ok(found),
+        Answer::Presence(_) => Err("no name".into()),
+    }
+}
+
+/// The kind of thing that a name stands for, and its type.
+fn shown(alloc: Global, found: &NameAnswer) -> Result<String, Fail> {
+    let ty = show(alloc, &found.ty)?;
+    match &found.kind {
+        NameKind::Module(name) => {
+            let name = spelled(alloc, name)?;
+            Ok(format!(in alloc; "module {name}: {ty}")?)
+        }
+        NameKind::Fixed(name) => Ok(format!(in alloc; "fixed {name:?}: {ty}")?),
+        NameKind::AnnotatedVariable => Ok(format!(in alloc; "annotated: {ty}")?),
+        NameKind::Variable => Ok(format!(in alloc; "variable: {ty}")?),
+        NameKind::Function => Ok(format!(in alloc; "function: {ty}")?),
+        NameKind::Class => Ok(format!(in alloc; "class: {ty}")?),
+        NameKind::Unknown => Ok(format!(in alloc; "unknown: {ty}")?),
+        NameKind::NoModule => Ok(format!(in alloc; "no module: {ty}")?),
+        NameKind::NoName => Ok(format!(in alloc; "no name: {ty}")?),
+        NameKind::Cycle => Ok(format!(in alloc; "cycle: {ty}")?),
+    }
+}
+
+/// What a name of a module is in a world.
+fn name_shown(world: &World, alloc: Global, home: &str, name: &str) -> Result<String, Fail> {
+    let key = Key::Name(name_of(alloc, home, name)?);
+    let found = answer(world, alloc, &key)?;
+    shown(alloc, &found)
+}
+
+/// A package without `__init__.py`, a file with a fault, and a ring that a third file leads into.
+const FILES: [(&str, &str); 5] = [
+    ("p/q.py", "x: int = 1\n"),
+    ("broken.py", "x: int = 1\ndef (\n"),
+    (
+        "a.py",
+        "from b import y\nfrom p.q import x, z\nimport gone\n",
+    ),
+    ("b.py", "from a import y\n"),
+    ("c.py", "from a import y\n"),
+];
+
+#[test]
+fn modules_are_asked_for(rt: HostRuntime) -> Result<(), Fail> {
+    let a = rt.alloc();
+    let world = World::build(a, &files_of(a, &FILES)?)?;
+    assert_eq!(rt; world.files().len(), 5);
+    for (name, want) in &[
+        ("a", Presence::There),
+        ("p", Presence::There),
+        ("p.q", Presence::There),
+        ("p.q.x", Presence::NoModule),
+        ("broken", Presence::Opaque),
+        ("gone", Presence::NoModule),
+        ("typing", Presence::There),
+    ] {
+        let key = Key::HasModule(module_of(a, name)?);
+        assert_eq!(rt; presence(&world, a, &key)?, *want, "{name}");
+    }
+    Ok(())
+}
+
+#[test]
+fn names_are_asked_for(rt: HostRuntime) -> Result<(), Fail> {
+    let a = rt.alloc();
+    let world = World::build(a, &files_of(a, &FILES)?)?;
+    for (home, name, want) in &[
+        ("p.q", "x", Presence::There),
+        ("p.q", "z", Presence::NoName),
+        ("p", "q", Presence::There),
+        ("p", "r", Presence::NoName),
+        ("a", "x", Presence::There),
+        ("a", "z", Presence::There),
+        ("a", "gone", Presence::There),
+        ("a", "y", Presence::Cycle),
+        ("b", "y", Presence::Cycle),
+        ("c", "y", Presence::There),
+        ("broken", "z", Presence::Opaque),
+        ("gone", "x", Presence::NoModule),
+        ("typing", "anything", Presence::There),
+    ] {
+        let key = Key::HasName(name_of(a, home, name)?);
+        assert_eq!(rt; presence(&world, a, &key)?, *want, "{home}:{name}");
+    }
+    Ok(())
+}
+
+/// Declarations of each form; of what stands under `@known` nothing is known.
+const DECLARED: (&str, &str) = (
+    "d.py",
+    "i: int = 1\nl: list = []\ns = 's'\nn = None\nt, u = 1, 2\ndef f(): ...\nclass C: ...\n\
+     @known\ndef g(): ...\n@known\nclass D: ...\n",
+);
+
+#[test]
+fn names_are_declared(rt: HostRuntime) -> Result<(), Fail> {
+    let a = rt.alloc();
+    let world = World::build(a, &files_of(a, &[DECLARED])?)?;
+    for (name, want) in &[
+        ("i", "annotated: int"),
+        ("l", "annotated: Any"),
+        ("s", "variable: str"),
+        ("n", "variable: Any"),
+        ("t", "variable: Any"),
+        ("f", "function: Any"),
+        ("C", "class: Any"),
+        ("g", "unknown: Any"),
+        ("D", "unknown: Any"),
+        ("gone", "no name: Any"),
+    ] {
+        assert_eq!(rt; name_shown(&world, a, "d", name)?.as_str(), *want, "{name}");
+    }
+    Ok(())
+}
+
+/// Imports of a declaration, a submodule, a name of a fixed module, and of what is not there.
+const IMPORTS: [(&str, &str); 5] = [
+    ("p/d.py", "i: int = 1\n"),
+    ("a.py", "from p.d import i, j\nfrom p import d\nimport p\n"),
+    (
+        "b.py",
+        "from typing import Optional as O, overload as o\nfrom a import i\n",
+    ),
+    (
+        "c.py",
+        "from gone import x\nfrom c import y\nfrom broken import z\n",
+    ),
+    ("broken.py", "z: int = 1\ndef (\n"),
+];
+
+#[test]
+fn imported_names(rt: HostRuntime) -> Result<(), Fail> {
+    let a = rt.alloc();
+    let world = World::build(a, &files_of(a, &IMPORTS)?)?;
+    for (home, name, want) in &[
+        ("a", "i", "annotated: int"),
+        ("b", "i", "annotated: int"),
+        ("a", "j", "no name: Any"),
+        ("a", "d", "module p.d: Module"),
+        ("a", "p", "module p: Module"),
+        ("b", "O", "fixed Optional: Any"),
+        ("b", "o", "unknown: Any"),
+        ("c", "x", "no module: Any"),
+        ("c", "y", "cycle: Any"),
+        ("c", "z", "unknown: Any"),
+    ] {
+        assert_eq!(rt;
+            name_shown(&world, a, home, name)?.as_str(),
+            *want,
+            "{home}:{name}"
+        );
+    }
+    Ok(())
+}
+
+/// A file `typing.py` is never asked.
+#[test]
+fn fixed_modules_are_asked_first(rt: HostRuntime) -> Result<(), Fail> {
+    let a = rt.alloc();
+    let world = World::build(a, &files_of(a, &[("typing.py", "def (\n")])?)?;
+    let module_key = Key::HasModule(module_of(a, "typing")?);
+    assert_eq!(rt; presence(&world, a, &module_key)?, Presence::There);
+    let name_key = Key::HasName(name_of(a, "typing", "own")?);
+    assert_eq!(rt; presence(&world, a, &name_key)?, Presence::There);
+    assert_eq!(rt;
+        name_shown(&world, a, "typing", "Union")?.as_str(),
+        "fixed Union: Any"
+    );
+    Ok(())
+}
+
+/// The types of the annotation and of the value of the first statement of a source, in the file that it is.
+fn types_of(alloc: Global, source: &str) -> Result<(Option<Builtin>, Option<Builtin>), Fail> {
+    let file = file_of(alloc, "a.py", source.as_bytes())?;
+    let Outcome::Tree(Module { statements, .. }) = file.outcome() else {
+        return Err("no tree".into());
+    };
+    let Some(first) = statements.first() else {
+        return Err("no statement".into());
+    };
+    let StmtForm::Annotate(found) = &first.form else {
+        return Err("no annotation".into());
+    };
+    Ok((
+        annotation_builtin(file.bindings(), &found.annotation),
+        found.value.as_ref().and_then(|value| literal_type(value)),
+    ))
+}
+
+#[test]
+fn types_of_annotations_and_literals(rt: HostRuntime) -> Result<(), Fail> {
+    for (source, annotation, value) in &[
+        ("x: int = 1\n", Some(Builtin::Int), Some(Builtin::Int)),
+        ("x: str = 'a'\n", Some(Builtin::Str), Some(Builtin::Str)),
+        ("x: bool = True\n", Some(Builtin::Bool), Some(Builtin::Bool)),
+        (
+            "x: float = 1.5\n",
+            Some(Builtin::Float),
+            Some(Builtin::Float),
+        ),
+        ("x: None = None\n", Some(Builtin::None), Some(Builtin::None)),
+        ("x: bytes = b''\n", None, Some(Builtin::Bytes)),
+        ("x: 'int' = f''\n", None, Some(Builtin::Str)),
+        ("x: list = 1j\n", None, None),
+        ("x: int = ...\nclass int: ...\n", None, None),
+        ("x: m.int = y\n", None, None),
+    ] {
+        let found = types_of(rt.alloc(), source)?;
+        assert!(rt; found == (*annotation, *value), "{source}");
+    }
+    Ok(())
+}

@@ -1,0 +1,110 @@
+-- The bindings of a scope in text order (Python reference 3.13, "Binding of names").
+use Rattle.std.specs.Prelude.{ℕ, List, [], ◌∷◌, ◌++◌, flat_map, map, false, Option, None, Some}
+use Rattle.pyc_ast.specs.declared.stmt.Alias.{Alias}
+use Rattle.pyc_ast.specs.Exprs.{Expr}
+use Rattle.pyc_ast.specs.Statements.{Stmt, stmt, StmtForm, Stmts, ImportedModule, ImportFrom, FunctionDefinition}
+use Rattle.pyc_ast.specs.Statements.{ClassDefinition, AnnotatedAssignment}
+use Rattle.pyc_ast.specs.Statements as plain
+use Rattle.pyc_ast.specs.Targets.{Target, target, TargetForm, name, attribute, subscript, unpacking, TargetElement}
+use Rattle.pyc_ast.specs.Targets.{target_element, TargetElements, no_target, another_target}
+use Rattle.pyc_bindings.specs.declared.place.Place.{Place}
+use Rattle.pyc_bindings.specs.Scopes.{Part, PartForm, parts_of}
+use Rattle.pyc_bindings.specs.Scopes as part
+
+-- what a binding binds its name to
+pub data BindingForm : Type 0 where
+  -- a module that is imported
+  import : List (List ℕ) → BindingForm
+  -- a name of a module: the dots before the module's name, its parts, and the name
+  import_from : ℕ → List (List ℕ) → List ℕ → BindingForm
+  function : FunctionDefinition → BindingForm
+  class : ClassDefinition → BindingForm
+  annotated : AnnotatedAssignment → BindingForm
+  -- the value of an assignment, of which the name is a target by itself
+  assigned : Expr → BindingForm
+  -- an item of a value, or any other thing
+  other : BindingForm
+
+-- a binding: its name, where it stands, and what it binds the name to
+pub record Binding : Type 0 where
+  pub name : List ℕ
+  pub place : Place
+  pub form : BindingForm
+
+abbrev pub bound : Place → List ℕ → BindingForm → Binding
+bound place n form = record { name = n; place = place; form = form }
+
+-- ---- targets
+
+abbrev mutual
+  -- the bindings of a target, each of a name in it
+  pub target_bindings : Target → Place → List Binding
+  target_bindings (target at inside form) place = form_bindings form place
+
+  -- an attribute and a subscript bind nothing
+  pub form_bindings : TargetForm → Place → List Binding
+  form_bindings (name n) place = bound place n other ∷ []
+  form_bindings (attribute value n) place = []
+  form_bindings (subscript value _) place = []
+  form_bindings (unpacking elements) place = elements_bindings elements place
+
+  pub elements_bindings : TargetElements → Place → List Binding
+  elements_bindings no_target place = []
+  elements_bindings (another_target (target_element is_starred to) rest) place =
+      target_bindings to place ++ elements_bindings rest place
+
+-- the bindings of a target by a form that a name by itself is bound to
+abbrev pub single_bindings : Place → BindingForm → Target → List Binding
+single_bindings place form (target at inside (name n)) = bound place n form ∷ []
+single_bindings place form to = target_bindings to place
+
+-- ---- imports
+
+-- what a module with this name binds: the name after `as` to the module, else the first part of its name to the module
+-- that has that name alone
+abbrev pub path_bindings : Place → List (List ℕ) → Option (List ℕ) → List Binding
+path_bindings place path (Some alias) = bound place alias (import path) ∷ []
+path_bindings place (first ∷ rest) None = bound place first (import (first ∷ [])) ∷ []
+path_bindings place [] None = []
+
+abbrev pub module_bindings : Place → ImportedModule → List Binding
+module_bindings place m = path_bindings place m.path m.alias
+
+-- the name that a from-import binds: the one after `as`, else the one that is imported
+abbrev pub bound_name : List ℕ → Option (List ℕ) → List ℕ
+bound_name imported (Some alias) = alias
+bound_name imported None = imported
+
+abbrev pub imported_binding : Place → ImportFrom → Alias → Binding
+imported_binding place from found =
+    bound place (bound_name found.name found.alias) (import_from from.dots from.path found.name)
+
+-- ---- statements
+
+-- the bindings of a simple statement or a definition; a function and a class bind their names
+abbrev pub statement_bindings : Place → StmtForm → List Binding
+statement_bindings place (plain.assign targets value) = flat_map (single_bindings place (assigned value)) targets
+statement_bindings place (plain.annotate found) = single_bindings place (annotated found) found.target
+statement_bindings place (plain.augment found) = target_bindings found.target place
+statement_bindings place (plain.delete to) = target_bindings to place
+statement_bindings place (plain.import modules) = flat_map (module_bindings place) modules
+statement_bindings place (plain.import_from from) = map (imported_binding place from) from.names
+statement_bindings place (plain.function head body) = bound place head.name (function head) ∷ []
+statement_bindings place (plain.class head body) = bound place head.name (class head) ∷ []
+statement_bindings place _ = []
+
+-- the bindings of a part of a scope
+abbrev pub form_of : Stmt → StmtForm
+form_of (stmt at form) = form
+
+abbrev pub part_bindings : Place → PartForm → List Binding
+part_bindings place (part.statement found) = statement_bindings place (form_of found)
+part_bindings place (part.target to) = target_bindings to place
+part_bindings place (part.caught n) = bound place n other ∷ []
+
+abbrev pub bindings_of_part : Part → List Binding
+bindings_of_part found = part_bindings found.place found.form
+
+-- the bindings of a scope that has these statements
+unfoldable pub bindings_of : Stmts → List Binding
+bindings_of statements = flat_map bindings_of_part (parts_of statements false)

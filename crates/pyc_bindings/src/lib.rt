@@ -1,0 +1,16 @@
+//! The parts of a scope, and its bindings.
+#![tactic(auto)]
+
+mod binding;
+mod bindings;
+mod decorators;
+mod defined_again;
+mod place;
+mod scope;
+
+pub use binding::{Binding, BindingForm};
+pub use bindings::scope_bindings;
+pub use decorators::{Decorator, decorator_of, has_other, has_setter};
+pub use defined_again::{Redefinition, declaration, is_decorated, redefinitions};
+pub use place::Place;
+pub use scope::{Part, PartForm, scope_parts};

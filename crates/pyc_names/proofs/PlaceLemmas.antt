@@ -1,0 +1,144 @@
+-- Places of files by their modules.
+use Rattle.std.proofs.Common.{◌≡◌, ℕ, zero, suc, ◌+◌, ◌-◌, ◌<◌, ◌≤◌, Bool, true, false, cond, ◌||◌, bytes_eq, is_some, List, [], ◌∷◌, ◌++◌, map, drop, length, get_or, slice_get, Option, None, Some, true≢false, refl, sym, ap, ◌∙◌, arith, append_assoc, length-append, add-one, drop-cons}
+use Rattle.std.specs.declared.alloc.Global.{Global}
+use Rattle.std.specs.declared.rc.Rc.{Rc}
+use Rattle.std.specs.declared.vec.Vec.{Vec}
+use Rattle.std.specs.List.{find, position_from, list_any, starts_with}
+use Rattle.std.specs.Map.{lookup}
+use Rattle.std.proofs.lemmas.List.{length-map}
+use Rattle.indexmap.specs.IndexMap.{insert_entry}
+use Rattle.pyc_names.specs.declared.source_file.SourceFile.{SourceFile as SourceFileOf}
+use Rattle.pyc_names.specs.FixedModules.{fixed_module}
+use Rattle.pyc_names.specs.Following.{has_module}
+use Rattle.pyc_names.specs.ModuleName.{same_module}
+use Rattle.pyc_names.specs.Presence.{is_root, is_within}
+use Rattle.pyc_names.specs.SourceFiles.{SourceFile, file_of}
+use Rattle.pyc_names.specs.SourceFileView.{source_in, sources_in}
+use Rattle.std.proofs.lemmas.Slice.Eq.{bytes_eq-Decides}
+use Rattle.pyc_names.proofs.RingLemmas.{same_module-is, same_module-same}
+
+-- the element at an index, or none where there is no index
+abbrev pub chosen : {X : Type 0} → Option ℕ → List X → Option X
+chosen None all = None
+chosen (Some i) all = slice_get all i
+
+at_length : {X : Type 0} (pre xs : List X) (x : X) → slice_get (pre ++ x ∷ xs) (length pre) ≡ Some x
+at_length [] xs x = refl
+at_length (y ∷ pre) xs x = at_length pre xs x
+
+found_here : {X : Type 0} (t : X → Bool) (pre xs : List X) (x : X) (b : Bool) → find t xs ≡ chosen (position_from t (length pre + 1) xs) (pre ++ x ∷ xs)
+    → cond b (Some x) (find t xs) ≡ chosen (cond b (Some (length pre)) (position_from t (length pre + 1) xs)) (pre ++ x ∷ xs)
+found_here t pre xs x true next = sym (at_length pre xs x)
+found_here t pre xs x false next = next
+
+-- the first that passes is at the first place that passes
+found_at : {X : Type 0} (t : X → Bool) (pre xs : List X) → find t xs ≡ chosen (position_from t (length pre) xs) (pre ++ xs)
+found_at t pre [] = refl
+found_at t pre (x ∷ xs) =
+    let longer : length (pre ++ x ∷ []) ≡ length pre + 1 = length-append pre (x ∷ []) in
+    found_here t pre xs x (t x)
+    (found_at t (pre ++ x ∷ []) xs ∙ ap (λ n. chosen (position_from t n xs) ((pre ++ x ∷ []) ++ xs)) longer
+    ∙ ap (chosen (position_from t (length pre + 1) xs)) (append_assoc pre (x ∷ []) xs))
+
+within_here : {X : Type 0} (t : X → Bool) (n i : ℕ) (xs : List X) (b : Bool) → (position_from t (n + 1) xs ≡ Some i → i < (n + 1) + length xs)
+    → cond b (Some n) (position_from t (n + 1) xs) ≡ Some i → i < n + suc (length xs)
+within_here t n i xs true next h = let e : n ≡ i = cc in omega arith
+within_here t n i xs false next h = let below : i < (n + 1) + length xs = next h in omega arith
+
+-- a place is within
+place_within : {X : Type 0} (t : X → Bool) (n i : ℕ) (xs : List X) → position_from t n xs ≡ Some i → i < n + length xs
+place_within t n i [] h = cc
+place_within t n i (x ∷ xs) h = within_here t n i xs (t x) (place_within t (n + 1) i xs) h
+
+module _ {K V : Type 0} (eq : K → K → Bool) (test : K → Bool) (alike : (x y : K) → eq x y ≡ true → test x ≡ test y) (one : (x y : K) → test x ≡ true → test y ≡ true → eq x y ≡ true) (k : K) (v : V) where
+  there : (e : K × V) (es : List (K × V)) (b : Bool) → test k ≡ b → cond b (Some v) (lookup test es) ≡ cond (test k) (Some v) (cond b (Some e.1) (lookup test es))
+  there e es true h = ap (λ c. cond c (Some v) (Some e.1)) (sym h)
+  there e es false h = ap (λ c. cond c (Some v) (lookup test es)) (sym h)
+
+  none : (e : K × V) (c : Bool) → (c ≡ true → eq k e.0 ≡ true) → eq k e.0 ≡ false → Some e.1 ≡ cond c (Some v) (Some e.1)
+  none e false same apart = refl
+  none e true same apart = absurd (true≢false (sym (same refl) ∙ apart))
+
+  other : (e : K × V) (es : List (K × V)) (b : Bool) → test e.0 ≡ b → eq k e.0 ≡ false → lookup test (insert_entry eq es k v) ≡ cond (test k) (Some v) (lookup test es)
+      → cond b (Some e.1) (lookup test (insert_entry eq es k v)) ≡ cond (test k) (Some v) (cond b (Some e.1) (lookup test es))
+  other e es false h apart next = next
+  other e es true h apart next = none e (test k) (λ g. one k e.0 g h) apart
+
+  either : (e : K × V) (es : List (K × V)) (b : Bool) → eq k e.0 ≡ b → lookup test (insert_entry eq es k v) ≡ cond (test k) (Some v) (lookup test es)
+      → lookup test (cond b ((e.0, v) ∷ es) (e ∷ insert_entry eq es k v)) ≡ cond (test k) (Some v) (cond (test e.0) (Some e.1) (lookup test es))
+  either e es true h next = there e es (test e.0) (alike k e.0 h)
+  either e es false h next = other e es (test e.0) refl h next
+
+  -- a test that equal keys pass alike finds what was put in, or what was there
+  lookup-insert : (es : List (K × V)) → lookup test (insert_entry eq es k v) ≡ cond (test k) (Some v) (lookup test es)
+  lookup-insert [] = refl
+  lookup-insert (e ∷ es) = either e es (eq k e.0) refl (lookup-insert es)
+
+-- the index of the file that each module is, one file more
+pub place_more : (m : List (List ℕ)) (files : List (Rc SourceFileOf Global)) (left : ℕ) (file : Rc SourceFileOf Global) (old new : List (Vec (List ℕ) Global × ℕ)) (key : Vec (List ℕ) Global)
+    → 0 < left → left ≤ length files → file ≡ get_or files (left - 1) file → key.items ≡ (source_in file.value).name
+    → new ≡ insert_entry (λ x y. same_module x.items y.items) old key (left - 1)
+    → lookup (λ parts. same_module m parts.items) old ≡ position_from (λ f. same_module m f.name) left (sources_in (drop left files))
+    → lookup (λ parts. same_module m parts.items) new ≡ position_from (λ f. same_module m f.name) (left - 1) (sources_in (drop (left - 1) files))
+place_more m files left file old new key some within is named put before =
+    let test : Vec (List ℕ) Global → Bool = λ parts. same_module m parts.items in
+    let t : SourceFile → Bool = λ f. same_module m f.name in
+    let below : left - 1 < length files = omega arith in
+    let next : suc (left - 1) ≡ left = omega arith in
+    let onward : left - 1 + 1 ≡ left = omega arith in
+    let first : drop (left - 1) files ≡ file ∷ drop left files = drop-cons files (left - 1) file below ∙ ap (λ x. x ∷ drop (suc (left - 1)) files) (sym is) ∙ ap (λ n. file ∷ drop n files) next in
+    let found = lookup-insert (λ x y. same_module x.items y.items) test (λ x y h. ap (same_module m) (same_module-is x.items y.items h))
+    (λ x y g h. same_module-same x.items y.items (sym (same_module-is m x.items g) ∙ same_module-is m y.items h)) key (left - 1) old in
+    ap (lookup test) put ∙ found ∙ ap (λ n. cond (same_module m n) (Some (left - 1)) (lookup test old)) named
+    ∙ ap (cond (t (source_in file.value)) (Some (left - 1))) (before ∙ ap (λ n. position_from t n (sources_in (drop left files))) (sym onward))
+    ∙ ap (λ l. position_from t (left - 1) (sources_in l)) (sym first)
+
+length-sources : (files : List (Rc SourceFileOf Global)) → length (sources_in files) ≡ length files
+length-sources [] = refl
+length-sources (f ∷ files) = ap suc (length-sources files)
+
+-- the source of a file is the source at its place
+pub source_at : (files : List (Rc SourceFileOf Global)) (i : ℕ) (file : Rc SourceFileOf Global) → i < length files → file ≡ get_or files i file → Some (source_in file.value) ≡ slice_get (sources_in files) i
+source_at [] i file within is = absurd (omega arith)
+source_at (f ∷ files) zero file within is = ap (λ (x : Rc SourceFileOf Global). Some (source_in x.value)) is
+source_at (f ∷ files) (suc i) file within is = let below : i < length files = omega arith in source_at files i file below is
+
+module _ (files : List (Rc SourceFileOf Global)) (m : List (List ℕ)) where
+  -- the place of a module is within the files
+  pub module_within : (i : ℕ) → position_from (λ (f : SourceFile). same_module m f.name) 0 (sources_in files) ≡ Some i → i < length files
+  module_within i h =
+      let below : i < 0 + length (sources_in files) = place_within (λ (f : SourceFile). same_module m f.name) 0 i (sources_in files) h in
+      omega (arith, length-sources files)
+
+  -- the file of a module is the one at its place
+  pub module_at : (o : Option ℕ) → o ≡ position_from (λ (f : SourceFile). same_module m f.name) 0 (sources_in files) → chosen o (sources_in files) ≡ file_of (sources_in files) m
+  module_at o h = ap (λ p. chosen p (sources_in files)) h ∙ sym (found_at (λ (f : SourceFile). same_module m f.name) [] (sources_in files))
+
+-- a list begins with itself
+begins_with_itself : (parts : List (List ℕ)) → starts_with bytes_eq parts parts ≡ true
+begins_with_itself [] = refl
+begins_with_itself (part ∷ parts) = rw ((bytes_eq-Decides part part).1 refl) (begins_with_itself parts)
+
+above_here : (m : List (List ℕ)) (n : ℕ) (file : SourceFile) (files : List SourceFile) (b : Bool) → (b ≡ true → is_within m file.name ≡ true)
+    → (is_some (position_from (λ f. same_module m f.name) (n + 1) files) ≡ true → list_any (is_within m) (map (λ f. f.name) files) ≡ true)
+    → is_some (cond b (Some n) (position_from (λ f. same_module m f.name) (n + 1) files)) ≡ true → (is_within m file.name || list_any (is_within m) (map (λ f. f.name) files)) ≡ true
+above_here m n file files true here later h = ap (λ b. b || list_any (is_within m) (map (λ f. f.name) files)) (here refl)
+above_here m n file files false here later h = ap (λ b. is_within m file.name || b) (later h) ∙ or_true (is_within m file.name)
+  where
+    or_true : (b : Bool) → (b || true) ≡ true
+    or_true true = refl
+    or_true false = refl
+
+-- a module that has a place is above a file
+above_placed : (m : List (List ℕ)) (n : ℕ) (files : List SourceFile) → is_some (position_from (λ f. same_module m f.name) n files) ≡ true → list_any (is_within m) (map (λ f. f.name) files) ≡ true
+above_placed m n [] h = cc
+above_placed m n (file ∷ files) h =
+    above_here m n file files (same_module m file.name) (λ same. let is = same_module-is m file.name same in ap (λ p. starts_with bytes_eq file.name p) is ∙ begins_with_itself file.name) (above_placed m (n + 1) files) h
+
+-- a module that has a place is there
+pub there_placed : (m : List (List ℕ)) (files : List SourceFile) → is_some (position_from (λ f. same_module m f.name) 0 files) ≡ true → true ≡ has_module files m
+there_placed m files h = by (is_root m || is_some (fixed_module m)) ∙ ap (λ b. (is_root m || is_some (fixed_module m)) || b) (sym (above_placed m 0 files h))
+  where
+    by : (b : Bool) → true ≡ (b || true)
+    by true = refl
+    by false = refl

@@ -1,0 +1,12 @@
+use Rattle.std.proofs.Common.{◌≡◌, ℕ, suc, ◌+◌, ◌-◌, sym, ap, ◌∙◌, arith}
+use Rattle.pyc_names.specs.Following.{step, leads}
+use Rattle.pyc_names.specs.FollowingView.{qualified_of, step_of}
+use Rattle.pyc_names.specs.TableView.{table_in}
+use Rattle.pyc_names.proofs.FollowingLemmas.{walk-leads}
+use Rattle.pyc_names.proofs.table.Table.follow.Goals as goal
+
+pub loop-turn-preserved : goal.loop-turn-preserved
+loop-turn-preserved c =
+    let left : c.args.self.now.steps - c.loop-turn.turn ≡ suc (c.args.self.now.steps - (c.loop-turn.turn + 1)) = omega arith in
+    let led = sym c.in_ok-found.ensures ∙ ap step_of c.in-Leads.is in
+    sym (walk-leads _ _ _ _ _ left led) ∙ c.loop-turn.invariant

@@ -1,0 +1,25 @@
+-- The plain file that one of the code is.
+use Rattle.std.specs.Prelude.{List, map, string_bytes}
+use Rattle.std.specs.declared.alloc.Global.{Global}
+use Rattle.std.specs.declared.rc.Rc.{Rc}
+use Rattle.pyc_ast.specs.Modules.{outcome_of}
+use Rattle.pyc_bindings.specs.BindingView.{binding_of}
+use Rattle.pyc_bindings.specs.RedefinitionView.{redefinition_of}
+use Rattle.pyc_names.specs.declared.source_file.SourceFile.{SourceFile as SourceFileOf}
+use Rattle.pyc_names.specs.SourceFiles.{SourceFile}
+
+-- the plain file that one of the code is
+abbrev pub source_in : SourceFileOf → SourceFile
+source_in file =
+    record {
+      path = string_bytes file.path;
+      name = file.name;
+      is_package = file.is_package;
+      outcome = outcome_of file.outcome;
+      bindings = map binding_of file.bindings.items;
+      again = map redefinition_of file.again.items;
+    }
+
+-- the plain files that shared ones are
+abbrev pub sources_in : List (Rc SourceFileOf Global) → List SourceFile
+sources_in files = map (λ file. source_in file.value) files

@@ -1,0 +1,356 @@
+//! The files of a workspace, and what the names of their modules stand for.
+
+ghost use Rattle.std.specs.Prelude.{◌≡◌, ℕ, List, suc, ◌+◌, ◌^◌, ◌<◌, map, count_by, IfOk, option_map};
+ghost use Rattle.std.specs.List.{list_any, position_from};
+ghost use Rattle.pyc_bindings.specs.BindingView.{binding_of, binding_form_of};
+ghost use Rattle.pyc_names.specs.FixedModules.{fixed_module as fixed_module_of};
+ghost use Rattle.pyc_names.specs.Following as spec;
+ghost use Rattle.pyc_names.specs.Following.{import_count};
+ghost use Rattle.pyc_names.specs.FollowingView.{qualified_of, referent_of, step_of};
+ghost use Rattle.pyc_names.specs.Presence.{is_within};
+ghost use Rattle.pyc_names.specs.SourceFiles.{file_of};
+ghost use Rattle.pyc_names.specs.ModuleName.{same_module};
+ghost use Rattle.indexmap.specs.IndexMap.{get_by};
+ghost use Rattle.pyc_names.specs.SourceFileView.{source_in, sources_in};
+
+use crate::fixed::{FixedName, fixed_module, fixed_name};
+use crate::imports::{joined, named_module};
+use crate::module_name::ModuleName;
+use crate::qualified_name::{QualifiedName, Referent, Step};
+use crate::source_file::SourceFile;
+use indexmap::IndexMap;
+use pyc_ast::{Outcome, Text};
+use pyc_bindings::{Binding, BindingForm, declaration};
+use std::alloc::{AllocError, Global};
+use std::rc::Rc;
+use std::slice;
+
+/// The files of a workspace, shared, and what the names of their modules stand for.
+#[derive(Drop)]
+pub struct Table {
+    files: Vec<Rc<SourceFile>>,
+    /// The index of the file that each module is.
+    places: IndexMap<Vec<Text>, usize>,
+    /// How many steps following takes at most: one for each from-import at the top level of the files, and a last one.
+    steps: u128,
+    ghost places_are: { (m : List (List ℕ)) → get_by (λ parts. same_module m parts.items) places
+        ≡ position_from (λ file. same_module m file.name) 0 (sources_in files.items) },
+    ghost steps_is: { steps ≡ suc (import_count (sources_in files.items)) },
+}
+
+impl Table {
+    ghost use Rattle.pyc_names.specs.TableView.{table_in};
+
+    /// The table of these files, which it shares. The only error is that memory runs out.
+    pub fn build(alloc: Global, files: &[Rc<SourceFile>]) -> Result<Table, AllocError>
+        ensures { IfOk result (λ table. table_in table ≡ sources_in files.now) }
+    {
+        let mut shared = Vec::with_capacity(alloc, files.len())?;
+        for file in files {
+            shared.push(file.clone()?)?;
+        }
+        Ok(Table {
+            places: places_of(alloc, &shared)?,
+            steps: count_imports(&shared) + 1,
+            files: shared,
+        })
+    }
+
+    /// The files, in their order.
+    pub fn files(&self) -> &[Rc<SourceFile>]
+        ensures { sources_in result.now ≡ table_in self.now }
+    {
+        &self.files
+    }
+
+    /// Whether the module with these parts is there: the root, a fixed one, or one that a file names or lies under. It
+    /// takes no memory.
+    pub fn has_module(&self, parts: &[Text]) -> bool
+        ensures { result ≡ spec.has_module (table_in self.now) parts.now }
+    {
+        if self.places.get(parts).is_some() {
+            return true;
+        }
+        parts.is_empty() || fixed_module(parts).is_some() || is_above_a_file(&self.files, parts)
+    }
+
+    /// The file that is the module with these parts. It takes no memory.
+    pub fn file(&self, parts: &[Text]) -> Option<&SourceFile>
+        ensures { option_map (λ file. source_in file.now) result ≡ file_of (table_in self.now) parts.now }
+    {
+        match self.places.get(parts) {
+            Some(place) => Some(&self.files[*place]),
+            None => None,
+        }
+    }
+
+    /// What a name stands for. The only error is that memory runs out.
+    #[tactic(auto, unfolding(crate::specs::Following::follow))]
+    pub fn follow(&self, alloc: Global, q: &QualifiedName) -> Result<Referent, AllocError>
+        ensures { IfOk result (λ found. referent_of found ≡ spec.follow (table_in self.now) (qualified_of q.now)) }
+    {
+        let mut at = q.clone()?;
+        for turn in 0..self.steps {
+            match self.step(alloc, &at)? {
+                Step::Ends(found) => return Ok(found),
+                Step::Leads(next) => at = next,
+            }
+        }
+        Ok(Referent::Cycle)
+    }
+
+    /// Whether a name is on a ring: following it comes back to it. The only error is that memory runs out.
+    #[tactic(auto, unfolding(crate::specs::Following::on_ring))]
+    pub fn is_on_ring(&self, alloc: Global, q: &QualifiedName) -> Result<bool, AllocError>
+        ensures { IfOk result (λ found. found ≡ spec.on_ring (table_in self.now) (qualified_of q.now)) }
+    {
+        let mut at = q.clone()?;
+        for turn in 1..self.steps {
+            match self.step(alloc, &at)? {
+                Step::Ends(_) => return Ok(false),
+                Step::Leads(next) => at = next,
+            }
+            if at.is_same(q) {
+                return Ok(true);
+            }
+        }
+        Ok(false)
+    }
+
+    /// The step from a name.
+    #[tactic(auto, unfolding(crate::specs::Following::step))]
+    fn step(&self, alloc: Global, q: &QualifiedName) -> Result<Step, AllocError>
+        ensures { IfOk result (λ found. step_of found ≡ spec.step (table_in self.now) (qualified_of q.now)) }
+    {
+        if !self.has_module(q.home.parts()) {
+            return Ok(Step::Ends(Referent::NoModule));
+        }
+        self.module_step(alloc, q)
+    }
+
+    /// The step from a name of a module that is there.
+    fn module_step(&self, alloc: Global, q: &QualifiedName) -> Result<Step, AllocError>
+        ensures { IfOk result (λ found. step_of found
+            ≡ spec.module_step (table_in self.now) (qualified_of q.now) (fixed_module_of q.now.home)) }
+    {
+        match fixed_module(q.home.parts()) {
+            Some(fixed) => Ok(Step::Ends(fixed_referent(q, fixed_name(fixed, q.name.as_str()))?)),
+            None => self.file_step(alloc, q),
+        }
+    }
+
+    /// The step from a name of a module that is no fixed one.
+    fn file_step(&self, alloc: Global, q: &QualifiedName) -> Result<Step, AllocError>
+        ensures { IfOk result (λ found. step_of found
+            ≡ spec.file_step (table_in self.now) (qualified_of q.now) (file_of (table_in self.now) q.now.home)) }
+    {
+        match self.file(q.home.parts()) {
+            Some(file) => self.outcome_step(alloc, q, file),
+            None => Ok(Step::Ends(self.unbound_referent(alloc, q)?)),
+        }
+    }
+
+    /// The step from a name of a file.
+    fn outcome_step(
+        &self,
+        alloc: Global,
+        q: &QualifiedName,
+        file: &SourceFile,
+    ) -> Result<Step, AllocError>
+        ensures { IfOk result (λ found. step_of found
+            ≡ spec.outcome_step (table_in self.now) (qualified_of q.now) (source_in file.now)
+            (source_in file.now).outcome) }
+    {
+        match file.outcome() {
+            Outcome::Tree(_) => self.binding_step(
+                alloc,
+                q,
+                file,
+                declaration(file.bindings(), &q.name),
+            ),
+            Outcome::Fault(_) => Ok(Step::Ends(Referent::Unknown)),
+        }
+    }
+
+    /// The step from a name of a file with this declaration.
+    fn binding_step(
+        &self,
+        alloc: Global,
+        q: &QualifiedName,
+        file: &SourceFile,
+        found: Option<&Binding>,
+    ) -> Result<Step, AllocError>
+        ensures { IfOk result (λ step. step_of step
+            ≡ spec.binding_step (table_in self.now) (qualified_of q.now) (source_in file.now)
+            (option_map (λ b. binding_of b.now) found.entry)) }
+    {
+        match found {
+            Some(binding) => self.form_step(alloc, q, file, &binding.form),
+            None => Ok(Step::Ends(self.unbound_referent(alloc, q)?)),
+        }
+    }
+
+    /// The step from a declaration of this form in a file.
+    fn form_step(
+        &self,
+        alloc: Global,
+        q: &QualifiedName,
+        file: &SourceFile,
+        form: &BindingForm,
+    ) -> Result<Step, AllocError>
+        ensures { IfOk result (λ found. step_of found
+            ≡ spec.form_step (table_in self.now) (qualified_of q.now) (source_in file.now) (binding_form_of form.now)) }
+    {
+        match form {
+            BindingForm::ImportFrom(from, name) => {
+                let home = named_module(
+                    alloc,
+                    file.name(),
+                    file.is_package(),
+                    from.dots,
+                    &from.path,
+                )?;
+                self.import_step(alloc, q, home, name)
+            }
+            BindingForm::Import(imported) => {
+                Ok(Step::Ends(self.module_referent(alloc, &imported.path)?))
+            }
+            BindingForm::ImportFirst(first) => {
+                Ok(Step::Ends(self.module_referent(alloc, slice::from_ref(first))?))
+            }
+            _ => Ok(Step::Ends(Referent::Declared(q.clone()?))),
+        }
+    }
+
+    /// The step from a from-import of a name from a module, or from above the root.
+    fn import_step(
+        &self,
+        alloc: Global,
+        q: &QualifiedName,
+        home: Option<ModuleName>,
+        name: &Text,
+    ) -> Result<Step, AllocError>
+        ensures { IfOk result (λ found. step_of found
+            ≡ spec.import_step (table_in self.now) (qualified_of q.now) home name.now) }
+    {
+        match home {
+            Some(home) => self.step_to(
+                alloc,
+                q,
+                QualifiedName {
+                    home,
+                    name: name.clone()?,
+                },
+            ),
+            None => Ok(Step::Ends(Referent::NoModule)),
+        }
+    }
+
+    /// The step from a from-import that leads to a name.
+    fn step_to(
+        &self,
+        alloc: Global,
+        q: &QualifiedName,
+        next: QualifiedName,
+    ) -> Result<Step, AllocError>
+        ensures { IfOk result (λ found. step_of found
+            ≡ spec.step_to (table_in self.now) (qualified_of q.now) (qualified_of next)) }
+    {
+        if next.is_same(q) {
+            let under = joined(alloc, q.home.parts(), slice::from_ref(&q.name))?;
+            if self.has_module(under.parts()) {
+                return Ok(Step::Ends(Referent::Module(under)));
+            }
+        }
+        Ok(Step::Leads(next))
+    }
+
+    /// What a name that its module does not bind stands for.
+    fn unbound_referent(&self, alloc: Global, q: &QualifiedName) -> Result<Referent, AllocError>
+        ensures { IfOk result (λ found. referent_of found
+            ≡ spec.unbound_referent (table_in self.now) (qualified_of q.now)) }
+    {
+        let under = joined(alloc, q.home.parts(), slice::from_ref(&q.name))?;
+        if self.has_module(under.parts()) {
+            Ok(Referent::Module(under))
+        } else {
+            Ok(Referent::NoName)
+        }
+    }
+
+    /// The module with these parts, if it is there.
+    fn module_referent(&self, alloc: Global, parts: &[Text]) -> Result<Referent, AllocError>
+        ensures { IfOk result (λ found. referent_of found ≡ spec.module_referent (table_in self.now) parts.now) }
+    {
+        if self.has_module(parts) {
+            Ok(Referent::Module(joined(alloc, &[], parts)?))
+        } else {
+            Ok(Referent::NoModule)
+        }
+    }
+}
+
+/// What a name of a fixed module stands for.
+fn fixed_referent(q: &QualifiedName, found: Option<FixedName>) -> Result<Referent, AllocError>
+    ensures { IfOk result (λ referent. referent_of referent ≡ spec.fixed_referent (qualified_of q.now) found) }
+{
+    match found {
+        Some(_) => Ok(Referent::Declared(q.clone()?)),
+        None => Ok(Referent::Unknown),
+    }
+}
+
+/// Whether a file names the module with these parts or lies under it.
+fn is_above_a_file(files: &[Rc<SourceFile>], parts: &[Text]) -> bool
+    ensures { result ≡ list_any (is_within parts.now) (map (λ file. file.name) (sources_in files.now)) }
+{
+    for file in files {
+        if file.name().parts().starts_with(parts) {
+            return true;
+        }
+    }
+    false
+}
+
+/// The index of the file that each module is, which is the first that names it.
+fn places_of(
+    alloc: Global,
+    files: &[Rc<SourceFile>],
+) -> Result<IndexMap<Vec<Text>, usize>, AllocError>
+    ensures { IfOk result (λ places. (m : List (List ℕ)) → get_by (λ parts. same_module m parts.items) places
+        ≡ position_from (λ file. same_module m file.name) 0 (sources_in files.now)) }
+{
+    let mut places = IndexMap::new(alloc);
+    let mut left = files.len();
+    while left > 0 {
+        left -= 1;
+        let name = files[left].name().clone()?;
+        places.insert(name.parts, left)?;
+    }
+    Ok(places)
+}
+
+/// How many from-imports stand at the top level of files.
+fn count_imports(files: &[Rc<SourceFile>]) -> u128
+    ensures counted { result ≡ spec.import_count (sources_in files.now) }
+    ensures fits { result + 1 < 2 ^ 128 }
+{
+    let mut count = 0u128;
+    for file in files {
+        count += count_file_imports(file.bindings()) as u128;
+    }
+    count
+}
+
+/// How many of these bindings are from-imports.
+fn count_file_imports(bindings: &[Binding]) -> usize
+    ensures { result ≡ count_by (λ b. spec.is_import_from b.form) (map binding_of bindings.now) }
+{
+    let mut count = 0usize;
+    for binding in bindings {
+        if matches!(binding.form, BindingForm::ImportFrom(..)) {
+            count += 1;
+        }
+    }
+    count
+}

@@ -1,0 +1,6 @@
+pub mod FoundLemmas
+pub mod ListLemmas
+pub mod OrderLemmas
+pub mod RepeatLemmas
+pub mod SortLemmas
+pub mod TextLemmas

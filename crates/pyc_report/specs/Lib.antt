@@ -1,0 +1,4 @@
+pub mod Message
+pub mod Report
+pub mod Silencing
+pub mod Sort

@@ -1,0 +1,34 @@
+-- What a contract sees of a message: plain values.
+use Rattle.std.specs.Prelude.{ℕ, List, [], codes, string_bytes}
+use Rattle.pyc_report.specs.declared.message.Code.{Code}
+use Rattle.pyc_report.specs.declared.message.Code.TheVariants.{Assignment, AttrDefined, ImportNotFound, Misc, NoRedef}
+use Rattle.pyc_report.specs.declared.message.Code.TheVariants.{Syntax}
+use Rattle.pyc_report.specs.declared.message.MessageKind.{MessageKind}
+use Rattle.pyc_report.specs.declared.message.MessageKind.TheVariants.{Error, Note}
+use Rattle.pyc_report.specs.declared.message.Message.{Message as Declared}
+
+-- an error or a note: its line and its column, each counted from 1, its kind and its text
+pub record Message : Type 0 where
+  pub line : ℕ
+  pub column : ℕ
+  pub kind : MessageKind
+  pub text : List ℕ
+
+-- a code as it is printed
+abbrev pub code_name : Code → List ℕ
+code_name Assignment = codes "assignment"
+code_name AttrDefined = codes "attr-defined"
+code_name ImportNotFound = codes "import-not-found"
+code_name Misc = codes "misc"
+code_name NoRedef = codes "no-redef"
+code_name Syntax = codes "syntax"
+
+-- the code of a message of this kind as it is printed: none for a note
+abbrev pub code_of : MessageKind → List ℕ
+code_of (Error code) = code_name code
+code_of Note = []
+
+-- the message as plain values
+abbrev pub message_in : Declared → Message
+message_in message =
+    record { line = message.line; column = message.column; kind = message.kind; text = string_bytes message.text }

@@ -1,0 +1,12 @@
+//! The messages of a file, those that no ignore comment silences, and the report on checked files.
+#![tactic(auto)]
+
+mod checked;
+mod message;
+mod reporting;
+mod silencing;
+
+pub use checked::{Found, Report};
+pub use message::{Code, Message, MessageKind};
+pub use reporting::report;
+pub use silencing::drop_silenced;

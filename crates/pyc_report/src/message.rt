@@ -1,0 +1,59 @@
+//! An error or a note on a file.
+
+ghost use Rattle.std.specs.Prelude.{◌≡◌};
+ghost use Rattle.pyc_report.specs.Message.{code_name, code_of};
+
+/// The code of an error.
+#[derive(Clone, Copy, Debug, PartialEq, Eq)]
+pub enum Code {
+    Assignment,
+    AttrDefined,
+    ImportNotFound,
+    Misc,
+    NoRedef,
+    Syntax,
+}
+
+/// What a message is: an error with its code, or a note.
+#[derive(Clone, Copy, Debug, PartialEq, Eq)]
+pub enum MessageKind {
+    Error(Code),
+    Note,
+}
+
+/// An error or a note on a file. Its line and its column are counted from 1, the column in characters.
+#[derive(Debug, Drop)]
+pub struct Message {
+    pub line: usize,
+    pub column: usize,
+    pub kind: MessageKind,
+    pub text: String,
+}
+
+impl Code {
+    /// The code as it is printed between brackets.
+    pub fn name(self) -> &'static str
+        ensures { result.now ≡ code_name self }
+    {
+        match self {
+            Code::Assignment => "assignment",
+            Code::AttrDefined => "attr-defined",
+            Code::ImportNotFound => "import-not-found",
+            Code::Misc => "misc",
+            Code::NoRedef => "no-redef",
+            Code::Syntax => "syntax",
+        }
+    }
+}
+
+impl MessageKind {
+    /// The code of a message of this kind as it is printed: no text for a note.
+    pub fn code(self) -> &'static str
+        ensures { result.now ≡ code_of self }
+    {
+        match self {
+            MessageKind::Error(code) => code.name(),
+            MessageKind::Note => "",
+        }
+    }
+}
