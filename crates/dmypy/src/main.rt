@@ -5,10 +5,6 @@ pub mod check_files;
 #[cfg(test)]
 mod daemon_tests;
 pub mod disk;
-#[cfg(test)]
-mod lowering_tests;
-#[cfg(test)]
-mod parser_tests;
 pub mod session;
 #[cfg(test)]
 mod session_tests;
