@@ -4,5 +4,3 @@ mod fakes;
 mod imports;
 mod replies;
 mod rows;
-
-pub use fakes::OPTIONS;

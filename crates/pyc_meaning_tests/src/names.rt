@@ -1,6 +1,6 @@
 //! Files, with what the names of their modules stand for.
 
-use super::sources::{dotted, file_of, files_of, module_of, name_of, spelled};
+use crate::sources::{dotted, file_of, files_of, module_of, name_of, spelled};
 use pyc_ast::Outcome;
 use pyc_names::{Referent, Table, joined};
 use std::alloc::Global;

@@ -7,13 +7,13 @@ use std::alloc::{AllocError, Global};
 use std::rc::Rc;
 
 /// A file of this path and source, as names see it.
-pub fn file_of(alloc: Global, path: &str, source: &[u8]) -> Result<SourceFile, AllocError> {
+pub(crate) fn file_of(alloc: Global, path: &str, source: &[u8]) -> Result<SourceFile, AllocError> {
     let name = ModuleName::of_path(alloc, path)?;
     SourceFile::new(alloc, path, name, read(alloc, source)?)
 }
 
 /// Files, each of its path and source, shared.
-pub fn files_of(
+pub(crate) fn files_of(
     alloc: Global,
     sources: &[(&str, &str)],
 ) -> Result<Vec<Rc<SourceFile>>, AllocError> {
@@ -25,7 +25,7 @@ pub fn files_of(
 }
 
 /// The parts of a dotted name.
-pub fn dotted(alloc: Global, name: &str) -> Result<Vec<Text>, AllocError> {
+pub(crate) fn dotted(alloc: Global, name: &str) -> Result<Vec<Text>, AllocError> {
     let mut parts = Vec::new(alloc);
     for part in name.split('.') {
         if !part.is_empty() {
@@ -36,12 +36,12 @@ pub fn dotted(alloc: Global, name: &str) -> Result<Vec<Text>, AllocError> {
 }
 
 /// The module that a dotted name names.
-pub fn module_of(alloc: Global, name: &str) -> Result<ModuleName, AllocError> {
+pub(crate) fn module_of(alloc: Global, name: &str) -> Result<ModuleName, AllocError> {
     joined(alloc, &[], &dotted(alloc, name)?)
 }
 
 /// A name of the module that a dotted name names.
-pub fn name_of(alloc: Global, home: &str, name: &str) -> Result<QualifiedName, AllocError> {
+pub(crate) fn name_of(alloc: Global, home: &str, name: &str) -> Result<QualifiedName, AllocError> {
     Ok(QualifiedName {
         home: module_of(alloc, home)?,
         name: Text::new(alloc, name)?,
@@ -49,7 +49,7 @@ pub fn name_of(alloc: Global, home: &str, name: &str) -> Result<QualifiedName, A
 }
 
 /// A module's name with dots between its parts.
-pub fn spelled(alloc: Global, name: &ModuleName) -> Result<String, AllocError> {
+pub(crate) fn spelled(alloc: Global, name: &ModuleName) -> Result<String, AllocError> {
     let mut shown = String::new(alloc);
     for part in name.parts() {
         if !shown.is_empty() {

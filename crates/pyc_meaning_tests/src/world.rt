@@ -1,6 +1,6 @@
 //! Keys, with what the files of a workspace answer; the types of annotations and of literals.
 
-use super::sources::{file_of, files_of, module_of, name_of, spelled};
+use crate::sources::{file_of, files_of, module_of, name_of, spelled};
 use pyc_ast::{Module, Outcome, StmtForm};
 use pyc_iface::{
     Answer, Key, NameAnswer, NameKind, Presence, World, annotation_builtin, literal_type,

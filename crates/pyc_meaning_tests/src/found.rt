@@ -1,9 +1,8 @@
 //! Sources with the messages that are found in them.
 
-use super::sources::file_of;
-use crate::session_tests::OPTIONS;
+use crate::sources::file_of;
 use pyc_body::{count_units, found, unsilenced};
-use pyc_iface::World;
+use pyc_iface::{Options, World};
 use pyc_report::Message;
 use pyc_types::Builtins;
 use std::alloc::Global;
@@ -11,6 +10,13 @@ use std::fmt::Write;
 use std::rc::Rc;
 use std::slice;
 use std::test::Fail;
+
+/// What each file of the tests is looked at with.
+const OPTIONS: Options = Options {
+    ignore_missing: false,
+    check_untyped: false,
+    turns: 1_000_000,
+};
 
 /// These messages, each as its line, column, code and text, and ended by a `;`.
 fn shown(alloc: Global, messages: &[Message]) -> Result<String, Fail> {

@@ -1,6 +1,6 @@
 //! Decorators, the declarations of names, and names that are defined again.
 
-use super::sources::file_of;
+use crate::sources::file_of;
 use pyc_ast::{Expr, Outcome, Stmt, StmtForm, Text};
 use pyc_bindings::{
     Decorator, declaration, decorator_of, has_other, has_setter, is_decorated, redefinitions,
