@@ -35,9 +35,9 @@ pub sources_more : (files : List (Rc FileOf Global)) (i : ℕ) (file : Rc FileOf
 sources_more files i file at sources source shared within is same kept first last =
     let later = take_more files i file within ∙ ap (λ x. take i files ++ x ∷ []) (sym is) in
     let whole = ap (λ l. map source_of (files_in l)) later ∙ ap (map source_of) (map-append (λ (f : Rc FileOf Global). file_in f.value) (take i files) (file ∷ []))
-        ∙ map-append source_of (files_in (take i files)) (file_in file.value ∷ []) in
+    ∙ map-append source_of (files_in (take i files)) (file_in file.value ∷ []) in
     ∥∥₁_elim first squash₁ (λ f. ∥∥₁_elim last squash₁ (λ l. ∣ map-append (λ (x : Rc SourceFileOf Global). source_in x.value) sources (source ∷ []) ∙ ap (λ zs. zs ++ source_in source.value ∷ []) f
-        ∙ ap (λ z. map source_of (files_in (take i files)) ++ z ∷ []) (ap source_in kept ∙ l ∙ ap (λ x. source_of (file_in x)) same) ∙ sym whole ∣₁))
+    ∙ ap (λ z. map source_of (files_in (take i files)) ++ z ∷ []) (ap source_in kept ∙ l ∙ ap (λ x. source_of (file_in x)) same) ∙ sym whole ∣₁))
 
 unit_at : List ℕ → ℕ → Unit
 unit_at path index = record { path = path; index = index }
