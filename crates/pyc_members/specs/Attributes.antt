@@ -1,6 +1,6 @@
--- The attributes that a class's methods give its instances, in text order: each target `self.x`, where `self` stands for
--- the name by which the method has its instance (Python reference 3.13, "Instance methods" and "Assignment
--- statements"; mypy's documentation, "Instance and class attributes"). An augmented assignment and a `del` give none.
+-- The attributes that a class's methods give its instances, in text order: each target `self.x`, where `self` stands
+-- for the name by which the method has its instance (Python reference 3.13, "The standard type hierarchy", instance
+-- methods, and "Assignment statements"). An augmented assignment and a `del` give none.
 use Rattle.std.specs.Prelude.{ℕ, Bool, false, bytes_eq, List, [], ◌∷◌, ◌++◌, flat_map, Option, None, Some}
 use Rattle.std.specs.Prelude.{if◌then◌else◌}
 use Rattle.pyc_ast.specs.declared.position.Position.{Position}
@@ -8,7 +8,7 @@ use Rattle.pyc_ast.specs.Exprs.{Expr, expr}
 use Rattle.pyc_ast.specs.Exprs as form
 use Rattle.pyc_ast.specs.Statements.{Stmt, StmtForm, Stmts, FunctionDefinition, AnnotatedAssignment}
 use Rattle.pyc_ast.specs.Statements as plain
-use Rattle.pyc_ast.specs.Targets.{Target, target, TargetForm, attribute, unpacking, TargetElement, target_element}
+use Rattle.pyc_ast.specs.Targets.{Target, target, TargetForm, attribute, unpacking, target_element}
 use Rattle.pyc_ast.specs.Targets.{TargetElements, no_target, another_target}
 use Rattle.pyc_bindings.specs.Bindings.{form_of}
 use Rattle.pyc_bindings.specs.Scopes.{Part, PartForm, parts_of}
@@ -23,8 +23,8 @@ pub data AttributeForm : Type 0 where
   -- an item of a value, or what a `for` or a `with` assigns
   other : AttributeForm
 
--- an attribute: its name, where its target begins, its parentheses included, what gives it its type, and the head of the
--- method
+-- an attribute: its name, where its target begins, its parentheses included, what gives it its type, and the head of
+-- the method
 pub record SelfAttribute : Type 0 where
   pub name : List ℕ
   pub at : Position
@@ -49,7 +49,7 @@ self_attribute me at value n form =
     if is_name me.name value then record { name = n; at = at; form = form; method = me.method } ∷ [] else []
 
 abbrev mutual
-  -- the attributes in a target: nothing but the value of the whole is known
+  -- the attributes in a target, of which no value is known
   pub target_attributes : Target → Receiver → List SelfAttribute
   target_attributes (target at inside form) me = form_attributes form at me
 

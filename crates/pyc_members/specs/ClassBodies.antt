@@ -1,5 +1,6 @@
--- What a class statement binds, and what decides of a name in it (Python reference 3.13, "Class definitions"; mypy's
--- documentation, "Instance and class attributes"; the library reference, "Built-in Functions": property).
+-- What a class statement binds, and what decides of a name in it (Python reference 3.13, "Class definitions" and
+-- "Binding of names"; mypy's documentation, "Instance and class attributes"; the library reference, "Built-in
+-- Functions": property).
 use Rattle.std.specs.Prelude.{ℕ, Bool, true, false, not, ◌&&◌, bytes_eq, List, Option, None, Some, option_map}
 use Rattle.std.specs.List.{find, list_any}
 use Rattle.pyc_ast.specs.Statements.{Stmts}
@@ -53,14 +54,14 @@ abbrev pub or_else : Option OwnMember → Option OwnMember → Option OwnMember
 or_else (Some found) next = Some found
 or_else None next = next
 
--- the declaration of a name in the body, else its first annotation through the instance: along the order of a class both
--- decide before what a class assigns
+-- the declaration of a name in the body, else its first annotation through the instance: along the order of a class
+-- both decide before what a class assigns
 abbrev pub in_body_or_annotated : ClassBody → List ℕ → Option OwnMember
 in_body_or_annotated body name =
     or_else (option_map bound (declaration body.bindings name)) (annotated_through_self body name)
 
--- what decides of a name in one class: the declaration in the body, else the first annotation through the instance, else
--- the first that assigns through it
+-- what decides of a name in one class: the declaration in the body, else the first annotation through the instance,
+-- else the first that assigns through it
 abbrev pub own_member : ClassBody → List ℕ → Option OwnMember
 own_member body name = or_else (in_body_or_annotated body name) (assigned_through_self body name)
 

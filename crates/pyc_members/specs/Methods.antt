@@ -1,5 +1,5 @@
--- The methods of a class, and the name by which each has its instance (Python reference 3.13, "Class definitions" and
--- "Instance methods"; the library reference, "Built-in Functions": property, staticmethod and classmethod).
+-- The methods of a class, and the name by which each has its instance (Python reference 3.13, "The standard type
+-- hierarchy", instance methods; the library reference, "Built-in Functions": property, staticmethod and classmethod).
 use Rattle.std.specs.Prelude.{ℕ, Bool, true, false, List, [], ◌∷◌, flat_map, Option, None, Some, if◌then◌else◌}
 use Rattle.std.specs.List.{list_any}
 use Rattle.pyc_ast.specs.declared.parameter.ParameterKind.{ParameterKind}

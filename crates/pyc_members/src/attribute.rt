@@ -3,8 +3,8 @@
 use pyc_ast::{AnnotatedAssignment, Expr, FunctionDefinition, Position, Text};
 use std::rc::Rc;
 
-/// An attribute that a method gives its instance, as a target `self.x`: its name, where the target begins, what gives it
-/// its type, and the head of the method. Its parts of the tree are shared with it.
+/// An attribute that a method gives its instance, as a target `self.x`: its name, where the target begins, its
+/// parentheses included, what gives it its type, and the head of the method. Its parts of the tree are shared with it.
 #[derive(Drop)]
 pub struct SelfAttribute {
     pub name: Text,

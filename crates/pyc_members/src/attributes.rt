@@ -108,7 +108,8 @@ fn push_statement(
     found: &mut Vec<SelfAttribute>,
 ) -> Result<(), AllocError>
     ensures { OnOk result (map attribute_of found.new.items
-        ≡ map attribute_of found.old.items ++ spec.statement_attributes (receiver_of receiver.entry) (stmt_form_of form.now)) }
+        ≡ map attribute_of found.old.items
+        ++ spec.statement_attributes (receiver_of receiver.entry) (stmt_form_of form.now)) }
 {
     match form {
         StmtForm::Assign { targets, value } => push_assigned(receiver, targets, value, found),
@@ -170,7 +171,8 @@ fn push_target(
     found: &mut Vec<SelfAttribute>,
 ) -> Result<(), AllocError>
     ensures { OnOk result (map attribute_of found.new.items
-        ≡ map attribute_of found.old.items ++ spec.target_attributes (target_of target.now) (receiver_of receiver.entry)) }
+        ≡ map attribute_of found.old.items
+        ++ spec.target_attributes (target_of target.now) (receiver_of receiver.entry)) }
 {
     match &target.form {
         TargetForm::Attribute { value, name } => {
@@ -191,7 +193,8 @@ fn push_elements(
 ) -> Result<(), AllocError>
     ensures { OnOk result (map attribute_of found.new.items
         ≡ map attribute_of found.old.items
-        ++ spec.elements_attributes (target_elements (map target_element_of elements.now)) (receiver_of receiver.entry)) }
+        ++ spec.elements_attributes (target_elements (map target_element_of elements.now))
+        (receiver_of receiver.entry)) }
 {
     for element in elements {
         push_target(&element.target, receiver, found)?;

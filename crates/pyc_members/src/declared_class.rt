@@ -1,20 +1,24 @@
 //! The classes that a file declares.
 
-ghost use Rattle.std.specs.Prelude.{◌≡◌, ◌++◌, [], ◌∷◌, map, IfOk, OnOk};
+ghost use Rattle.std.specs.Prelude.{◌≡◌, ◌++◌, map, IfOk, OnOk};
 ghost use Rattle.pyc_ast.specs.Statements.{stmts};
 ghost use Rattle.pyc_ast.specs.StatementView.{block_of, class_of, stmt_of, stmt_form_of};
 ghost use Rattle.pyc_bindings.specs.BindingView.{binding_of};
 ghost use Rattle.pyc_bindings.specs.ScopeView.{part_of};
 ghost use Rattle.pyc_members.specs.DeclaredClasses as spec;
-ghost use Rattle.pyc_members.specs.DeclaredClassView.{declared_class_in, declared_class_of};
+ghost use Rattle.pyc_members.specs.DeclaredClassView.{declared_class_in, declared_class_of, places_in};
 
 use crate::class_body::ClassBody;
 use pyc_ast::{Block, ClassDefinition, Position, Stmt, StmtForm, Text};
-use pyc_bindings::{Binding, Part, PartForm, declaration, scope_parts};
+use pyc_bindings::{Binding, Part, PartForm, scope_parts};
 use std::alloc::{AllocError, Global};
+use std::collections::HashMap;
 use std::rc::Rc;
 
-/// A class that is the declaration of its name: the name, where the statement begins, its head, and what its body binds.
+/// The position at which each name is bound first.
+type FirstPlaces = HashMap<Text, Position>;
+
+/// A class that is the declaration of its name: the name, where the statement begins, its head, and what it binds.
 #[derive(Drop)]
 pub struct DeclaredClass {
     pub name: Text,
@@ -23,8 +27,8 @@ pub struct DeclaredClass {
     pub body: ClassBody,
 }
 
-/// The classes among these statements that are the declarations of their names among these bindings, in text order, with
-/// the blocks of `if`, `for`, `while`, `try` and `with` opened. The only error is that memory runs out.
+/// The classes among these statements that are the declarations of their names among these bindings, in text order,
+/// with the blocks of `if`, `for`, `while`, `try` and `with` opened. The only error is that memory runs out.
 #[tactic(auto, unfolding(crate::specs::DeclaredClasses::declared_classes))]
 pub fn declared_classes(
     alloc: Global,
@@ -35,26 +39,41 @@ pub fn declared_classes(
         ≡ spec.declared_classes (map binding_of bindings.now) (stmts (map stmt_of statements.now))) }
 {
     let parts = scope_parts(alloc, statements)?;
+    let places = first_places(alloc, bindings)?;
     let mut found = Vec::new(alloc);
     for part in &parts {
-        push_part(alloc, bindings, part, &mut found)?;
+        push_part(alloc, &places, part, &mut found)?;
     }
     Ok(found)
+}
+
+/// The position at which each name is bound first among these bindings.
+fn first_places(alloc: Global, bindings: &[Binding]) -> Result<FirstPlaces, AllocError>
+    ensures { IfOk result (λ places. places_in places ≡ spec.first_place (map binding_of bindings.now)) }
+{
+    let mut places = HashMap::new(alloc);
+    let mut left = bindings.len();
+    while left > 0 {
+        left -= 1;
+        let binding = &bindings[left];
+        places.insert(binding.name.clone()?, binding.place.at)?;
+    }
+    Ok(places)
 }
 
 /// Adds the class that a part of a scope declares.
 fn push_part(
     alloc: Global,
-    bindings: &[Binding],
+    places: &FirstPlaces,
     part: &Part<'_>,
     found: &mut Vec<Rc<DeclaredClass>>,
 ) -> Result<(), AllocError>
     ensures { OnOk result (map declared_class_in found.new.items
-        ≡ map declared_class_in found.old.items ++ spec.classes_of_part (map binding_of bindings.now) (part_of part.now)) }
+        ≡ map declared_class_in found.old.items ++ spec.classes_of_part (places_in places.now) (part_of part.now)) }
 {
     match part.form {
         PartForm::Statement(statement) => {
-            push_statement(alloc, bindings, part.place.at, &statement.form, found)
+            push_statement(alloc, places, part.place.at, &statement.form, found)
         }
         _ => Ok(()),
     }
@@ -63,18 +82,18 @@ fn push_part(
 /// Adds the class that a statement declares.
 fn push_statement(
     alloc: Global,
-    bindings: &[Binding],
+    places: &FirstPlaces,
     at: Position,
     form: &StmtForm,
     found: &mut Vec<Rc<DeclaredClass>>,
 ) -> Result<(), AllocError>
     ensures { OnOk result (map declared_class_in found.new.items
         ≡ map declared_class_in found.old.items
-        ++ spec.statement_classes (map binding_of bindings.now) at (stmt_form_of form.now)) }
+        ++ spec.statement_classes (places_in places.now) at (stmt_form_of form.now)) }
 {
     match form {
         StmtForm::Class { head, body } => {
-            if declares(bindings, &head.name, at) {
+            if stands_at(first_place(places, &head.name), at) {
                 found.push(Rc::new(alloc, declared_class(alloc, at, head, body)?)?)?;
             }
             Ok(())
@@ -83,12 +102,19 @@ fn push_statement(
     }
 }
 
-/// Whether the declaration of a name among these bindings stands at a position.
-fn declares(bindings: &[Binding], name: &Text, at: Position) -> bool
-    ensures { result ≡ spec.declares (map binding_of bindings.now) name.now at }
+/// The position at which a name is bound first.
+fn first_place(places: &FirstPlaces, name: &Text) -> Option<Position>
+    ensures { result ≡ places_in places.now name.now }
 {
-    match declaration(bindings, name) {
-        Some(first) => first.place.at == at,
+    places.get(name).copied()
+}
+
+/// Whether a position is there, and is this one.
+fn stands_at(place: Option<Position>, at: Position) -> bool
+    ensures { result ≡ spec.stands_at place at }
+{
+    match place {
+        Some(place) => place == at,
         None => false,
     }
 }

@@ -175,10 +175,7 @@ fn push_part<'a>(part: &Part<'a>, found: &mut Vec<Method<'a>>) -> Result<(), All
 }
 
 /// Adds the method that a statement defines.
-fn push_statement<'a>(
-    statement: &'a Stmt,
-    found: &mut Vec<Method<'a>>,
-) -> Result<(), AllocError>
+fn push_statement<'a>(statement: &'a Stmt, found: &mut Vec<Method<'a>>) -> Result<(), AllocError>
     ensures { OnOk result (map method_of found.new.items
         ≡ map method_of found.old.items ++ spec.statement_methods (stmt_of statement.now)) }
 {
