@@ -6,7 +6,7 @@ use Rattle.std.specs.Prelude.{if◌then◌else◌}
 use Rattle.pyc_ast.specs.declared.position.Position.{Position}
 use Rattle.pyc_ast.specs.Exprs.{Expr, expr}
 use Rattle.pyc_ast.specs.Exprs as form
-use Rattle.pyc_ast.specs.Statements.{Stmt, StmtForm, Stmts, FunctionDefinition, AnnotatedAssignment}
+use Rattle.pyc_ast.specs.Statements.{StmtForm, Stmts, FunctionDefinition, AnnotatedAssignment}
 use Rattle.pyc_ast.specs.Statements as plain
 use Rattle.pyc_ast.specs.Targets.{Target, target, TargetForm, attribute, unpacking, target_element}
 use Rattle.pyc_ast.specs.Targets.{TargetElements, no_target, another_target}
