@@ -1,0 +1,9 @@
+use Rattle.std.proofs.Common.{◌≡◌, map, drop}
+use Rattle.pyc_ast.specs.ExprView.{expr_of}
+use Rattle.pyc_members.specs.Methods.{has_static}
+use Rattle.pyc_members.proofs.method.has_static.Given as goal
+
+-- the answer is that of the decorators that are left
+abbrev pub invariant-loop-found : goal.invariant-loop-found
+invariant-loop-found l =
+    has_static (map expr_of (drop l.found-index l.decorators)) ≡ has_static (map expr_of l.decorators)
