@@ -1,0 +1,6 @@
+pub mod Tables
+pub mod Merge
+pub mod Rows
+pub mod Orders
+pub mod OrderView
+pub mod Passes

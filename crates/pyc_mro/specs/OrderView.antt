@@ -1,0 +1,28 @@
+-- The plain orders that those of the code are.
+use Rattle.std.specs.Prelude.{ℕ, List, map, unwrap_or, Option}
+use Rattle.std.specs.List.{slice_get}
+use Rattle.std.specs.declared.alloc.Global.{Global}
+use Rattle.std.specs.declared.rc.Rc.{Rc}
+use Rattle.std.specs.declared.vec.Vec.{Vec}
+use Rattle.pyc_mro.specs.declared.table.Base.{Base}
+use Rattle.pyc_mro.specs.declared.stored.StoredOrder.{StoredOrder}
+use Rattle.pyc_mro.specs.declared.orders.Order.{Order as OrderOf}
+use Rattle.pyc_mro.specs.declared.orders.Orders.{Orders}
+use Rattle.pyc_mro.specs.Orders.{Order, no_order}
+use Rattle.pyc_mro.specs.Tables.{Table}
+
+-- the table that vectors of bases are
+abbrev pub table_in : List (Vec Base Global) → Table
+table_in bases = map (λ row. row.items) bases
+
+-- the plain order that one of the code is
+abbrev pub order_in : OrderOf → Order
+order_in order = record { classes = order.classes.now; unknown = order.unknown }
+
+-- the plain order that a stored one is
+abbrev pub stored_in : StoredOrder → Order
+stored_in order = record { classes = order.classes.items; unknown = order.unknown }
+
+-- the order of a class in a table of orders; what is no class of the table has none
+abbrev pub order_at : Orders → ℕ → Order
+order_at orders c = unwrap_or (slice_get (map (λ order. stored_in order.value) orders.orders.items) c) no_order

@@ -1,0 +1,40 @@
+//! The ancestors of a class.
+
+ghost use Rattle.std.specs.Prelude.{◌≡◌, ◌<◌, IfOk, length};
+ghost use Rattle.pyc_mro.specs.Tables as spec;
+ghost use Rattle.pyc_mro.specs.OrderView.{table_in};
+
+use crate::Base;
+use std::alloc::{AllocError, Global};
+
+/// Whether a class is its own ancestor. The only error is that memory runs out.
+pub(crate) fn is_own_ancestor(
+    alloc: Global,
+    bases: &[Vec<Base>],
+    class: usize,
+) -> Result<bool, AllocError>
+    requires { class < length bases.now }
+    ensures { IfOk result (λ found. found ≡ spec.is_own_ancestor (table_in bases.now) class) }
+{
+    let mut marks = Vec::from_elem(alloc, false, bases.len())?;
+    let mut work = Vec::new(alloc);
+    mark(&bases[class], &mut marks, &mut work)?;
+    while let Some(next) = work.pop() {
+        mark(&bases[next], &mut marks, &mut work)?;
+    }
+    Ok(marks[class])
+}
+
+/// Marks the classes among bases, and notes those that had no mark.
+fn mark(bases: &[Base], marks: &mut [bool], work: &mut Vec<usize>) -> Result<(), AllocError> {
+    for base in bases {
+        if let Base::Class(class) = base
+            && *class < marks.len()
+            && !marks[*class]
+        {
+            marks[*class] = true;
+            work.push(*class)?;
+        }
+    }
+    Ok(())
+}
