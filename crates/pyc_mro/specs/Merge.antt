@@ -1,8 +1,9 @@
 -- The merge of C3 (Barrett and others, "A monotonic superclass linearization for Dylan"; "The Python 2.3 method
 -- resolution order").
 use Rattle.std.specs.Prelude.{ℕ, zero, suc, Bool, true, false, not, ◌==◌, if◌then◌else◌, List, [], ◌∷◌, length, map}
-use Rattle.std.specs.Prelude.{filter, sum_by, Option, None, Some, option_map}
+use Rattle.std.specs.Prelude.{◌+◌, filter, Option, None, Some, option_map}
 use Rattle.std.specs.List.{list_any, list_all}
+use Rattle.std.specs.Option.{option_or}
 
 -- whether a class stands in a row
 abbrev pub contains : List ℕ → ℕ → Bool
@@ -21,11 +22,15 @@ stands_in_tail c (head ∷ tail) = contains tail c
 abbrev pub is_free : List (List ℕ) → ℕ → Bool
 is_free rows c = not (list_any (stands_in_tail c) rows)
 
+-- the head of a row, if it stands in no tail of these rows
+abbrev pub free_head : List (List ℕ) → List ℕ → Option ℕ
+free_head rows [] = None
+free_head rows (head ∷ tail) = if is_free rows head then Some head else None
+
 -- the first head of the second rows that stands in no tail of the first rows
 abbrev pub first_free : List (List ℕ) → List (List ℕ) → Option ℕ
 first_free all [] = None
-first_free all ([] ∷ rows) = first_free all rows
-first_free all ((head ∷ tail) ∷ rows) = if is_free all head then Some head else first_free all rows
+first_free all (row ∷ rows) = option_or (free_head all row) (first_free all rows)
 
 -- whether a row is empty
 abbrev pub is_empty : List ℕ → Bool
@@ -43,7 +48,11 @@ abbrev pub merge_within : ℕ → List (List ℕ) → Option (List ℕ)
 merge_within zero rows = None
 merge_within (suc n) rows = merge_from (merge_within n) rows (first_free rows rows)
 
--- the merge of rows: each step but the last removes a class, so that there are no more than the rows have entries, and
--- a last one
+-- how many entries rows have
+abbrev pub entry_count : List (List ℕ) → ℕ
+entry_count [] = 0
+entry_count (row ∷ rows) = length row + entry_count rows
+
+-- the merge of rows: each step but the last removes an entry
 unfoldable pub merge : List (List ℕ) → Option (List ℕ)
-merge rows = merge_within (suc (sum_by length rows)) rows
+merge rows = merge_within (suc (entry_count rows)) rows

@@ -1,6 +1,6 @@
 //! The order of a class by those of its bases.
 
-ghost use Rattle.std.specs.Prelude.{◌≡◌, ◌<◌, IfOk, length, map, option_map};
+ghost use Rattle.std.specs.Prelude.{◌≡◌, ◌<◌, IfOk, length, map, option_map, ◌++◌, ◌∷◌, []};
 ghost use Rattle.std.specs.List.{list_any};
 ghost use Rattle.pyc_mro.specs.Orders as spec;
 ghost use Rattle.pyc_mro.specs.OrderView.{order_in, stored_in};
@@ -81,9 +81,7 @@ fn linear_order(
         return StoredOrder::alone(alloc, class, UnknownOrder::Base);
     }
     let written = classes_among(alloc, bases)?;
-    let mut rows = rows_of(alloc, orders)?;
-    rows.push(written.as_slice())?;
-    match merge(alloc, rows)? {
+    match merge(alloc, merged_rows(alloc, orders, &written)?)? {
         Some(others) => StoredOrder::known(class, others),
         None => StoredOrder::alone(alloc, class, UnknownOrder::Merge),
     }
@@ -101,13 +99,19 @@ fn has_unknown(orders: &[Order]) -> bool
     false
 }
 
-/// The classes of each of these orders.
-fn rows_of<'a>(alloc: Global, orders: &[Order<'a>]) -> Result<Vec<&'a [usize]>, AllocError>
-    ensures { IfOk result (λ rows. rows_in rows.items ≡ map (λ order. order.classes) (map order_in orders.now)) }
+/// The classes of each of these orders, and last the bases as they are written.
+fn merged_rows<'a, 'b: 'a>(
+    alloc: Global,
+    orders: &[Order<'b>],
+    written: &'a [usize],
+) -> Result<Vec<&'a [usize]>, AllocError>
+    ensures { IfOk result (λ rows. rows_in rows.items
+        ≡ map (λ order. order.classes) (map order_in orders.now) ++ (written.now ∷ [])) }
 {
-    let mut rows = Vec::with_capacity(alloc, orders.len())?;
+    let mut rows = Vec::new(alloc);
     for order in orders {
         rows.push(order.classes)?;
     }
+    rows.push(written)?;
     Ok(rows)
 }

@@ -32,13 +32,21 @@ fn first_free(rows: &[&[usize]]) -> Option<usize>
     ensures { result ≡ spec.first_free (rows_in rows.now) (rows_in rows.now) }
 {
     for row in rows {
-        if let Some(head) = row.first()
-            && is_free(rows, *head)
-        {
-            return Some(*head);
+        if let Some(head) = free_head(rows, row) {
+            return Some(head);
         }
     }
     None
+}
+
+/// The head of a row, if it stands in no tail of these rows.
+fn free_head(rows: &[&[usize]], row: &[usize]) -> Option<usize>
+    ensures { result ≡ spec.free_head (rows_in rows.now) row.now }
+{
+    match row.first() {
+        Some(head) if is_free(rows, *head) => Some(*head),
+        _ => None,
+    }
 }
 
 /// Whether a class stands in no tail of a row.
