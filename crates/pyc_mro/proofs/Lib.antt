@@ -1,2 +1,4 @@
 pub mod MergeLemmas
+pub mod TableLemmas
 pub mod OrderLemmas
+pub mod PassLemmas

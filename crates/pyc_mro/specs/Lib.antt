@@ -4,3 +4,4 @@ pub mod Rows
 pub mod Orders
 pub mod OrderView
 pub mod Passes
+pub mod Marks

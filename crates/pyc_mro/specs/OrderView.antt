@@ -23,6 +23,10 @@ order_in order = record { classes = order.classes.now; unknown = order.unknown }
 abbrev pub stored_in : StoredOrder → Order
 stored_in order = record { classes = order.classes.items; unknown = order.unknown }
 
--- the order of a class in a table of orders; what is no class of the table has none
+-- the order that is stored of a class; what is no class of the table has none
+abbrev pub stored_at : List (Rc StoredOrder Global) → ℕ → Order
+stored_at orders c = unwrap_or (slice_get (map (λ order. stored_in order.value) orders) c) no_order
+
+-- the order of a class among those of a table
 abbrev pub order_at : Orders → ℕ → Order
-order_at orders c = unwrap_or (slice_get (map (λ order. stored_in order.value) orders.orders.items) c) no_order
+order_at orders c = stored_at orders.orders.items c

@@ -1,7 +1,8 @@
 //! The ancestors of a class.
 
-ghost use Rattle.std.specs.Prelude.{◌≡◌, ◌<◌, IfOk, length};
+ghost use Rattle.std.specs.Prelude.{◌≡◌, ◌<◌, IfOk, OnOk, length};
 ghost use Rattle.pyc_mro.specs.Tables as spec;
+ghost use Rattle.pyc_mro.specs.Marks.{mark_one, mark_all};
 ghost use Rattle.pyc_mro.specs.OrderView.{table_in};
 
 use crate::Base;
@@ -25,16 +26,27 @@ pub(crate) fn is_own_ancestor(
     Ok(marks[class])
 }
 
-/// Marks the classes among bases, and notes those that had no mark.
-fn mark(bases: &[Base], marks: &mut [bool], work: &mut Vec<usize>) -> Result<(), AllocError> {
+/// Marks the classes among bases, and adds those that had no mark to the work. The only error is that memory runs out.
+fn mark(bases: &[Base], marks: &mut [bool], work: &mut Vec<usize>) -> Result<(), AllocError>
+    ensures { OnOk result (record { marks = marks.new; work = work.new.items }
+        ≡ mark_all (spec.classes_among bases.now) (record { marks = marks.old; work = work.old.items })) }
+{
     for base in bases {
-        if let Base::Class(class) = base
-            && *class < marks.len()
-            && !marks[*class]
-        {
-            marks[*class] = true;
-            work.push(*class)?;
+        if let Base::Class(class) = base {
+            mark_one(*class, marks, work)?;
         }
+    }
+    Ok(())
+}
+
+/// Marks a class that has no mark, and adds it to the work. The only error is that memory runs out.
+fn mark_one(class: usize, marks: &mut [bool], work: &mut Vec<usize>) -> Result<(), AllocError>
+    ensures { OnOk result (record { marks = marks.new; work = work.new.items }
+        ≡ mark_one (record { marks = marks.old; work = work.old.items }) class) }
+{
+    if class < marks.len() && !marks[class] {
+        marks[class] = true;
+        work.push(class)?;
     }
     Ok(())
 }

@@ -1,8 +1,9 @@
 //! The order of each class of a table.
 
-ghost use Rattle.std.specs.Prelude.{◌≡◌, ◌<◌, IfOk, ℕ, length, map, option_map};
-ghost use Rattle.pyc_mro.specs.Orders.{order_of, no_order};
-ghost use Rattle.pyc_mro.specs.OrderView.{table_in, order_in, order_at};
+ghost use Rattle.std.specs.Prelude.{◌≡◌, ◌<◌, IfOk, ℕ, suc, ◌&&◌, not, is_some, length, replicate, None};
+ghost use Rattle.pyc_mro.specs.Orders.{order_of};
+ghost use Rattle.pyc_mro.specs.OrderView.{table_in, order_in, stored_in, order_at};
+ghost use Rattle.pyc_mro.specs.Passes.{made_in, settled_order, kept_or_next, AreMade, IsNextPass};
 
 use crate::Base;
 use crate::ancestors::is_own_ancestor;
@@ -56,13 +57,16 @@ impl Orders {
     }
 }
 
-/// The order of a class, where this one was made of those of its bases.
+/// The order of a class of the table: the one that is made of those of its bases, if there is one.
 fn class_order(
     alloc: Global,
     bases: &[Vec<Base>],
     class: usize,
     made: &Option<Rc<StoredOrder>>,
 ) -> Result<Rc<StoredOrder>, AllocError>
+    requires { class < length bases.now }
+    ensures { IfOk result (λ order. stored_in order.value
+        ≡ settled_order (table_in bases.now) class (made_in made.now)) }
 {
     match made {
         Some(order) => order.clone(),
@@ -82,6 +86,8 @@ fn made_orders(
     alloc: Global,
     bases: &[Vec<Base>],
 ) -> Result<Vec<Option<Rc<StoredOrder>>>, AllocError>
+    ensures { IfOk result (λ made.
+        AreMade (table_in bases.now) (suc (length (table_in bases.now))) made.items) }
 {
     let mut made = no_orders(alloc, bases.len())?;
     for depth in 0..=bases.len() {
@@ -96,6 +102,7 @@ fn made_orders(
 
 /// So many classes without an order.
 fn no_orders(alloc: Global, count: usize) -> Result<Vec<Option<Rc<StoredOrder>>>, AllocError>
+    ensures { IfOk result (λ orders. orders.items ≡ replicate count None) }
 {
     let mut orders = Vec::with_capacity(alloc, count)?;
     for class in 0..count {
@@ -118,18 +125,39 @@ fn next_orders(
     bases: &[Vec<Base>],
     made: &[Option<Rc<StoredOrder>>],
 ) -> Result<Pass, AllocError>
+    requires { length bases.now ≡ length made.now }
+    ensures { IfOk result (λ pass. IsNextPass (table_in bases.now) made.now pass.orders.items pass.has_new) }
 {
-    let mut orders = Vec::with_capacity(alloc, bases.len())?;
+    let mut orders = Vec::with_capacity(alloc, made.len())?;
     let mut has_new = false;
-    for class in 0..bases.len() {
-        match &made[class] {
-            Some(order) => orders.push(Some(order.clone()?))?,
-            None => {
-                let order = next_order(alloc, class, &bases[class], made)?;
-                has_new = has_new || order.is_some();
-                orders.push(order)?;
-            }
-        }
+    for class in 0..made.len() {
+        let order = kept_or_next(alloc, class, &bases[class], made)?;
+        let is_new = is_new(&order, &made[class]);
+        has_new = has_new || is_new;
+        orders.push(order)?;
     }
     Ok(Pass { orders, has_new })
+}
+
+/// Whether a class has an order that had none before.
+fn is_new(order: &Option<Rc<StoredOrder>>, before: &Option<Rc<StoredOrder>>) -> bool
+    ensures { result ≡ (is_some (made_in order.now) && not (is_some (made_in before.now))) }
+{
+    order.is_some() && before.is_none()
+}
+
+/// The order that a class has, or else the one that it gets by those of its bases, if each has one.
+fn kept_or_next(
+    alloc: Global,
+    class: usize,
+    bases: &[Base],
+    made: &[Option<Rc<StoredOrder>>],
+) -> Result<Option<Rc<StoredOrder>>, AllocError>
+    requires { class < length made.now }
+    ensures { IfOk result (λ order. made_in order ≡ kept_or_next made.now class bases.now) }
+{
+    match &made[class] {
+        Some(order) => Ok(Some(order.clone()?)),
+        None => next_order(alloc, class, bases, made),
+    }
 }
