@@ -2,3 +2,4 @@ pub mod MergeLemmas
 pub mod TableLemmas
 pub mod OrderLemmas
 pub mod PassLemmas
+pub mod SearchLemmas

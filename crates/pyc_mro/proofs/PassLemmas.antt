@@ -11,7 +11,7 @@ use Rattle.std.proofs.lemmas.Option.{slice_get-map, slice_get-get_or}
 use Rattle.pyc_mro.specs.declared.stored.StoredOrder.{StoredOrder}
 use Rattle.pyc_mro.specs.declared.table.Base.{Base}
 use Rattle.pyc_mro.specs.Orders.{Order, next_order, order_within, base_orders, linear_order}
-use Rattle.pyc_mro.specs.OrderView.{table_in}
+use Rattle.pyc_mro.specs.TableView.{table_in}
 use Rattle.pyc_mro.specs.Passes.{made_in, made_at, kept_or_next, AreMade, IsNextPass}
 use Rattle.pyc_mro.specs.Tables.{Table, bases_of}
 use Rattle.pyc_mro.proofs.OrderLemmas.{base_orders-same, kept_or_within, order_within-stays}
@@ -46,13 +46,6 @@ module _ {X Y : Type 0} (v : X → Y) (d : Y) where
   ]
 
 -- ---- what the code reads
-
--- the bases of a class are its row
-pub bases_of-row : (bases : List (Vec Base Global)) (c : ℕ) (row : Vec Base Global) → c < length bases → row ≡ get_or bases c row → bases_of (table_in bases) c ≡ row.items
-bases_of-row bases c row below is =
-    let items : Vec Base Global → List Base = λ r. r.items in
-    let got : slice_get bases c ≡ Some row = slice_get-get_or bases c row below ∙ ap Some (sym is) in
-    ap (λ o. unwrap_or o []) (slice_get-map items bases c ∙ ap (option_map items) got)
 
 -- what is made of a class is what stands at its place
 pub made_at-read : (made : List (Option (Rc StoredOrder Global))) (c : ℕ) (x : Option (Rc StoredOrder Global)) → c < length made → x ≡ get_or made c x → made_at made c ≡ made_in x

@@ -1,4 +1,5 @@
 pub mod Tables
+pub mod TableView
 pub mod Merge
 pub mod Rows
 pub mod Orders

@@ -3,17 +3,10 @@ use Rattle.std.specs.Prelude.{ℕ, List, map, unwrap_or, Option}
 use Rattle.std.specs.List.{slice_get}
 use Rattle.std.specs.declared.alloc.Global.{Global}
 use Rattle.std.specs.declared.rc.Rc.{Rc}
-use Rattle.std.specs.declared.vec.Vec.{Vec}
-use Rattle.pyc_mro.specs.declared.table.Base.{Base}
 use Rattle.pyc_mro.specs.declared.stored.StoredOrder.{StoredOrder}
 use Rattle.pyc_mro.specs.declared.orders.Order.{Order as OrderOf}
 use Rattle.pyc_mro.specs.declared.orders.Orders.{Orders}
 use Rattle.pyc_mro.specs.Orders.{Order, no_order}
-use Rattle.pyc_mro.specs.Tables.{Table}
-
--- the table that vectors of bases are
-abbrev pub table_in : List (Vec Base Global) → Table
-table_in bases = map (λ row. row.items) bases
 
 -- the plain order that one of the code is
 abbrev pub order_in : OrderOf → Order

@@ -3,9 +3,9 @@
 ghost use Rattle.std.specs.Prelude.{◌≡◌, ◌<◌, IfOk, OnOk, length};
 ghost use Rattle.pyc_mro.specs.Tables as spec;
 ghost use Rattle.pyc_mro.specs.Marks.{mark_one, mark_all};
-ghost use Rattle.pyc_mro.specs.OrderView.{table_in};
+ghost use Rattle.pyc_mro.specs.TableView.{table_in};
 
-use crate::Base;
+use crate::table::{Base, bases_of};
 use std::alloc::{AllocError, Global};
 
 /// Whether a class is its own ancestor. The only error is that memory runs out.
@@ -19,9 +19,9 @@ pub(crate) fn is_own_ancestor(
 {
     let mut marks = Vec::from_elem(alloc, false, bases.len())?;
     let mut work = Vec::new(alloc);
-    mark(&bases[class], &mut marks, &mut work)?;
+    mark(bases_of(bases, class), &mut marks, &mut work)?;
     while let Some(next) = work.pop() {
-        mark(&bases[next], &mut marks, &mut work)?;
+        mark(bases_of(bases, next), &mut marks, &mut work)?;
     }
     Ok(marks[class])
 }

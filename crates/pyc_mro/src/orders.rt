@@ -2,13 +2,15 @@
 
 ghost use Rattle.std.specs.Prelude.{◌≡◌, ◌<◌, IfOk, ℕ, suc, ◌&&◌, not, is_some, length, replicate, None};
 ghost use Rattle.pyc_mro.specs.Orders.{order_of};
-ghost use Rattle.pyc_mro.specs.OrderView.{table_in, order_in, stored_in, order_at};
+ghost use Rattle.pyc_mro.specs.OrderView.{order_in, stored_in, order_at};
+ghost use Rattle.pyc_mro.specs.TableView.{table_in};
 ghost use Rattle.pyc_mro.specs.Passes.{made_in, settled_order, kept_or_next, AreMade, IsNextPass};
 
 use crate::Base;
 use crate::ancestors::is_own_ancestor;
 use crate::linear::next_order;
 use crate::stored::StoredOrder;
+use crate::table::bases_of;
 use pyc_class::UnknownOrder;
 use std::alloc::{AllocError, Global};
 use std::rc::Rc;
@@ -131,7 +133,7 @@ fn next_orders(
     let mut orders = Vec::with_capacity(alloc, made.len())?;
     let mut has_new = false;
     for class in 0..made.len() {
-        let order = kept_or_next(alloc, class, &bases[class], made)?;
+        let order = kept_or_next(alloc, class, bases_of(bases, class), made)?;
         let is_new = is_new(&order, &made[class]);
         has_new = has_new || is_new;
         orders.push(order)?;

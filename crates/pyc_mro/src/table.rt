@@ -2,6 +2,7 @@
 
 ghost use Rattle.std.specs.Prelude.{◌≡◌, IfOk};
 ghost use Rattle.pyc_mro.specs.Tables as spec;
+ghost use Rattle.pyc_mro.specs.TableView.{table_in};
 
 use std::alloc::{AllocError, Global};
 
@@ -12,6 +13,16 @@ pub enum Base {
     Class(usize),
     /// Any, or no class of known order.
     Unknown,
+}
+
+/// The bases of a class; what is no class of the table has none. Takes no memory.
+pub(crate) fn bases_of(bases: &[Vec<Base>], class: usize) -> &[Base]
+    ensures { result.now ≡ spec.bases_of (table_in bases.now) class }
+{
+    match bases.get(class) {
+        Some(row) => row.as_slice(),
+        None => &[],
+    }
 }
 
 /// The classes among bases. The only error is that memory runs out.

@@ -4,7 +4,7 @@ use Rattle.std.proofs.lemmas.List.{length-map}
 use Rattle.std.specs.declared.alloc.Global.{Global}
 use Rattle.std.specs.declared.vec.Vec.{Vec}
 use Rattle.pyc_mro.specs.declared.table.Base.{Base}
-use Rattle.pyc_mro.specs.OrderView.{table_in}
+use Rattle.pyc_mro.specs.TableView.{table_in}
 use Rattle.pyc_mro.specs.Passes.{AreMade}
 use Rattle.pyc_mro.proofs.PassLemmas.{AreMade-none, AreMade-more, AreMade-all}
 use Rattle.pyc_mro.proofs.orders.made_orders.Goals as goal

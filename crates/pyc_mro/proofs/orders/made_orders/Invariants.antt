@@ -1,4 +1,4 @@
-use Rattle.pyc_mro.specs.OrderView.{table_in}
+use Rattle.pyc_mro.specs.TableView.{table_in}
 use Rattle.pyc_mro.specs.Passes.{AreMade}
 use Rattle.pyc_mro.proofs.orders.made_orders.Given as goal
 

@@ -1,11 +1,11 @@
 use Rattle.std.proofs.Common.{◌≡◌, ℕ, ◌+◌, length, ◌&&◌, not, is_some, None, false, sym, ap, ◌∙◌, arith}
 use Rattle.std.proofs.lemmas.Bool.{false≢true}
 use Rattle.std.proofs.lemmas.List.{length_push}
-use Rattle.pyc_mro.specs.OrderView.{table_in}
+use Rattle.pyc_mro.specs.TableView.{table_in}
 use Rattle.pyc_mro.specs.Orders.{next_order}
 use Rattle.pyc_mro.specs.Passes.{made_in, made_at, kept_or_next}
 use Rattle.pyc_mro.specs.Tables.{bases_of}
-use Rattle.pyc_mro.proofs.PassLemmas.{each_more, bases_of-row, made_at-read, kept-same}
+use Rattle.pyc_mro.proofs.PassLemmas.{each_more, made_at-read, kept-same}
 use Rattle.pyc_mro.proofs.orders.next_orders.Goals as goal
 use Rattle.pyc_mro.proofs.orders.next_orders.Goals.{then-has_new, else-has_new}
 
@@ -13,10 +13,9 @@ pub loop-class-preserved : goal.loop-class-preserved
 loop-class-preserved c =
     let made = c.args.made.now in
     let class = c.loop-class.class in
-    let row = bases_of-row c.args.bases.now class c.index-bases-class.result (let e = c.requires in omega arith) c.index-bases-class.is in
     let order = c.in_ok-order.order in
     let next : made_in order ≡ kept_or_next made class (bases_of (table_in c.args.bases.now) class) =
-    c.in_ok-order.ensures ∙ ap (kept_or_next made class) (c.deref.ensures.value ∙ sym row) in
+    c.in_ok-order.ensures ∙ ap (kept_or_next made class) c.bases_of.ensures in
     let read = made_at-read made class c.index-made-class.result c.loop-class-test.true c.index-made-class.is in
     record {
       count = ap length c.in_ok-push.ensures.items ∙ length_push c.loop-class.orders.items order ∙ ap (λ n. n + 1) c.loop-class.invariant.count;

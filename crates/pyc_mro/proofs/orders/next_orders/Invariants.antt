@@ -1,5 +1,5 @@
 use Rattle.std.proofs.Common.{◌≡◌, ◌<◌, ℕ, length, false}
-use Rattle.pyc_mro.specs.OrderView.{table_in}
+use Rattle.pyc_mro.specs.TableView.{table_in}
 use Rattle.pyc_mro.specs.Passes.{made_at, kept_or_next}
 use Rattle.pyc_mro.specs.Tables.{bases_of}
 use Rattle.pyc_mro.proofs.orders.next_orders.Given as goal

@@ -1,6 +1,7 @@
 use Rattle.std.proofs.Common.{◌≡◌, ◌<◌, ℕ, length}
 use Rattle.pyc_mro.specs.Orders.{order_of}
-use Rattle.pyc_mro.specs.OrderView.{table_in, stored_at}
+use Rattle.pyc_mro.specs.OrderView.{stored_at}
+use Rattle.pyc_mro.specs.TableView.{table_in}
 use Rattle.pyc_mro.proofs.orders.Orders.build.Given as goal
 
 -- the classes so far have their orders
