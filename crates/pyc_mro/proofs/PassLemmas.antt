@@ -32,6 +32,11 @@ module _ {X Y : Type 0} (v : X → Y) (d : Y) where
   at-here [] x = refl
   at-here (y ∷ xs) x = at-here xs x
 
+  pub at-past : (xs : List X) (c : ℕ) → length xs ≤ c → at xs c ≡ d
+  at-past [] c past = refl
+  at-past (y ∷ xs) zero past = absurd (omega arith)
+  at-past (y ∷ xs) (suc c) past = at-past xs c (omega arith)
+
   -- one place more at which a fact holds
   pub each_more : (P : ℕ → Y → Type 0) (xs next : List X) (x : X) (n : ℕ) → length xs ≡ n → next ≡ xs ++ x ∷ []
       → ((c : ℕ) → c < n → P c (at xs c)) → P n (v x) → (c : ℕ) → c < n + 1 → P c (at next c)
