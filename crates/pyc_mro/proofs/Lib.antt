@@ -3,3 +3,5 @@ pub mod TableLemmas
 pub mod OrderLemmas
 pub mod PassLemmas
 pub mod SearchLemmas
+pub mod RowLemmas
+pub mod LawLemmas

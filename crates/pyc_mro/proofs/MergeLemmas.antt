@@ -25,7 +25,7 @@ module _ (c : ℕ) where
   entry_count-without (row ∷ rows) = omega (arith, length-without row, entry_count-without rows)
 
   -- a row without a class that does not stand there
-  without-absent : (row : List ℕ) → contains row c ≡ false → without c row ≡ row
+  pub without-absent : (row : List ℕ) → contains row c ≡ false → without c row ≡ row
   without-absent [] absent = refl
   without-absent (other ∷ row) absent =
       let parts = or_parts (other == c) (contains row c) absent in

@@ -60,7 +60,7 @@ module _ (table : Table) where
   within depth c = order_within table depth c
 
   -- the orders of the bases, where a class has an order
-  bases-made : (depth c : ℕ) (o : Order) → within (suc depth) c ≡ Some o
+  pub bases-made : (depth c : ℕ) (o : Order) → within (suc depth) c ≡ Some o
       → (os : List Order) × (base_orders (length table) (within depth) (bases_of table c) ≡ Some os) × (linear_order c (bases_of table c) os ≡ o)
   bases-made depth c o is = parts (base_orders (length table) (within depth) (bases_of table c)) is
     where
@@ -158,3 +158,8 @@ module _ (table : Table) where
   pub order_of-past : (c : ℕ) → length table ≤ c → no_order ≡ order_of table c
   unfolding order_of
   order_of-past c past = sym (cond-false (nat_lt c (length table)) (class_order table c) no_order (le-ltb c (length table) past))
+
+  -- a class of the table
+  pub order_of-within : (c : ℕ) → c < length table → order_of table c ≡ class_order table c
+  unfolding order_of
+  order_of-within c below = cond-true (nat_lt c (length table)) (class_order table c) no_order (lt-ltb c (length table) below)

@@ -6,3 +6,4 @@ pub mod Orders
 pub mod OrderView
 pub mod Passes
 pub mod Marks
+pub mod OrderLaws

@@ -2,6 +2,7 @@
 #![tactic(auto)]
 
 mod ancestors;
+pub mod laws;
 mod linear;
 mod merging;
 mod orders;
