@@ -1,16 +1,14 @@
 -- What the known orders hold.
-use Rattle.std.proofs.Common.{◌≡◌, ℕ, zero, suc, ◌<◌, ◌==◌, ◌||◌, ◌&&◌, ◌⊎◌, Bool, true, false, not, cond, nat_lt, is_some, List, [], ◌∷◌, ◌++◌, length, map, Option, None, Some, option_map, inl, inr, refl, sym, ap, subst, ◌∙◌, arith}
+use Rattle.std.proofs.Common.{◌≡◌, ℕ, zero, suc, ◌<◌, ◌==◌, ◌⊎◌, Bool, true, false, not, cond, nat_lt, is_some, List, [], ◌∷◌, length, map, Option, None, Some, inl, inr, refl, sym, ap, subst, ◌∙◌}
 use Rattle.std.specs.List.{list_any, slice_get}
-use Rattle.std.proofs.lemmas.Bool.{cases_Bool, cases_lt, and_from, or_cases, or_parts, or_left, or_right, eqb-true, eq-eqb, lt-ltb, le-ltb, cond-true, cond-false, true≢false, false≢true, false_from_ne_true, not_from_false}
+use Rattle.std.proofs.lemmas.Bool.{cases_lt, and_from, or_cases, or_parts, or_left, or_right, eqb-true, eq-eqb, lt-ltb, le-ltb, cond-true, cond-false, true≢false, false≢true, false_from_ne_true, not_from_false}
 use Rattle.std.proofs.lemmas.Option.{none-some, same_Some}
-use Rattle.pyc_class.specs.declared.order.UnknownOrder.{UnknownOrder}
 use Rattle.pyc_class.specs.declared.order.UnknownOrder.TheVariants as unknown
 use Rattle.pyc_mro.specs.declared.table.Base.{Base}
 use Rattle.pyc_mro.specs.declared.table.Base.TheVariants as base
 use Rattle.pyc_mro.specs.Merge.{contains, merge}
-use Rattle.pyc_mro.specs.Orders.{Order, is_unknown, known, alone, no_order, base_order, with_order, base_orders, merged_rows, merged_order, linear_order, order_within, order_below, class_order, order_of}
-use Rattle.pyc_mro.specs.OrderLaws.{IsKnown, classes_of, IsAncestor, is_distinct, Sublist, ended, kept, left_out, KnownAreOfTheTable, BeginsWithItself, HoldsAncestors, HoldsEachOnce, KeepsOrders, KeepsWrittenBases, HoldsItself, HoldsOrders}
-use Rattle.pyc_mro.specs.Passes.{settled_order}
+use Rattle.pyc_mro.specs.Orders.{Order, is_unknown, known, alone, no_order, base_order, base_orders, merged_rows, merged_order, linear_order, order_within, order_below, class_order, order_of}
+use Rattle.pyc_mro.specs.OrderLaws.{IsKnown, classes_of, is_distinct, Sublist, left_out, KnownAreOfTheTable, BeginsWithItself, HoldsAncestors, HoldsEachOnce, KeepsOrders, KeepsWrittenBases, HoldsItself, HoldsOrders}
 use Rattle.pyc_mro.specs.Tables.{Table, classes_among, bases_of, parents, reaches, is_own_ancestor}
 use Rattle.pyc_mro.proofs.OrderLemmas.{with_order-parts, bases-made, order_within-more, made-apart, settled-is, order_of-within, order_of-past}
 use Rattle.pyc_mro.proofs.RowLemmas.{Sublist-itself, Sublist-trans, Sublist-contains, Row, here, later, Row-before, Row-last, Row-cases, merge-keeps, merge-row, merge-once}
@@ -54,12 +52,12 @@ module _ (count : ℕ) (f : ℕ → Option Order) where
       let first : parts.0 ≡ known parts.0.classes = known-is parts.0 (none_from parts.0.unknown tests.0) in
       elim (cases_lt c count) [
         | inl below ↦
-          let made : f c ≡ Some (known parts.0.classes) =
-          sym (cond-true (nat_lt c count) (f c) (Some no_order) (lt-ltb c count below)) ∙ parts.2 ∙ ap Some first in
-          subst (AreKnown count f (base.Class c ∷ bases)) (ap (λ o. o ∷ parts.1) (sym first) ∙ whole) (one_base below made rest)
+            let made : f c ≡ Some (known parts.0.classes) =
+            sym (cond-true (nat_lt c count) (f c) (Some no_order) (lt-ltb c count below)) ∙ parts.2 ∙ ap Some first in
+            subst (AreKnown count f (base.Class c ∷ bases)) (ap (λ o. o ∷ parts.1) (sym first) ∙ whole) (one_base below made rest)
         | inr past ↦
-          let absent : Some no_order ≡ Some parts.0 = sym (cond-false (nat_lt c count) (f c) (Some no_order) (le-ltb c count past)) ∙ parts.2 in
-          absurd (true≢false (ap is_unknown (same_Some no_order parts.0 absent) ∙ tests.0))
+            let absent : Some no_order ≡ Some parts.0 = sym (cond-false (nat_lt c count) (f c) (Some no_order) (le-ltb c count past)) ∙ parts.2 in
+            absurd (true≢false (ap is_unknown (same_Some no_order parts.0 absent) ∙ tests.0))
       ]
 
   -- a base has an order, which is one of the rows
@@ -68,8 +66,8 @@ module _ (count : ℕ) (f : ℕ → Option Order) where
   base-row no_base b in' = absurd (false≢true in')
   base-row (one_base {c = c} {row = row} {bases = bases} below made rest) b in' = elim (or_cases (c == b) (contains (classes_among bases) b) in') [
     | inl same ↦
-      let is : c ≡ b = eqb-true c b same in
-      (row, here, ap f (sym is) ∙ made, subst (λ x. x < count) is below)
+        let is : c ≡ b = eqb-true c b same in
+        (row, here, ap f (sym is) ∙ made, subst (λ x. x < count) is below)
     | inr among ↦ let found = base-row rest b among in (found.0, later found.1, found.2, found.3)
   ]
 
@@ -141,12 +139,12 @@ module _ (table : Table) where
         let found = merge-row (merged_rows (bases_of table c) made.orders) made.merged made.merges d in' in
         elim (Row-cases (map (λ order. order.classes) made.orders) (parents table c) found.0 found.1) [
           | inl at ↦
-            let from = row-base (length table) (order_within table depth) made.bases found.0 at in
-            (from.0, found.0, from.1, from.2, from.3, at, inr found.2)
+              let from = row-base (length table) (order_within table depth) made.bases found.0 at in
+              (from.0, found.0, from.1, from.2, from.3, at, inr found.2)
           | inr last ↦
-            let among : contains (parents table c) d ≡ true = ap (λ l. contains l d) (sym last) ∙ found.2 in
-            let from = base-row (length table) (order_within table depth) made.bases d among in
-            (d, from.0, among, from.2, from.3, from.1, inl refl)
+              let among : contains (parents table c) d ≡ true = ap (λ l. contains l d) (sym last) ∙ found.2 in
+              let from = base-row (length table) (order_within table depth) made.bases d among in
+              (d, from.0, among, from.2, from.3, from.1, inl refl)
         ]
 
   -- each class of a known order has a known order, which stands in it
@@ -157,17 +155,20 @@ module _ (table : Table) where
       let made = how-made depth c classes is in
       elim (or_cases (c == d) (contains made.merged d) (sym (ap (λ l. contains l d) made.whole) ∙ in')) [
         | inl same ↦
-          let e : c ≡ d = eqb-true c d same in
-          (classes, subst (λ x. Has (suc depth) x classes) e is, subst (λ x. x < length table) e below, Sublist-itself classes)
+            let e : c ≡ d = eqb-true c d same in
+            (classes, subst (λ x. Has (suc depth) x classes) e is, subst (λ x. x < length table) e below, Sublist-itself classes)
         | inr among ↦
-          let from = merged-from depth c classes made d among in
-          let base_kept = order-kept depth c classes made from.1 from.5 in
-          let inner : (row : List ℕ) × Has depth d row × (d < length table) × Sublist row from.1 = elim (from.6) [
-            | inl e ↦ (from.1, subst (λ x. Has depth x from.1) e from.3, subst (λ x. x < length table) e from.4, Sublist-itself from.1)
-            | inr within ↦ order-in depth from.0 from.1 d from.4 from.3 within
-          ] in
-          (inner.0, order_within-more table depth d (known inner.0) inner.1, inner.2,
-          subst (λ l. Sublist inner.0 l) (sym made.whole) (left_out (Sublist-trans inner.3 base_kept)))
+            let from = merged-from depth c classes made d among in
+            let base_kept = order-kept depth c classes made from.1 from.5 in
+            let inner : (row : List ℕ) × Has depth d row × (d < length table) × Sublist row from.1 = elim (from.6) [
+              | inl e ↦ (from.1, subst (λ x. Has depth x from.1) e from.3, subst (λ x. x < length table) e from.4, Sublist-itself from.1)
+              | inr within ↦ order-in depth from.0 from.1 d from.4 from.3 within
+            ] in (
+              inner.0,
+              order_within-more table depth d (known inner.0) inner.1,
+              inner.2,
+              subst (λ l. Sublist inner.0 l) (sym made.whole) (left_out (Sublist-trans inner.3 base_kept)),
+            )
       ]
 
   -- each class of a known order is its own, or is reached
@@ -178,15 +179,15 @@ module _ (table : Table) where
       elim (or_cases (c == d) (contains made.merged d) (sym (ap (λ l. contains l d) made.whole) ∙ in')) [
         | inl same ↦ inl (eqb-true c d same)
         | inr among ↦
-          let from = merged-from depth c classes made d among in
-          let inner : (from.0 ≡ d) ⊎ ((n : ℕ) × (reaches table n from.0 d ≡ true)) = elim (from.6) [
-            | inl e ↦ inl e
-            | inr within ↦ reached-in depth from.0 from.1 d from.3 within
-          ] in
-          elim inner [
-            | inl e ↦ inr (1, reaches-base table 0 c d (ap (contains (parents table c)) (sym e) ∙ from.2))
-            | inr (n, there) ↦ inr (suc n, reaches-through table n c from.0 d from.2 there)
-          ]
+            let from = merged-from depth c classes made d among in
+            let inner : (from.0 ≡ d) ⊎ ((n : ℕ) × (reaches table n from.0 d ≡ true)) = elim (from.6) [
+              | inl e ↦ inl e
+              | inr within ↦ reached-in depth from.0 from.1 d from.3 within
+            ] in
+            elim inner [
+              | inl e ↦ inr (1, reaches-base table 0 c d (ap (contains (parents table c)) (sym e) ∙ from.2))
+              | inr (n, there) ↦ inr (suc n, reaches-through table n c from.0 d from.2 there)
+            ]
       ]
 
   -- the merge holds only what is reached
@@ -212,8 +213,8 @@ module _ (table : Table) where
       let among : contains made.merged d ≡ true = elim (parts.2) [
         | inl e ↦ Sublist-contains (bases-kept depth c classes made) d (ap (contains (parents table c)) (sym e) ∙ parts.1)
         | inr onward ↦
-          let from = base-row (length table) (order_within table depth) made.bases parts.0 parts.1 in
-          Sublist-contains (order-kept depth c classes made from.0 from.1) d (in-reached n depth parts.0 from.0 d from.2 onward)
+            let from = base-row (length table) (order_within table depth) made.bases parts.0 parts.1 in
+            Sublist-contains (order-kept depth c classes made from.0 from.1) d (in-reached n depth parts.0 from.0 d from.2 onward)
       ] in
       ap (λ l. contains l d) made.whole ∙ or_right (c == d) (contains made.merged d) among
 

@@ -1,5 +1,5 @@
 -- The merge, step by step.
-use Rattle.std.proofs.Common.{◌≡◌, ℕ, zero, suc, ◌+◌, ◌<◌, ◌≤◌, ◌==◌, Bool, true, false, not, cond, List, [], ◌∷◌, ◌++◌, Bor, length, map, take, drop, set, get_or, filter, Option, None, Some, option_map, refl, sym, ap, ap₂, ◌∙◌, arith, append_assoc, append-nil}
+use Rattle.std.proofs.Common.{◌≡◌, ℕ, zero, suc, ◌+◌, ◌<◌, ◌≤◌, ◌==◌, true, false, not, cond, List, [], ◌∷◌, ◌++◌, Bor, length, map, take, drop, set, get_or, Option, None, Some, option_map, refl, sym, ap, ap₂, ◌∙◌, arith, append_assoc, append-nil}
 use Rattle.std.specs.List.{list_any, list_all, slice_get}
 use Rattle.std.specs.Option.{option_or}
 use Rattle.std.proofs.lemmas.Bool.{or_parts, not-true, eq-eqb}
@@ -90,8 +90,8 @@ merge_within-enough (suc n) zero rows le le' = absurd (omega arith)
 merge_within-enough (suc n) (suc m) rows le le' = elim (first_free rows rows) as (λ o. first_free rows rows ≡ o → merge_from (merge_within n) rows o ≡ merge_from (merge_within m) rows o) [
   | None ↦ λ e. refl
   | Some c ↦ λ e.
-    let fewer = first_free-fewer rows c rows e in
-    ap (option_map (λ classes. c ∷ classes)) (merge_within-enough n m (map (without c) rows) (omega arith) (omega arith))
+      let fewer = first_free-fewer rows c rows e in
+      ap (option_map (λ classes. c ∷ classes)) (merge_within-enough n m (map (without c) rows) (omega arith) (omega arith))
 ] refl
 
 -- the merge by its first step
@@ -100,8 +100,8 @@ unfolding merge
 merge-step rows = elim (first_free rows rows) as (λ o. first_free rows rows ≡ o → merge_from (merge_within (entry_count rows)) rows o ≡ merge_from merge rows o) [
   | None ↦ λ e. refl
   | Some c ↦ λ e.
-    let fewer = first_free-fewer rows c rows e in
-    ap (option_map (λ classes. c ∷ classes)) (merge_within-enough (entry_count rows) (suc (entry_count (map (without c) rows))) (map (without c) rows) (omega arith) (omega arith))
+      let fewer = first_free-fewer rows c rows e in
+      ap (option_map (λ classes. c ∷ classes)) (merge_within-enough (entry_count rows) (suc (entry_count (map (without c) rows))) (map (without c) rows) (omega arith) (omega arith))
 ] refl
 
 -- ---- the code's steps

@@ -1,5 +1,5 @@
 -- Orders that are made of those of the bases.
-use Rattle.std.proofs.Common.{◌≡◌, ℕ, zero, suc, ◌+◌, ◌-◌, ◌<◌, ◌≤◌, ◌==◌, Bool, true, false, cond, nat_lt, List, [], ◌∷◌, ◌++◌, length, Option, None, Some, option_map, inl, inr, refl, sym, ap, ap₂, ◌∙◌, ◌⊎◌, arith}
+use Rattle.std.proofs.Common.{◌≡◌, ℕ, zero, suc, ◌+◌, ◌<◌, ◌≤◌, ◌==◌, Bool, true, false, cond, nat_lt, List, [], ◌∷◌, ◌++◌, length, Option, None, Some, option_map, inl, inr, refl, sym, ap, ap₂, ◌∙◌, arith}
 use Rattle.std.specs.Option.{option_or}
 use Rattle.std.proofs.lemmas.Bool.{ltb-true, lt-ltb, le-ltb, or_cases, eqb-true, false≢true, false_from_ne_true, cond-true, cond-false}
 use Rattle.std.proofs.lemmas.Option.{none-some, same_Some}
@@ -7,7 +7,7 @@ use Rattle.pyc_mro.specs.declared.table.Base.{Base}
 use Rattle.pyc_mro.specs.declared.table.Base.TheVariants as base
 use Rattle.pyc_mro.specs.Merge.{contains}
 use Rattle.pyc_class.specs.declared.order.UnknownOrder.TheVariants as unknown
-use Rattle.pyc_mro.specs.Orders.{Order, alone, no_order, base_order, with_order, base_orders, linear_order, next_order, order_within, order_below, class_order, order_of}
+use Rattle.pyc_mro.specs.Orders.{Order, alone, no_order, base_order, with_order, base_orders, linear_order, order_within, order_below, class_order, order_of}
 use Rattle.pyc_mro.specs.Passes.{settled_order}
 use Rattle.pyc_mro.specs.Tables.{Table, classes_among, bases_of, parents, reaches, is_own_ancestor}
 use Rattle.pyc_mro.proofs.TableLemmas.{reaches-within, reaches-parts}
@@ -104,8 +104,8 @@ module _ (table : Table) where
       let parts = with_order-parts (base_order (length table) f (base.Class c)) (base_orders (length table) f bases) os is in
       elim (or_cases (c == b) (contains (classes_among bases) b) in') [
         | inl here ↦
-          let same : c ≡ b = eqb-true c b here in
-          (parts.0, sym (cond-true (nat_lt b (length table)) (f b) (Some no_order) (lt-ltb b (length table) below)) ∙ ap (λ x. base_order (length table) f (base.Class x)) (sym same) ∙ parts.2)
+            let same : c ≡ b = eqb-true c b here in
+            (parts.0, sym (cond-true (nat_lt b (length table)) (f b) (Some no_order) (lt-ltb b (length table) below)) ∙ ap (λ x. base_order (length table) f (base.Class x)) (sym same) ∙ parts.2)
         | inr later ↦ base-made f bases parts.1 b parts.3 later below
       ]
 
@@ -118,8 +118,8 @@ module _ (table : Table) where
       elim (parts.2) [
         | inl here ↦ base-made (within depth) (bases_of table c) made.0 d made.1 (ap (contains (parents table c)) (sym here) ∙ parts.1) below
         | inr later ↦
-          let base = base-made (within depth) (bases_of table c) made.0 parts.0 made.1 parts.1 (reaches-within table n parts.0 d later) in
-          further depth parts.0 base.0 (λ less. reached-made n less parts.0 d base.0 below) base.1 later
+            let base = base-made (within depth) (bases_of table c) made.0 parts.0 made.1 parts.1 (reaches-within table n parts.0 d later) in
+            further depth parts.0 base.0 (λ less. reached-made n less parts.0 d base.0 below) base.1 later
       ]
     where
       further : (depth b : ℕ) (ob : Order) → ((less : ℕ) → within (suc less) b ≡ Some ob → reaches table n b d ≡ true → (x : Order) × (within less d ≡ Some x))

@@ -1,8 +1,7 @@
 -- Passes over a table, class by class.
-use Rattle.std.proofs.Common.{◌≡◌, ℕ, zero, suc, ◌+◌, ◌-◌, ◌<◌, ◌≤◌, ◌&&◌, ◌⊎◌, Bool, true, false, not, is_some, List, [], ◌∷◌, ◌++◌, length, map, replicate, get_or, unwrap_or, Option, None, Some, option_map, inl, inr, refl, sym, ap, subst, ◌∙◌, arith}
+use Rattle.std.proofs.Common.{◌≡◌, ℕ, zero, suc, ◌+◌, ◌-◌, ◌<◌, ◌≤◌, ◌&&◌, Bool, false, not, is_some, List, [], ◌∷◌, ◌++◌, length, map, replicate, get_or, unwrap_or, Option, None, Some, option_map, inl, inr, refl, sym, ap, subst, ◌∙◌, arith}
 use Rattle.std.specs.declared.alloc.Global.{Global}
 use Rattle.std.specs.declared.rc.Rc.{Rc}
-use Rattle.std.specs.declared.vec.Vec.{Vec}
 use Rattle.std.specs.List.{slice_get}
 use Rattle.std.specs.Option.{option_or}
 use Rattle.std.proofs.lemmas.Bool.{cases_eq, false≢true}
@@ -10,9 +9,8 @@ use Rattle.std.proofs.lemmas.List.{length-replicate}
 use Rattle.std.proofs.lemmas.Option.{slice_get-map, slice_get-get_or}
 use Rattle.pyc_mro.specs.declared.stored.StoredOrder.{StoredOrder}
 use Rattle.pyc_mro.specs.declared.table.Base.{Base}
-use Rattle.pyc_mro.specs.Orders.{Order, next_order, order_within, base_orders, linear_order}
-use Rattle.pyc_mro.specs.TableView.{table_in}
-use Rattle.pyc_mro.specs.Passes.{made_in, made_at, kept_or_next, AreMade, IsNextPass}
+use Rattle.pyc_mro.specs.Orders.{Order, next_order, order_within, linear_order}
+use Rattle.pyc_mro.specs.Passes.{made_in, made_at, AreMade, IsNextPass}
 use Rattle.pyc_mro.specs.Tables.{Table, bases_of}
 use Rattle.pyc_mro.proofs.OrderLemmas.{base_orders-same, kept_or_within, order_within-stays}
 
@@ -42,12 +40,12 @@ module _ {X Y : Type 0} (v : X → Y) (d : Y) where
       → ((c : ℕ) → c < n → P c (at xs c)) → P n (v x) → (c : ℕ) → c < n + 1 → P c (at next c)
   each_more P xs next x n long pushed before here c below = elim (cases_eq c n) [
     | inl is ↦
-      let seen : v x ≡ at next n = sym (ap (λ l. at l n) pushed ∙ ap (at (xs ++ x ∷ [])) (sym long) ∙ at-here xs x) in
-      subst (λ k. P k (at next k)) (sym is) (subst (P n) seen here)
+        let seen : v x ≡ at next n = sym (ap (λ l. at l n) pushed ∙ ap (at (xs ++ x ∷ [])) (sym long) ∙ at-here xs x) in
+        subst (λ k. P k (at next k)) (sym is) (subst (P n) seen here)
     | inr other ↦
-      let lower : c < n = omega arith in
-      let seen : at xs c ≡ at next c = sym (ap (λ l. at l c) pushed ∙ at-before xs x c (omega arith)) in
-      subst (P c) seen (before c lower)
+        let lower : c < n = omega arith in
+        let seen : at xs c ≡ at next c = sym (ap (λ l. at l c) pushed ∙ at-before xs x c (omega arith)) in
+        subst (P c) seen (before c lower)
   ]
 
 -- ---- what the code reads

@@ -1,8 +1,8 @@
 -- What a merge holds of its rows.
-use Rattle.std.proofs.Common.{◌≡◌, ℕ, zero, suc, ◌==◌, ◌||◌, ◌&&◌, ◌⊎◌, Bool, true, false, not, cond, List, [], ◌∷◌, ◌++◌, map, Option, None, Some, option_map, inl, inr, refl, sym, ap, subst, ◌∙◌}
+use Rattle.std.proofs.Common.{◌≡◌, ℕ, zero, suc, ◌==◌, ◌⊎◌, true, false, not, cond, List, [], ◌∷◌, ◌++◌, map, Option, None, Some, option_map, inl, inr, refl, sym, ap, subst, ◌∙◌}
 use Rattle.std.specs.List.{list_any, list_all}
 use Rattle.std.specs.Option.{option_or}
-use Rattle.std.proofs.lemmas.Bool.{cases_Bool, and_parts, and_from, or_cases, or_parts, or_left, or_right, not-true, eqb-true, eq-eqb, cond-true, cond-false, false≢true, false_from_ne_true, not_from_false}
+use Rattle.std.proofs.lemmas.Bool.{cases_Bool, and_parts, and_from, or_cases, or_parts, or_left, or_right, not-true, eqb-true, eq-eqb, false≢true, false_from_ne_true, not_from_false}
 use Rattle.std.proofs.lemmas.Option.{none-some, same_Some, cond_some}
 use Rattle.pyc_mro.specs.Merge.{contains, without, stands_in_tail, is_free, free_head, first_free, is_empty, merge_from, merge_within, entry_count, merge}
 use Rattle.pyc_mro.specs.OrderLaws.{is_distinct, Sublist, ended, kept, left_out}
@@ -68,8 +68,8 @@ without-contains : (c d : ℕ) (row : List ℕ) → contains (without c row) d �
 without-contains c d [] in' = absurd (false≢true in')
 without-contains c d (other ∷ row) in' = elim (cases_Bool (other == c)) [
   | inl same ↦
-    let rest = without-contains c d row (sym (ap (λ b. contains (cond (not b) (other ∷ without c row) (without c row)) d) same) ∙ in') in
-    (or_right (other == d) (contains row d) rest.0, rest.1)
+      let rest = without-contains c d row (sym (ap (λ b. contains (cond (not b) (other ∷ without c row) (without c row)) d) same) ∙ in') in
+      (or_right (other == d) (contains row d) rest.0, rest.1)
   | inr apart ↦ elim (or_cases (other == d) (contains (without c row) d) (sym (ap (λ b. contains (cond (not b) (other ∷ without c row) (without c row)) d) apart) ∙ in')) [
     | inl is ↦ (or_left (other == d) (contains row d) is, λ e. false≢true (sym apart ∙ eq-eqb other c (eqb-true other d is ∙ sym e)))
     | inr rest ↦ let found = without-contains c d row rest in (or_right (other == d) (contains row d) found.0, found.1)
@@ -123,8 +123,8 @@ keeps-row : (c : ℕ) (row merged : List ℕ) → stands_in_tail c row ≡ false
 keeps-row c [] merged free s = left_out s
 keeps-row c (head ∷ tail) merged free s = elim (cases_Bool (head == c)) [
   | inl same ↦
-    let tail_in : Sublist tail merged = subst (λ l. Sublist l merged) (ap (λ b. cond (not b) (head ∷ without c tail) (without c tail)) same ∙ without-absent c tail free) s in
-    subst (λ h. Sublist (h ∷ tail) (c ∷ merged)) (sym (eqb-true head c same)) (kept tail_in)
+      let tail_in : Sublist tail merged = subst (λ l. Sublist l merged) (ap (λ b. cond (not b) (head ∷ without c tail) (without c tail)) same ∙ without-absent c tail free) s in
+      subst (λ h. Sublist (h ∷ tail) (c ∷ merged)) (sym (eqb-true head c same)) (kept tail_in)
   | inr apart ↦ left_out (subst (λ l. Sublist l merged) (ap (λ b. cond (not b) (head ∷ without c tail) (without c tail)) apart ∙ ap (λ l. head ∷ l) (without-absent c tail free)) s)
 ]
 
@@ -137,11 +137,11 @@ merge_within-keeps : (n : ℕ) (rows : List (List ℕ)) (merged row : List ℕ) 
 merge_within-keeps zero rows merged row is at = absurd (none-some merged is)
 merge_within-keeps (suc n) rows merged row is at = elim (merge-parts n rows merged is) [
   | inl (empty, nothing) ↦
-    subst (λ l. Sublist row l) (sym nothing) (subst (λ l. Sublist l []) (sym (empty-row rows row empty at)) ended)
+      subst (λ l. Sublist row l) (sym nothing) (subst (λ l. Sublist l []) (sym (empty-row rows row empty at)) ended)
   | inr (c, rest, next, onward, whole) ↦
-    let free = not-true (list_any (stands_in_tail c) rows) (first_free-free rows c rows next) in
-    let inner = merge_within-keeps n (map (without c) rows) rest (without c row) onward (Row-map (without c) rows row at) in
-    subst (λ l. Sublist row l) (sym whole) (keeps-row c row rest (free-row c rows row free at) inner)
+      let free = not-true (list_any (stands_in_tail c) rows) (first_free-free rows c rows next) in
+      let inner = merge_within-keeps n (map (without c) rows) rest (without c row) onward (Row-map (without c) rows row at) in
+      subst (λ l. Sublist row l) (sym whole) (keeps-row c row rest (free-row c rows row free at) inner)
 ]
 
 -- ---- each class of the merge stands in a row, and once in the merge
@@ -153,29 +153,29 @@ merge_within-row (suc n) rows merged d is in' = elim (merge-parts n rows merged 
   | inl (empty, nothing) ↦ absurd (false≢true (sym (ap (λ l. contains l d) nothing) ∙ in'))
   | inr (c, rest, next, onward, whole) ↦ elim (or_cases (c == d) (contains rest d) (sym (ap (λ l. contains l d) whole) ∙ in')) [
     | inl same ↦
-      let found = first_free-row rows rows c next in
-      (found.0, found.1, ap (contains found.0) (sym (eqb-true c d same)) ∙ found.2)
+        let found = first_free-row rows rows c next in
+        (found.0, found.1, ap (contains found.0) (sym (eqb-true c d same)) ∙ found.2)
     | inr further ↦
-      let found = merge_within-row n (map (without c) rows) rest d onward further in
-      let from = Row-from_map (without c) rows found.0 found.1 in
-      (from.0, from.1, (without-contains c d from.0 (ap (λ l. contains l d) from.2 ∙ found.2)).0)
+        let found = merge_within-row n (map (without c) rows) rest d onward further in
+        let from = Row-from_map (without c) rows found.0 found.1 in
+        (from.0, from.1, (without-contains c d from.0 (ap (λ l. contains l d) from.2 ∙ found.2)).0)
   ]
 ]
 
 -- a class that was taken does not come again
 merge_within-gone : (n : ℕ) (c : ℕ) (rows : List (List ℕ)) (rest : List ℕ) → merge_within n (map (without c) rows) ≡ Some rest → contains rest c ≡ false
 merge_within-gone n c rows rest is = false_from_ne_true (contains rest c) (λ in'.
-  let found = merge_within-row n (map (without c) rows) rest c is in' in
-  let from = Row-from_map (without c) rows found.0 found.1 in
-  (without-contains c c from.0 (ap (λ l. contains l c) from.2 ∙ found.2)).1 refl)
+    let found = merge_within-row n (map (without c) rows) rest c is in' in
+    let from = Row-from_map (without c) rows found.0 found.1 in
+    (without-contains c c from.0 (ap (λ l. contains l c) from.2 ∙ found.2)).1 refl)
 
 merge_within-once : (n : ℕ) (rows : List (List ℕ)) (merged : List ℕ) → merge_within n rows ≡ Some merged → is_distinct merged ≡ true
 merge_within-once zero rows merged is = absurd (none-some merged is)
 merge_within-once (suc n) rows merged is = elim (merge-parts n rows merged is) [
   | inl (empty, nothing) ↦ ap is_distinct nothing
   | inr (c, rest, next, onward, whole) ↦
-    ap is_distinct whole
-    ∙ and_from (not (contains rest c)) (is_distinct rest) (not_from_false (contains rest c) (merge_within-gone n c rows rest onward)) (merge_within-once n (map (without c) rows) rest onward)
+      ap is_distinct whole
+      ∙ and_from (not (contains rest c)) (is_distinct rest) (not_from_false (contains rest c) (merge_within-gone n c rows rest onward)) (merge_within-once n (map (without c) rows) rest onward)
 ]
 
 -- ---- the same of the whole merge

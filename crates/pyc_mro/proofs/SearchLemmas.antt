@@ -1,11 +1,10 @@
 -- The search for a class among its own ancestors: what has a mark is reached, and when no work is left all that is
 -- reached has one.
-use Rattle.std.proofs.Common.{◌≡◌, ℕ, zero, suc, ◌+◌, ◌-◌, ◌<◌, ◌≤◌, ◌==◌, ◌||◌, ◌&&◌, ◌⊎◌, Bool, true, false, not, nat_lt, cond, List, [], ◌∷◌, ◌++◌, length, replicate, get_or, set, inl, inr, refl, sym, ap, subst, ◌∙◌, arith}
-use Rattle.std.specs.List.{list_any}
+use Rattle.std.proofs.Common.{◌≡◌, ℕ, zero, suc, ◌+◌, ◌-◌, ◌<◌, ◌≤◌, ◌==◌, ◌&&◌, ◌⊎◌, Bool, true, false, not, nat_lt, cond, List, [], ◌∷◌, ◌++◌, length, replicate, get_or, set, inl, inr, refl, sym, ap, subst, ◌∙◌, arith}
 use Rattle.std.specs.declared.alloc.Global.{Global}
 use Rattle.std.specs.declared.vec.Vec.{Vec}
-use Rattle.std.proofs.lemmas.Bool.{cases_eq, cases_Bool, and_parts, and_cases, or_cases, or_left, or_right, not-true, not-false, ltb-true, lt-ltb, eqb-true, eq-eqb, cond-true, cond-false, false≢true, true≢false, false_from_ne_true}
-use Rattle.std.proofs.lemmas.List.{length-set, length-append, length-map, length-replicate, get_or-set_same, get_or-set_other, get_or_past}
+use Rattle.std.proofs.lemmas.Bool.{cases_eq, cases_Bool, and_parts, and_cases, or_cases, or_left, or_right, not-true, not-false, ltb-true, lt-ltb, eqb-true, eq-eqb, false≢true, true≢false, false_from_ne_true}
+use Rattle.std.proofs.lemmas.List.{length-set, length-append, length-map, length-replicate, get_or-set_same, get_or-set_other}
 use Rattle.std.proofs.lemmas.List.Folds.{list_any-append}
 use Rattle.pyc_mro.specs.declared.table.Base.{Base}
 use Rattle.pyc_mro.specs.Marks.{Marks, is_marked, mark_one, mark_all}
@@ -46,8 +45,8 @@ module _ (m : Marks) (c : ℕ) where
   one-cases =
       elim (cases_Bool (nat_lt c (length m.marks) && not (is_marked m c))) [
         | inl both ↦
-          let parts = and_parts (nat_lt c (length m.marks)) (not (is_marked m c)) both in
-          inl (ap (λ b. cond b (with_mark m c) m) both, ltb-true c (length m.marks) parts.0, not-true (is_marked m c) parts.1)
+            let parts = and_parts (nat_lt c (length m.marks)) (not (is_marked m c)) both in
+            inl (ap (λ b. cond b (with_mark m c) m) both, ltb-true c (length m.marks) parts.0, not-true (is_marked m c) parts.1)
         | inr else ↦ inr (ap (λ b. cond b (with_mark m c) m) else, λ below. needless below (and_cases (nat_lt c (length m.marks)) (not (is_marked m c)) else))
       ]
     where
@@ -167,13 +166,13 @@ one-long m c = elim (one-cases m c) [
 one-count : (m : Marks) (c : ℕ) → count_marks (mark_one m c).marks + length m.work ≡ length (mark_one m c).work + count_marks m.marks
 one-count m c = elim (one-cases m c) [
   | inl (new, below, none) ↦
-    let marks = ap (λ n. count_marks n.marks) new in
-    let work = ap (λ n. length n.work) new in
-    omega (arith, marks, work, count_marks-set m.marks c below none, length-append m.work (c ∷ []))
+      let marks = ap (λ n. count_marks n.marks) new in
+      let work = ap (λ n. length n.work) new in
+      omega (arith, marks, work, count_marks-set m.marks c below none, length-append m.work (c ∷ []))
   | inr (same, needless) ↦
-    let marks = ap (λ n. count_marks n.marks) same in
-    let work = ap (λ n. length n.work) same in
-    omega (arith, marks, work)
+      let marks = ap (λ n. count_marks n.marks) same in
+      let work = ap (λ n. length n.work) same in
+      omega (arith, marks, work)
 ]
 
 all-kept : (classes : List ℕ) (m : Marks) (x : ℕ) → is_marked m x ≡ true → is_marked (mark_all classes m) x ≡ true

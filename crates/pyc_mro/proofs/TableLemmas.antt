@@ -1,6 +1,6 @@
 -- Tables: what is reached by going to bases.
-use Rattle.std.proofs.Common.{◌≡◌, ℕ, zero, suc, ◌+◌, ◌-◌, ◌<◌, ◌≤◌, ◌==◌, ◌||◌, ◌⊎◌, Bool, true, false, List, [], ◌∷◌, length, unwrap_or, Option, None, Some, inl, inr, refl, sym, ap, ◌∙◌, arith}
-use Rattle.std.specs.List.{list_any, slice_get}
+use Rattle.std.proofs.Common.{◌≡◌, ℕ, zero, suc, ◌+◌, ◌-◌, ◌<◌, ◌≤◌, ◌==◌, ◌||◌, ◌⊎◌, Bool, true, List, [], ◌∷◌, length, unwrap_or, inl, inr, refl, sym, ap, ◌∙◌, arith}
+use Rattle.std.specs.List.{list_any}
 use Rattle.std.proofs.lemmas.Bool.{cases_lt, or_cases, or_left, or_right, eqb-true, eq-eqb, false≢true}
 use Rattle.std.proofs.lemmas.Option.{slice_get_past}
 use Rattle.pyc_mro.specs.Merge.{contains}
@@ -47,11 +47,14 @@ module _ (table : Table) where
   pub reaches-parts : (n from to : ℕ) → reaches table (suc n) from to ≡ true
       → (base : ℕ) × (contains (parents table from) base ≡ true) × ((base ≡ to) ⊎ (reaches table n base to ≡ true))
   reaches-parts n from to there =
-      let found = any-found (λ parent. parent == to || reaches table n parent to) (parents table from) there in
-      (found.0, found.1, elim (or_cases (found.0 == to) (reaches table n found.0 to) found.2) [
-        | inl here ↦ inl (eqb-true found.0 to here)
-        | inr later ↦ inr later
-      ])
+      let found = any-found (λ parent. parent == to || reaches table n parent to) (parents table from) there in (
+        found.0,
+        found.1,
+        elim (or_cases (found.0 == to) (reaches table n found.0 to) found.2) [
+          | inl here ↦ inl (eqb-true found.0 to here)
+          | inr later ↦ inr later
+        ],
+      )
 
   -- what is reached in some steps is reached in one more
   pub reaches-more : (n from to : ℕ) → reaches table n from to ≡ true → reaches table (suc n) from to ≡ true

@@ -13,7 +13,7 @@ contains row c = list_any (λ other. other == c) row
 abbrev pub without : ℕ → List ℕ → List ℕ
 without c row = filter (λ other. not (other == c)) row
 
--- whether a class stands in the tail of a row: in it, but not as its head alone
+-- whether a class stands in the tail of a row, behind its head
 abbrev pub stands_in_tail : ℕ → List ℕ → Bool
 stands_in_tail c [] = false
 stands_in_tail c (head ∷ tail) = contains tail c

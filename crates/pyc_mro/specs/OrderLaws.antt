@@ -1,6 +1,6 @@
--- What the known orders hold, and in which sequence ("The Python 2.3 method resolution order"; Python language reference
--- 3.13, "Data model", `type.__mro__`).
-use Rattle.std.specs.Prelude.{◌≡◌, ◌⊎◌, ◌↔◌, ℕ, ◌<◌, Bool, true, not, ◌&&◌, IsTrue, List, [], ◌∷◌, length, Option, Some, None}
+-- What the known orders hold, and in which sequence ("The Python 2.3 method resolution order"; Python reference 3.13,
+-- "Data model", `type.__mro__`).
+use Rattle.std.specs.Prelude.{◌≡◌, ◌⊎◌, ◌↔◌, ℕ, ◌<◌, Bool, true, not, ◌&&◌, IsTrue, List, [], ◌∷◌, length, Some, None}
 use Rattle.std.specs.List.{slice_get}
 use Rattle.pyc_mro.specs.Merge.{contains}
 use Rattle.pyc_mro.specs.Orders.{order_of}

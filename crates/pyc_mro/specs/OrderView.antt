@@ -1,5 +1,5 @@
 -- The plain orders that those of the code are.
-use Rattle.std.specs.Prelude.{ℕ, List, map, unwrap_or, Option}
+use Rattle.std.specs.Prelude.{ℕ, List, map, unwrap_or}
 use Rattle.std.specs.List.{slice_get}
 use Rattle.std.specs.declared.alloc.Global.{Global}
 use Rattle.std.specs.declared.rc.Rc.{Rc}

@@ -1,5 +1,5 @@
--- The order of each class of a table: the class itself, then its ancestors in method resolution order (Python language
--- reference 3.13, "Data model", `type.__mro__`; "The Python 2.3 method resolution order").
+-- The order of each class of a table: the class itself, then its ancestors in method resolution order (Python reference
+-- 3.13, "Data model", `type.__mro__`; "The Python 2.3 method resolution order").
 use Rattle.std.specs.Prelude.{ℕ, zero, suc, nat_lt, if◌then◌else◌, List, [], ◌∷◌, ◌++◌, length, map, Bool}
 use Rattle.std.specs.Prelude.{Option, None, Some, option_map, is_some}
 use Rattle.std.specs.List.{list_any}

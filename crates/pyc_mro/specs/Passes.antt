@@ -1,6 +1,6 @@
 -- The orders that are made so far, pass by pass, of which a class may have none.
-use Rattle.std.specs.Prelude.{◌≡◌, ℕ, ◌<◌, Bool, false, if◌then◌else◌, List, length, map, Option, None, Some, option_map}
-use Rattle.std.specs.Prelude.{unwrap_or}
+use Rattle.std.specs.Prelude.{◌≡◌, ℕ, ◌<◌, Bool, false, if◌then◌else◌, List, length, map, Option, None, Some}
+use Rattle.std.specs.Prelude.{option_map, unwrap_or}
 use Rattle.std.specs.List.{slice_get}
 use Rattle.std.specs.Option.{option_or}
 use Rattle.std.specs.declared.alloc.Global.{Global}
@@ -29,7 +29,7 @@ pub record AreMade (table : Table) (depth : ℕ) (made : List (Option (Rc Stored
   pub count : length made ≡ length table
   pub each : (c : ℕ) → c < length table → made_at made c ≡ order_within table depth c
 
--- a pass over the orders that are made: each class keeps its own or gets its next, and where none is new, all are as
+-- a pass over the orders that are made: each class keeps its own or gets its next, and where none is new, all are what
 -- they were
 pub record IsNextPass (table : Table) (made next : List (Option (Rc StoredOrder Global))) (has_new : Bool) : Type 0 where
   pub count : length next ≡ length made

@@ -12,7 +12,7 @@ pub fn ancestors()
     ensures once { HoldsEachOnce }
 {}
 
-/// In a known order each class stands before its own ancestors: its own order is known too, and stands there in the same
+/// In a known order each class stands before its own ancestors: its order is known too, and stands there in the same
 /// sequence.
 pub fn orders_kept()
     ensures { KeepsOrders }

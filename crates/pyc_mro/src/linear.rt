@@ -28,10 +28,7 @@ pub(crate) fn next_order(
         ≡ spec.next_order (length made.now) (made_at made.now) class bases.now) }
 {
     match base_orders(alloc, bases, made)? {
-        Some(orders) => Ok(Some(Rc::new(
-            alloc,
-            linear_order(alloc, class, bases, &orders)?,
-        )?)),
+        Some(orders) => Ok(Some(Rc::new(alloc, linear_order(alloc, class, bases, &orders)?)?)),
         None => Ok(None),
     }
 }

@@ -15,8 +15,8 @@ use pyc_class::UnknownOrder;
 use std::alloc::{AllocError, Global};
 use std::rc::Rc;
 
-/// The order of a class: itself first, then its ancestors in method resolution order; and why the order is not known, if
-/// it is not.
+/// The order of a class: itself first, then its ancestors in method resolution order; and why the order is not known,
+/// if it is not.
 #[derive(Clone, Copy, Debug)]
 pub struct Order<'a> {
     pub classes: &'a [usize],
@@ -83,7 +83,7 @@ fn class_order(
     }
 }
 
-/// The orders that are made of those of the bases: in each pass, each class whose bases had an order before it gets one.
+/// The orders that are made of those of the bases: in each pass a class gets one whose bases had theirs before it.
 fn made_orders(
     alloc: Global,
     bases: &[Vec<Base>],

@@ -5,8 +5,7 @@ use pyc_class::UnknownOrder;
 use std::alloc::{AllocError, Global};
 use std::test::Fail;
 
-/// The table of these rows, which end where the next begins, and the last at the end. The only error is that memory runs
-/// out.
+/// The table of classes with these bases. The only error is that memory runs out.
 fn table(alloc: Global, rows: &[&[usize]]) -> Result<Vec<Vec<Base>>, AllocError> {
     let mut bases = Vec::new(alloc);
     for row in rows {
@@ -19,7 +18,6 @@ fn table(alloc: Global, rows: &[&[usize]]) -> Result<Vec<Vec<Base>>, AllocError>
     Ok(bases)
 }
 
-/// `object` and six classes O, A, B, C, D, E, F on it.
 #[test]
 fn orders_of_the_first_worked_example(rt: HostRuntime) -> Result<(), Fail> {
     // O; F(O), E(O), D(O); C(D, F), B(D, E); A(B, C)
@@ -55,7 +53,10 @@ fn orders_of_the_second_and_the_third_worked_example(rt: HostRuntime) -> Result<
     ];
     let bases = table(rt.alloc(), &rows)?;
     let orders = Orders::build(rt.alloc(), &bases)?;
-    assert_eq!(rt; orders.order(9).classes, [9, 6, 7, 8, 4, 1, 2, 3, 5, 0].as_slice());
+    assert_eq!(rt;
+        orders.order(9).classes,
+        [9, 6, 7, 8, 4, 1, 2, 3, 5, 0].as_slice()
+    );
     Ok(())
 }
 

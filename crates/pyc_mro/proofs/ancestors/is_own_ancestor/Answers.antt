@@ -1,7 +1,7 @@
 use Rattle.std.proofs.Common.{◌≡◌, ◌<◌, ℕ, List, Bool, false, replicate, length, sym, ap, ◌∙◌, arith}
 use Rattle.std.proofs.lemmas.List.{with_items_is, nil_from_length, get_or_read_under}
 use Rattle.pyc_mro.specs.TableView.{table_in}
-use Rattle.pyc_mro.specs.Marks.{Marks, mark_all}
+use Rattle.pyc_mro.specs.Marks.{Marks}
 use Rattle.pyc_mro.proofs.SearchLemmas.{search-first, search-more, search-smaller, search-end, mark_all-same, table-long}
 use Rattle.pyc_mro.proofs.ancestors.is_own_ancestor.Goals as goal
 

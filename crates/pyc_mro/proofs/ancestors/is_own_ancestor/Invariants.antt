@@ -1,4 +1,4 @@
-use Rattle.std.proofs.Common.{◌≡◌, ◌+◌, ◌-◌, length}
+use Rattle.std.proofs.Common.{◌+◌, ◌-◌, length}
 use Rattle.pyc_mro.specs.TableView.{table_in}
 use Rattle.pyc_mro.proofs.SearchLemmas.{Searched, count_marks}
 use Rattle.pyc_mro.proofs.ancestors.is_own_ancestor.Given as goal

@@ -1,4 +1,4 @@
-use Rattle.std.proofs.Common.{Option, Some, None, cond, ap, ◌∙◌}
+use Rattle.std.proofs.Common.{Some, None, cond, ap, ◌∙◌}
 use Rattle.pyc_mro.specs.Rows.{rows_in}
 use Rattle.pyc_mro.proofs.MergeLemmas.{free_head-at}
 use Rattle.pyc_mro.proofs.merging.free_head.Goals as goal

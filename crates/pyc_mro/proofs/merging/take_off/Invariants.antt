@@ -1,4 +1,4 @@
-use Rattle.std.proofs.Common.{◌≡◌, ◌++◌, length, map, take, drop}
+use Rattle.std.proofs.Common.{◌≡◌, ◌++◌, map, take, drop}
 use Rattle.pyc_mro.specs.Rows.{rows_in, past}
 use Rattle.pyc_mro.proofs.merging.take_off.Given as goal
 

@@ -1,8 +1,7 @@
-use Rattle.std.proofs.Common.{◌≡◌, ℕ, ◌+◌, length, ◌&&◌, not, is_some, None, false, sym, ap, ◌∙◌, arith}
+use Rattle.std.proofs.Common.{◌≡◌, ◌+◌, length, ◌&&◌, not, is_some, None, false, sym, ap, ◌∙◌}
 use Rattle.std.proofs.lemmas.Bool.{false≢true}
 use Rattle.std.proofs.lemmas.List.{length_push}
 use Rattle.pyc_mro.specs.TableView.{table_in}
-use Rattle.pyc_mro.specs.Orders.{next_order}
 use Rattle.pyc_mro.specs.Passes.{made_in, made_at, kept_or_next}
 use Rattle.pyc_mro.specs.Tables.{bases_of}
 use Rattle.pyc_mro.proofs.PassLemmas.{each_more, made_at-read, kept-same}
@@ -23,9 +22,9 @@ loop-class-preserved c =
       same = λ old. elim c.if-has_new.branch [
         | then-has_new w ↦ absurd (false≢true (sym old ∙ w.has_new-is ∙ w.if-has_new.true))
         | else-has_new w ↦
-          let none : (is_some (made_in order) && not (is_some (made_at made class))) ≡ false =
-          ap (λ o. is_some (made_in order) && not (is_some o)) read ∙ sym c.is_new-is_new.ensures ∙ sym w.has_new-is ∙ old in
-          each_more made_in None (λ k o. o ≡ made_at made k) c.loop-class.orders.items _ order class c.loop-class.invariant.count c.in_ok-push.ensures.items (c.loop-class.invariant.same w.if-has_new.false)
-          (kept-same (made_at made class) _ (made_in order) next none)
+            let none : (is_some (made_in order) && not (is_some (made_at made class))) ≡ false =
+            ap (λ o. is_some (made_in order) && not (is_some o)) read ∙ sym c.is_new-is_new.ensures ∙ sym w.has_new-is ∙ old in
+            each_more made_in None (λ k o. o ≡ made_at made k) c.loop-class.orders.items _ order class c.loop-class.invariant.count c.in_ok-push.ensures.items (c.loop-class.invariant.same w.if-has_new.false)
+            (kept-same (made_at made class) _ (made_in order) next none)
       ];
     }

@@ -1,4 +1,4 @@
-use Rattle.std.proofs.Common.{◌≡◌, ◌+◌, ◌<◌, ◌≤◌, ℕ, length, inl, inr, sym, ap, ◌∙◌, arith}
+use Rattle.std.proofs.Common.{◌≡◌, ◌+◌, ◌<◌, length, inl, inr, sym, ap, ◌∙◌, arith}
 use Rattle.std.specs.declared.alloc.Global.{Global}
 use Rattle.std.specs.declared.rc.Rc.{Rc}
 use Rattle.std.proofs.lemmas.Bool.{cases_lt}
@@ -39,6 +39,6 @@ returns c = λ k.
     elim (cases_lt k (length table)) [
       | inl within ↦ c.loop-class.invariant.each k (omega arith)
       | inr past ↦
-        let long = c.loop-class.invariant.count in
-        at-past shared_in no_order orders k (omega arith) ∙ order_of-past table k past
+          let long = c.loop-class.invariant.count in
+          at-past shared_in no_order orders k (omega arith) ∙ order_of-past table k past
     ]
