@@ -1,17 +1,17 @@
 #!/usr/bin/env python3
-"""Compares the orders that the definitions of `pyc_mro` give with those that Python itself makes, `type.__mro__`.
+"""Compares the orders of `pyc_mro` with those that Python itself makes, `type.__mro__`.
 
-    scripts/by_hand/compare_orders.py [--count COUNT] [--seed SEED]
+    scripts/by_hand/compare_orders.py [--count COUNT] [--seed SEED] [--program PROGRAM]
 
-COUNT random hierarchies are made, 10,000 by default, of up to ten classes each. What is compared is a transliteration of the
-definitions (`crates/pyc_mro/specs/`), name by name, since no program of the repository prints the orders of a table: to
-compare such a program, give its answer in `orders_compared`. A class without bases has `object` as its only base in Python, so
-class 0 of each hierarchy stands for `object`, and a class without other bases has it as its base.
+COUNT random hierarchies are made, 10,000 by default, of up to ten classes each. Without PROGRAM, what is compared is a
+transliteration into Python of the definitions (`crates/pyc_mro/specs/`), name by name. PROGRAM prints the orders of tables
+(`bench/orders.rt.txt`, built by `scripts/by_hand/build.py orders`), and its answers are compared then.
 
-In Python a class can be made only where its bases are, so of a hierarchy without rings each class is made, in an order in
-which bases come first; one whose bases have no merge is refused, and what stands on it cannot be made, which is told as
-Base here. Where a hierarchy has rings, Python has nothing to compare with: there it is compared which classes come back to
-themselves, by a plain search.
+A class without bases has `object` as its only base in Python, so class 0 of each hierarchy stands for `object`, and a class
+without other bases has it as its base. In Python a class can be made only where its bases are, so of a hierarchy without
+rings each class is made after its bases; one whose bases have no merge is refused, and what stands on it cannot be made,
+which is Base here. On a ring Python can make nothing: which classes come back to themselves is told by a plain search, and
+what stands on them is Base.
 
 The status is 1 where an order differs, else 0.
 """
@@ -19,6 +19,7 @@ The status is 1 where an order differs, else 0.
 import argparse
 import collections
 import random
+import subprocess
 import sys
 
 UNKNOWN = None
@@ -28,7 +29,7 @@ MOST_CLASSES = 10
 Order = collections.namedtuple("Order", "classes unknown")
 
 
-# ---- the definitions
+# ---- the definitions, transliterated
 
 
 def classes_among(bases):
@@ -111,7 +112,7 @@ def order_of(table, c):
     return order_within(table, len(table) + 1, c) or Order([c], BASE)
 
 
-# ---- what they are compared with
+# ---- Python's orders
 
 
 def ringed(table):
@@ -158,9 +159,27 @@ def python_order(table, c, made):
     return Order([0 if made[0] is it else it.number for it in made[c].__mro__], None)
 
 
-def orders_compared(table):
-    """The orders of a table that are compared with Python's."""
+def defined_orders(table):
+    """The orders of a table by the definitions."""
     return [order_of(table, c) for c in range(len(table))]
+
+
+def line_of(table):
+    """A table as the program reads it."""
+    return ";".join(" ".join("?" if base is UNKNOWN else str(base) for base in row) for row in table)
+
+
+def order_in(text):
+    """An order as the program prints it."""
+    *classes, last = text.split(" ")
+    return Order([int(word) for word in classes], last or None)
+
+
+def program_orders(program, tables):
+    """The orders of each table by the program."""
+    lines = "".join(line_of(table) + "\n" for table in tables)
+    printed = subprocess.run([program], input=lines, stdout=subprocess.PIPE, text=True, check=True).stdout
+    return [[order_in(text) for text in line.split(";")] for line in printed.splitlines()]
 
 
 def random_table(source):
@@ -193,12 +212,14 @@ def main():
     parser = argparse.ArgumentParser()
     parser.add_argument("--count", type=int, default=10_000)
     parser.add_argument("--seed", type=int, default=1)
+    parser.add_argument("--program", help="the built program that prints orders")
     words = parser.parse_args()
     source = random.Random(words.seed)
+    tables = [random_table(source) for _ in range(words.count)]
+    made = program_orders(words.program, tables) if words.program else map(defined_orders, tables)
     kinds, differing = collections.Counter(), 0
-    for _ in range(words.count):
-        table = random_table(source)
-        found, wanted = orders_compared(table), python_orders(table)
+    for table, found in zip(tables, made, strict=True):
+        wanted = python_orders(table)
         kinds.update(order.unknown or "known" for order in wanted)
         if found != wanted:
             differing += 1
