@@ -5,3 +5,4 @@ pub mod PassLemmas
 pub mod SearchLemmas
 pub mod RowLemmas
 pub mod LawLemmas
+pub mod DepthLemmas

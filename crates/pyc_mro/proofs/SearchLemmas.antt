@@ -286,6 +286,42 @@ module _ (table : Table) (start : ℕ) where
         | inr unmarked ↦ unmarked ∙ sym (false_from_ne_true (is_own_ancestor table start) (λ there. false≢true (sym unmarked ∙ all-reached m done (length table) start start s.first below there)))
       ]
 
+-- ---- however many steps there are
+
+-- a list is empty or has a last number
+last-cases : (xs : List ℕ) → (xs ≡ []) ⊎ ((front : List ℕ) × (x : ℕ) × (xs ≡ front ++ x ∷ []))
+last-cases [] = inl refl
+last-cases (x ∷ xs) = elim (last-cases xs) [
+  | inl e ↦ inr ([], x, ap (λ l. x ∷ l) e)
+  | inr (front, y, e) ↦ inr (x ∷ front, y, ap (λ l. x ∷ l) e)
+]
+
+module _ (table : Table) (start : ℕ) where
+  -- the search goes on until no work is left
+  search-run : (turns : ℕ) (m : Marks) → Searched table start m → (length m.marks + length m.work) - count_marks m.marks < turns → (over : Marks) × Searched table start over × (over.work ≡ [])
+  search-run zero m s less = absurd (omega arith)
+  search-run (suc turns) m s less = elim (last-cases m.work) [
+    | inl e ↦ (m, s, e)
+    | inr (front, x, e) ↦
+        let next : Marks = mark_all (parents table x) (record { marks = m.marks; work = front }) in
+        let more = search-more table start m next front x s e refl in
+        let smaller = search-smaller table start m next front x e refl (more.long ∙ sym s.long) in
+        search-run turns next more (omega arith)
+  ]
+
+  -- a class that any number of steps leads back to is its own ancestor in as many as there are classes
+  pub own_ancestor-told : (n : ℕ) → start < length table → reaches table n start start ≡ true → is_own_ancestor table start ≡ true
+  own_ancestor-told n below there =
+      let first : Marks = mark_all (parents table start) (no_marks (length table)) in
+      let ended = search-run (suc ((length first.marks + length first.work) - count_marks first.marks)) first (search-first table start first refl) (omega arith) in
+      let over : Marks = ended.0 in
+      let s : Searched table start over = ended.1 in
+      let done : (y : ℕ) → is_marked over y ≡ true → Closed table over y = λ y marked. elim (s.closed y marked) [
+        | inl waiting ↦ absurd (false≢true (sym (ap (λ w. contains w y) ended.2) ∙ waiting))
+        | inr closed ↦ closed
+      ] in
+      sym (search-end table start over below s ended.2) ∙ all-reached table start over done n start start s.first below there
+
 -- ---- the code's steps
 
 -- the same bases, marks and work

@@ -2,8 +2,9 @@
 -- "Data model", `type.__mro__`).
 use Rattle.std.specs.Prelude.{◌≡◌, ◌⊎◌, ◌↔◌, ℕ, ◌<◌, Bool, true, not, ◌&&◌, IsTrue, List, [], ◌∷◌, length, Some, None}
 use Rattle.std.specs.List.{slice_get}
+use Rattle.pyc_class.specs.declared.order.UnknownOrder.TheVariants as unknown
 use Rattle.pyc_mro.specs.Merge.{contains}
-use Rattle.pyc_mro.specs.Orders.{order_of}
+use Rattle.pyc_mro.specs.Orders.{Order, order_within, order_of}
 use Rattle.pyc_mro.specs.Tables.{Table, parents, reaches}
 
 -- the order of a class is known
@@ -67,3 +68,18 @@ abbrev pub HoldsOrders : Type 0
 HoldsOrders =
     (table : Table) (c d e : ℕ) → IsKnown table c → IsTrue (contains (classes_of table c) d)
     → IsTrue (contains (classes_of table d) e) → IsTrue (contains (classes_of table c) e)
+
+-- ---- why an order is not known
+
+-- the order of a class is told as a cycle exactly where the class of the table is its own ancestor, by however many
+-- bases that are gone to
+abbrev pub CyclesAreTold : Type 0
+CyclesAreTold =
+    (table : Table) (c : ℕ)
+    → (((order_of table c).unknown ≡ Some unknown.Cycle) ↔ ((c < length table) × IsAncestor table c c))
+
+-- going to bases more often gives a class no other order
+abbrev pub HasEnoughDepth : Type 0
+HasEnoughDepth =
+    (table : Table) (depth c : ℕ) (order : Order) → c < length table → order_within table depth c ≡ Some order
+    → order_of table c ≡ order

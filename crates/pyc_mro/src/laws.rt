@@ -1,5 +1,6 @@
 //! Laws of the orders, proved for all tables.
 
+ghost use Rattle.pyc_mro.specs.OrderLaws.{CyclesAreTold, HasEnoughDepth};
 ghost use Rattle.pyc_mro.specs.OrderLaws.{KeepsOrders, KeepsWrittenBases, HoldsItself, HoldsOrders};
 ghost use Rattle.pyc_mro.specs.OrderLaws.{KnownAreOfTheTable, BeginsWithItself, HoldsAncestors, HoldsEachOnce};
 
@@ -27,4 +28,11 @@ pub fn written_bases_kept()
 pub fn orders_held()
     ensures itself { HoldsItself }
     ensures others { HoldsOrders }
+{}
+
+/// An order is told as a cycle exactly where its class is its own ancestor, however long the way back; and no class has
+/// another order by going to bases more often than the definition does.
+pub fn unknown_orders()
+    ensures cycles { CyclesAreTold }
+    ensures depth { HasEnoughDepth }
 {}
