@@ -24,6 +24,7 @@ LIBRARIES = {
     "reading": ["pyc_lower", "pyc_ast"],
     "assigning": ["pyc_types", "pyc_ast"],
     "types": ["pyc_types"],
+    "orders": ["pyc_mro", "pyc_class"],
 }
 
 

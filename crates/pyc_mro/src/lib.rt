@@ -1,0 +1,15 @@
+//! The method resolution order of each class of a table.
+#![tactic(auto)]
+
+mod ancestors;
+pub mod laws;
+mod linear;
+mod merging;
+mod orders;
+mod stored;
+mod table;
+#[cfg(test)]
+mod tests;
+
+pub use orders::{Order, Orders};
+pub use table::Base;
