@@ -1,0 +1,2 @@
+pub mod TypeExprs
+pub mod TypeExprView

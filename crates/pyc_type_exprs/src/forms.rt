@@ -1,0 +1,56 @@
+//! What an annotation is written as.
+
+use pyc_ast::{Position, Text};
+
+/// Names joined by dots: where the first of them begins, and the names.
+#[derive(Drop)]
+pub struct DottedName {
+    pub at: Position,
+    pub names: Vec<Text>,
+}
+
+/// An annotation as it is written.
+#[cycle(type_expr)]
+#[derive(Drop)]
+pub enum TypeExpr {
+    /// `None`
+    None,
+    /// A name, and where it begins, its parentheses included.
+    Name {
+        at: Position,
+        name: DottedName,
+    },
+    /// `left | right`
+    Union {
+        left: Box<TypeExpr>,
+        right: Box<TypeExpr>,
+    },
+    /// A name with arguments in brackets, and whether it is subscripted more than once.
+    Subscript {
+        at: Position,
+        name: DottedName,
+        is_nested: bool,
+        arguments: Vec<TypeArgument>,
+    },
+    /// Any other expression.
+    Wrong(Position),
+}
+
+/// An argument in brackets: what it is as a type, and its shape.
+#[cycle(type_expr)]
+#[derive(Drop)]
+pub struct TypeArgument {
+    pub written: TypeExpr,
+    pub shape: ArgumentShape,
+}
+
+/// The shape of an argument in brackets.
+#[cycle(type_expr)]
+#[derive(Drop)]
+pub enum ArgumentShape {
+    /// `...`
+    Ellipsis,
+    /// A list display of types.
+    List(Vec<TypeExpr>),
+    Other,
+}
