@@ -62,8 +62,8 @@ fn orders_of_the_second_and_the_third_worked_example(rt: HostRuntime) -> Result<
 
 #[test]
 fn orders_that_are_not_known(rt: HostRuntime) -> Result<(), Fail> {
-    // O; F(O); E(F); G(F, E); A(O), B(O); X(A, B), Y(B, A); Z(X, Y); P(Q), Q(P); R(Q)
-    let rows: [&[usize]; 12] = [
+    // O; F(O); E(F); G(F, E); A(O), B(O); X(A, B), Y(B, A); Z(X, Y); P(Q), Q(P); R(Q); S on no class of the table
+    let rows: [&[usize]; 13] = [
         &[],
         &[0],
         &[1],
@@ -76,6 +76,7 @@ fn orders_that_are_not_known(rt: HostRuntime) -> Result<(), Fail> {
         &[10],
         &[9],
         &[10],
+        &[99],
     ];
     let bases = table(rt.alloc(), &rows)?;
     let orders = Orders::build(rt.alloc(), &bases)?;
@@ -86,5 +87,6 @@ fn orders_that_are_not_known(rt: HostRuntime) -> Result<(), Fail> {
     assert_eq!(rt; orders.order(9).unknown, Some(UnknownOrder::Cycle));
     assert_eq!(rt; orders.order(10).unknown, Some(UnknownOrder::Cycle));
     assert_eq!(rt; orders.order(11).unknown, Some(UnknownOrder::Base));
+    assert_eq!(rt; orders.order(12).unknown, Some(UnknownOrder::Base));
     Ok(())
 }
