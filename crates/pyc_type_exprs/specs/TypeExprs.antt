@@ -1,8 +1,9 @@
 -- What an annotation is written as (typing specification, "Type expressions"): a string is the expression that it
 -- spells, parentheses change nothing, and the items of a tuple in brackets are the arguments.
-use Rattle.std.specs.Prelude.{ℕ, Bool, true, false, List, [], ◌∷◌, ◌++◌, Option, None, Some, option_map}
+use Rattle.std.specs.Prelude.{ℕ, Bool, true, false, if◌then◌else◌, List, [], ◌∷◌, ◌++◌, Option, None, Some, option_map}
 use Rattle.pyc_ast.specs.declared.constant.Constant.{Constant}
 use Rattle.pyc_ast.specs.declared.constant.Constant.TheVariants as constant
+use Rattle.pyc_ast.specs.declared.operator.Operator.{Operator}
 use Rattle.pyc_ast.specs.declared.operator.Operator.TheVariants as operator
 use Rattle.pyc_ast.specs.declared.position.Position.{Position}
 use Rattle.pyc_ast.specs.Exprs.{Expr, expr, Element, element, Elements, no_element, another_element, Index, index}
@@ -101,6 +102,11 @@ abbrev pub constant_shape : Constant → ArgumentShape
 constant_shape constant.Ellipsis = ellipsis_shape
 constant_shape _ = other_shape
 
+-- whether an operator is `|`
+abbrev pub is_bit_or : Operator → Bool
+is_bit_or operator.BitOr = true
+is_bit_or _ = false
+
 -- an argument that no type is
 abbrev pub wrong_argument : Position → TypeArgument
 wrong_argument at = type_argument (wrong_written at) other_shape
@@ -117,8 +123,8 @@ abbrev mutual
   type_expr (expr at inside (plain.name x)) = name_or_wrong at inside (dotted_names (expr at inside (plain.name x)))
   type_expr (expr at inside (plain.attribute value n)) =
       name_or_wrong at inside (dotted_names (expr at inside (plain.attribute value n)))
-  type_expr (expr at inside (plain.binary operator.BitOr left right)) =
-      union_written (type_expr left) (type_expr right)
+  type_expr (expr at inside (plain.binary op left right)) =
+      if is_bit_or op then union_written (type_expr left) (type_expr right) else wrong_written at
   type_expr (expr at inside (plain.subscript value i)) =
       subscript_or_wrong at (inside_of (innermost value)) (is_subscript value) (index_arguments i)
       (dotted_names (innermost value))

@@ -144,6 +144,16 @@ fn constant_shape(constant: Constant) -> ArgumentShape
     }
 }
 
+/// Whether an operator is `|`.
+fn is_bit_or(operator: Operator) -> bool
+    ensures { result ≡ spec.is_bit_or operator }
+{
+    match operator {
+        Operator::BitOr => true,
+        _ => false,
+    }
+}
+
 /// An expression under subscripts, with these arguments in the last of them.
 fn subscript_written(
     alloc: Global,
@@ -169,13 +179,17 @@ pub fn type_expr(alloc: Global, e: &Expr) -> Result<TypeExpr, AllocError>
         Form::Constant(constant) => Ok(constant_written(e.at, *constant)),
         Form::Name(_) | Form::Attribute { .. } => name_written(alloc, e),
         Form::Binary {
-            operator: Operator::BitOr,
+            operator,
             left,
             right,
         } => {
-            let left = type_expr(alloc, left)?;
-            let right = type_expr(alloc, right)?;
-            union_written(alloc, left, right)
+            if is_bit_or(*operator) {
+                let left = type_expr(alloc, left)?;
+                let right = type_expr(alloc, right)?;
+                union_written(alloc, left, right)
+            } else {
+                Ok(TypeExpr::Wrong(e.at))
+            }
         }
         Form::Subscript { value, index } => {
             let arguments = index_arguments(alloc, index)?;
