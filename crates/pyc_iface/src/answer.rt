@@ -1,7 +1,7 @@
 //! What the files of a workspace answer.
 
 use pyc_names::{FixedName, ModuleName};
-use pyc_type_forms::Ty;
+use pyc_types::Ty;
 
 /// The answer to a key. That a thing is absent is an answer like others.
 #[derive(Debug, Drop)]
