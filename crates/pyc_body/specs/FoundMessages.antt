@@ -14,15 +14,14 @@ use Rattle.pyc_types.specs.Ways.{assignable}
 use Rattle.pyc_bindings.specs.Bindings.{Binding}
 use Rattle.pyc_iface.specs.declared.options.Options.{Options}
 use Rattle.pyc_iface.specs.Answers.{answer_of}
-use Rattle.pyc_iface.specs.Readings.{told}
+use Rattle.pyc_reading.specs.Readings.{told}
 use Rattle.pyc_names.specs.SourceFiles.{SourceFile}
 use Rattle.pyc_body.specs.Header.{header_reading}
 use Rattle.pyc_body.specs.Units.{unit_count}
 use Rattle.pyc_body.specs.declared.literals.LiteralForm.{LiteralForm}
 use Rattle.pyc_report.specs.declared.message.Code.TheVariants.{Assignment}
-use Rattle.pyc_report.specs.declared.message.MessageKind.TheVariants.{Error}
 use Rattle.pyc_body.specs.LiteralForms.{literal_forms}
-use Rattle.pyc_report.specs.Message.{Message}
+use Rattle.pyc_report.specs.Message.{Message, error_at}
 use Rattle.pyc_report.specs.Silencing.{without_silenced}
 
 -- what is told of a value of one type for a variable of another
@@ -33,12 +32,8 @@ assignment_text got want =
 
 -- the message on an annotated literal that is not assignable
 abbrev pub assignment_message : LiteralForm → Message
-assignment_message form = record {
-  line = form.at.line;
-  column = form.at.column;
-  kind = Error Assignment;
-  text = assignment_text (builtin_type form.value) (builtin_type form.annotation);
-}
+assignment_message form =
+    error_at form.at Assignment (assignment_text (builtin_type form.value) (builtin_type form.annotation))
 
 -- the message on an annotated literal: none where its type is assignable to its annotation
 unfoldable pub form_message : LiteralForm → Option Message

@@ -14,7 +14,7 @@ use crate::literals::{LiteralForm, literal_forms};
 use pyc_ast::Outcome;
 use pyc_iface::{Options, World};
 use pyc_names::SourceFile;
-use pyc_report::{Code, Message, MessageKind, drop_silenced};
+use pyc_report::{Code, Message, drop_silenced};
 use pyc_types::{Builtins, Ty, assignable, show};
 use std::alloc::{AllocError, Global};
 
@@ -161,12 +161,8 @@ fn form_message(
     if assignable(builtins, got, want) {
         return Ok(None);
     }
-    Ok(Some(Message {
-        line: form.at.line as usize,
-        column: form.at.column as usize,
-        kind: MessageKind::Error(Code::Assignment),
-        text: assignment_text(alloc, got, want)?,
-    }))
+    let text = assignment_text(alloc, got, want)?;
+    Ok(Some(Message::error_at(form.at, Code::Assignment, text)))
 }
 
 /// What is told of a value of type `got` for a variable of type `want`.

@@ -3,16 +3,18 @@ use Rattle.std.specs.Prelude.{ℕ, if◌then◌else◌, List, Option, None, Some
 use Rattle.pyc_ast.specs.Modules.{Outcome, tree, fault}
 use Rattle.pyc_bindings.specs.Bindings.{Binding, BindingForm, function, class, annotated, assigned}
 use Rattle.pyc_bindings.specs.Redefinitions.{declaration, is_decorated}
-use Rattle.pyc_iface.specs.declared.answer.Presence.{Presence}
-use Rattle.pyc_iface.specs.declared.answer.Presence.TheVariants as presence
 use Rattle.pyc_iface.specs.DeclaredTypes.{annotation_builtin, literal_type, initialiser, type_or_any}
-use Rattle.pyc_iface.specs.Keys.{Key, has_module, has_name, name}
 use Rattle.pyc_names.specs.declared.fixed.FixedModule.{FixedModule}
 use Rattle.pyc_names.specs.declared.fixed.FixedName.{FixedName}
 use Rattle.pyc_names.specs.FixedModules.{fixed_module, fixed_name}
 use Rattle.pyc_names.specs.Following as names
 use Rattle.pyc_names.specs.Following.{QualifiedName, Referent, follow, on_ring, submodule}
 use Rattle.pyc_names.specs.SourceFiles.{SourceFile, file_of}
+use Rattle.pyc_reading.specs.declared.answer.Presence.{Presence}
+use Rattle.pyc_reading.specs.declared.answer.Presence.TheVariants as presence
+use Rattle.pyc_reading.specs.Answers.{Answer, NameAnswer, NameKind, presence_of, name_is, annotated_variable, variable}
+use Rattle.pyc_reading.specs.Answers.{function_name, class_name, module_name, fixed, unknown, no_module, no_name, cycle}
+use Rattle.pyc_reading.specs.Keys.{Key, has_module, has_name, name}
 use Rattle.pyc_type_forms.specs.Types.{Ty, any, module_type}
 
 -- ---- whether modules and names are there
@@ -67,28 +69,7 @@ name_presence files q =
 
 -- ---- what names stand for
 
--- the kind of thing that a name stands for
-pub data NameKind : Type 0 where
-  -- a variable with an annotation, and one without
-  annotated_variable : NameKind
-  variable : NameKind
-  function_name : NameKind
-  class_name : NameKind
-  module_name : List (List ℕ) → NameKind
-  -- a name of a fixed module that is not Any
-  fixed : FixedName → NameKind
-  -- nothing is known of it
-  unknown : NameKind
-  -- why it is absent
-  no_module : NameKind
-  no_name : NameKind
-  cycle : NameKind
-
--- what a name stands for, and its type
-pub record NameAnswer : Type 0 where
-  pub kind : NameKind
-  pub ty : Ty
-
+-- a thing of this kind, of which no type is known
 abbrev pub of_kind : NameKind → NameAnswer
 of_kind kind = record { kind = kind; ty = any }
 
@@ -133,10 +114,6 @@ unfoldable pub name_answer : List SourceFile → QualifiedName → NameAnswer
 name_answer files q = referent_answer files (follow files q)
 
 -- ---- answers to keys
-
-pub data Answer : Type 0 where
-  presence_of : Presence → Answer
-  name_is : NameAnswer → Answer
 
 abbrev pub answer_of : List SourceFile → Key → Answer
 answer_of files (has_module m) = presence_of (module_presence files m)

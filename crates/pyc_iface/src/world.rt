@@ -4,22 +4,21 @@ ghost use Rattle.std.specs.Prelude.{◌≡◌, IfOk, map, option_map};
 ghost use Rattle.pyc_ast.specs.Modules.{outcome_of};
 ghost use Rattle.pyc_bindings.specs.BindingView.{binding_of, binding_form_of};
 ghost use Rattle.pyc_iface.specs.Answers as spec;
-ghost use Rattle.pyc_iface.specs.AnswerView.{answer_in, name_answer_of, kind_of};
-ghost use Rattle.pyc_iface.specs.KeyView.{key_of};
+ghost use Rattle.pyc_reading.specs.AnswerView.{answer_in, name_answer_of, kind_of};
+ghost use Rattle.pyc_reading.specs.KeyView.{key_of};
 ghost use Rattle.pyc_names.specs.FixedModules.{fixed_module as fixed_module_of};
 ghost use Rattle.pyc_names.specs.FollowingView.{qualified_of, referent_of};
 ghost use Rattle.pyc_names.specs.SourceFiles.{file_of};
 ghost use Rattle.pyc_names.specs.SourceFileView.{source_in, sources_in};
 
-use crate::answer::{Answer, NameAnswer, NameKind, Presence};
 use crate::declared_types::{annotation_builtin, initialiser, literal_type, type_or_any};
-use crate::key::Key;
 use pyc_ast::Outcome;
 use pyc_bindings::{Binding, BindingForm, declaration, is_decorated};
 use pyc_names::{
     FixedName, ModuleName, QualifiedName, Referent, SourceFile, Table, fixed_module, fixed_name,
     joined,
 };
+use pyc_reading::{Answer, Key, NameAnswer, NameKind, Presence};
 use pyc_types::Ty;
 use std::alloc::{AllocError, Global};
 use std::rc::Rc;

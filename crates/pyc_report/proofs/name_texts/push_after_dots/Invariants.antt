@@ -1,6 +1,6 @@
 use Rattle.std.proofs.Common.{◌≡◌, ◌++◌, flat_map, drop, string_bytes}
-use Rattle.pyc_body.specs.Header.{after_dot}
-use Rattle.pyc_body.proofs.import_texts.push_after_dots.Given as goal
+use Rattle.pyc_report.specs.NameTexts.{after_dot}
+use Rattle.pyc_report.proofs.name_texts.push_after_dots.Given as goal
 
 -- what was added, with the names that are left, is the whole
 abbrev pub invariant-loop-name : goal.invariant-loop-name

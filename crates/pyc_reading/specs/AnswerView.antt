@@ -1,16 +1,17 @@
 -- The plain answer that one of the code is.
-use Rattle.pyc_iface.specs.declared.answer.Answer.{Answer as AnswerOf}
-use Rattle.pyc_iface.specs.declared.answer.Answer.TheVariants as a
-use Rattle.pyc_iface.specs.declared.answer.NameAnswer.{NameAnswer as NameAnswerOf}
-use Rattle.pyc_iface.specs.declared.answer.NameKind.{NameKind as NameKindOf}
-use Rattle.pyc_iface.specs.declared.answer.NameKind.TheVariants as k
-use Rattle.pyc_iface.specs.Answers as spec
-use Rattle.pyc_iface.specs.Answers.{Answer, NameAnswer, NameKind, presence_of, name_is}
+use Rattle.pyc_reading.specs.declared.answer.Answer.{Answer as AnswerOf}
+use Rattle.pyc_reading.specs.declared.answer.Answer.TheVariants as a
+use Rattle.pyc_reading.specs.declared.answer.NameAnswer.{NameAnswer as NameAnswerOf}
+use Rattle.pyc_reading.specs.declared.answer.NameKind.{NameKind as NameKindOf}
+use Rattle.pyc_reading.specs.declared.answer.NameKind.TheVariants as k
+use Rattle.pyc_reading.specs.Answers as spec
+use Rattle.pyc_reading.specs.Answers.{Answer, NameAnswer, NameKind, presence_of, name_is}
 use Rattle.pyc_type_forms.specs.TypeView.{ty_of}
 
 abbrev pub kind_of : NameKindOf → NameKind
 kind_of k.AnnotatedVariable = spec.annotated_variable
 kind_of k.Variable = spec.variable
+kind_of k.Alias = spec.alias
 kind_of k.Function = spec.function_name
 kind_of k.Class = spec.class_name
 kind_of (k.Module m) = spec.module_name m

@@ -1,7 +1,7 @@
 -- The plain key that one of the code is.
-use Rattle.pyc_iface.specs.declared.key.Key.{Key as KeyOf}
-use Rattle.pyc_iface.specs.declared.key.Key.TheVariants as k
-use Rattle.pyc_iface.specs.Keys.{Key, has_module, has_name, name}
+use Rattle.pyc_reading.specs.declared.key.Key.{Key as KeyOf}
+use Rattle.pyc_reading.specs.declared.key.Key.TheVariants as k
+use Rattle.pyc_reading.specs.Keys.{Key, has_module, has_name, name}
 use Rattle.pyc_names.specs.FollowingView.{qualified_of}
 
 abbrev pub key_of : KeyOf → Key

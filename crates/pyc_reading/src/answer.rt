@@ -1,7 +1,7 @@
 //! What the files of a workspace answer.
 
 use pyc_names::{FixedName, ModuleName};
-use pyc_types::Ty;
+use pyc_type_forms::Ty;
 
 /// The answer to a key. That a thing is absent is an answer like others.
 #[derive(Debug, Drop)]
@@ -38,6 +38,8 @@ pub enum NameKind {
     AnnotatedVariable,
     /// A variable without one.
     Variable,
+    /// A variable whose annotation is a name of a fixed module that is Any, as `TypeAlias`: it is a type alias.
+    Alias,
     Function,
     Class,
     Module(ModuleName),

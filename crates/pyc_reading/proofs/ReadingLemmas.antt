@@ -1,6 +1,6 @@
 -- Readings one after another.
 use Rattle.std.proofs.Common.{◌≡◌, List, [], ◌∷◌, ◌++◌, flat_map, refl, ap, ◌∙◌}
-use Rattle.pyc_iface.specs.Readings.{Reading, Done, Ask, Tell, and_then, each, result_of, told}
+use Rattle.pyc_reading.specs.Readings.{Reading, Done, Ask, Tell, and_then, each, result_of, told}
 
 module _ {K V M : Type 0} (answers : K → V) where
   -- what two readings tell
