@@ -1,117 +1,50 @@
--- What the files of a workspace answer. That a thing is absent is an answer like others.
-use Rattle.std.specs.Prelude.{ℕ, if◌then◌else◌, List, Option, None, Some}
-use Rattle.pyc_ast.specs.Modules.{Outcome, tree, fault}
-use Rattle.pyc_bindings.specs.Bindings.{Binding, BindingForm, function, class, annotated, assigned}
-use Rattle.pyc_bindings.specs.Redefinitions.{declaration, is_decorated}
-use Rattle.pyc_iface.specs.DeclaredTypes.{annotation_builtin, literal_type, initialiser, type_or_any}
-use Rattle.pyc_names.specs.declared.fixed.FixedModule.{FixedModule}
-use Rattle.pyc_names.specs.declared.fixed.FixedName.{FixedName}
-use Rattle.pyc_names.specs.FixedModules.{fixed_module, fixed_name}
-use Rattle.pyc_names.specs.Following as names
-use Rattle.pyc_names.specs.Following.{QualifiedName, Referent, follow, on_ring, submodule}
-use Rattle.pyc_names.specs.SourceFiles.{SourceFile, file_of}
-use Rattle.pyc_reading.specs.declared.answer.Presence.{Presence}
-use Rattle.pyc_reading.specs.declared.answer.Presence.TheVariants as presence
-use Rattle.pyc_reading.specs.Answers.{Answer, NameAnswer, NameKind, presence_of, name_is, annotated_variable, variable}
-use Rattle.pyc_reading.specs.Answers.{function_name, class_name, module_name, fixed, unknown, no_module, no_name, cycle}
+-- What the files of a workspace answer. That a thing is absent is an answer like others. The types of declarations are
+-- read by the kinds of things alone, so that no reading comes back to itself (typing specification, "Type annotations").
+use Rattle.std.specs.Prelude.{ℕ, List, Option}
+use Rattle.pyc_annotations.specs.Annotations.{read_type}
+use Rattle.pyc_ast.specs.Exprs.{Expr}
+use Rattle.pyc_ast.specs.Statements.{FunctionDefinition}
+use Rattle.pyc_bindings.specs.Bindings.{BindingForm, function, class, annotated, assigned}
+use Rattle.pyc_class.specs.Class.{user}
+use Rattle.pyc_iface.specs.Kinds.{Found, declared_in, answered, answer_with, of_kind, found_name, is_alias}
+use Rattle.pyc_iface.specs.Kinds.{variable_kind, form_kind, kind_answer}
+use Rattle.pyc_iface.specs.Presences.{module_presence, name_presence}
+use Rattle.pyc_names.specs.Following.{QualifiedName}
+use Rattle.pyc_names.specs.SourceFiles.{SourceFile}
+use Rattle.pyc_reading.specs.Answers.{Answer, NameAnswer, presence_of, name_is}
+use Rattle.pyc_reading.specs.Answers as kind
 use Rattle.pyc_reading.specs.Keys.{Key, has_module, has_name, name}
-use Rattle.pyc_type_forms.specs.Types.{Ty, any, module_type}
+use Rattle.pyc_reading.specs.Readings.{result_of}
+use Rattle.pyc_signatures.specs.Signatures.{function_type}
+use Rattle.pyc_type_exprs.specs.TypeExprs.{type_expr}
+use Rattle.pyc_type_forms.specs.Types.{Ty, any}
 
--- ---- whether modules and names are there
+-- ---- the types of declarations
 
--- a file: opaque where its source has a fault
-abbrev pub outcome_presence : Outcome → Presence
-outcome_presence (tree m) = presence.There
-outcome_presence (fault line text) = presence.Opaque
+-- the type of a variable with this annotation, which stands in a file
+unfoldable pub annotated_type : List SourceFile → SourceFile → Expr → Ty
+annotated_type files file annotation = (result_of (kind_answer files) (read_type file (type_expr annotation))).ty
 
--- a module that is there: opaque where its file is; a fixed module and one without a file are not
-abbrev pub file_presence : Option SourceFile → Presence
-file_presence (Some file) = outcome_presence file.outcome
-file_presence None = presence.There
+-- the type of a function that stands at the top level of a file
+unfoldable pub declared_function : List SourceFile → SourceFile → FunctionDefinition → Ty
+declared_function files file head = result_of (kind_answer files) (function_type file any head)
 
-abbrev pub unfixed_presence : List SourceFile → List (List ℕ) → Option FixedModule → Presence
-unfixed_presence files m (Some fixed) = presence.There
-unfixed_presence files m None = file_presence (file_of files m)
+-- ---- names
 
--- whether a module is there
-unfoldable pub module_presence : List SourceFile → List (List ℕ) → Presence
-module_presence files m =
-    if names.has_module files m then unfixed_presence files m (fixed_module m) else presence.NoModule
+-- what a declaration of this form declares in a file, with its type
+abbrev pub form_answer : List SourceFile → SourceFile → BindingForm → NameAnswer
+form_answer files file (function head) = answer_with kind.function_name (declared_function files file head)
+form_answer files file (annotated found) =
+    answer_with (variable_kind (is_alias files file found.annotation)) (annotated_type files file found.annotation)
+form_answer files file form = form_kind files file form
 
--- a name that its module does not bind: its submodule of that name
-abbrev pub submodule_presence : List SourceFile → QualifiedName → Presence
-submodule_presence files q =
-    if names.has_module files (submodule q) then presence.There else presence.NoName
+abbrev pub found_answer : List SourceFile → Found → NameAnswer
+found_answer files (declared_in file form) = form_answer files file form
+found_answer files (answered found) = found
 
--- a name that its module binds: a cycle where the binding itself is on a ring
-abbrev pub binding_presence : List SourceFile → QualifiedName → Option Binding → Presence
-binding_presence files q (Some b) = if on_ring files q then presence.Cycle else presence.There
-binding_presence files q None = submodule_presence files q
-
--- a name of a file
-abbrev pub name_in_outcome : List SourceFile → QualifiedName → SourceFile → Outcome → Presence
-name_in_outcome files q file (tree m) = binding_presence files q (declaration file.bindings q.name)
-name_in_outcome files q file (fault line text) = presence.Opaque
-
-abbrev pub name_in_file : List SourceFile → QualifiedName → Option SourceFile → Presence
-name_in_file files q (Some file) = name_in_outcome files q file file.outcome
-name_in_file files q None = submodule_presence files q
-
--- a name of a module that is there: a fixed module has every name
-abbrev pub name_in_module : List SourceFile → QualifiedName → Option FixedModule → Presence
-name_in_module files q (Some fixed) = presence.There
-name_in_module files q None = name_in_file files q (file_of files q.home)
-
--- whether a module has a name
-unfoldable pub name_presence : List SourceFile → QualifiedName → Presence
-name_presence files q =
-    if names.has_module files q.home then name_in_module files q (fixed_module q.home) else presence.NoModule
-
--- ---- what names stand for
-
--- a thing of this kind, of which no type is known
-abbrev pub of_kind : NameKind → NameAnswer
-of_kind kind = record { kind = kind; ty = any }
-
--- what a declaration of this form declares in a file
-abbrev pub form_answer : SourceFile → BindingForm → NameAnswer
-form_answer file (function head) = of_kind function_name
-form_answer file (class head) = of_kind class_name
-form_answer file (annotated found) =
-    record { kind = annotated_variable; ty = type_or_any (annotation_builtin file.bindings found.annotation) }
-form_answer file (assigned value) = record { kind = variable; ty = type_or_any (initialiser (literal_type value)) }
-form_answer file _ = of_kind variable
-
--- what a binding declares in a file: nothing is known of what stands under an unknown decorator
-abbrev pub binding_answer : SourceFile → Option Binding → NameAnswer
-binding_answer file (Some b) = if is_decorated b.form then of_kind unknown else form_answer file b.form
-binding_answer file None = of_kind unknown
-
-abbrev pub file_answer : QualifiedName → Option SourceFile → NameAnswer
-file_answer q (Some file) = binding_answer file (declaration file.bindings q.name)
-file_answer q None = of_kind unknown
-
--- what a name of a fixed module is
-abbrev pub fixed_answer : Option FixedName → NameAnswer
-fixed_answer (Some found) = of_kind (fixed found)
-fixed_answer None = of_kind unknown
-
--- what is declared under a name
-abbrev pub declared_answer : List SourceFile → QualifiedName → Option FixedModule → NameAnswer
-declared_answer files q (Some found) = fixed_answer (fixed_name found q.name)
-declared_answer files q None = file_answer q (file_of files q.home)
-
--- what following a name came to
-abbrev pub referent_answer : List SourceFile → Referent → NameAnswer
-referent_answer files (names.declared q) = declared_answer files q (fixed_module q.home)
-referent_answer files (names.module_itself m) = record { kind = module_name m; ty = module_type }
-referent_answer files names.unknown = of_kind unknown
-referent_answer files names.no_module = of_kind no_module
-referent_answer files names.no_name = of_kind no_name
-referent_answer files names.cycle = of_kind cycle
-
-unfoldable pub name_answer : List SourceFile → QualifiedName → NameAnswer
-name_answer files q = referent_answer files (follow files q)
+-- what a name stands for, with its type
+abbrev pub name_answer : List SourceFile → QualifiedName → NameAnswer
+name_answer files q = found_answer files (found_name files q)
 
 -- ---- answers to keys
 
