@@ -7,6 +7,7 @@ ghost use Rattle.pyc_class.specs.Class.{builtin_form, form_of};
 use crate::BuiltinClass;
 use pyc_ast::Text;
 use std::alloc::{AllocError, Global};
+use std::hash::{Hash, Hasher};
 use std::marker::Model;
 use std::rc::Rc;
 
@@ -176,6 +177,24 @@ impl Eq for ClassId {
     ghost use Rattle.pyc_class.specs.ClassEquality.{same_class_equiv};
 
     ghost laws = { same_class_equiv };
+}
+
+impl Hash for ClassId {
+    ghost use Rattle.pyc_class.specs.ClassHash.{hash_input, same_class_fed};
+
+    ghost hash_input = { hash_input };
+
+    ghost respects_eq = { same_class_fed };
+
+    fn hash<H: Hasher>(&self, state: &mut H) {
+        match &self.named {
+            Named::Builtin(class) => class.number().hash(state),
+            Named::User(class) => {
+                class.module_parts.as_slice().hash(state);
+                class.own_name.hash(state);
+            }
+        }
+    }
 }
 
 /// Whether two classes of sources are one.
