@@ -76,7 +76,7 @@ fixed_meaning None = any_meant
 abbrev pub builtin_meaning : BuiltinName → Meaning
 builtin_meaning (builtins.Class c) = class_meant (builtin c)
 builtin_meaning (builtins.Function result) = function_meant false
-builtin_meaning builtins.RevealType = any_meant
+builtin_meaning builtins.RevealType = function_meant true
 builtin_meaning builtins.Any = any_meant
 
 -- a name that the module does not bind: nothing is known of one that is no builtin either

@@ -104,7 +104,7 @@ pub(crate) fn answer_meaning(answer: Answer) -> Meaning
 {
     match answer {
         Answer::Name(found) => kind_meaning(found.kind, found.ty),
-        Answer::Presence(_) => Meaning::Any,
+        Answer::Presence(_) | Answer::Order(_) => Meaning::Any,
     }
 }
 
@@ -125,6 +125,7 @@ fn builtin_meaning(found: BuiltinName) -> Meaning
     match found {
         BuiltinName::Class(class) => Meaning::Class(ClassId::builtin(class)),
         BuiltinName::Function(_) => Meaning::Function(false),
+        BuiltinName::RevealType => Meaning::Function(true),
         _ => Meaning::Any,
     }
 }

@@ -1,9 +1,8 @@
--- What is told of the annotations of a module and of the bases of its classes, as readings (Python reference 3.13,
--- "Annotated assignment statements", "Function definitions", "Class definitions").
+-- What is told of the annotations of the body of a module, as a reading (Python reference 3.13, "Annotated assignment
+-- statements").
 use Rattle.std.specs.Prelude.{Bool, true, false, if◌then◌else◌, List}
 use Rattle.pyc_annotations.specs.Annotations.{read_type}
-use Rattle.pyc_annotations.specs.Bases.{bases}
-use Rattle.pyc_ast.specs.Statements.{AnnotatedAssignment, Stmt, StmtForm, stmt, Stmts}
+use Rattle.pyc_ast.specs.Statements.{AnnotatedAssignment, StmtForm, Stmts}
 use Rattle.pyc_ast.specs.Statements as plain
 use Rattle.pyc_ast.specs.Targets.{Target, target}
 use Rattle.pyc_ast.specs.Targets as to
@@ -12,9 +11,7 @@ use Rattle.pyc_bindings.specs.Scopes.{Part, PartForm, statement, parts_of}
 use Rattle.pyc_names.specs.SourceFiles.{SourceFile}
 use Rattle.pyc_reading.specs.Desks.{Step}
 use Rattle.pyc_reading.specs.Readings.{Done, and_then, each}
-use Rattle.pyc_signatures.specs.Signatures.{function_type}
 use Rattle.pyc_type_exprs.specs.TypeExprs.{type_expr}
-use Rattle.pyc_type_forms.specs.Types.{any}
 
 -- ---- the body of a module
 
@@ -42,14 +39,3 @@ part_reading file part = part_form_reading file part.form
 -- the annotations of the names of a module that has these statements, in turn
 unfoldable pub body_reading : SourceFile → Stmts → Step (Unit {0})
 body_reading file statements = each (part_reading file) (parts_of statements false)
-
--- ---- definitions
-
--- a function or a method: its signature; a class: its bases
-abbrev pub definition_form_reading : SourceFile → StmtForm → Step (Unit {0})
-definition_form_reading file (plain.function head body) = and_then (function_type file any head) (λ ty. Done tt)
-definition_form_reading file (plain.class head body) = and_then (bases file head.arguments) (λ found. Done tt)
-definition_form_reading file _ = Done tt
-
-unfoldable pub definition_reading : SourceFile → Stmt → Step (Unit {0})
-definition_reading file found = definition_form_reading file (form_of found)

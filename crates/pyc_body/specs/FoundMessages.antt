@@ -1,6 +1,6 @@
 -- What is found in the units of a file: in its header, what is told of imports and definitions; in the body of its
 -- module, what is told of annotations, and a message for each annotated literal that is not assignable to its
--- annotation; in a function or method what is told of its signature, in a class what is told of its bases.
+-- annotation; in a function or method what is told of its signature, in a class what is told of its bases and its order.
 use Rattle.std.specs.Prelude.{ℕ, List, [], ◌∷◌, ◌++◌, Option, None, Some, if◌then◌else◌, codes, flat_map}
 use Rattle.std.specs.List.{filter_map}
 use Rattle.pyc_ast.specs.Modules.{Outcome, tree, fault}
@@ -16,7 +16,8 @@ use Rattle.pyc_iface.specs.declared.options.Options.{Options}
 use Rattle.pyc_iface.specs.Answers.{answer_of}
 use Rattle.pyc_reading.specs.Readings.{told}
 use Rattle.pyc_names.specs.SourceFiles.{SourceFile}
-use Rattle.pyc_body.specs.AnnotationReadings.{body_reading, definition_reading}
+use Rattle.pyc_body.specs.AnnotationReadings.{body_reading}
+use Rattle.pyc_body.specs.DefinitionReadings.{definition_reading}
 use Rattle.pyc_body.specs.Header.{header_reading}
 use Rattle.pyc_body.specs.Units.{Unit, header, module_body, definition, file_units}
 use Rattle.pyc_body.specs.declared.literals.LiteralForm.{LiteralForm}

@@ -3,4 +3,5 @@ pub mod Units
 pub mod UnitView
 pub mod LiteralForms
 pub mod AnnotationReadings
+pub mod DefinitionReadings
 pub mod FoundMessages

@@ -1,4 +1,4 @@
-//! What is told of annotations and of bases.
+//! What is told of the annotations of the body of a module.
 
 ghost use Rattle.std.specs.Prelude.{◌≡◌, map};
 ghost use Rattle.pyc_ast.specs.Statements.{stmts};
@@ -10,13 +10,11 @@ ghost use Rattle.pyc_names.specs.SourceFileView.{source_in};
 ghost use Rattle.pyc_reading.specs.Desks.{Performs};
 ghost use Rattle.pyc_reading.specs.Readings.{each};
 
-use pyc_annotations::{read_annotation, read_bases};
+use pyc_annotations::read_annotation;
 use pyc_ast::{AnnotatedAssignment, Stmt, StmtForm, Target, TargetForm};
 use pyc_bindings::{Part, PartForm, scope_parts};
 use pyc_iface::Notes;
 use pyc_names::SourceFile;
-use pyc_signatures::read_function;
-use pyc_types::Ty;
 use std::alloc::{AllocError, Global};
 
 /// Reads the annotations of the names of a module that has these statements, in turn. The only error is that memory
@@ -106,28 +104,4 @@ fn is_name(target: &Target) -> bool
     ensures { result ≡ spec.is_name (target_of target.now) }
 {
     matches!(target.form, TargetForm::Name(_))
-}
-
-/// Reads the signature of a function or a method, or the bases of a class. The only error is that memory runs out.
-#[tactic(auto, using(crate::proofs::Steps::performing), unfolding(crate::specs::AnnotationReadings::definition_reading))]
-pub(crate) fn read_definition<N: Notes>(
-    alloc: Global,
-    notes: &mut N,
-    file: &SourceFile,
-    found: &Stmt,
-) -> Result<(), AllocError>
-    ensures { Performs (λ u. u) (spec.definition_reading (source_in file.now) (stmt_of found.now))
-        (N.desk notes.old) result (N.desk notes.new) }
-{
-    match &found.form {
-        StmtForm::Function { head, .. } => {
-            read_function(alloc, notes, file, Ty::Any, head)?;
-            Ok(())
-        }
-        StmtForm::Class { head, .. } => {
-            read_bases(alloc, notes, file, &head.arguments)?;
-            Ok(())
-        }
-        _ => Ok(()),
-    }
 }

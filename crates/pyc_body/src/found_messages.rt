@@ -4,7 +4,8 @@ ghost use Rattle.std.specs.Prelude.{◌≡◌, ◌++◌, map, flat_map, IfOk, On
 ghost use Rattle.std.specs.List.{filter_map};
 ghost use Rattle.pyc_ast.specs.Statements.{stmts};
 ghost use Rattle.pyc_ast.specs.StatementView.{stmt_of};
-ghost use Rattle.pyc_body.specs.AnnotationReadings.{body_reading, definition_reading};
+ghost use Rattle.pyc_body.specs.AnnotationReadings.{body_reading};
+ghost use Rattle.pyc_body.specs.DefinitionReadings.{definition_reading};
 ghost use Rattle.pyc_body.specs.UnitView.{unit_of};
 ghost use Rattle.pyc_iface.specs.Answers.{answer_of};
 ghost use Rattle.pyc_iface.specs.WorldView.{world_in};
@@ -14,7 +15,8 @@ ghost use Rattle.pyc_body.specs.FoundMessages as spec;
 ghost use Rattle.pyc_reading.specs.Readings.{told};
 ghost use Rattle.pyc_report.specs.Message.{message_in};
 
-use crate::annotations::{read_body, read_definition};
+use crate::annotations::read_body;
+use crate::definitions::read_definition;
 use crate::header::HeaderCheck;
 use crate::literals::{LiteralForm, literal_forms};
 use crate::unit::Unit;
@@ -67,7 +69,7 @@ fn found_in_units(
 
 /// The messages of a unit of a file of a world: of its header, what is told of imports and definitions, or its fault;
 /// of the body of its module, what is told of annotations and of annotated literals; of a function or a method, what is
-/// told of its signature; of a class, what is told of its bases. The only error is that memory runs out.
+/// told of its signature; of a class, what is told of its bases and its order. The only error is that memory runs out.
 pub fn found(
     alloc: Global,
     builtins: &Builtins,

@@ -2,6 +2,7 @@
 #![tactic(auto)]
 
 mod annotations;
+mod definitions;
 mod found_messages;
 mod header;
 mod import_texts;

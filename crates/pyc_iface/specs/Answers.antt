@@ -1,54 +1,17 @@
--- What the files of a workspace answer. That a thing is absent is an answer like others. The types of declarations are
--- read by the kinds of things alone, so that no reading comes back to itself (typing specification, "Type annotations").
-use Rattle.std.specs.Prelude.{ℕ, List, Option}
-use Rattle.pyc_annotations.specs.Annotations.{read_type}
-use Rattle.pyc_ast.specs.Exprs.{Expr}
-use Rattle.pyc_ast.specs.Statements.{FunctionDefinition}
-use Rattle.pyc_bindings.specs.Bindings.{BindingForm, function, class, annotated, assigned}
-use Rattle.pyc_class.specs.Class.{user}
-use Rattle.pyc_iface.specs.Kinds.{Found, declared_in, answered, answer_with, of_kind, found_name, is_alias}
-use Rattle.pyc_iface.specs.Kinds.{variable_kind, form_kind, kind_answer}
-use Rattle.pyc_iface.specs.Presences.{module_presence, name_presence}
-use Rattle.pyc_names.specs.Following.{QualifiedName}
+-- What the files of a workspace answer. That a thing is absent is an answer like others.
+use Rattle.std.specs.Prelude.{List}
+use Rattle.pyc_class.specs.Order.{Orders}
+use Rattle.pyc_classes.specs.ClassOrders.{orders_of}
+use Rattle.pyc_iface.specs.ClassEntries.{class_entries}
+use Rattle.pyc_iface.specs.Declarations.{declared_answer}
 use Rattle.pyc_names.specs.SourceFiles.{SourceFile}
-use Rattle.pyc_reading.specs.Answers.{Answer, NameAnswer, presence_of, name_is}
-use Rattle.pyc_reading.specs.Answers as kind
-use Rattle.pyc_reading.specs.Keys.{Key, has_module, has_name, name}
-use Rattle.pyc_reading.specs.Readings.{result_of}
-use Rattle.pyc_signatures.specs.Signatures.{function_type}
-use Rattle.pyc_type_exprs.specs.TypeExprs.{type_expr}
-use Rattle.pyc_type_forms.specs.Types.{Ty, any}
+use Rattle.pyc_reading.specs.Answers.{Answer, order_is}
+use Rattle.pyc_reading.specs.Keys.{Key, class}
 
--- ---- the types of declarations
-
--- the type of a variable with this annotation, which stands in a file
-unfoldable pub annotated_type : List SourceFile → SourceFile → Expr → Ty
-annotated_type files file annotation = (result_of (kind_answer files) (read_type file (type_expr annotation))).ty
-
--- the type of a function that stands at the top level of a file
-unfoldable pub declared_function : List SourceFile → SourceFile → FunctionDefinition → Ty
-declared_function files file head = result_of (kind_answer files) (function_type file any head)
-
--- ---- names
-
--- what a declaration of this form declares in a file, with its type
-abbrev pub form_answer : List SourceFile → SourceFile → BindingForm → NameAnswer
-form_answer files file (function head) = answer_with kind.function_name (declared_function files file head)
-form_answer files file (annotated found) =
-    answer_with (variable_kind (is_alias files file found.annotation)) (annotated_type files file found.annotation)
-form_answer files file form = form_kind files file form
-
-abbrev pub found_answer : List SourceFile → Found → NameAnswer
-found_answer files (declared_in file form) = form_answer files file form
-found_answer files (answered found) = found
-
--- what a name stands for, with its type
-abbrev pub name_answer : List SourceFile → QualifiedName → NameAnswer
-name_answer files q = found_answer files (found_name files q)
-
--- ---- answers to keys
+-- the order of each class, where these are the files
+unfoldable pub class_orders : List SourceFile → Orders
+class_orders files = orders_of (class_entries files)
 
 abbrev pub answer_of : List SourceFile → Key → Answer
-answer_of files (has_module m) = presence_of (module_presence files m)
-answer_of files (has_name q) = presence_of (name_presence files q)
-answer_of files (name q) = name_is (name_answer files q)
+answer_of files (class c) = order_is (class_orders files c)
+answer_of files key = declared_answer files key

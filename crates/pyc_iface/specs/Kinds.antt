@@ -8,6 +8,7 @@ use Rattle.pyc_bindings.specs.Bindings.{Binding, BindingForm, function, class, a
 use Rattle.pyc_bindings.specs.Redefinitions.{declaration, is_decorated}
 use Rattle.pyc_builtins.specs.Members.{is_dunder}
 use Rattle.pyc_class.specs.Class.{user}
+use Rattle.pyc_classes.specs.ClassOrders.{undeclared}
 use Rattle.pyc_iface.specs.DeclaredTypes.{literal_type, initialiser, type_or_any}
 use Rattle.pyc_iface.specs.Presences.{module_presence, name_presence}
 use Rattle.pyc_names.specs.declared.fixed.FixedModule.{FixedModule}
@@ -16,9 +17,10 @@ use Rattle.pyc_names.specs.FixedModules.{fixed_module, fixed_name}
 use Rattle.pyc_names.specs.Following as names
 use Rattle.pyc_names.specs.Following.{QualifiedName, Referent, follow}
 use Rattle.pyc_names.specs.SourceFiles.{SourceFile, file_of}
-use Rattle.pyc_reading.specs.Answers.{Answer, NameAnswer, NameKind, presence_of, name_is}
+use Rattle.pyc_reading.specs.Answers.{Answer, NameAnswer, NameKind, presence_of, name_is, order_is}
 use Rattle.pyc_reading.specs.Answers as kind
 use Rattle.pyc_reading.specs.Keys.{Key, has_module, has_name, name}
+use Rattle.pyc_reading.specs.Keys as key
 use Rattle.pyc_type_exprs.specs.TypeExprs.{TypeExpr, name_written, type_expr}
 use Rattle.pyc_type_forms.specs.Types.{Ty, any, class_object, module_type}
 
@@ -140,8 +142,9 @@ found_kind files (answered found) = found
 abbrev pub name_kind : List SourceFile → QualifiedName → NameAnswer
 name_kind files q = found_kind files (found_name files q)
 
--- the answers by kinds alone
+-- the answers by kinds alone: no class has an order that is known
 abbrev pub kind_answer : List SourceFile → Key → Answer
 kind_answer files (has_module m) = presence_of (module_presence files m)
 kind_answer files (has_name q) = presence_of (name_presence files q)
 kind_answer files (name q) = name_is (name_kind files q)
+kind_answer files (key.class c) = order_is undeclared

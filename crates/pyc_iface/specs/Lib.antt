@@ -1,6 +1,8 @@
 pub mod DeclaredTypes
 pub mod Presences
 pub mod Kinds
+pub mod Declarations
+pub mod ClassEntries
 pub mod Answers
 pub mod KindsView
 pub mod RecorderView

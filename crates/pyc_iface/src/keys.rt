@@ -39,6 +39,7 @@ fn is_same(key: &Key, other: &Key) -> bool
         (Key::HasModule(a), Key::HasModule(b)) => a == b,
         (Key::HasName(a), Key::HasName(b)) => a.is_same(b),
         (Key::Name(a), Key::Name(b)) => a.is_same(b),
+        (Key::Class(a), Key::Class(b)) => a == b,
         _ => false,
     }
 }

@@ -8,7 +8,8 @@ ghost use Rattle.pyc_iface.specs.KindsView.{found_in};
 ghost use Rattle.pyc_names.specs.FixedModules.{fixed_module as fixed_module_of};
 ghost use Rattle.pyc_names.specs.FollowingView.{qualified_of, referent_of};
 ghost use Rattle.pyc_names.specs.SourceFileView.{source_in};
-ghost use Rattle.pyc_reading.specs.AnswerView.{answer_in, kind_of, name_answer_of};
+ghost use Rattle.pyc_classes.specs.ClassOrders.{undeclared};
+ghost use Rattle.pyc_reading.specs.AnswerView.{answer_in, class_order_of, kind_of, name_answer_of};
 ghost use Rattle.pyc_reading.specs.KeyView.{key_of};
 
 use crate::alias::variable_kind;
@@ -16,11 +17,11 @@ use crate::answers::Answers;
 use crate::declared_types::{initialiser, literal_type, type_or_any};
 use pyc_ast::{ClassDefinition, Text};
 use pyc_bindings::{Binding, BindingForm, declaration, is_decorated};
-use pyc_class::ClassId;
+use pyc_class::{ClassId, UnknownOrder};
 use pyc_names::{
     FixedName, ModuleName, QualifiedName, Referent, SourceFile, Table, fixed_module, fixed_name,
 };
-use pyc_reading::{Answer, Key, NameAnswer, NameKind};
+use pyc_reading::{Answer, ClassOrder, Key, NameAnswer, NameKind};
 use pyc_types::Ty;
 use std::alloc::{AllocError, Global};
 
@@ -50,6 +51,7 @@ impl Answers for Kinds<'_> {
             Key::HasModule(name) => Ok(Answer::Presence(self.module_presence(name))),
             Key::HasName(name) => Ok(Answer::Presence(self.name_presence(alloc, name)?)),
             Key::Name(name) => Ok(Answer::Name(self.name_kind(alloc, name)?)),
+            Key::Class(_) => Ok(Answer::Order(unknown_order(alloc))),
         }
     }
 }
@@ -192,8 +194,19 @@ fn class_kind(
     })
 }
 
+/// The order of a class of which none is known.
+pub(crate) fn unknown_order(alloc: Global) -> ClassOrder
+    ensures { class_order_of result ≡ undeclared }
+{
+    ClassOrder {
+        classes: Vec::new(alloc),
+        unknown: Some(UnknownOrder::Base),
+        has_call: false,
+    }
+}
+
 /// The parts of a module's name.
-fn copied_parts(alloc: Global, name: &ModuleName) -> Result<Vec<Text>, AllocError>
+pub(crate) fn copied_parts(alloc: Global, name: &ModuleName) -> Result<Vec<Text>, AllocError>
     ensures { IfOk result (λ parts. parts.items ≡ name.now) }
 {
     let mut parts = Vec::new(alloc);

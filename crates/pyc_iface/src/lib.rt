@@ -3,6 +3,8 @@
 
 mod alias;
 mod answers;
+mod class_entries;
+mod declarations;
 mod declared_types;
 mod keys;
 mod kinds;
@@ -14,6 +16,6 @@ mod world;
 pub use answers::Answers;
 pub use declared_types::{annotation_builtin, literal_type};
 pub use options::{Options, TURNS};
-pub use pyc_reading::{Answer, Key, NameAnswer, NameKind, Notes, Presence};
+pub use pyc_reading::{Answer, ClassOrder, Key, NameAnswer, NameKind, Notes, Presence};
 pub use recorder::Recorder;
 pub use world::World;

@@ -34,7 +34,7 @@ impl<'a, A: Answers> Recorder<'a, A> {
 
     /// What was told.
     pub fn into_messages(self) -> Vec<Message>
-        ensures { map message_in result.items ≡ (desk_of A.answers self).messages }
+        ensures { map message_in result.items ≡ (desk_of A.answers self.entry).messages }
     {
         self.messages
     }

@@ -1,35 +1,33 @@
 //! The files of a workspace as they answer keys.
 
 ghost use Rattle.std.specs.Prelude.{◌≡◌, IfOk};
-ghost use Rattle.pyc_ast.specs.ExprView.{expr_of};
-ghost use Rattle.pyc_ast.specs.StatementView.{function_of};
-ghost use Rattle.pyc_bindings.specs.BindingView.{binding_form_of};
+ghost use Rattle.pyc_class.specs.Class.{Id};
+ghost use Rattle.pyc_classes.specs.OrderView.{orders_in};
 ghost use Rattle.pyc_iface.specs.Answers as spec;
+ghost use Rattle.pyc_iface.specs.Answers.{class_orders};
 ghost use Rattle.pyc_iface.specs.KindsView.{kinds_in};
-ghost use Rattle.pyc_names.specs.FollowingView.{qualified_of};
-ghost use Rattle.pyc_names.specs.SourceFileView.{source_in, sources_in};
-ghost use Rattle.pyc_reading.specs.AnswerView.{answer_in, name_answer_of};
+ghost use Rattle.pyc_names.specs.SourceFileView.{sources_in};
+ghost use Rattle.pyc_names.specs.TableView.{table_in};
+ghost use Rattle.pyc_reading.specs.AnswerView.{answer_in, class_order_of};
 ghost use Rattle.pyc_reading.specs.KeyView.{key_of};
-ghost use Rattle.pyc_type_forms.specs.TypeView.{ty_of};
 
-use crate::alias::variable_kind;
 use crate::answers::Answers;
-use crate::kinds::{Found, Kinds};
-use crate::recorder::Recorder;
-use pyc_annotations::read_annotation;
-use pyc_ast::{Expr, FunctionDefinition};
-use pyc_bindings::BindingForm;
-use pyc_names::{QualifiedName, SourceFile, Table};
-use pyc_reading::{Answer, Key, NameAnswer, NameKind};
-use pyc_signatures::read_function;
-use pyc_types::Ty;
+use crate::declarations::Declarations;
+use crate::kinds::Kinds;
+use pyc_class::{ClassId, Lins};
+use pyc_classes::ClassTable;
+use pyc_names::{SourceFile, Table};
+use pyc_reading::{Answer, ClassOrder, Key};
 use std::alloc::{AllocError, Global};
 use std::rc::Rc;
 
-/// The files of a workspace as they answer keys: each answer is looked up anew.
+/// The files of a workspace as they answer keys: the order of each class is made once, and each other answer is looked
+/// up anew.
 #[derive(Drop)]
 pub struct World {
     table: Table,
+    classes: ClassTable,
+    ghost classes_are: { (c : Id) → orders_in classes c ≡ class_orders (table_in table) c },
 }
 
 impl Answers for World {
@@ -50,9 +48,9 @@ impl World {
     pub fn build(alloc: Global, files: &[Rc<SourceFile>]) -> Result<World, AllocError>
         ensures { IfOk result (λ world. world_in world ≡ sources_in files.now) }
     {
-        Ok(World {
-            table: Table::build(alloc, files)?,
-        })
+        let table = Table::build(alloc, files)?;
+        let classes = class_table(alloc, &table)?;
+        Ok(World { table, classes })
     }
 
     /// The files of the world, in their order.
@@ -67,87 +65,49 @@ impl World {
         ensures { IfOk result (λ answer. answer_in answer ≡ spec.answer_of (world_in self.now) (key_of key.now)) }
     {
         match key {
-            Key::HasModule(name) => Ok(Answer::Presence(self.kinds().module_presence(name))),
-            Key::HasName(name) => Ok(Answer::Presence(self.kinds().name_presence(alloc, name)?)),
-            Key::Name(name) => Ok(Answer::Name(self.name_answer(alloc, name)?)),
+            Key::Class(class) => Ok(Answer::Order(self.class_order(alloc, class)?)),
+            _ => declarations(&self.table).answer(alloc, key),
         }
     }
 
-    /// The kinds of things that names stand for.
-    fn kinds(&self) -> Kinds<'_>
-        ensures { kinds_in result ≡ world_in self.now }
+    /// The order of a class.
+    fn class_order(&self, alloc: Global, class: &ClassId) -> Result<ClassOrder, AllocError>
+        ensures { IfOk result (λ order. class_order_of order ≡ class_orders (world_in self.now) class.now) }
     {
-        Kinds { table: &self.table }
+        let lin = self.classes.lin(class);
+        Ok(ClassOrder {
+            classes: copied(alloc, lin.classes)?,
+            unknown: lin.unknown,
+            has_call: lin.has_call,
+        })
     }
+}
 
-    /// What a name stands for, with its type.
-    fn name_answer(&self, alloc: Global, q: &QualifiedName) -> Result<NameAnswer, AllocError>
-        ensures { IfOk result (λ found. name_answer_of found
-            ≡ spec.name_answer (world_in self.now) (qualified_of q.now)) }
-    {
-        match self.kinds().found_name(alloc, q)? {
-            Found::Declared(file, form) => self.form_answer(alloc, file, form),
-            Found::Answered(found) => Ok(found),
-        }
+/// What is declared in the files of a table.
+fn declarations(table: &Table) -> Declarations<'_>
+    ensures { kinds_in result.kinds ≡ table_in table.now }
+{
+    Declarations {
+        kinds: Kinds { table },
     }
+}
 
-    /// What a declaration of this form declares in a file, with its type.
-    fn form_answer(
-        &self,
-        alloc: Global,
-        file: &SourceFile,
-        form: &BindingForm,
-    ) -> Result<NameAnswer, AllocError>
-        ensures { IfOk result (λ found. name_answer_of found
-            ≡ spec.form_answer (world_in self.now) (source_in file.now) (binding_form_of form.now)) }
-    {
-        match form {
-            BindingForm::Function(head) => Ok(NameAnswer {
-                kind: NameKind::Function,
-                ty: self.declared_function(alloc, file, head)?,
-            }),
-            BindingForm::Annotated(found) => {
-                let is_alias = self.kinds().is_alias(alloc, file, &found.annotation)?;
-                Ok(NameAnswer {
-                    kind: variable_kind(is_alias),
-                    ty: self.annotated_type(alloc, file, &found.annotation)?,
-                })
-            }
-            _ => self.kinds().form_kind(alloc, file, form),
-        }
-    }
+/// The classes that the files of a table declare, with their orders.
+#[tactic(auto, unfolding(crate::specs::Answers::class_orders))]
+fn class_table(alloc: Global, table: &Table) -> Result<ClassTable, AllocError>
+    ensures { IfOk result (λ classes. (c : Id) → orders_in classes c ≡ class_orders (table_in table.now) c) }
+{
+    let entries = declarations(table).class_entries(alloc, table.files())?;
+    ClassTable::build(alloc, entries)
+}
 
-    /// The type of a variable with this annotation, which stands in a file.
-    #[tactic(auto, unfolding(crate::specs::Answers::annotated_type), using(pyc_reading::proofs::RunLemmas::runs_are_folds))]
-    fn annotated_type(
-        &self,
-        alloc: Global,
-        file: &SourceFile,
-        annotation: &Expr,
-    ) -> Result<Ty, AllocError>
-        ensures { IfOk result (λ ty. ty_of ty
-            ≡ spec.annotated_type (world_in self.now) (source_in file.now) (expr_of annotation.now)) }
-    {
-        let kinds = self.kinds();
-        let mut notes = Recorder::new(alloc, &kinds);
-        let found = read_annotation(alloc, &mut notes, file, annotation)?;
-        Ok(found.ty)
+/// These classes once more.
+fn copied(alloc: Global, classes: &[ClassId]) -> Result<Vec<ClassId>, AllocError>
+    ensures { IfOk result (λ copy. copy.items ≡ classes.now) }
+{
+    let mut copy = Vec::with_capacity(alloc, classes.len())?;
+    for class in classes {
+        copy.push(class.clone()?)?;
     }
-
-    /// The type of a function that stands at the top level of a file.
-    #[tactic(auto, unfolding(crate::specs::Answers::declared_function), using(pyc_reading::proofs::RunLemmas::runs_are_folds))]
-    fn declared_function(
-        &self,
-        alloc: Global,
-        file: &SourceFile,
-        head: &FunctionDefinition,
-    ) -> Result<Ty, AllocError>
-        ensures { IfOk result (λ ty. ty_of ty
-            ≡ spec.declared_function (world_in self.now) (source_in file.now) (function_of head.now)) }
-    {
-        let kinds = self.kinds();
-        let mut notes = Recorder::new(alloc, &kinds);
-        let ty = read_function(alloc, &mut notes, file, Ty::Any, head)?;
-        Ok(ty)
-    }
+    Ok(copy)
 }

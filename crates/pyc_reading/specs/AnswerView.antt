@@ -1,11 +1,13 @@
 -- The plain answer that one of the code is.
 use Rattle.pyc_reading.specs.declared.answer.Answer.{Answer as AnswerOf}
 use Rattle.pyc_reading.specs.declared.answer.Answer.TheVariants as a
+use Rattle.pyc_class.specs.Order.{Order}
+use Rattle.pyc_reading.specs.declared.answer.ClassOrder.{ClassOrder}
 use Rattle.pyc_reading.specs.declared.answer.NameAnswer.{NameAnswer as NameAnswerOf}
 use Rattle.pyc_reading.specs.declared.answer.NameKind.{NameKind as NameKindOf}
 use Rattle.pyc_reading.specs.declared.answer.NameKind.TheVariants as k
 use Rattle.pyc_reading.specs.Answers as spec
-use Rattle.pyc_reading.specs.Answers.{Answer, NameAnswer, NameKind, presence_of, name_is}
+use Rattle.pyc_reading.specs.Answers.{Answer, NameAnswer, NameKind, presence_of, name_is, order_is}
 use Rattle.pyc_type_forms.specs.TypeView.{ty_of}
 
 abbrev pub kind_of : NameKindOf → NameKind
@@ -24,6 +26,10 @@ kind_of k.Cycle = spec.cycle
 abbrev pub name_answer_of : NameAnswerOf → NameAnswer
 name_answer_of found = record { kind = kind_of found.kind; ty = ty_of found.ty }
 
+abbrev pub class_order_of : ClassOrder → Order
+class_order_of order = record { classes = order.classes.items; unknown = order.unknown; has_call = order.has_call }
+
 abbrev pub answer_in : AnswerOf → Answer
 answer_in (a.Presence found) = presence_of found
 answer_in (a.Name found) = name_is (name_answer_of found)
+answer_in (a.Order found) = order_is (class_order_of found)

@@ -1,5 +1,6 @@
 -- What the files of a workspace answer. That a thing is absent is an answer like others.
 use Rattle.std.specs.Prelude.{ℕ, List}
+use Rattle.pyc_class.specs.Order.{Order}
 use Rattle.pyc_names.specs.declared.fixed.FixedName.{FixedName}
 use Rattle.pyc_reading.specs.declared.answer.Presence.{Presence}
 use Rattle.pyc_type_forms.specs.Types.{Ty}
@@ -31,3 +32,4 @@ pub record NameAnswer : Type 0 where
 pub data Answer : Type 0 where
   presence_of : Presence → Answer
   name_is : NameAnswer → Answer
+  order_is : Order → Answer

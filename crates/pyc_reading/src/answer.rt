@@ -1,5 +1,6 @@
 //! What the files of a workspace answer.
 
+use pyc_class::{ClassId, UnknownOrder};
 use pyc_names::{FixedName, ModuleName};
 use pyc_type_forms::Ty;
 
@@ -10,6 +11,8 @@ pub enum Answer {
     Presence(Presence),
     /// What a name stands for.
     Name(NameAnswer),
+    /// The order of a class.
+    Order(ClassOrder),
 }
 
 /// Whether a module or a name is there.
@@ -53,4 +56,13 @@ pub enum NameKind {
     NoName,
     /// It leads from import to import without end.
     Cycle,
+}
+
+/// The order of a class: itself first, then its ancestors in method resolution order; why the order is not known, if it
+/// is not; and whether an instance of the class can be called.
+#[derive(Debug, Drop)]
+pub struct ClassOrder {
+    pub classes: Vec<ClassId>,
+    pub unknown: Option<UnknownOrder>,
+    pub has_call: bool,
 }

@@ -1,5 +1,6 @@
 //! What is asked of the files of a workspace.
 
+use pyc_class::ClassId;
 use pyc_names::{ModuleName, QualifiedName};
 
 /// What is asked of the files of a workspace.
@@ -11,4 +12,6 @@ pub enum Key {
     HasName(QualifiedName),
     /// What a name of a module stands for, imports followed.
     Name(QualifiedName),
+    /// The order of a class.
+    Class(ClassId),
 }

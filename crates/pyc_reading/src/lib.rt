@@ -6,6 +6,6 @@ mod key;
 pub mod laws;
 mod notes;
 
-pub use answer::{Answer, NameAnswer, NameKind, Presence};
+pub use answer::{Answer, ClassOrder, NameAnswer, NameKind, Presence};
 pub use key::Key;
 pub use notes::Notes;

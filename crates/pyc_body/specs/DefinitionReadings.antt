@@ -1,0 +1,77 @@
+-- What is told of a function, a method or a class, as a reading (Python reference 3.13, "Function definitions", "Class
+-- definitions"; "The Python 2.3 method resolution order").
+use Rattle.std.specs.Prelude.{ℕ, Bool, false, not, ◌&&◌, ◌==◌, is_some, if◌then◌else◌, List, [], ◌∷◌, ◌++◌, codes}
+use Rattle.std.specs.Prelude.{Option, None, Some}
+use Rattle.pyc_annotations.specs.Bases.{Base, class_base, bases}
+use Rattle.pyc_ast.specs.declared.position.Position.{Position}
+use Rattle.pyc_ast.specs.Statements.{ClassDefinition, Stmt, StmtForm, stmt}
+use Rattle.pyc_ast.specs.Statements as plain
+use Rattle.pyc_bindings.specs.Bindings.{Binding}
+use Rattle.pyc_bindings.specs.Redefinitions.{declaration}
+use Rattle.pyc_class.specs.declared.order.UnknownOrder.{UnknownOrder}
+use Rattle.pyc_class.specs.declared.order.UnknownOrder.TheVariants as unknown
+use Rattle.pyc_class.specs.Class.{Id, builtin, user}
+use Rattle.pyc_names.specs.FixedModules.{fixed_module}
+use Rattle.pyc_names.specs.SourceFiles.{SourceFile}
+use Rattle.pyc_reading.specs.Answers.{Answer, order_is}
+use Rattle.pyc_reading.specs.Desks.{Step}
+use Rattle.pyc_reading.specs.Keys.{class}
+use Rattle.pyc_reading.specs.Readings.{Done, Ask, Tell, and_then, each}
+use Rattle.pyc_report.specs.declared.message.Code.TheVariants.{Misc}
+use Rattle.pyc_report.specs.Message.{error_at}
+use Rattle.pyc_signatures.specs.Signatures.{function_type}
+use Rattle.pyc_type_forms.specs.Types.{any}
+
+-- ---- the order of a class
+
+unfoldable pub base_cycle_text : List ℕ → List ℕ
+base_cycle_text name = codes "Cycle in the bases of \"" ++ (name ++ codes "\"")
+
+unfoldable pub no_order_text : List ℕ → List ℕ
+no_order_text name =
+    codes "Cannot determine consistent method resolution order (MRO) for \"" ++ (name ++ codes "\"")
+
+-- a class whose order is not known: a cycle, and a merge that fails, are told; a base of which nothing is known is not
+abbrev pub unknown_told : Position → List ℕ → Option UnknownOrder → Step (Unit {0})
+unknown_told at name (Some unknown.Cycle) = Tell (error_at at Misc (base_cycle_text name)) (Done tt)
+unknown_told at name (Some unknown.Merge) = Tell (error_at at Misc (no_order_text name)) (Done tt)
+unknown_told at name _ = Done tt
+
+abbrev pub order_told : Position → List ℕ → Answer → Step (Unit {0})
+order_told at name (order_is order) = unknown_told at name order.unknown
+order_told at name _ = Done tt
+
+-- the order of a base that is a class of a file
+abbrev pub base_reading : Base → Step (Unit {0})
+base_reading (class_base (user m x)) = Ask (class (user m x)) (λ answer. Done tt)
+base_reading _ = Done tt
+
+-- whether a binding stands at a position
+abbrev pub stands_at : Option Binding → Position → Bool
+stands_at (Some b) at = b.place.at.line == at.line && b.place.at.column == at.column
+stands_at None at = false
+
+-- whether a class statement of this name at a position declares a class of the file: it is the declaration of its name,
+-- and the file is not named as a fixed module
+abbrev pub declares : SourceFile → Position → List ℕ → Bool
+declares file at name =
+    not (is_some (fixed_module file.name)) && stands_at (declaration file.bindings name) at
+
+-- the orders of its bases, and its own
+abbrev pub declared_reading : SourceFile → Position → List ℕ → List Base → Step (Unit {0})
+declared_reading file at name found =
+    and_then (each base_reading found) (λ u. Ask (class (user file.name name)) (order_told at name))
+
+-- a class: its bases, and where it is a class that the file declares its order
+abbrev pub class_reading : SourceFile → Position → ClassDefinition → Step (Unit {0})
+class_reading file at head =
+    and_then (bases file head.arguments)
+    (λ found. if declares file at head.name then declared_reading file at head.name found else Done tt)
+
+-- ---- definitions
+
+-- a function or a method: its signature; a class: its bases and its order
+unfoldable pub definition_reading : SourceFile → Stmt → Step (Unit {0})
+definition_reading file (stmt at (plain.function head body)) = and_then (function_type file any head) (λ ty. Done tt)
+definition_reading file (stmt at (plain.class head body)) = class_reading file at head
+definition_reading file _ = Done tt
