@@ -35,12 +35,22 @@ abbrev pub first_type : Ty → ParameterKind → Ty
 first_type receiver parameter.Plain = receiver
 first_type receiver _ = any
 
--- these parameters, and then others in turn, of which the first is what the function is called on
-unfoldable pub more_params : SourceFile → Ty → List ParamView → List Parameter → Step (List ParamView)
-more_params file receiver found [] = Done found
-more_params file receiver found (p ∷ rest) =
-    and_then (annotated_or file (first_type receiver p.kind) p.annotation)
-    (λ ty. more_params file any (found ++ (param_of_type p ty ∷ [])) rest)
+-- a parameter, the first of which is what the function is called on
+unfoldable pub parameter_reading : SourceFile → Ty → Parameter → Step ParamView
+parameter_reading file receiver p =
+    and_then (annotated_or file (first_type receiver p.kind) p.annotation) (λ ty. Done (param_of_type p ty))
+
+-- these parameters, and then others in turn
+unfoldable pub more_params : SourceFile → List ParamView → List Parameter → Step (List ParamView)
+more_params file found [] = Done found
+more_params file found (p ∷ rest) =
+    and_then (parameter_reading file any p) (λ param. more_params file (found ++ (param ∷ [])) rest)
+
+-- all parameters in turn
+abbrev pub parameters_reading : SourceFile → Ty → List Parameter → Step (List ParamView)
+parameters_reading file receiver [] = Done []
+parameters_reading file receiver (p ∷ rest) =
+    and_then (parameter_reading file receiver p) (λ param. more_params file (param ∷ []) rest)
 
 -- the type of a function with this signature: a call of an `async def` is not looked into
 abbrev pub called : Bool → List ParamView → Ty → Ty
@@ -50,5 +60,5 @@ called is_async params result = if is_async then any else callable (listed (list
 -- Its annotations are read in turn, those of its parameters first
 unfoldable pub function_type : SourceFile → Ty → FunctionDefinition → Step Ty
 function_type file receiver head =
-    and_then (more_params file receiver [] head.parameters)
+    and_then (parameters_reading file receiver head.parameters)
     (λ params. and_then (annotated_or file any head.returns) (λ result. Done (called head.is_async params result)))

@@ -1,6 +1,6 @@
 //! The types of functions, as their annotations are read.
 
-ghost use Rattle.std.specs.Prelude.{◌≡◌, [], IfOk, map, option_map, Some};
+ghost use Rattle.std.specs.Prelude.{◌≡◌, ◌∷◌, [], IfOk, map, option_map, Some};
 ghost use Rattle.pyc_ast.specs.ExprView.{expr_of};
 ghost use Rattle.pyc_ast.specs.StatementView.{function_of, parameter_of, boxed_expr_of};
 ghost use Rattle.pyc_names.specs.SourceFileView.{source_in};
@@ -38,6 +38,7 @@ pub fn read_function<N: Notes>(
 }
 
 /// The parameters of a function, in turn.
+#[tactic(auto, using(crate::proofs::Steps::performing))]
 fn read_parameters<N: Notes>(
     alloc: Global,
     notes: &mut N,
@@ -46,21 +47,83 @@ fn read_parameters<N: Notes>(
     parameters: &[Parameter],
 ) -> Result<Vec<Param>, AllocError>
     ensures { Performs (λ params. map param_of params.items)
-        (spec.more_params (source_in file.now) (ty_of receiver) [] (map parameter_of parameters.now))
+        (spec.parameters_reading (source_in file.now) (ty_of receiver) (map parameter_of parameters.now))
         (N.desk notes.old) result (N.desk notes.new) }
 {
-    let mut first = receiver;
-    let mut params = Vec::with_capacity(alloc, parameters.len())?;
+    match parameters.split_first() {
+        Some((first, rest)) => {
+            let param = read_parameter(alloc, notes, file, receiver, first)?;
+            let found = one_param(alloc, param)?;
+            let params = read_more(alloc, notes, file, found, rest)?;
+            Ok(params)
+        }
+        None => Ok(Vec::new(alloc)),
+    }
+}
+
+/// A parameter by itself.
+fn one_param(alloc: Global, param: Param) -> Result<Vec<Param>, AllocError>
+    ensures { IfOk result (λ params. map param_of params.items ≡ param_of param ∷ []) }
+{
+    let mut params = Vec::new(alloc);
+    params.push(param)?;
+    Ok(params)
+}
+
+/// These parameters, and then others in turn.
+#[tactic(auto, using(crate::proofs::Steps::performing), unfolding(crate::specs::Signatures::more_params))]
+fn read_more<N: Notes>(
+    alloc: Global,
+    notes: &mut N,
+    file: &SourceFile,
+    found: Vec<Param>,
+    parameters: &[Parameter],
+) -> Result<Vec<Param>, AllocError>
+    ensures { Performs (λ params. map param_of params.items)
+        (spec.more_params (source_in file.now) (map param_of found.items) (map parameter_of parameters.now))
+        (N.desk notes.old) result (N.desk notes.new) }
+{
+    let mut params = found;
     for parameter in parameters {
-        let ty = read_parameter(alloc, notes, file, first, parameter)?;
-        params.push(param_of_type(parameter, ty)?)?;
-        first = Ty::Any;
+        let param = read_later_parameter(alloc, notes, file, parameter)?;
+        params.push(param)?;
     }
     Ok(params)
 }
 
-/// The type of a parameter, the first of which is what the function is called on.
+/// A parameter after the first.
+fn read_later_parameter<N: Notes>(
+    alloc: Global,
+    notes: &mut N,
+    file: &SourceFile,
+    parameter: &Parameter,
+) -> Result<Param, AllocError>
+    ensures { Performs param_of (spec.parameter_reading (source_in file.now) any (parameter_of parameter.now))
+        (N.desk notes.old) result (N.desk notes.new) }
+{
+    read_parameter(alloc, notes, file, Ty::Any, parameter)
+}
+
+/// A parameter, the first of which is what the function is called on.
+#[tactic(auto, using(crate::proofs::Steps::performing), unfolding(crate::specs::Signatures::parameter_reading))]
 fn read_parameter<N: Notes>(
+    alloc: Global,
+    notes: &mut N,
+    file: &SourceFile,
+    receiver: Ty,
+    parameter: &Parameter,
+) -> Result<Param, AllocError>
+    ensures { Performs param_of
+        (spec.parameter_reading (source_in file.now) (ty_of receiver) (parameter_of parameter.now))
+        (N.desk notes.old) result (N.desk notes.new) }
+{
+    let ty = read_parameter_type(alloc, notes, file, receiver, parameter)?;
+    let param = param_of_type(parameter, ty)?;
+    Ok(param)
+}
+
+/// The type of a parameter, the first of which is what the function is called on.
+fn read_parameter_type<N: Notes>(
     alloc: Global,
     notes: &mut N,
     file: &SourceFile,
@@ -144,12 +207,7 @@ fn param_kind(kind: ParameterKind, name: &Text) -> Result<ParamKind, AllocError>
 }
 
 /// The type of a function with these parameters and this result.
-fn called(
-    alloc: Global,
-    is_async: bool,
-    params: Vec<Param>,
-    answer: Ty,
-) -> Result<Ty, AllocError>
+fn called(alloc: Global, is_async: bool, params: Vec<Param>, answer: Ty) -> Result<Ty, AllocError>
     ensures { IfOk result (λ ty. ty_of ty ≡ spec.called is_async (map param_of params.items) (ty_of answer)) }
 {
     if is_async {
