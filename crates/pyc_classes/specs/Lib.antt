@@ -1,0 +1,6 @@
+pub mod Entries
+pub mod EntryView
+pub mod Numbers
+pub mod NumberView
+pub mod ClassOrders
+pub mod OrderView
