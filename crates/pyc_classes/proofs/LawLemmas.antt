@@ -174,9 +174,10 @@ module _ (all : List Entry) where
   keeps c d known led =
       let f = known-found c known in
       let l = leads-number c d f led in
-      let keeps_it = keeps_orders table f.number l.0 f.known l.1 in
-      (ap (λ o. (order_at all o).unknown) l.2 ∙ keeps_it.0,
-      subst₂ Sublist (sym (ap (λ o. (order_at all o).classes) l.2)) (sym (classes-found c f)) (Sublist-map (id_at all) keeps_it.1))
+      let keeps_it = keeps_orders table f.number l.0 f.known l.1 in (
+        ap (λ o. (order_at all o).unknown) l.2 ∙ keeps_it.0,
+        subst₂ Sublist (sym (ap (λ o. (order_at all o).classes) l.2)) (sym (classes-found c f)) (Sublist-map (id_at all) keeps_it.1),
+      )
 
   itself : (c : Id) → IsKnown order c → leads order c c ≡ true
   itself c known =
@@ -205,13 +206,13 @@ module _ (all : List Entry) where
       let others = map (id_at all) row in
       let own_others = λ (i : ℕ) (among : contains row i ≡ true). own i (or_right (j == i) (contains row i) among) in
       let again = λ (some : list_any is_j others ≡ true).
-          let found = any-found (λ i. is_j (id_at all i)) row (sym (any-map is_j (id_at all) row) ∙ some) in
-          let numbers : Some found.0 ≡ Some j =
-          sym (own_others found.0 found.1) ∙ ap (number_in all) (same_class-is (id_at all found.0) (id_at all j) found.2)
-          ∙ own j (or_left (j == j) (contains row j) (eq-eqb j j refl)) in
-          let same : found.0 ≡ j = cc in
-          let among = subst (λ k. contains row k ≡ true) same found.1 in
-          false≢true (ap not (sym among) ∙ parts.0) in
+      let found = any-found (λ i. is_j (id_at all i)) row (sym (any-map is_j (id_at all) row) ∙ some) in
+      let numbers : Some found.0 ≡ Some j =
+      sym (own_others found.0 found.1) ∙ ap (number_in all) (same_class-is (id_at all found.0) (id_at all j) found.2)
+      ∙ own j (or_left (j == j) (contains row j) (eq-eqb j j refl)) in
+      let same : found.0 ≡ j = cc in
+      let among = subst (λ k. contains row k ≡ true) same found.1 in
+      false≢true (ap not (sym among) ∙ parts.0) in
       and_from (not (list_any is_j others)) (is_distinct others)
       (not_from_false (list_any is_j others) (false_from_ne_true (list_any is_j others) again))
       (distinct-ids row own_others parts.1)
@@ -260,9 +261,11 @@ orders_kept declared = by_rule AreKept declared (keeps (all_entries declared))
 pub orders_orderly : OrdersAreOrderly
 orders_orderly declared = (
   by_rule HoldsItself declared (λ c. unless_unknown (order all c).unknown (leads (order all) c c) (itself all c)),
-  (λ c d e known led further.
-      Sublist-any (λ other. same_class other e) (orders_kept declared c d (known-from (orders_of declared c).unknown known) led).1 further,
-  λ b. refl),
+  (
+    λ c d e known led further.
+        Sublist-any (λ other. same_class other e) (orders_kept declared c d (known-from (orders_of declared c).unknown known) led).1 further,
+    λ b. refl,
+  ),
 )
   where
     all : List Entry
