@@ -1,9 +1,9 @@
--- The order of each class: the class itself, then its ancestors in method resolution order (Python reference 3.13, "Data
--- model", `type.__mro__`).
+-- The order of each class: the class itself, then its ancestors in method resolution order (Python reference 3.13,
+-- "Data model", `type.__mro__`).
 use Rattle.std.specs.Prelude.{ℕ, false, List, [], map, Option, None, Some}
 use Rattle.std.specs.List.{list_any}
 use Rattle.pyc_class.specs.declared.order.UnknownOrder.TheVariants as unknown
-use Rattle.pyc_class.specs.Class.{Id, builtin, user}
+use Rattle.pyc_class.specs.Class.{builtin, user}
 use Rattle.pyc_class.specs.Order.{Order, Orders}
 use Rattle.pyc_mro.specs.Orders.{Order as NumberedOrder, order_of}
 use Rattle.pyc_builtins.specs.Orders.{builtin_orders}

@@ -4,3 +4,4 @@ pub mod Numbers
 pub mod NumberView
 pub mod ClassOrders
 pub mod OrderView
+pub mod OrderLaws

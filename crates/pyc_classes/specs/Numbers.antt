@@ -1,5 +1,5 @@
 -- Classes by number: the place of each among all entries.
-use Rattle.std.specs.Prelude.{ℕ, Bool, false, List, map, Option, None, Some}
+use Rattle.std.specs.Prelude.{ℕ, Bool, false, List, map, Option, Some}
 use Rattle.std.specs.List.{position_from, slice_get}
 use Rattle.std.specs.Option.{option_map_or}
 use Rattle.pyc_class.specs.declared.class_id.InstanceForm.{InstanceForm}

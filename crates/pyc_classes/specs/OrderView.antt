@@ -26,7 +26,11 @@ pub record AreStored (entries : List Entry) (orders : NumberedOrders) (stored : 
   pub count : length stored ≡ length entries
   pub each : (n : ℕ) → n < length entries → stored_at stored (Some n) ≡ order_by entries (order_at orders n)
 
+-- the order of each class, where these are the numbers of classes and the orders that are stored of each number
+abbrev pub orders_by : (Id → Option ℕ) → List StoredOrder → Orders
+orders_by number_of stored (builtin class) = builtin_orders (builtin class)
+orders_by number_of stored (user m n) = stored_at stored (number_of (user m n))
+
 -- the order that a table holds of each class
 abbrev pub orders_in : ClassTable → Orders
-orders_in table (builtin class) = builtin_orders (builtin class)
-orders_in table (user m n) = stored_at table.orders.items (numbers_in table.numbers (user m n))
+orders_in table class = orders_by (numbers_in table.numbers) table.orders.items class

@@ -2,8 +2,8 @@
 
 use pyc_class::ClassId;
 
-/// A class as it is declared: its written bases, and whether it has a member `__call__` of its own, bound in its body or
-/// through an instance.
+/// A class as it is declared: its written bases, and whether it has a member `__call__` of its own, bound in its body
+/// or through an instance.
 #[derive(Debug, Drop)]
 pub struct ClassEntry {
     pub id: ClassId,

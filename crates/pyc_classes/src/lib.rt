@@ -4,6 +4,7 @@
 mod class_entry;
 mod class_table;
 mod entries;
+pub mod laws;
 mod numbered;
 mod stored_order;
 

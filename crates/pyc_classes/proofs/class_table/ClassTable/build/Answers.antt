@@ -5,14 +5,13 @@ use Rattle.pyc_mro.specs.Orders.{order_of}
 use Rattle.pyc_mro.specs.OrderView.{order_at as order_in}
 use Rattle.pyc_mro.specs.Tables.{Table}
 use Rattle.pyc_mro.specs.TableView.{table_in}
-use Rattle.pyc_classes.specs.declared.class_table.ClassTable.{ClassTable}
 use Rattle.pyc_classes.specs.declared.stored_order.StoredOrder.{StoredOrder}
 use Rattle.pyc_classes.specs.ClassOrders.{order_at, order_by, orders_of}
 use Rattle.pyc_classes.specs.Entries.{Entry, all_entries}
 use Rattle.pyc_classes.specs.EntryView.{entry_in}
 use Rattle.pyc_classes.specs.Numbers.{number_in, numbered_table, table_of}
 use Rattle.pyc_classes.specs.NumberView.{numbers_in}
-use Rattle.pyc_classes.specs.OrderView.{AreStored, orders_in, stored_at}
+use Rattle.pyc_classes.specs.OrderView.{AreStored, orders_by, stored_at}
 use Rattle.pyc_classes.proofs.NumberLemmas.{number_from-within}
 use Rattle.pyc_classes.proofs.class_table.ClassTable.build.Goals as goal
 
@@ -23,33 +22,33 @@ stored_is : (entries : List Entry) (orders : NumberedOrders) (stored : List Stor
 stored_is entries orders stored are by None within = refl
 stored_is entries orders stored are by (Some k) within = are.each k (within k refl) ∙ ap (order_by entries) (by k)
 
--- the orders of a table are those of the declared classes, where it holds the number of each class and its order
-orders_are : (table : ClassTable) (orders : NumberedOrders) (numbered : Table) (declared entries : List Entry)
-    → entries ≡ all_entries declared → numbers_in table.numbers ≡ number_in entries
-    → numbered ≡ numbered_table (numbers_in table.numbers) entries
-    → ((k : ℕ) → order_in orders k ≡ order_of numbered k) → AreStored entries orders table.orders.items
-    → (class : Id) → orders_in table class ≡ orders_of declared class
-orders_are table orders numbered declared entries all numbers rows by are (builtin class) = refl
-orders_are table orders numbered declared entries all numbers rows by are (user m n) =
+-- the orders that are stored are those of the declared classes
+orders_are : (number_of : Id → Option ℕ) (orders : NumberedOrders) (stored : List StoredOrder) (numbered : Table)
+    (declared entries : List Entry) → entries ≡ all_entries declared → number_of ≡ number_in entries
+    → numbered ≡ numbered_table number_of entries → ((k : ℕ) → order_in orders k ≡ order_of numbered k)
+    → AreStored entries orders stored → (class : Id) → orders_by number_of stored class ≡ orders_of declared class
+orders_are number_of orders stored numbered declared entries all numbers rows by are (builtin class) = refl
+orders_are number_of orders stored numbered declared entries all numbers rows by are (user m n) =
     let is : numbered ≡ table_of entries = rows ∙ ap (λ f. numbered_table f entries) numbers in
     let number = number_in entries (user m n) in
-    ap (λ f. stored_at table.orders.items (f (user m n))) numbers
-    ∙ stored_is entries orders table.orders.items are (λ k. by k ∙ ap (λ t. order_of t k) is) number
-      (λ k found. let below = number_from-within 0 k entries (user m n) found in omega arith)
+    ap (λ f. stored_at stored (f (user m n))) numbers
+    ∙ stored_is entries orders stored are (λ k. by k ∙ ap (λ t. order_of t k) is) number
+    (λ k found. let below = number_from-within 0 k entries (user m n) found in omega arith)
     ∙ ap (λ es. order_at es (number_in es (user m n))) all
 
 pub returns : goal.returns
 returns c =
+    let declared = map entry_in c.args.declared.items in
     let entries = map entry_in c.in_ok-entries.entries.items in
+    let stored = c.in_ok-stored_orders.field-0.items in
+    let number_of = numbers_in c.in_ok-numbers.numbers in
     let seen = ap (map entry_in) c.deref.ensures.value in
     let seen_again = ap (map entry_in) c.deref-2.ensures.value in
     let seen_last = ap (map entry_in) c.deref-4.ensures.value in
-    let numbers = ap numbers_in c.numbers.view_is in
-    let table = table_in c.in_ok-table.table.items in
-    orders_are _ c.in_ok-orders.orders table (map entry_in c.args.declared.items) entries
-    c.in_ok-entries.ensures (numbers ∙ c.in_ok-numbers.ensures ∙ ap number_in seen)
-    (c.in_ok-table.ensures ∙ ap (λ f. numbered_table f (map entry_in c.deref-2.result.now)) (sym numbers)
-    ∙ ap (numbered_table (numbers_in c.numbers.inside)) seen_again)
+    let are = orders_are number_of c.in_ok-orders.orders stored (table_in c.in_ok-table.table.items) declared entries
+    c.in_ok-entries.ensures (c.in_ok-numbers.ensures ∙ ap number_in seen)
+    (c.in_ok-table.ensures ∙ ap (numbered_table number_of) seen_again)
     (λ k. c.in_ok-orders.ensures k ∙ ap (λ t. order_of (table_in t) k) c.deref-3.ensures.value)
-    (subst (λ es. AreStored es c.in_ok-orders.orders c.in_ok-stored_orders.field-0.items) seen_last
-    c.in_ok-stored_orders.ensures)
+    (subst (λ es. AreStored es c.in_ok-orders.orders stored) seen_last c.in_ok-stored_orders.ensures) in
+    subst (λ f. (class : Id) → orders_by f stored class ≡ orders_of declared class)
+    (sym (ap numbers_in c.numbers.view_is)) are
