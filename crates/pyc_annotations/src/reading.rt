@@ -1,14 +1,16 @@
 //! The types that annotations mean.
 
-ghost use Rattle.std.specs.Prelude.{◌≡◌, [], IfOk, map};
+ghost use Rattle.std.specs.Prelude.{◌≡◌, ◌∷◌, [], IfOk, map};
 ghost use Rattle.pyc_annotations.specs.Annotations as spec;
 ghost use Rattle.pyc_annotations.specs.Views.{annotation_in, meaning_of, subscripted_of};
 ghost use Rattle.pyc_ast.specs.ExprView.{expr_of};
 ghost use Rattle.pyc_names.specs.SourceFileView.{source_in};
 ghost use Rattle.pyc_reading.specs.Desks.{Performs};
+ghost use Rattle.pyc_reading.specs.Readings.{Done, and_then};
 ghost use Rattle.pyc_type_exprs.specs.TypeExprs.{type_expr as type_expr_in, type_exprs, type_arguments};
-ghost use Rattle.pyc_type_exprs.specs.TypeExprView.{type_expr_of, type_argument_of, shape_in, dotted_name_of};
+ghost use Rattle.pyc_type_exprs.specs.TypeExprView.{type_expr_of, type_argument_of, dotted_name_of};
 ghost use Rattle.pyc_type_forms.specs.TypeView.{ty_of};
+ghost use Rattle.pyc_type_forms.specs.Unions.{union_of};
 
 use crate::form_types::{
     any_callable, any_length, built, dict_type, list_type, object_of, pair_union, plain_callable,
@@ -126,6 +128,7 @@ fn read_name<N: Notes>(
 
 /// What an annotation means that stands in a file.
 #[cycle(reading)]
+#[tactic(auto, using(crate::proofs::Steps::performing), unfolding(crate::specs::Annotations::union_rule))]
 fn read_type<N: Notes>(
     alloc: Global,
     notes: &mut N,
@@ -138,7 +141,11 @@ fn read_type<N: Notes>(
     match written {
         TypeExpr::None => Ok(of_type(Ty::None)),
         TypeExpr::Name { at, name } => read_name(alloc, notes, file, *at, name),
-        TypeExpr::Union { left, right } => read_union(alloc, notes, file, left, right),
+        TypeExpr::Union { left, right } => {
+            let left = read_type(alloc, notes, file, left)?;
+            let union = read_right(alloc, notes, file, right, &left.ty)?;
+            Ok(union)
+        }
         TypeExpr::Subscript {
             at,
             name,
@@ -172,23 +179,23 @@ fn read_subscript<N: Notes>(
     Ok(found)
 }
 
-/// `left | right`
+/// What stands right of `|`, where the left side has this type.
 #[cycle(reading)]
-#[tactic(auto, using(crate::proofs::Steps::performing), unfolding(crate::specs::Annotations::union_rule))]
-fn read_union<N: Notes>(
+#[tactic(auto, using(crate::proofs::Steps::performing))]
+fn read_right<N: Notes>(
     alloc: Global,
     notes: &mut N,
     file: &SourceFile,
-    left: &TypeExpr,
     right: &TypeExpr,
+    left: &Ty,
 ) -> Result<Annotation, AllocError>
     ensures { Performs annotation_in
-        (spec.union_rule (spec.read_type (source_in file.now) (type_expr_of left.now))
-        (spec.read_type (source_in file.now) (type_expr_of right.now))) (N.desk notes.old) result (N.desk notes.new) }
+        (and_then (spec.read_type (source_in file.now) (type_expr_of right.now))
+        (λ found. Done (spec.of_type (union_of (ty_of left.now ∷ found.ty ∷ []))))) (N.desk notes.old) result
+        (N.desk notes.new) }
 {
-    let left = read_type(alloc, notes, file, left)?;
     let right = read_type(alloc, notes, file, right)?;
-    let union = pair_union(alloc, &left.ty, &right.ty)?;
+    let union = pair_union(alloc, left, &right.ty)?;
     Ok(of_type(union))
 }
 
@@ -318,13 +325,10 @@ fn read_tuple<N: Notes>(
         (N.desk notes.old) result (N.desk notes.new) }
 {
     match arguments {
-        [
-            item,
-            TypeArgument {
-                shape: ArgumentShape::Ellipsis,
-                ..
-            },
-        ] => { read_any_length(alloc, notes, file, &item.written) }
+        [item, length] => match &length.shape {
+            ArgumentShape::Ellipsis => read_any_length(alloc, notes, file, &item.written),
+            _ => read_built(alloc, notes, file, TypeForm::Tuple, arguments),
+        },
         _ => read_built(alloc, notes, file, TypeForm::Tuple, arguments),
     }
 }
@@ -362,36 +366,16 @@ fn read_callable<N: Notes>(
         (N.desk notes.old) result (N.desk notes.new) }
 {
     match arguments {
-        [params, answer] => read_callable_of(
-            alloc,
-            notes,
-            file,
-            at,
-            &params.shape,
-            &answer.written,
-        ),
+        [params, answer] => match &params.shape {
+            ArgumentShape::Ellipsis => read_any_callable(alloc, notes, file, &answer.written),
+            ArgumentShape::List(types) => {
+                let types = listed_types(alloc, notes, file, types)?;
+                let found = read_plain_callable(alloc, notes, file, &answer.written, &types)?;
+                Ok(found)
+            }
+            ArgumentShape::Other => invalid(alloc, notes, at),
+        },
         _ => invalid(alloc, notes, at),
-    }
-}
-
-/// A callable whose first argument has this shape.
-#[cycle(reading)]
-fn read_callable_of<N: Notes>(
-    alloc: Global,
-    notes: &mut N,
-    file: &SourceFile,
-    at: Position,
-    params: &ArgumentShape,
-    answer: &TypeExpr,
-) -> Result<Annotation, AllocError>
-    ensures { Performs annotation_in
-        (spec.callable_of at (spec.shape_reading (source_in file.now) (shape_in params.now))
-        (spec.read_type (source_in file.now) (type_expr_of answer.now))) (N.desk notes.old) result (N.desk notes.new) }
-{
-    match params {
-        ArgumentShape::Ellipsis => read_any_callable(alloc, notes, file, answer),
-        ArgumentShape::List(types) => read_plain_callable(alloc, notes, file, types, answer),
-        ArgumentShape::Other => invalid(alloc, notes, at),
     }
 }
 
@@ -420,21 +404,22 @@ fn read_plain_callable<N: Notes>(
     alloc: Global,
     notes: &mut N,
     file: &SourceFile,
-    types: &[TypeExpr],
     answer: &TypeExpr,
+    types: &[Ty],
 ) -> Result<Annotation, AllocError>
     ensures { Performs annotation_in
-        (spec.listed_callable (spec.type_readings (source_in file.now) (type_exprs (map type_expr_of types.now)))
-        (spec.read_type (source_in file.now) (type_expr_of answer.now))) (N.desk notes.old) result (N.desk notes.new) }
+        (and_then (spec.read_type (source_in file.now) (type_expr_of answer.now))
+        (λ found. Done (spec.of_type (spec.plain_callable (map ty_of types.now) found.ty)))) (N.desk notes.old) result
+        (N.desk notes.new) }
 {
-    let types = listed_types(alloc, notes, file, types)?;
     let found = read_type(alloc, notes, file, answer)?;
-    let ty = plain_callable(alloc, &types, found.ty)?;
+    let ty = plain_callable(alloc, types, found.ty)?;
     Ok(of_type(ty))
 }
 
 /// The types of arguments, in turn.
 #[cycle(reading)]
+#[tactic(auto, using(crate::proofs::Steps::performing), unfolding(crate::specs::Annotations::more_types))]
 fn argument_types<N: Notes>(
     alloc: Global,
     notes: &mut N,
@@ -456,6 +441,7 @@ fn argument_types<N: Notes>(
 
 /// The types of annotations, in turn.
 #[cycle(reading)]
+#[tactic(auto, using(crate::proofs::Steps::performing), unfolding(crate::specs::Annotations::more_types))]
 fn listed_types<N: Notes>(
     alloc: Global,
     notes: &mut N,
