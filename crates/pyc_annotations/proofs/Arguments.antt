@@ -1,5 +1,5 @@
 -- How arguments of the code are read, by how many there are.
-use Rattle.std.proofs.Common.{◌≡◌, ℕ, ◌<◌, ◌≤◌, Bool, true, false, cond, List, [], ◌∷◌, length, map, get_or, refl, ap, sym, ◌∙◌, arith, rules}
+use Rattle.std.proofs.Common.{◌≡◌, ◌<◌, ◌≤◌, true, false, cond, List, [], ◌∷◌, length, map, get_or, refl, ap, sym, ◌∙◌, arith, rules}
 use Rattle.pyc_annotations.specs.Annotations.{ArgumentReading, argument_readings, argument_reading, shape_reading, read_type}
 use Rattle.pyc_annotations.specs.Annotations.{tuple_rule, callable_rule, callable_of, built_rule, form_rule, wrong_count, invalid, takes}
 use Rattle.pyc_annotations.specs.Annotations.{subscripted_rule, form_subscripted}

@@ -1,5 +1,5 @@
 -- Names joined by dots, by the first of them.
-use Rattle.std.proofs.Common.{◌≡◌, ℕ, ◌≤◌, List, ◌∷◌, length, get_or, ap, sym, ◌∙◌}
+use Rattle.std.proofs.Common.{◌≡◌, ◌≤◌, List, ◌∷◌, length, get_or, ap, sym, ◌∙◌}
 use Rattle.std.proofs.lemmas.Slice.{first_rest}
 use Rattle.std.specs.List.{between}
 

@@ -1,5 +1,5 @@
 -- The arguments of an annotation are less deep than it.
-use Rattle.std.proofs.Common.{ℕ, Bool, ◌<◌, arith}
+use Rattle.std.proofs.Common.{Bool, ◌<◌, arith}
 use Rattle.std.specs.declared.alloc.Global.{Global}
 use Rattle.std.specs.declared.vec.Vec.{Vec}
 use Rattle.pyc_ast.specs.declared.position.Position.{Position}

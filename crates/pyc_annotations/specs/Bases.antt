@@ -2,8 +2,8 @@
 use Rattle.std.specs.Prelude.{ℕ, true, List, [], ◌∷◌, ◌++◌, codes, Option, None, Some}
 use Rattle.pyc_annotations.specs.declared.meaning.Role.TheVariants as role
 use Rattle.pyc_annotations.specs.Annotations.{dotted_meaning}
-use Rattle.pyc_annotations.specs.Meanings.{Meaning, class_meant, any_meant, type_meant, fixed_meant, module_meant}
-use Rattle.pyc_annotations.specs.Meanings.{variable_meant, function_meant, nothing_meant}
+use Rattle.pyc_annotations.specs.Meanings.{Meaning, class_meant, any_meant, type_meant, fixed_meant}
+use Rattle.pyc_annotations.specs.Meanings.{variable_meant, function_meant}
 use Rattle.pyc_ast.specs.declared.expr.ArgumentKind.{ArgumentKind}
 use Rattle.pyc_ast.specs.declared.expr.ArgumentKind.TheVariants as argument_kind
 use Rattle.pyc_ast.specs.declared.position.Position.{Position}

@@ -1,5 +1,4 @@
 -- The plain values that what is read in the code is.
-use Rattle.std.specs.Prelude.{Option, None, Some}
 use Rattle.pyc_annotations.specs.declared.reading.Annotation.{Annotation as AnnotationOf}
 use Rattle.pyc_annotations.specs.declared.class_bases.Base.{Base as BaseOf}
 use Rattle.pyc_annotations.specs.declared.class_bases.Base.TheVariants as b

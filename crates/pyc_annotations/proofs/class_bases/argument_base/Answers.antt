@@ -1,4 +1,4 @@
-use Rattle.std.proofs.Common.{◌≡◌, ap, refl, ◌∙◌, Option, Some}
+use Rattle.std.proofs.Common.{ap, refl, ◌∙◌, Option, Some}
 use Rattle.pyc_annotations.proofs.BaseArguments.{base_of_parts}
 use Rattle.pyc_annotations.specs.Bases.{Base, argument_base, base, invalid_base, unnamed}
 use Rattle.pyc_ast.specs.ExprView.{expr_of}
@@ -15,8 +15,8 @@ returns-in_ok-found-in-Positional g c =
     let desk = g.N.Notes.desk c.args.notes.now in
     record {
       done =
-        ap (λ (r : Step (Option Base)). run r desk) (base_of_parts file x ∙ ap (λ k. argument_base file x.at k (expr_of x.value)) c.in-Positional.is)
-        ∙ after (base file (expr_of x.value)) (λ found. Done (Some found)) desk _ _ _ _ c.in_ok-found-in-Positional.ensures.done refl;
+          ap (λ (r : Step (Option Base)). run r desk) (base_of_parts file x ∙ ap (λ k. argument_base file x.at k (expr_of x.value)) c.in-Positional.is)
+          ∙ after (base file (expr_of x.value)) (λ found. Done (Some found)) desk _ _ _ _ c.in_ok-found-in-Positional.ensures.done refl;
       grown = c.read_base.ensures.grown;
     }
 
@@ -27,7 +27,7 @@ returns-in_ok-found-in-Starred g c =
     let desk = g.N.Notes.desk c.args.notes.now in
     record {
       done =
-        ap (λ (r : Step (Option Base)). run r desk) (base_of_parts file x ∙ ap (λ k. argument_base file x.at k (expr_of x.value)) c.in-Starred.is)
-        ∙ after (invalid_base x.at unnamed) (λ found. Done (Some found)) desk _ _ _ _ c.in_ok-found-in-Starred.ensures.done refl;
+          ap (λ (r : Step (Option Base)). run r desk) (base_of_parts file x ∙ ap (λ k. argument_base file x.at k (expr_of x.value)) c.in-Starred.is)
+          ∙ after (invalid_base x.at unnamed) (λ found. Done (Some found)) desk _ _ _ _ c.in_ok-found-in-Starred.ensures.done refl;
       grown = c.invalid_base.ensures.grown;
     }

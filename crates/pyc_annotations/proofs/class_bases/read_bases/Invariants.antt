@@ -1,4 +1,4 @@
-use Rattle.std.proofs.Common.{◌≡◌, map, drop, []}
+use Rattle.std.proofs.Common.{map, drop, []}
 use Rattle.pyc_annotations.specs.Bases.{more_bases}
 use Rattle.pyc_annotations.specs.Views.{base_of}
 use Rattle.pyc_ast.specs.ExprView.{argument_of}

@@ -1,4 +1,4 @@
-use Rattle.std.proofs.Common.{◌≡◌, sym, ◌∙◌, refl}
+use Rattle.std.proofs.Common.{sym, ◌∙◌, refl}
 use Rattle.pyc_annotations.specs.Annotations.{attributes, attribute_meaning}
 use Rattle.pyc_annotations.specs.Views.{meaning_of}
 use Rattle.pyc_reading.proofs.RunLemmas.{one_turn, grown_trans}

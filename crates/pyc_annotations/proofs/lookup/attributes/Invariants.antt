@@ -1,7 +1,7 @@
-use Rattle.std.proofs.Common.{◌≡◌, drop}
+use Rattle.std.proofs.Common.{drop}
 use Rattle.pyc_annotations.specs.Annotations.{attributes}
 use Rattle.pyc_annotations.specs.Views.{meaning_of}
-use Rattle.pyc_reading.specs.Desks.{Desk, run, Grown, Going}
+use Rattle.pyc_reading.specs.Desks.{Going}
 use Rattle.pyc_annotations.proofs.lookup.attributes.Given as goal
 
 -- what is left to do comes to the same as all

@@ -1,4 +1,4 @@
-use Rattle.std.proofs.Common.{◌≡◌, ◌∷◌, ◌∙◌, [], ◌<◌, ◌≤◌, List, length, map, ap, sym, subst, refl, arith, rules, true, false}
+use Rattle.std.proofs.Common.{◌≡◌, ◌∷◌, ◌∙◌, [], ◌<◌, ◌≤◌, List, length, map, ap, sym, subst, arith, rules, true, false}
 use Rattle.std.proofs.lemmas.List.{map_push}
 use Rattle.pyc_annotations.proofs.Arguments.{readings_of, length_readings, form_taken, form_not_taken, callable_two, callable_other, tuple_other}
 use Rattle.pyc_annotations.proofs.Sizes.{arguments_below}
@@ -27,8 +27,8 @@ argument_types-loop-argument-preserved g t c =
     let types = c.loop-argument.types.items in
     record {
       same =
-        argument_turn (source_in c.args.file.now) (map ty_of types) _ c.args.arguments.now c.loop-argument.argument-index _ _ _ _ c.loop-argument-test.true c.argument-item.is c.in_ok-found.ensures.done (ap (map ty_of) c.in_ok-push.ensures.items ∙ map_push ty_of types c.in_ok-found.found.ty)
-        ∙ c.loop-argument.invariant.same;
+          argument_turn (source_in c.args.file.now) (map ty_of types) _ c.args.arguments.now c.loop-argument.argument-index _ _ _ _ c.loop-argument-test.true c.argument-item.is c.in_ok-found.ensures.done (ap (map ty_of) c.in_ok-push.ensures.items ∙ map_push ty_of types c.in_ok-found.found.ty)
+          ∙ c.loop-argument.invariant.same;
       grown = grown_trans c.loop-argument.invariant.grown c.read_type.ensures.grown;
     }
 
@@ -37,8 +37,8 @@ listed_types-loop-written-preserved g t c =
     let types = c.loop-written.types.items in
     record {
       same =
-        type_turn (source_in c.args.file.now) (map ty_of types) _ c.args.listed.now c.loop-written.written-index _ _ _ _ c.loop-written-test.true c.written-item.is c.in_ok-found.ensures.done (ap (map ty_of) c.in_ok-push.ensures.items ∙ map_push ty_of types c.in_ok-found.found.ty)
-        ∙ c.loop-written.invariant.same;
+          type_turn (source_in c.args.file.now) (map ty_of types) _ c.args.listed.now c.loop-written.written-index _ _ _ _ c.loop-written-test.true c.written-item.is c.in_ok-found.ensures.done (ap (map ty_of) c.in_ok-push.ensures.items ∙ map_push ty_of types c.in_ok-found.found.ty)
+          ∙ c.loop-written.invariant.same;
       grown = grown_trans c.loop-written.invariant.grown c.read_type.ensures.grown;
     }
 
@@ -49,11 +49,11 @@ read_callable-returns-in_ok-found-in-List g t c =
     let answer = read_type file (type_expr_of c.answer-item.result.written) in
     let listed : shape_in c.params-item.result.shape ≡ list_shape (type_exprs (map type_expr_of c.deref.result.now)) = rw c.in-List.is (search (rules, the_lemmas)) in
     let found : run (and_then answer (λ found. Done (of_type (plain_callable (map ty_of c.in_ok-types-in-List.types.items) found.ty)))) (g.N.Notes.desk c.listed_types.new.notes) ≡ (annotation_in c.in_ok-found-in-List.found, g.N.Notes.desk c.read_plain_callable.new.notes)
-      = subst (λ (l : List Ty). run (and_then answer (λ found. Done (of_type (plain_callable (map ty_of l) found.ty)))) (g.N.Notes.desk c.listed_types.new.notes) ≡ (annotation_in c.in_ok-found-in-List.found, g.N.Notes.desk c.read_plain_callable.new.notes)) c.deref-in-List.ensures.value c.in_ok-found-in-List.ensures.done in
+    = subst (λ (l : List Ty). run (and_then answer (λ found. Done (of_type (plain_callable (map ty_of l) found.ty)))) (g.N.Notes.desk c.listed_types.new.notes) ≡ (annotation_in c.in_ok-found-in-List.found, g.N.Notes.desk c.read_plain_callable.new.notes)) c.deref-in-List.ensures.value c.in_ok-found-in-List.ensures.done in
     record {
       done =
-        ap (λ (r : Step Annotation). run r desk) (callable_two file c.args.at c.args.arguments.now _ _ c.in-len2.len_at_least c.in-len2.len_below c.params-item.is c.answer-item.is ∙ ap (λ s. callable_of c.args.at (shape_reading file s) answer) listed)
-        ∙ after (more_types [] (type_readings file (type_exprs (map type_expr_of c.deref.result.now)))) (λ tys. and_then answer (λ found. Done (of_type (plain_callable tys found.ty)))) desk _ _ _ _ c.in_ok-types-in-List.ensures.done found;
+          ap (λ (r : Step Annotation). run r desk) (callable_two file c.args.at c.args.arguments.now _ _ c.in-len2.len_at_least c.in-len2.len_below c.params-item.is c.answer-item.is ∙ ap (λ s. callable_of c.args.at (shape_reading file s) answer) listed)
+          ∙ after (more_types [] (type_readings file (type_exprs (map type_expr_of c.deref.result.now)))) (λ tys. and_then answer (λ found. Done (of_type (plain_callable tys found.ty)))) desk _ _ _ _ c.in_ok-types-in-List.ensures.done found;
       grown = grown_trans c.listed_types.ensures.grown c.read_plain_callable.ensures.grown;
     }
 
@@ -108,8 +108,8 @@ read_type-returns-in_ok-union-in-Union g t c =
     let written : type_expr_of c.args.written.now ≡ union_written (type_expr_of left) (type_expr_of right) = rw c.in-Union.is (search (rules, the_lemmas)) in
     record {
       done =
-        ap (λ (w : Written). run (read_type file w) desk) written
-        ∙ after (read_type file (type_expr_of left)) (λ l. and_then (read_type file (type_expr_of right)) (λ r. Done (of_type (union_of (l.ty ∷ r.ty ∷ []))))) desk _ _ _ _ c.in_ok-left-in-Union.ensures.done c.in_ok-union-in-Union.ensures.done;
+          ap (λ (w : Written). run (read_type file w) desk) written
+          ∙ after (read_type file (type_expr_of left)) (λ l. and_then (read_type file (type_expr_of right)) (λ r. Done (of_type (union_of (l.ty ∷ r.ty ∷ []))))) desk _ _ _ _ c.in_ok-left-in-Union.ensures.done c.in_ok-union-in-Union.ensures.done;
       grown = grown_trans c.read_type.ensures.grown c.read_right.ensures.grown;
     }
 

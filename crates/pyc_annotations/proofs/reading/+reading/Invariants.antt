@@ -1,4 +1,4 @@
-use Rattle.std.proofs.Common.{◌≡◌, map, drop, []}
+use Rattle.std.proofs.Common.{map, drop, []}
 use Rattle.pyc_annotations.specs.Annotations.{more_types, argument_readings, type_readings}
 use Rattle.pyc_names.specs.SourceFileView.{source_in}
 use Rattle.pyc_reading.specs.Desks.{Going}
