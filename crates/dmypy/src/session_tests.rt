@@ -1,5 +1,6 @@
 //! Sessions, with their replies.
 
 mod fakes;
+mod imports;
 mod replies;
-mod sources;
+mod rows;

@@ -1,8 +1,6 @@
 //! What is found in a file: its units, and its messages, with those that no ignore comment silences.
 #![tactic(auto)]
 
-mod annotations;
-mod definitions;
 mod found_messages;
 mod header;
 mod import_texts;
@@ -13,5 +11,5 @@ mod units;
 
 pub use found_messages::{found, unsilenced};
 pub use literals::{LiteralForm, literal_forms};
-pub use unit::{Unit, UnitId};
-pub use units::{count_units, unit_definitions, units};
+pub use unit::UnitId;
+pub use units::{count_units, unit_definitions};

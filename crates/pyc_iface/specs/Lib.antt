@@ -1,9 +1,7 @@
+pub mod Keys
 pub mod DeclaredTypes
-pub mod Presences
-pub mod Kinds
-pub mod Declarations
-pub mod ClassEntries
 pub mod Answers
-pub mod KindsView
-pub mod RecorderView
+pub mod Readings
+pub mod KeyView
+pub mod AnswerView
 pub mod WorldView

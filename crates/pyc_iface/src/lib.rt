@@ -1,21 +1,14 @@
-//! What the files of a workspace answer to what is asked of them.
+//! What is asked of the files of a workspace, and what they answer.
 #![tactic(auto)]
 
-mod alias;
-mod answers;
-mod class_entries;
-mod declarations;
+mod answer;
 mod declared_types;
-mod keys;
-mod kinds;
+mod key;
 mod options;
-mod presence;
-mod recorder;
 mod world;
 
-pub use answers::Answers;
+pub use answer::{Answer, NameAnswer, NameKind, Presence};
 pub use declared_types::{annotation_builtin, literal_type};
+pub use key::Key;
 pub use options::{Options, TURNS};
-pub use pyc_reading::{Answer, ClassOrder, Key, NameAnswer, NameKind, Notes, Presence};
-pub use recorder::Recorder;
 pub use world::World;

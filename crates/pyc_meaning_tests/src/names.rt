@@ -18,8 +18,7 @@ fn shown(alloc: Global, found: &Referent) -> Result<String, Fail> {
             let name = spelled(alloc, name)?;
             Ok(format!(in alloc; "module {name}")?)
         }
-        Referent::Opaque => Ok(String::from_str(alloc, "opaque")?),
-        Referent::FixedAny => Ok(String::from_str(alloc, "fixed Any")?),
+        Referent::Unknown => Ok(String::from_str(alloc, "unknown")?),
         Referent::NoModule => Ok(String::from_str(alloc, "no module")?),
         Referent::NoName => Ok(String::from_str(alloc, "no name")?),
         Referent::Cycle => Ok(String::from_str(alloc, "cycle")?),
@@ -85,8 +84,8 @@ fn chains_end(rt: HostRuntime) -> Result<(), Fail> {
         ("a", "x", "declared c:x"),
         ("a", "z", "no name"),
         ("a", "w", "no module"),
-        ("a", "q", "opaque"),
-        ("broken", "q", "opaque"),
+        ("a", "q", "unknown"),
+        ("broken", "q", "unknown"),
         ("gone", "w", "no module"),
         ("above", "k", "no module"),
     ] {
@@ -177,11 +176,11 @@ fn fixed_modules_stand_first(rt: HostRuntime) -> Result<(), Fail> {
     let a = rt.alloc();
     let table = Table::build(a, &files_of(a, &FIXED)?)?;
     for (home, name, found) in &[
-        ("typing", "own", "fixed Any"),
-        ("a", "own", "fixed Any"),
+        ("typing", "own", "unknown"),
+        ("a", "own", "unknown"),
         ("a", "Any", "declared typing:Any"),
         ("a", "O", "declared typing:Optional"),
-        ("a", "OrderedDict", "fixed Any"),
+        ("a", "OrderedDict", "unknown"),
         ("a", "abc", "module collections.abc"),
     ] {
         assert_eq!(rt;

@@ -1,4 +1,0 @@
-pub mod Meanings
-pub mod Annotations
-pub mod Bases
-pub mod Views
