@@ -42,6 +42,7 @@ run env RT_JOBS="${RT_JOBS:-4}" rt ci
 run python3 scripts/gate/check_layout.py
 run python3 scripts/gate/check_names.py
 run python3 scripts/gate/readme.py
+run python3 scripts/gate/rows.py
 run python3 scripts/gate/refused_growths.py
 run python3 scripts/gate/real_files.py
 

@@ -4,8 +4,8 @@
     scripts/gate/check_names.py
 
 In README.md and docs/*.md each link to a file of the repository has its target, and the heading that it may name. Where
-a link's text is one name in backticks and its target a file of code, of definitions or an edit, that file defines the
-name, or is that edit. In ARCHITECTURE.md, INDEX.md, THEOREMS.md and README.md each crate in backticks is listed, and
+a link's text is one name in backticks and its target a file of code, of definitions, an edit or a row, that file defines
+the name, or is that edit or row. In ARCHITECTURE.md, INDEX.md, THEOREMS.md and README.md each crate in backticks is listed, and
 each path in backticks is the end of one of the repository. The last line is `N passed, M failed`.
 """
 
@@ -70,7 +70,7 @@ def fault_of_link(page, text, target):
     name = NAME.fullmatch(text)
     if name and path.suffix in (".rt", ".antt") and not defines(path, name[1]):
         return f"{target}: does not define {name[1]}"
-    if name and path.suffix == ".edit" and path.stem != name[1]:
+    if name and path.suffix in (".edit", ".session") and path.stem != name[1]:
         return f"{target}: is not {name[1]}"
     return None
 

@@ -39,6 +39,7 @@ CHECKS = [
         "dmypy: folder.py: refused 10 unreadable\ndmypy: gone.py: refused 10 unreadable\n",
         2,
     ),
+    Check((), ("gone.py",), NONE, "dmypy: gone.py: refused 10 unreadable\n", 2),
     Check((), ("../good.py",), NONE, "dmypy: ../good.py: refused 2 path\n", 2),
     Check((), ("good.py", "good/__init__.py"), CLEAN, "dmypy: good/__init__.py: refused 7 module\n", 2),
     Check((), ("large.py",), NONE, "dmypy: large.py: refused 5 large\n", 2),

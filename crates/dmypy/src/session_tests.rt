@@ -1,6 +1,5 @@
 //! Sessions, with their replies.
 
 mod fakes;
-mod imports;
 mod replies;
-mod rows;
+mod sources;

@@ -10,10 +10,10 @@ use Rattle.std.proofs.lemmas.List.{take_more, map-append}
 use Rattle.std.specs.Prelude.{false}
 use Rattle.pyc_body.specs.Header.{part_reading, binding_reading, cycles_after, redefinition_reading, outcome_reading}
 use Rattle.pyc_iface.specs.declared.options.Options.{Options}
-use Rattle.pyc_iface.specs.Answers.{Answer}
-use Rattle.pyc_iface.specs.Keys.{Key}
-use Rattle.pyc_iface.specs.Readings.{told, each, and_then}
-use Rattle.pyc_iface.proofs.ReadingLemmas.{told-and_then, told-each}
+use Rattle.pyc_reading.specs.Answers.{Answer}
+use Rattle.pyc_reading.specs.Keys.{Key}
+use Rattle.pyc_reading.specs.Readings.{told, each, and_then}
+use Rattle.pyc_reading.proofs.ReadingLemmas.{told-and_then, told-each}
 use Rattle.pyc_names.specs.SourceFiles.{SourceFile}
 use Rattle.pyc_report.specs.Message.{Message}
 

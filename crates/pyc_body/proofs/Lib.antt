@@ -2,4 +2,4 @@ pub mod ListLemmas
 pub mod MessageLemmas
 pub mod TextLemmas
 pub mod HeaderLemmas
-pub mod UnitLemmas
+pub mod Steps

@@ -1,8 +1,9 @@
 -- What is found in the units of a file: in its header, what is told of imports and definitions; in the body of its
--- module, a message for each annotated literal that is not assignable to its annotation.
-use Rattle.std.specs.Prelude.{ℕ, zero, suc, List, [], ◌∷◌, ◌++◌, Option, None, Some, if◌then◌else◌, codes}
-use Rattle.std.specs.Prelude.{flat_map}
-use Rattle.std.specs.List.{filter_map, range_with_len}
+-- module, what is told of annotations, and a message for each annotated literal that is not assignable to its
+-- annotation; in a function or method what is told of its signature, in a class what is told of its bases, its order
+-- and the names that its body defines again.
+use Rattle.std.specs.Prelude.{ℕ, List, [], ◌∷◌, ◌++◌, Option, None, Some, if◌then◌else◌, codes, flat_map}
+use Rattle.std.specs.List.{filter_map}
 use Rattle.pyc_ast.specs.Modules.{Outcome, tree, fault}
 use Rattle.pyc_ast.specs.Statements.{Stmts}
 use Rattle.pyc_type_forms.specs.Text.{text_of}
@@ -14,15 +15,16 @@ use Rattle.pyc_types.specs.Ways.{assignable}
 use Rattle.pyc_bindings.specs.Bindings.{Binding}
 use Rattle.pyc_iface.specs.declared.options.Options.{Options}
 use Rattle.pyc_iface.specs.Answers.{answer_of}
-use Rattle.pyc_iface.specs.Readings.{told}
+use Rattle.pyc_reading.specs.Readings.{told}
 use Rattle.pyc_names.specs.SourceFiles.{SourceFile}
+use Rattle.pyc_body.specs.AnnotationReadings.{body_reading}
+use Rattle.pyc_body.specs.DefinitionReadings.{definition_reading}
 use Rattle.pyc_body.specs.Header.{header_reading}
-use Rattle.pyc_body.specs.Units.{unit_count}
+use Rattle.pyc_body.specs.Units.{Unit, header, module_body, definition, file_units}
 use Rattle.pyc_body.specs.declared.literals.LiteralForm.{LiteralForm}
 use Rattle.pyc_report.specs.declared.message.Code.TheVariants.{Assignment}
-use Rattle.pyc_report.specs.declared.message.MessageKind.TheVariants.{Error}
 use Rattle.pyc_body.specs.LiteralForms.{literal_forms}
-use Rattle.pyc_report.specs.Message.{Message}
+use Rattle.pyc_report.specs.Message.{Message, error_at}
 use Rattle.pyc_report.specs.Silencing.{without_silenced}
 
 -- what is told of a value of one type for a variable of another
@@ -33,12 +35,8 @@ assignment_text got want =
 
 -- the message on an annotated literal that is not assignable
 abbrev pub assignment_message : LiteralForm → Message
-assignment_message form = record {
-  line = form.at.line;
-  column = form.at.column;
-  kind = Error Assignment;
-  text = assignment_text (builtin_type form.value) (builtin_type form.annotation);
-}
+assignment_message form =
+    error_at form.at Assignment (assignment_text (builtin_type form.value) (builtin_type form.annotation))
 
 -- the message on an annotated literal: none where its type is assignable to its annotation
 unfoldable pub form_message : LiteralForm → Option Message
@@ -50,21 +48,21 @@ form_message form =
 abbrev pub module_messages : List Binding → Stmts → List Message
 module_messages bindings statements = filter_map form_message (literal_forms bindings statements)
 
-abbrev pub body_messages : SourceFile → Outcome → List Message
-body_messages file (tree m) = module_messages file.bindings m.statements
-body_messages file (fault line text) = []
+-- what is found in the body of a module: what is told of its annotations, and of its annotated literals
+abbrev pub body_messages : List SourceFile → SourceFile → Outcome → List Message
+body_messages files file (tree m) =
+    told (answer_of files) (body_reading file m.statements) ++ module_messages file.bindings m.statements
+body_messages files file (fault line text) = []
 
--- what is found in a unit of a file, by the unit's number: in its header, over the answers of these files; in the body
--- of its module; in its functions, classes and methods nothing yet
-unfoldable pub found : Options → List SourceFile → SourceFile → ℕ → List Message
-found options files file zero = told (answer_of files) (header_reading options file)
-found options files file (suc zero) = body_messages file file.outcome
-found options files file (suc (suc n)) = []
+-- what is found in a unit of a file, over the answers of these files
+unfoldable pub found : Options → List SourceFile → SourceFile → Unit → List Message
+found options files file header = told (answer_of files) (header_reading options file)
+found options files file module_body = body_messages files file file.outcome
+found options files file (definition d) = told (answer_of files) (definition_reading file d)
 
 -- what is found in all units of a file
 abbrev pub found_in_units : Options → List SourceFile → SourceFile → List Message
-found_in_units options files file =
-    flat_map (found options files file) (range_with_len 0 (unit_count file.outcome))
+found_in_units options files file = flat_map (found options files file) (file_units file.outcome)
 
 -- the messages of a file that its ignore comments do not silence; a file with a fault has none
 abbrev pub without_ignored : Outcome → List Message → List Message

@@ -12,11 +12,11 @@ use Rattle.pyc_bindings.specs.declared.place.Place.{Place}
 use Rattle.pyc_bindings.specs.Bindings.{Binding, form_of}
 use Rattle.pyc_bindings.specs.Redefinitions.{declaration, Redefinition}
 use Rattle.pyc_bindings.specs.Scopes.{Part, PartForm, statement, parts_of}
-use Rattle.pyc_iface.specs.declared.answer.Presence.TheVariants as presence
+use Rattle.pyc_reading.specs.declared.answer.Presence.TheVariants as presence
 use Rattle.pyc_iface.specs.declared.options.Options.{Options}
-use Rattle.pyc_iface.specs.Answers.{Answer, presence_of}
-use Rattle.pyc_iface.specs.Keys.{Key, has_module, has_name}
-use Rattle.pyc_iface.specs.Readings.{Reading, Done, Ask, Tell, and_then, each}
+use Rattle.pyc_reading.specs.Answers.{Answer, presence_of}
+use Rattle.pyc_reading.specs.Keys.{Key, has_module, has_name}
+use Rattle.pyc_reading.specs.Readings.{Reading, Done, Ask, Tell, and_then, each}
 use Rattle.pyc_names.specs.FixedModules.{fixed_module}
 use Rattle.pyc_names.specs.Following.{is_import_from}
 use Rattle.pyc_names.specs.Imports.{named_module}
@@ -24,7 +24,8 @@ use Rattle.pyc_names.specs.SourceFiles.{SourceFile}
 use Rattle.pyc_report.specs.declared.message.Code.{Code}
 use Rattle.pyc_report.specs.declared.message.Code.TheVariants as code
 use Rattle.pyc_report.specs.declared.message.MessageKind.TheVariants.{Error}
-use Rattle.pyc_report.specs.Message.{Message}
+use Rattle.pyc_report.specs.Message.{Message, error_at}
+use Rattle.pyc_report.specs.NameTexts.{joined_names}
 
 -- a reading of a part of a file
 abbrev pub Step : Type 0
@@ -36,15 +37,6 @@ Step = Reading Key Answer Message (Unit {0})
 abbrev pub dots : ℕ → List ℕ
 dots zero = []
 dots (suc n) = 46 ∷ dots n
-
--- a name after a dot
-abbrev pub after_dot : List ℕ → List ℕ
-after_dot name = codes "." ++ name
-
--- names with a dot between each two
-abbrev pub joined_names : List (List ℕ) → List ℕ
-joined_names [] = []
-joined_names (name ∷ names) = name ++ flat_map after_dot names
 
 -- a module as it is written: the dots before its name, and its name
 unfoldable pub written_module : ℕ → List (List ℕ) → List ℕ
@@ -66,10 +58,6 @@ redefinition_text name line = codes "Name \"" ++ (name ++ (codes "\" already def
 -- the message on a fault
 abbrev pub fault_message : ℕ → List ℕ → Message
 fault_message line text = record { line = line; column = 1; kind = Error code.Syntax; text = text }
-
--- an error at a position
-abbrev pub error_at : Position → Code → List ℕ → Message
-error_at at found text = record { line = at.line; column = at.column; kind = Error found; text = text }
 
 abbrev pub tell : Position → Code → List ℕ → Step
 tell at found text = Tell (error_at at found text) (Done tt)

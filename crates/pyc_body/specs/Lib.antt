@@ -1,4 +1,7 @@
-pub mod FoundMessages
-pub mod LiteralForms
-pub mod Units
 pub mod Header
+pub mod Units
+pub mod UnitView
+pub mod LiteralForms
+pub mod AnnotationReadings
+pub mod DefinitionReadings
+pub mod FoundMessages

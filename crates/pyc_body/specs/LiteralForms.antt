@@ -10,7 +10,7 @@ use Rattle.pyc_ast.specs.Targets as to
 use Rattle.pyc_builtins.specs.declared.builtin.Builtin.{Builtin}
 use Rattle.pyc_body.specs.declared.literals.LiteralForm.{LiteralForm}
 use Rattle.pyc_bindings.specs.Bindings.{Binding}
-use Rattle.pyc_iface.specs.DeclaredTypes.{annotation_builtin, literal_type}
+use Rattle.pyc_declarations.specs.DeclaredTypes.{annotation_builtin, literal_type}
 use Rattle.pyc_bindings.specs.Scopes.{PartForm, Part, statement, parts_of}
 
 -- whether a part that begins at a position, and inside its parentheses at another, has no parentheses around it

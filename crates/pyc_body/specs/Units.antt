@@ -1,6 +1,6 @@
 -- The units of a file: its header, the body of its module, its functions and classes, and the methods of its classes
 -- (Python reference 3.13, "Function definitions", "Class definitions").
-use Rattle.std.specs.Prelude.{ℕ, ◌+◌, false, List, [], ◌∷◌, flat_map, length}
+use Rattle.std.specs.Prelude.{ℕ, ◌+◌, false, List, [], ◌∷◌, flat_map, length, map}
 use Rattle.pyc_ast.specs.Modules.{Outcome, tree, fault}
 use Rattle.pyc_ast.specs.Statements.{Stmt, stmt, Stmts, function, class}
 use Rattle.pyc_bindings.specs.Scopes.{PartForm, Part, statement, parts_of}
@@ -39,3 +39,14 @@ unit_definitions found = flat_map (λ (part : Part). units_of part.form) (parts_
 abbrev pub unit_count : Outcome → ℕ
 unit_count (tree m) = length (unit_definitions m.statements) + 2
 unit_count (fault line text) = 1
+
+-- a unit of a file: its header, the body of its module, or a function, a class or a method
+pub data Unit : Type 0 where
+  header : Unit
+  module_body : Unit
+  definition : Stmt → Unit
+
+-- the units of a file with this outcome, in order
+abbrev pub file_units : Outcome → List Unit
+file_units (tree m) = header ∷ module_body ∷ map definition (unit_definitions m.statements)
+file_units (fault line text) = header ∷ []

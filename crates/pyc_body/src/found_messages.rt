@@ -1,25 +1,35 @@
 //! What is found in a file: its messages.
 
 ghost use Rattle.std.specs.Prelude.{◌≡◌, ◌++◌, map, flat_map, IfOk, OnOk, option_map, string_bytes};
-ghost use Rattle.std.specs.List.{filter_map, range_with_len};
-ghost use Rattle.pyc_body.specs.Units.{unit_count};
+ghost use Rattle.std.specs.List.{filter_map};
+ghost use Rattle.pyc_ast.specs.Statements.{stmts};
+ghost use Rattle.pyc_ast.specs.StatementView.{stmt_of};
+ghost use Rattle.pyc_body.specs.AnnotationReadings.{body_reading};
+ghost use Rattle.pyc_body.specs.DefinitionReadings.{definition_reading};
+ghost use Rattle.pyc_body.specs.UnitView.{unit_of};
+ghost use Rattle.pyc_iface.specs.Answers.{answer_of};
 ghost use Rattle.pyc_iface.specs.WorldView.{world_in};
 ghost use Rattle.pyc_names.specs.SourceFileView.{source_in};
 ghost use Rattle.pyc_type_forms.specs.TypeView.{ty_of};
 ghost use Rattle.pyc_body.specs.FoundMessages as spec;
+ghost use Rattle.pyc_reading.specs.Readings.{told};
 ghost use Rattle.pyc_report.specs.Message.{message_in};
 
+use crate::annotations::read_body;
+use crate::definitions::read_definition;
 use crate::header::HeaderCheck;
 use crate::literals::{LiteralForm, literal_forms};
-use pyc_ast::Outcome;
-use pyc_iface::{Options, World};
+use crate::unit::Unit;
+use crate::units::file_units;
+use pyc_ast::{Outcome, Stmt};
+use pyc_iface::{Options, Recorder, World};
 use pyc_names::SourceFile;
-use pyc_report::{Code, Message, MessageKind, drop_silenced};
+use pyc_report::{Code, Message, drop_silenced};
 use pyc_types::{Builtins, Ty, assignable, show};
 use std::alloc::{AllocError, Global};
 
-/// The unsilenced messages of a file of a world: what is found in its units, of which it has so many, without what its
-/// ignore comments silence. The only error is that memory runs out.
+/// The unsilenced messages of a file of a world: what is found in its units, without what its ignore comments silence.
+/// The only error is that memory runs out.
 #[tactic(auto, unfolding(crate::specs::FoundMessages::unsilenced))]
 pub fn unsilenced(
     alloc: Global,
@@ -27,52 +37,49 @@ pub fn unsilenced(
     options: Options,
     world: &World,
     file: &SourceFile,
-    units: usize,
 ) -> Result<Vec<Message>, AllocError>
-    requires { units ≡ unit_count (source_in file.now).outcome }
     ensures { IfOk result (λ messages. map message_in messages.items
         ≡ spec.unsilenced options (world_in world.now) (source_in file.now)) }
 {
-    let mut messages = found_in_units(alloc, builtins, options, world, file, units)?;
+    let mut messages = found_in_units(alloc, builtins, options, world, file)?;
     if let Outcome::Tree(module) = file.outcome() {
         drop_silenced(module, &mut messages);
     }
     Ok(messages)
 }
 
-/// The messages of so many units of a file.
-#[tactic(auto, using(crate::proofs::UnitLemmas::units_more))]
+/// The messages of the units of a file.
 fn found_in_units(
     alloc: Global,
     builtins: &Builtins,
     options: Options,
     world: &World,
     file: &SourceFile,
-    units: usize,
 ) -> Result<Vec<Message>, AllocError>
     ensures { IfOk result (λ messages. map message_in messages.items
-        ≡ flat_map (spec.found options (world_in world.now) (source_in file.now)) (range_with_len 0 units)) }
+        ≡ spec.found_in_units options (world_in world.now) (source_in file.now)) }
 {
+    let units = file_units(alloc, file.outcome())?;
     let mut messages = Vec::new(alloc);
-    for unit in 0..units {
-        push_found(alloc, builtins, options, world, file, unit, &mut messages)?;
+    for unit in &units {
+        push_found(alloc, builtins, options, world, file, *unit, &mut messages)?;
     }
     Ok(messages)
 }
 
-/// The messages of a unit of a file of a world, by the unit's number, counted from 0: of its header, what is told of
-/// imports and definitions, or its fault; of the body of its module, what is told of annotated literals; of its
-/// functions, classes and methods none yet. The only error is that memory runs out.
+/// The messages of a unit of a file of a world: of its header, what is told of imports and definitions, or its fault;
+/// of the body of its module, what is told of annotations and of annotated literals; of a function or a method, what is
+/// told of its signature; of a class, what is told of its bases and its order. The only error is that memory runs out.
 pub fn found(
     alloc: Global,
     builtins: &Builtins,
     options: Options,
     world: &World,
     file: &SourceFile,
-    unit: usize,
+    unit: Unit<'_>,
 ) -> Result<Vec<Message>, AllocError>
     ensures { IfOk result (λ messages. map message_in messages.items
-        ≡ spec.found options (world_in world.now) (source_in file.now) unit) }
+        ≡ spec.found options (world_in world.now) (source_in file.now) (unit_of unit.entry)) }
 {
     let mut messages = Vec::new(alloc);
     push_found(alloc, builtins, options, world, file, unit, &mut messages)?;
@@ -87,15 +94,15 @@ fn push_found(
     options: Options,
     world: &World,
     file: &SourceFile,
-    unit: usize,
+    unit: Unit<'_>,
     messages: &mut Vec<Message>,
 ) -> Result<(), AllocError>
     ensures { OnOk result (map message_in messages.new.items
         ≡ map message_in messages.old.items
-        ++ spec.found options (world_in world.now) (source_in file.now) unit) }
+        ++ spec.found options (world_in world.now) (source_in file.now) (unit_of unit.entry)) }
 {
     match unit {
-        0 => {
+        Unit::Header => {
             let check = HeaderCheck {
                 alloc,
                 options,
@@ -104,8 +111,8 @@ fn push_found(
             };
             check.push_header(messages)
         }
-        1 => push_body(alloc, builtins, file, messages),
-        _ => Ok(()),
+        Unit::ModuleBody => push_body(alloc, builtins, world, file, messages),
+        Unit::Definition(found) => push_definition(alloc, world, file, found, messages),
     }
 }
 
@@ -113,20 +120,59 @@ fn push_found(
 fn push_body(
     alloc: Global,
     builtins: &Builtins,
+    world: &World,
     file: &SourceFile,
     messages: &mut Vec<Message>,
 ) -> Result<(), AllocError>
     ensures { OnOk result (map message_in messages.new.items
         ≡ map message_in messages.old.items
-        ++ spec.body_messages (source_in file.now) (source_in file.now).outcome) }
+        ++ spec.body_messages (world_in world.now) (source_in file.now) (source_in file.now).outcome) }
 {
     match file.outcome() {
         Outcome::Tree(module) => {
+            push_body_annotations(alloc, world, file, &module.statements, messages)?;
             let forms = literal_forms(alloc, file.bindings(), &module.statements)?;
             push_form_messages(alloc, builtins, &forms, messages)
         }
         Outcome::Fault(_) => Ok(()),
     }
+}
+
+/// Adds what is told of the annotations of a module that has these statements.
+fn push_body_annotations(
+    alloc: Global,
+    world: &World,
+    file: &SourceFile,
+    statements: &[Stmt],
+    messages: &mut Vec<Message>,
+) -> Result<(), AllocError>
+    ensures { OnOk result (map message_in messages.new.items
+        ≡ map message_in messages.old.items
+        ++ told (answer_of (world_in world.now))
+        (body_reading (source_in file.now) (stmts (map stmt_of statements.now)))) }
+{
+    let mut notes = Recorder::new(alloc, world.answers());
+    read_body(alloc, &mut notes, file, statements)?;
+    messages.append(&mut notes.into_messages())?;
+    Ok(())
+}
+
+/// Adds what is told of a function, a class or a method.
+fn push_definition(
+    alloc: Global,
+    world: &World,
+    file: &SourceFile,
+    found: &Stmt,
+    messages: &mut Vec<Message>,
+) -> Result<(), AllocError>
+    ensures { OnOk result (map message_in messages.new.items
+        ≡ map message_in messages.old.items
+        ++ told (answer_of (world_in world.now)) (definition_reading (source_in file.now) (stmt_of found.now))) }
+{
+    let mut notes = Recorder::new(alloc, world.answers());
+    read_definition(alloc, &mut notes, file, found)?;
+    messages.append(&mut notes.into_messages())?;
+    Ok(())
 }
 
 /// Adds the messages on annotated literals.
@@ -161,12 +207,8 @@ fn form_message(
     if assignable(builtins, got, want) {
         return Ok(None);
     }
-    Ok(Some(Message {
-        line: form.at.line as usize,
-        column: form.at.column as usize,
-        kind: MessageKind::Error(Code::Assignment),
-        text: assignment_text(alloc, got, want)?,
-    }))
+    let text = assignment_text(alloc, got, want)?;
+    Ok(Some(Message::error_at(form.at, Code::Assignment, text)))
 }
 
 /// What is told of a value of type `got` for a variable of type `want`.

@@ -8,12 +8,12 @@ ghost use Rattle.pyc_bindings.specs.RedefinitionView.{redefinition_of};
 ghost use Rattle.pyc_bindings.specs.ScopeView.{part_of, part_form_of};
 ghost use Rattle.pyc_body.specs.Header as spec;
 ghost use Rattle.pyc_iface.specs.Answers.{answer_of};
-ghost use Rattle.pyc_iface.specs.AnswerView.{answer_in};
-ghost use Rattle.pyc_iface.specs.Readings.{told, each};
+ghost use Rattle.pyc_reading.specs.AnswerView.{answer_in};
+ghost use Rattle.pyc_reading.specs.Readings.{told, each};
 ghost use Rattle.pyc_iface.specs.WorldView.{world_in};
 ghost use Rattle.pyc_names.specs.Following.{is_import_from};
 ghost use Rattle.pyc_names.specs.SourceFileView.{source_in};
-ghost use Rattle.pyc_report.specs.Message.{message_in};
+ghost use Rattle.pyc_report.specs.Message.{error_at, message_in};
 
 use crate::import_texts::{
     cycle_text, missing_text, no_attribute_text, redefinition_text, written_module,
@@ -405,14 +405,9 @@ fn push_error(
     messages: &mut Vec<Message>,
 ) -> Result<(), AllocError>
     ensures { OnOk result (map message_in messages.new.items
-        ≡ map message_in messages.old.items ++ (spec.error_at at code (string_bytes text) ∷ [])) }
+        ≡ map message_in messages.old.items ++ (error_at at code (string_bytes text) ∷ [])) }
 {
-    messages.push(Message {
-        line: at.line as usize,
-        column: at.column as usize,
-        kind: MessageKind::Error(code),
-        text,
-    })?;
+    messages.push(Message::error_at(at, code, text))?;
     Ok(())
 }
 

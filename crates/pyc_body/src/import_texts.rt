@@ -1,9 +1,10 @@
 //! What is told of imports and definitions.
 
-ghost use Rattle.std.specs.Prelude.{◌≡◌, ◌++◌, flat_map, IfOk, OnOk, string_bytes};
+ghost use Rattle.std.specs.Prelude.{◌≡◌, ◌++◌, IfOk, string_bytes};
 ghost use Rattle.pyc_body.specs.Header as spec;
 
 use pyc_ast::Text;
+use pyc_report::push_names;
 use std::alloc::{AllocError, Global};
 
 /// A module as it is written in an import: so many dots, and the parts of its name.
@@ -30,31 +31,6 @@ fn dots_text(alloc: Global, dots: usize) -> Result<String, AllocError>
         text.push_str(".")?;
     }
     Ok(text)
-}
-
-/// Adds names with a dot between each two.
-fn push_names(text: &mut String, names: &[Text]) -> Result<(), AllocError>
-    ensures { OnOk result (string_bytes text.new ≡ string_bytes text.old ++ spec.joined_names names.now) }
-{
-    match names {
-        [] => Ok(()),
-        [first, rest @ ..] => {
-            text.push_str(first.as_str())?;
-            push_after_dots(text, rest)
-        }
-    }
-}
-
-/// Adds names, each after a dot.
-fn push_after_dots(text: &mut String, names: &[Text]) -> Result<(), AllocError>
-    ensures { OnOk result (string_bytes text.new
-        ≡ string_bytes text.old ++ flat_map spec.after_dot names.now) }
-{
-    for name in names {
-        text.push_str(".")?;
-        text.push_str(name.as_str())?;
-    }
-    Ok(())
 }
 
 /// What is told of a module that is not there.

@@ -1,6 +1,8 @@
 //! What is found in a file: its units, and its messages, with those that no ignore comment silences.
 #![tactic(auto)]
 
+mod annotations;
+mod definitions;
 mod found_messages;
 mod header;
 mod import_texts;
@@ -11,5 +13,5 @@ mod units;
 
 pub use found_messages::{found, unsilenced};
 pub use literals::{LiteralForm, literal_forms};
-pub use unit::UnitId;
-pub use units::{count_units, unit_definitions};
+pub use unit::{Unit, UnitId};
+pub use units::{count_units, file_units, unit_definitions};

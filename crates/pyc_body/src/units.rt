@@ -6,8 +6,10 @@ ghost use Rattle.pyc_ast.specs.Statements.{stmts};
 ghost use Rattle.pyc_ast.specs.StatementView.{stmt_of, block_of};
 ghost use Rattle.pyc_bindings.specs.ScopeView.{part_form_of};
 ghost use Rattle.pyc_body.specs.Units as spec;
-ghost use Rattle.pyc_body.specs.Units.{methods_in, unit_count, unit_definitions, units_of};
+ghost use Rattle.pyc_body.specs.Units.{methods_in, unit_count, unit_definitions, units_of, file_units, definition};
+ghost use Rattle.pyc_body.specs.UnitView.{unit_of};
 
+use crate::unit::Unit;
 use pyc_ast::{Block, Outcome, Stmt, StmtForm};
 use pyc_bindings::{PartForm, scope_parts};
 use std::alloc::{AllocError, Global};
@@ -21,6 +23,35 @@ pub fn count_units(alloc: Global, outcome: &Outcome) -> Result<usize, AllocError
         Outcome::Tree(module) => Ok(unit_definitions(alloc, &module.statements)?.len() + 2),
         Outcome::Fault(_) => Ok(1),
     }
+}
+
+/// The units of a file with this outcome, in order. The only error is that memory runs out.
+pub fn file_units(alloc: Global, outcome: &Outcome) -> Result<Vec<Unit<'_>>, AllocError>
+    ensures { IfOk result (λ units. map unit_of units.items ≡ file_units (outcome_of outcome.now)) }
+{
+    let mut units = Vec::new(alloc);
+    units.push(Unit::Header)?;
+    if let Outcome::Tree(module) = outcome {
+        units.push(Unit::ModuleBody)?;
+        push_definitions(alloc, &module.statements, &mut units)?;
+    }
+    Ok(units)
+}
+
+/// Adds the definitions of a module that has these statements.
+fn push_definitions<'a>(
+    alloc: Global,
+    statements: &'a [Stmt],
+    units: &mut Vec<Unit<'a>>,
+) -> Result<(), AllocError>
+    ensures { OnOk result (map unit_of units.new.items
+        ≡ map unit_of units.old.items ++ map definition (unit_definitions (stmts (map stmt_of statements.now)))) }
+{
+    let definitions = unit_definitions(alloc, statements)?;
+    for found in &definitions {
+        units.push(Unit::Definition(found))?;
+    }
+    Ok(())
 }
 
 /// The definitions among the units of a module that has these statements, in text order: each function and class, and

@@ -1,7 +1,5 @@
-pub mod Keys
-pub mod DeclaredTypes
+pub mod Members
 pub mod Answers
-pub mod Readings
-pub mod KeyView
-pub mod AnswerView
+pub mod DeclaredView
 pub mod WorldView
+pub mod WorldLaws

@@ -1,14 +1,17 @@
-//! What is asked of the files of a workspace, and what they answer.
+//! What the files of a workspace answer to what is asked of them.
 #![tactic(auto)]
 
-mod answer;
-mod declared_types;
-mod key;
+mod declared;
+pub mod laws;
+mod member_types;
+mod members;
 mod options;
 mod world;
 
-pub use answer::{Answer, NameAnswer, NameKind, Presence};
-pub use declared_types::{annotation_builtin, literal_type};
-pub use key::Key;
 pub use options::{Options, TURNS};
-pub use world::World;
+pub use pyc_declarations::{Answers, Recorder, annotation_builtin, literal_type};
+pub use pyc_reading::{
+    Answer, ClassOrder, Key, MemberAnswer, MemberKind, MemberName, NameAnswer, NameKind, Notes,
+    Presence,
+};
+pub use world::{World, WorldAnswers};

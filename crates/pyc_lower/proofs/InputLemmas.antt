@@ -1,16 +1,15 @@
 -- What the definitions say of statements of the code, by their parts.
 use Rattle.std.proofs.Common.{◌≡◌, refl, ap, sym, ◌∙◌, ℕ, suc, ◌==◌, ◌<◌, ◌≤◌, arith, Bool, true, false, not, ◌&&◌, ◌||◌, List}
-use Rattle.std.proofs.Common.{[], ◌∷◌, length, get_or, Option, None, Some}
+use Rattle.std.proofs.Common.{[], ◌∷◌, length, map, Option, None, Some}
 use Rattle.std.proofs.lemmas.Bool.Decides.{nat_tests}
 use Rattle.std.specs.declared.alloc.Global.{Global}
 use Rattle.std.specs.declared.boxed.Box.{Box}
 use Rattle.std.specs.List.{list_any}
-use Rattle.pyc_lower.specs.ExpressionInput.{is_input, of_simple_statement, of_line, of_statement, of_statements}
+use Rattle.pyc_lex.specs.declared.logical_lines.LogicalLine.{LogicalLine}
+use Rattle.pyc_lex.specs.View.{line_in}
+use Rattle.pyc_lower.specs.ExpressionInput.{is_input, of_simple_statement, of_statements, only_tree}
 use Rattle.pyc_lower_expression.proofs.ItemLemmas.{pieces_of-fields}
 use Rattle.pyc_token.specs.declared.tokens.Token.{Token}
-use Rattle.pyc_tree.specs.BlockTrees.{no_statement}
-use Rattle.pyc_tree.specs.BlockView.{stmt_of, stmts_before}
-use Rattle.pyc_tree.specs.declared.block.Stmt.{Stmt as StmtOf}
 use Rattle.pyc_tree.specs.declared.statement.Item.{Item}
 use Rattle.pyc_tree.specs.declared.statement.Separated.{Separated as SeparatedOf}
 use Rattle.pyc_tree.specs.declared.statement.SimpleStatement.{SimpleStatement as SimpleStatementOf}
@@ -78,33 +77,27 @@ pub no_star-last : (x : Items) → list_any is_starred_item (out-Pieces x).each.
     → has_no_star (pieces_of x) ≡ has_no_star (last_of (out-Pieces x).last)
 no_star-last x plain = no_star-fields x ∙ ap (λ any. not any && has_no_star (last_of (out-Pieces x).last)) plain
 
--- ---- lines and statements
+-- ---- statements and lines
 
 suc_is_zero : (n : ℕ) → (suc n == 0) ≡ false
 suc_is_zero n = grind (arith, nat_tests)
 
-line_before : (items : List (Item SimpleStatementOf)) (end : Separated SimpleStatement) → (length items == 0) ≡ false
-    → None ≡ of_line (separated_before statement_of items end)
-line_before [] end more = cc
-line_before (x ∷ items) end more = refl
+statements_before : (items : List (Item SimpleStatementOf)) (end : Separated SimpleStatement)
+    → (length items == 0) ≡ false → None ≡ of_statements (separated_before statement_of items end)
+statements_before [] end more = cc
+statements_before (x ∷ items) end more = refl
 
--- a line with a semicolon
-pub line_more : (line : SeparatedOf SimpleStatementOf) → (length line.each.items == 0) ≡ false
-    → None ≡ of_line (separated_of statement_of line)
-line_more line more = line_before line.each.items _ more
+-- statements with a semicolon
+pub statements_more : (found : SeparatedOf SimpleStatementOf) → (length found.each.items == 0) ≡ false
+    → None ≡ of_statements (separated_of statement_of found)
+statements_more found more = statements_before found.each.items _ more
 
--- no statement, two and more, and one
-pub statements_none : (xs : List StmtOf) → length xs < 1 → None ≡ of_statements (stmts_before xs no_statement)
-statements_none [] short = refl
-statements_none (x ∷ xs) short = absurd (omega arith)
+-- no line, and two and more
+pub lines_none : (lines : List LogicalLine) → length lines < 1 → None ≡ only_tree (map line_in lines)
+lines_none [] short = refl
+lines_none (x ∷ lines) short = absurd (omega arith)
 
-pub statements_more : (xs : List StmtOf) → 2 ≤ length xs → None ≡ of_statements (stmts_before xs no_statement)
-statements_more [] long = refl
-statements_more (x ∷ []) long = absurd (omega arith)
-statements_more (x ∷ y ∷ xs) long = refl
-
-pub statements_one : (xs : List StmtOf) (x : StmtOf) → 1 ≤ length xs → length xs < 2 → x ≡ get_or xs 0 x
-    → of_statement (stmt_of x) ≡ of_statements (stmts_before xs no_statement)
-statements_one [] x long short is = absurd (omega arith)
-statements_one (y ∷ []) x long short is = ap (λ found. of_statement (stmt_of found)) is
-statements_one (y ∷ z ∷ xs) x long short is = absurd (omega arith)
+pub lines_more : (lines : List LogicalLine) → 2 ≤ length lines → None ≡ only_tree (map line_in lines)
+lines_more [] long = refl
+lines_more (x ∷ []) long = absurd (omega arith)
+lines_more (x ∷ y ∷ lines) long = refl

@@ -1,7 +1,12 @@
--- Sources that are an expression (Python reference 3.13, "Expression input"): one that `eval` takes.
-use Rattle.std.specs.Prelude.{ℕ, Bool, not, if◌then◌else◌, List, Option, None, Some}
-use Rattle.pyc_parse.specs.Outcome.{Outcome, tree, fault}
-use Rattle.pyc_tree.specs.BlockTrees.{Stmt, simple, Stmts, no_statement, statement}
+-- Sources that are an expression (Python reference 3.13, "Expression input"): one logical line, whatever its indent,
+-- that is one expression.
+use Rattle.std.specs.Prelude.{ℕ, Bool, not, if◌then◌else◌, List, [], ◌∷◌, Option, None, Some, Result, Ok, Err}
+use Rattle.std.specs.Option.{option_and_then}
+use Rattle.pyc_lex.specs.declared.fault.LexFault.{LexFault}
+use Rattle.pyc_lex.specs.Lines.{Lexis, lines_of}
+use Rattle.pyc_lex.specs.Lines as lex
+use Rattle.pyc_tree.specs.Headers.{line_tree}
+use Rattle.pyc_tree.specs.Lines.{Line, simple}
 use Rattle.pyc_tree.specs.Statements.{SimpleStatement, expression, Separated, last_item}
 use Rattle.pyc_tree.specs.Tree.{Tree, bare}
 use Rattle.pyc_tree.specs.Well.{is_yield}
@@ -17,21 +22,26 @@ abbrev pub of_simple_statement : SimpleStatement → Option Tree
 of_simple_statement (expression e) = if is_input e then Some e else None
 of_simple_statement _ = None
 
--- that of a line with one simple statement and no semicolon
-abbrev pub of_line : Separated SimpleStatement → Option Tree
-of_line (last_item found) = of_simple_statement found
-of_line _ = None
-
-abbrev pub of_statement : Stmt → Option Tree
-of_statement (simple line) = of_line line
-of_statement _ = None
-
--- that of a module of one such line
-abbrev pub of_statements : Stmts → Option Tree
-of_statements (statement found no_statement) = of_statement found
+-- that of simple statements: of one with no semicolon
+abbrev pub of_statements : Separated SimpleStatement → Option Tree
+of_statements (last_item found) = of_simple_statement found
 of_statements _ = None
 
--- the expression that a source is, by what the grammar reads there
-abbrev pub of_outcome : Outcome → Option Tree
-of_outcome (tree found) = of_statements found.statements
-of_outcome (fault line text) = None
+-- that of a line
+abbrev pub of_line : Line → Option Tree
+of_line (simple statements) = of_statements statements
+of_line _ = None
+
+-- the tree of the only one of some logical lines: it may stand at any indent
+abbrev pub only_tree : List lex.Line → Option Line
+only_tree (found ∷ []) = line_tree found.tokens
+only_tree _ = None
+
+-- that of a source with these logical lines: one with a lexical fault has none
+abbrev pub tree_read : Result Lexis LexFault → Option Line
+tree_read (Ok lexis) = only_tree lexis.lines
+tree_read (Err told) = None
+
+-- the expression that a source is
+unfoldable pub expression_input : List ℕ → Option Tree
+expression_input source = option_and_then of_line (tree_read (lines_of source))

@@ -8,10 +8,9 @@ use Rattle.pyc_ast.specs.declared.position.Position.{Position}
 use Rattle.pyc_ast.specs.Exprs.{Expr}
 use Rattle.pyc_lex.specs.Ignores.{is_space}
 use Rattle.pyc_lex.specs.Lines.{byte_order_mark}
-use Rattle.pyc_lower.specs.ExpressionInput.{of_outcome}
+use Rattle.pyc_lower.specs.ExpressionInput.{expression_input}
 use Rattle.pyc_lower_atom.specs.declared.role.Role.TheVariants.{Annotation}
 use Rattle.pyc_lower_expression.specs.Expressions.{expr_in}
-use Rattle.pyc_parse.specs.Outcome.{outcome_of}
 use Rattle.pyc_token.specs.Strings.{quotes_len}
 
 -- whether a backslash stands in a text
@@ -41,13 +40,13 @@ has_mark text = starts_with nat_eq text byte_order_mark
 abbrev pub is_passed_over : List ℕ → Bool
 is_passed_over text = has_backslash text || has_mark (content text)
 
--- the expression that a string of this text spells: one that is not passed over and whose content is an expression,
--- each part of it at the string's position, while the strings in it spell these
+-- the expression that a string of this text spells: one that is not passed over and whose content is an expression, on
+-- one logical line of any indent, each part of it at the string's position, while the strings in it spell these
 unfoldable pub spelled_in : (List ℕ → Position → Option Expr) → List ℕ → Position → Option Expr
 spelled_in inner text at =
     if is_passed_over text then None
     else option_map (expr_in inner (record { source = content text; string = Some at }) Annotation)
-    (of_outcome (outcome_of (content text)))
+    (expression_input (content text))
 
 -- the expression that a string of a file spells. Without a backslash a string holds no quotes like its own, and there
 -- are four sorts of quotes: so strings nest at most four deep

@@ -1,17 +1,16 @@
-//! Sources that are an expression.
+//! Lines that are an expression.
 #![tactic(auto, using(pyc_tree::proofs::ViewLemmas::views))]
 
 ghost use Rattle.std.specs.Prelude.{◌≡◌, option_map};
 ghost use Rattle.std.specs.List.{list_any};
 ghost use Rattle.pyc_lower.specs.ExpressionInput as spec;
-ghost use Rattle.pyc_tree.specs.BlockTrees.{no_statement};
-ghost use Rattle.pyc_tree.specs.BlockView.{stmts_before};
+ghost use Rattle.pyc_tree.specs.LineView.{line_of};
 ghost use Rattle.pyc_tree.specs.StatementView.{separated_of, statement_of};
 ghost use Rattle.pyc_tree.specs.Targets as target;
 ghost use Rattle.pyc_tree.specs.View.{tree_of, pieces_of};
 ghost use Rattle.pyc_tree.specs.WellLines as line;
 
-use pyc_tree::{Expr, Piece, Pieces, Separated, SimpleStatement, Stmt};
+use pyc_tree::{Expr, Line, Piece, Pieces, Separated, SimpleStatement};
 
 /// Whether a tree is `*` and an operand.
 fn is_starred(tree: &Expr) -> bool
@@ -70,30 +69,27 @@ fn of_simple_statement(statement: &SimpleStatement) -> Option<&Expr>
     if is_input(tree) { Some(&**tree) } else { None }
 }
 
-/// The expression that a line is.
-fn of_line(line: &Separated<SimpleStatement>) -> Option<&Expr>
-    ensures { option_map (λ tree. tree_of tree.now) result ≡ spec.of_line (separated_of statement_of line.now) }
+/// The expression that simple statements are.
+fn of_statements(statements: &Separated<SimpleStatement>) -> Option<&Expr>
+    ensures { option_map (λ tree. tree_of tree.now) result
+        ≡ spec.of_statements (separated_of statement_of statements.now) }
 {
-    if !line.each.is_empty() {
+    if !statements.each.is_empty() {
         return None;
     }
-    match &line.last {
+    match &statements.last {
         Some(last) => of_simple_statement(last),
         None => None,
     }
 }
 
-/// The expression that these statements are.
-pub fn expression_input(statements: &[Stmt]) -> Option<&Expr>
-    ensures { option_map (λ tree. tree_of tree.now) result
-        ≡ spec.of_statements (stmts_before statements.now no_statement) }
+/// The expression that a line is.
+pub fn of_line(line: &Line) -> Option<&Expr>
+    ensures { option_map (λ tree. tree_of tree.now) result ≡ spec.of_line (line_of line.now) }
 {
-    match statements {
-        [] => None,
-        [statement] => match statement {
-            Stmt::Simple(line) => of_line(line),
-            Stmt::Compound(_, _, _) => None,
-        },
-        [_, _, ..] => None,
+    match line {
+        Line::Simple(statements) => of_statements(statements),
+        Line::Header(_, _, _) => None,
+        Line::Decorator(_, _) => None,
     }
 }

@@ -4,6 +4,7 @@
 mod content;
 mod expression_input;
 mod ignores;
+mod only_line;
 mod reading;
 mod strings;
 

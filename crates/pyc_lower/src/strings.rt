@@ -3,10 +3,10 @@
 ghost use Rattle.std.specs.Prelude.{◌≡◌, IfOk, option_map};
 
 use crate::content::{content, is_passed_over};
-use crate::expression_input::expression_input;
+use crate::expression_input::of_line;
+use crate::only_line::only_line;
 use pyc_ast::{Expr, Position};
 use pyc_lower_expression::{Lowering, Names, Origin, Quotes, Role};
-use pyc_parse::{Outcome, outcome};
 use std::alloc::{AllocError, Global};
 
 /// A reader of strings, in whose expressions another reads the strings.
@@ -21,7 +21,7 @@ impl<Q: Quotes> Quotes for Inside<Q> {
     ghost spelled = { λ reader text at. spelled_in (Q.spelled reader.inner) text at };
 
     /// The expression that a string without prefix spells: none where it is passed over, or where its content is
-    /// no expression. The only error is that memory runs out.
+    /// no expression on one logical line. The only error is that memory runs out.
     fn read(
         &self,
         alloc: Global,
@@ -34,10 +34,10 @@ impl<Q: Quotes> Quotes for Inside<Q> {
             return Ok(None);
         }
         let source = content(text);
-        let Outcome::Tree(module) = outcome(alloc, source)? else {
+        let Some(line) = only_line(alloc, source)? else {
             return Ok(None);
         };
-        let Some(tree) = expression_input(&module.statements) else {
+        let Some(tree) = of_line(&line) else {
             return Ok(None);
         };
         let lowering = Lowering {

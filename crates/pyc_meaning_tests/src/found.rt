@@ -1,7 +1,7 @@
 //! Sources with the messages that are found in them.
 
 use crate::sources::file_of;
-use pyc_body::{count_units, found, unsilenced};
+use pyc_body::{found, file_units, unsilenced};
 use pyc_iface::{Options, World};
 use pyc_report::Message;
 use pyc_types::Builtins;
@@ -37,8 +37,8 @@ fn found_in(alloc: Global, source: &[u8]) -> Result<String, Fail> {
     let file = Rc::new(alloc, file_of(alloc, "a.py", source)?)?;
     let world = World::build(alloc, slice::from_ref(&file))?;
     let mut messages = String::new(alloc);
-    for unit in 0..count_units(alloc, file.outcome())? {
-        let of_unit = found(alloc, &builtins, OPTIONS, &world, &file, unit)?;
+    for unit in &file_units(alloc, file.outcome())? {
+        let of_unit = found(alloc, &builtins, OPTIONS, &world, &file, *unit)?;
         messages.push_str(shown(alloc, &of_unit)?.as_str())?;
     }
     Ok(messages)
@@ -49,9 +49,8 @@ fn lines_told(alloc: Global, source: &[u8]) -> Result<String, Fail> {
     let builtins = Builtins::new(alloc)?;
     let file = Rc::new(alloc, file_of(alloc, "a.py", source)?)?;
     let world = World::build(alloc, slice::from_ref(&file))?;
-    let units = count_units(alloc, file.outcome())?;
     let mut lines = String::new(alloc);
-    for message in &unsilenced(alloc, &builtins, OPTIONS, &world, &file, units)? {
+    for message in &unsilenced(alloc, &builtins, OPTIONS, &world, &file)? {
         let line = message.line;
         write!(lines, "{line} ")?;
     }

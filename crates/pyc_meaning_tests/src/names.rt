@@ -18,7 +18,8 @@ fn shown(alloc: Global, found: &Referent) -> Result<String, Fail> {
             let name = spelled(alloc, name)?;
             Ok(format!(in alloc; "module {name}")?)
         }
-        Referent::Unknown => Ok(String::from_str(alloc, "unknown")?),
+        Referent::Opaque => Ok(String::from_str(alloc, "opaque")?),
+        Referent::FixedAny => Ok(String::from_str(alloc, "fixed Any")?),
         Referent::NoModule => Ok(String::from_str(alloc, "no module")?),
         Referent::NoName => Ok(String::from_str(alloc, "no name")?),
         Referent::Cycle => Ok(String::from_str(alloc, "cycle")?),
@@ -84,8 +85,8 @@ fn chains_end(rt: HostRuntime) -> Result<(), Fail> {
         ("a", "x", "declared c:x"),
         ("a", "z", "no name"),
         ("a", "w", "no module"),
-        ("a", "q", "unknown"),
-        ("broken", "q", "unknown"),
+        ("a", "q", "opaque"),
+        ("broken", "q", "opaque"),
         ("gone", "w", "no module"),
         ("above", "k", "no module"),
     ] {
@@ -176,11 +177,11 @@ fn fixed_modules_stand_first(rt: HostRuntime) -> Result<(), Fail> {
     let a = rt.alloc();
     let table = Table::build(a, &files_of(a, &FIXED)?)?;
     for (home, name, found) in &[
-        ("typing", "own", "unknown"),
-        ("a", "own", "unknown"),
+        ("typing", "own", "fixed Any"),
+        ("a", "own", "fixed Any"),
         ("a", "Any", "declared typing:Any"),
         ("a", "O", "declared typing:Optional"),
-        ("a", "OrderedDict", "unknown"),
+        ("a", "OrderedDict", "fixed Any"),
         ("a", "abc", "module collections.abc"),
     ] {
         assert_eq!(rt;

@@ -13,7 +13,7 @@ use std::test::Fail;
 fn presence(world: &World, alloc: Global, key: &Key) -> Result<Presence, Fail> {
     match world.ask(alloc, key)? {
         Answer::Presence(found) => Ok(found),
-        Answer::Name(_) => Err("no presence".into()),
+        _ => Err("no presence".into()),
     }
 }
 
@@ -21,7 +21,7 @@ fn presence(world: &World, alloc: Global, key: &Key) -> Result<Presence, Fail> {
 fn answer(world: &World, alloc: Global, key: &Key) -> Result<NameAnswer, Fail> {
     match world.ask(alloc, key)? {
         Answer::Name(found) => Ok(found),
-        Answer::Presence(_) => Err("no name".into()),
+        _ => Err("no name".into()),
     }
 }
 
@@ -36,6 +36,7 @@ fn shown(alloc: Global, found: &NameAnswer) -> Result<String, Fail> {
         NameKind::Fixed(name) => Ok(format!(in alloc; "fixed {name:?}: {ty}")?),
         NameKind::AnnotatedVariable => Ok(format!(in alloc; "annotated: {ty}")?),
         NameKind::Variable => Ok(format!(in alloc; "variable: {ty}")?),
+        NameKind::Alias => Ok(format!(in alloc; "alias: {ty}")?),
         NameKind::Function => Ok(format!(in alloc; "function: {ty}")?),
         NameKind::Class => Ok(format!(in alloc; "class: {ty}")?),
         NameKind::Unknown => Ok(format!(in alloc; "unknown: {ty}")?),
@@ -113,7 +114,10 @@ fn names_are_asked_for(rt: HostRuntime) -> Result<(), Fail> {
 const DECLARED: (&str, &str) = (
     "d.py",
     "i: int = 1\nl: list = []\ns = 's'\nn = None\nt, u = 1, 2\ndef f(): ...\nclass C: ...\n\
-     @known\ndef g(): ...\n@known\nclass D: ...\n",
+     @known\ndef g(): ...\n@known\nclass D: ...\n\
+     def h(a: int, b: 'C' = 1) -> C | None: ...\ndef k(*, key: int): ...\nasync def w(a: int): ...\n\
+     from typing import Literal, Callable\nA: Literal = 1\nv: A\nc: Callable[[C], dict[str, C]]\n\
+     o: type[C]\nb: f\n",
 );
 
 #[test]
@@ -122,12 +126,20 @@ fn names_are_declared(rt: HostRuntime) -> Result<(), Fail> {
     let world = World::build(a, &files_of(a, &[DECLARED])?)?;
     for (name, want) in &[
         ("i", "annotated: int"),
-        ("l", "annotated: Any"),
+        ("l", "annotated: list[Any]"),
         ("s", "variable: str"),
         ("n", "variable: Any"),
         ("t", "variable: Any"),
-        ("f", "function: Any"),
-        ("C", "class: Any"),
+        ("f", "function: Callable[[], Any]"),
+        ("C", "class: type[C]"),
+        ("h", "function: Callable[[int, C], C | None]"),
+        ("k", "function: Callable[..., Any]"),
+        ("w", "function: Any"),
+        ("A", "alias: Any"),
+        ("v", "annotated: Any"),
+        ("c", "annotated: Callable[[C], dict[str, C]]"),
+        ("o", "annotated: type[C]"),
+        ("b", "annotated: Any"),
         ("g", "unknown: Any"),
         ("D", "unknown: Any"),
         ("gone", "no name: Any"),

@@ -24,8 +24,10 @@ pub data Referent : Type 0 where
   declared : QualifiedName → Referent
   -- a module
   module_itself : List (List ℕ) → Referent
-  -- nothing is known of it: a name of a file with a fault, or one of a fixed module that is Any
-  unknown : Referent
+  -- a name of a file with a fault, of which nothing is known
+  opaque : Referent
+  -- a name of a fixed module that is Any
+  fixed_any : Referent
   -- a name of a module that is not there, or a module that is not there
   no_module : Referent
   -- a name that its module does not have
@@ -81,7 +83,7 @@ binding_step files q file None = ends (unbound_referent files q)
 -- the step from a name of a file: of one with a fault nothing is known
 abbrev pub outcome_step : List SourceFile → QualifiedName → SourceFile → Outcome → Step
 outcome_step files q file (tree m) = binding_step files q file (declaration file.bindings q.name)
-outcome_step files q file (fault line text) = ends unknown
+outcome_step files q file (fault line text) = ends opaque
 
 -- the step from a name of a module that is no fixed one; one that no file names binds nothing
 abbrev pub file_step : List SourceFile → QualifiedName → Option SourceFile → Step
@@ -91,7 +93,7 @@ file_step files q None = ends (unbound_referent files q)
 -- what a name of a fixed module stands for
 abbrev pub fixed_referent : QualifiedName → Option FixedName → Referent
 fixed_referent q (Some name) = declared q
-fixed_referent q None = unknown
+fixed_referent q None = fixed_any
 
 -- the step from a name of a module that is there; a file that is named as a fixed module never stands in its place
 abbrev pub module_step : List SourceFile → QualifiedName → Option FixedModule → Step

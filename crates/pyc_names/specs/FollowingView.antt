@@ -4,8 +4,8 @@ use Rattle.pyc_names.specs.declared.qualified_name.Referent.{Referent as Referen
 use Rattle.pyc_names.specs.declared.qualified_name.Referent.TheVariants as r
 use Rattle.pyc_names.specs.declared.qualified_name.Step.{Step as StepOf}
 use Rattle.pyc_names.specs.declared.qualified_name.Step.TheVariants as s
-use Rattle.pyc_names.specs.Following.{QualifiedName, Referent, declared, module_itself, unknown, no_module, no_name}
-use Rattle.pyc_names.specs.Following.{cycle, Step, ends, leads}
+use Rattle.pyc_names.specs.Following.{QualifiedName, Referent, declared, module_itself, opaque, fixed_any}
+use Rattle.pyc_names.specs.Following.{no_module, no_name, cycle, Step, ends, leads}
 
 abbrev pub qualified_of : QualifiedNameOf → QualifiedName
 qualified_of q = record { home = q.home; name = q.name }
@@ -13,7 +13,8 @@ qualified_of q = record { home = q.home; name = q.name }
 abbrev pub referent_of : ReferentOf → Referent
 referent_of (r.Declared q) = declared (qualified_of q)
 referent_of (r.Module m) = module_itself m
-referent_of r.Unknown = unknown
+referent_of r.Opaque = opaque
+referent_of r.FixedAny = fixed_any
 referent_of r.NoModule = no_module
 referent_of r.NoName = no_name
 referent_of r.Cycle = cycle

@@ -5,6 +5,7 @@ use Rattle.std.specs.declared.rc.Rc.{Rc}
 use Rattle.pyc_ast.specs.Modules.{outcome_of}
 use Rattle.pyc_bindings.specs.BindingView.{binding_of}
 use Rattle.pyc_bindings.specs.RedefinitionView.{redefinition_of}
+use Rattle.pyc_members.specs.DeclaredClassView.{declared_class_in}
 use Rattle.pyc_names.specs.declared.source_file.SourceFile.{SourceFile as SourceFileOf}
 use Rattle.pyc_names.specs.SourceFiles.{SourceFile}
 
@@ -18,6 +19,7 @@ source_in file =
       outcome = outcome_of file.outcome;
       bindings = map binding_of file.bindings.items;
       again = map redefinition_of file.again.items;
+      classes = map declared_class_in file.classes.items;
     }
 
 -- the plain files that shared ones are

@@ -21,8 +21,10 @@ pub enum Referent {
     /// What the declaration of this name declares, or a name of a fixed module that is not Any.
     Declared(QualifiedName),
     Module(ModuleName),
-    /// Nothing is known of it: a name of a file with a fault, or one of a fixed module that is Any.
-    Unknown,
+    /// A name of a file with a fault, of which nothing is known.
+    Opaque,
+    /// A name of a fixed module that is Any.
+    FixedAny,
     /// A name of a module that is not there, or a module that is not there.
     NoModule,
     /// A name that its module does not have.

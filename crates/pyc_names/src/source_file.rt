@@ -4,17 +4,21 @@ ghost use Rattle.std.specs.Prelude.{◌≡◌, map, IfOk};
 ghost use Rattle.pyc_ast.specs.Modules.{outcome_of};
 ghost use Rattle.pyc_bindings.specs.BindingView.{binding_of};
 ghost use Rattle.pyc_bindings.specs.RedefinitionView.{redefinition_of};
+ghost use Rattle.pyc_members.specs.DeclaredClassView.{declared_class_in};
 ghost use Rattle.pyc_names.specs.ModuleName.{module_of};
 ghost use Rattle.pyc_names.specs.SourceFileView.{source_in};
 ghost use Rattle.pyc_names.specs.SourceFiles as spec;
 
-use crate::ModuleName;
+use crate::fixed::fixed_module;
+use crate::module_name::ModuleName;
 use pyc_ast::Outcome;
 use pyc_bindings::{Binding, Redefinition, redefinitions, scope_bindings};
+use pyc_members::{DeclaredClass, declared_classes};
 use std::alloc::{AllocError, Global};
+use std::rc::Rc;
 
-/// A file as names see it: its path, the module that it is, what its source is, the bindings of its top level and the
-/// names that they define again, which are made once, with the file.
+/// A file as names see it: its path, the module that it is, what its source is, the bindings of its top level, the
+/// names that they define again and the classes that it declares, which are made once, with the file.
 #[derive(Drop)]
 pub struct SourceFile {
     path: String,
@@ -23,6 +27,7 @@ pub struct SourceFile {
     outcome: Outcome,
     bindings: Vec<Binding>,
     again: Vec<Redefinition>,
+    classes: Vec<Rc<DeclaredClass>>,
 }
 
 impl SourceFile {
@@ -40,6 +45,7 @@ impl SourceFile {
     {
         let bindings = top_bindings(alloc, &outcome)?;
         let again = redefinitions(alloc, &bindings)?;
+        let classes = classes_in(alloc, &name, &bindings, &outcome)?;
         Ok(SourceFile {
             is_package: path.as_bytes().ends_with(b"/__init__.py"),
             path: String::from_str(alloc, path)?,
@@ -47,6 +53,7 @@ impl SourceFile {
             outcome,
             bindings,
             again,
+            classes,
         })
     }
 
@@ -91,6 +98,13 @@ impl SourceFile {
     {
         &self.again
     }
+
+    /// The classes that the file declares, in text order; one with a fault, or of a fixed module's name, declares none.
+    pub fn classes(&self) -> &[Rc<DeclaredClass>]
+        ensures { map declared_class_in result.now ≡ (source_in self.now).classes }
+    {
+        &self.classes
+    }
 }
 
 /// The bindings of a source's top level.
@@ -99,6 +113,27 @@ fn top_bindings(alloc: Global, outcome: &Outcome) -> Result<Vec<Binding>, AllocE
 {
     match outcome {
         Outcome::Tree(module) => scope_bindings(alloc, &module.statements),
+        Outcome::Fault(_) => Ok(Vec::new(alloc)),
+    }
+}
+
+/// The classes that a source of a module declares, where these are the bindings of its top level.
+fn classes_in(
+    alloc: Global,
+    name: &ModuleName,
+    bindings: &[Binding],
+    outcome: &Outcome,
+) -> Result<Vec<Rc<DeclaredClass>>, AllocError>
+    ensures { IfOk result (λ found. map declared_class_in found.items
+        ≡ spec.classes_in name.now (map binding_of bindings.now) (outcome_of outcome.now)) }
+{
+    match outcome {
+        Outcome::Tree(module) => {
+            if fixed_module(name.parts()).is_some() {
+                return Ok(Vec::new(alloc));
+            }
+            declared_classes(alloc, &module.statements, bindings)
+        }
         Outcome::Fault(_) => Ok(Vec::new(alloc)),
     }
 }

@@ -168,7 +168,7 @@ impl Table {
                 file,
                 declaration(file.bindings(), &q.name),
             ),
-            Outcome::Fault(_) => Ok(Step::Ends(Referent::Unknown)),
+            Outcome::Fault(_) => Ok(Step::Ends(Referent::Opaque)),
         }
     }
 
@@ -296,7 +296,7 @@ fn fixed_referent(q: &QualifiedName, found: Option<FixedName>) -> Result<Referen
 {
     match found {
         Some(_) => Ok(Referent::Declared(q.clone()?)),
-        None => Ok(Referent::Unknown),
+        None => Ok(Referent::FixedAny),
     }
 }
 

@@ -1,8 +1,9 @@
 -- What a contract sees of a message: plain values.
 use Rattle.std.specs.Prelude.{ℕ, List, [], codes, string_bytes}
+use Rattle.pyc_ast.specs.declared.position.Position.{Position}
 use Rattle.pyc_report.specs.declared.message.Code.{Code}
-use Rattle.pyc_report.specs.declared.message.Code.TheVariants.{Assignment, AttrDefined, ImportNotFound, Misc, NoRedef}
-use Rattle.pyc_report.specs.declared.message.Code.TheVariants.{Syntax}
+use Rattle.pyc_report.specs.declared.message.Code.TheVariants.{Assignment, AttrDefined, ImportNotFound, Misc}
+use Rattle.pyc_report.specs.declared.message.Code.TheVariants.{NameDefined, NoRedef, Syntax, ValidType}
 use Rattle.pyc_report.specs.declared.message.MessageKind.{MessageKind}
 use Rattle.pyc_report.specs.declared.message.MessageKind.TheVariants.{Error, Note}
 use Rattle.pyc_report.specs.declared.message.Message.{Message as Declared}
@@ -20,8 +21,10 @@ code_name Assignment = codes "assignment"
 code_name AttrDefined = codes "attr-defined"
 code_name ImportNotFound = codes "import-not-found"
 code_name Misc = codes "misc"
+code_name NameDefined = codes "name-defined"
 code_name NoRedef = codes "no-redef"
 code_name Syntax = codes "syntax"
+code_name ValidType = codes "valid-type"
 
 -- the code of a message of this kind as it is printed: none for a note
 abbrev pub code_of : MessageKind → List ℕ
@@ -32,3 +35,7 @@ code_of Note = []
 abbrev pub message_in : Declared → Message
 message_in message =
     record { line = message.line; column = message.column; kind = message.kind; text = string_bytes message.text }
+
+-- an error at a position
+abbrev pub error_at : Position → Code → List ℕ → Message
+error_at at code text = record { line = at.line; column = at.column; kind = Error code; text = text }

@@ -3,10 +3,12 @@
 
 mod checked;
 mod message;
+mod name_texts;
 mod reporting;
 mod silencing;
 
 pub use checked::{Found, Report};
 pub use message::{Code, Message, MessageKind};
+pub use name_texts::push_names;
 pub use reporting::report;
 pub use silencing::drop_silenced;

@@ -1,7 +1,9 @@
 //! An error or a note on a file.
 
-ghost use Rattle.std.specs.Prelude.{◌≡◌};
-ghost use Rattle.pyc_report.specs.Message.{code_name, code_of};
+ghost use Rattle.std.specs.Prelude.{◌≡◌, string_bytes};
+ghost use Rattle.pyc_report.specs.Message.{code_name, code_of, error_at, message_in};
+
+use pyc_ast::Position;
 
 /// The code of an error.
 #[derive(Clone, Copy, Debug, PartialEq, Eq)]
@@ -10,8 +12,10 @@ pub enum Code {
     AttrDefined,
     ImportNotFound,
     Misc,
+    NameDefined,
     NoRedef,
     Syntax,
+    ValidType,
 }
 
 /// What a message is: an error with its code, or a note.
@@ -30,6 +34,20 @@ pub struct Message {
     pub text: String,
 }
 
+impl Message {
+    /// An error at a position. Takes no memory.
+    pub fn error_at(at: Position, code: Code, text: String) -> Message
+        ensures { message_in result ≡ error_at at code (string_bytes text) }
+    {
+        Message {
+            line: at.line as usize,
+            column: at.column as usize,
+            kind: MessageKind::Error(code),
+            text,
+        }
+    }
+}
+
 impl Code {
     /// The code as it is printed between brackets.
     pub fn name(self) -> &'static str
@@ -40,8 +58,10 @@ impl Code {
             Code::AttrDefined => "attr-defined",
             Code::ImportNotFound => "import-not-found",
             Code::Misc => "misc",
+            Code::NameDefined => "name-defined",
             Code::NoRedef => "no-redef",
             Code::Syntax => "syntax",
+            Code::ValidType => "valid-type",
         }
     }
 }

@@ -169,13 +169,16 @@ fn keeps_what_is_beside_the_statements(rt: HostRuntime) -> Result<(), Fail> {
     Ok(())
 }
 
-/// `ast.parse(text, mode="eval")` takes the text of each string that is read.
+/// `ast.parse(text, mode="eval")` takes the text of each string that is read, without the indent of its line.
 #[test]
 fn reads_strings_that_are_an_expression(rt: HostRuntime) -> Result<(), Fail> {
     let cases = [
         ("x: \"int\"", "1:4 `1:4 int`"),
         ("x: '''int'''", "1:4 `1:4 int`"),
         ("x: \"\"\"\nint # why\n\"\"\"", "1:4 `1:4 int`"),
+        // one logical line, whatever its indent
+        ("x: \"\tint\"", "1:4 `1:4 int`"),
+        ("x: \"\"\"\n    int\n\"\"\"", "1:4 `1:4 int`"),
         ("x: \"a, b\"", "1:4 `1:4 ?`"),
         ("x: \"(yield a)\"", "1:4 `1:4 ?`"),
         ("x: \"(*a, b)\"", "1:4 `1:4 ?`"),
@@ -195,7 +198,6 @@ fn reads_strings_that_are_an_expression(rt: HostRuntime) -> Result<(), Fail> {
         ("x: \"if a: b\"", "1:4 Str"),
         ("x: \"\\tint\"", "1:4 Str"),
         ("x: \"\u{feff}int\"", "1:4 Str"),
-        ("x: \"\tint\"", "1:4 Str"),
         ("x: '''a\nb'''", "1:4 Str"),
         // not one string without prefix
         ("x: r\"int\"", "1:4 Str"),

@@ -25,7 +25,6 @@ pub struct File {
     ghost module_is: { (source_in source.value).name ≡ module_of (source_in source.value).path },
     ghost source_is: { ∥ source_in source.value ≡ source_file (source_in source.value).path (read_of bytes.items) ∥₁ },
     ghost units_is: { units ≡ unit_count (read_of bytes.items) },
-    ghost units_are: { units ≡ unit_count (source_in source.value).outcome },
 }
 
 impl File {
@@ -103,7 +102,7 @@ impl File {
         ensures { IfOk result (λ messages. map message_in messages.items
             ≡ unsilenced options (world_in world.now) (source_of (file_in self.now))) }
     {
-        let found = unsilenced(alloc, builtins, options, world, &self.source, self.units)?;
+        let found = unsilenced(alloc, builtins, options, world, &self.source)?;
         Ok(found)
     }
 }

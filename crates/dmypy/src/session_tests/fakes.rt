@@ -3,8 +3,6 @@
 use pyc_daemon::{Counted, End, MemorySource, Options, RunFault, run};
 use std::alloc::Global;
 use std::io::{self, ErrorKind, Read, Write};
-use std::process::Abort;
-use std::test::Fail;
 
 /// Options with room for each session of the tests.
 pub const OPTIONS: Options = Options {
@@ -110,29 +108,4 @@ pub fn session(
     let mut writer = Counted::new(writer);
     let options = Options { turns, ..OPTIONS };
     run(alloc, &mut reader, &mut writer, &mut sources, &options)
-}
-
-/// Asserts that each of these inputs is answered with its replies and ends so, whatever number of bytes a read gives.
-pub fn assert_sessions(
-    rt: &impl Abort,
-    alloc: Global,
-    sessions: &[(&str, &str, End)],
-) -> Result<(), Fail> {
-    for (input, replies, end) in sessions {
-        for most in &[NEVER, 1, 2, 3] {
-            let mut kept = Vec::new(alloc);
-            let reader = ShortReads::new(input.as_bytes(), *most);
-            let answer = session(alloc, reader, Sink::new(&mut kept), OPTIONS.turns);
-            assert_eq!(rt;
-                kept.as_slice(),
-                replies.as_bytes(),
-                "{input:?}, at most {most} bytes a read"
-            );
-            assert!(rt;
-                answer == Ok(*end),
-                "{input:?}, at most {most} bytes a read"
-            );
-        }
-    }
-    Ok(())
 }

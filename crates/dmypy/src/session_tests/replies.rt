@@ -1,92 +1,38 @@
-//! Replies, refusals and ends of sessions.
+//! Replies and ends of sessions over readers and writers of each kind, and calls on a daemon.
 
-use super::fakes::{NEVER, OPTIONS, ShortReads, Sink, Stop, assert_sessions, session};
-use super::rows::{ONE_ERROR, ONE_ERROR_REPLIES};
+use super::fakes::{NEVER, OPTIONS, ShortReads, Sink, Stop, session};
 use pyc_daemon::{Daemon, End, Refusal, RunFault, Status};
-use std::alloc::{AllocError, Global};
 use std::test::Fail;
+
+// One file with an error, and its replies.
+const ONE_ERROR: &str = "add a.py 13\nx: int = \"a\"\ncheck\nstop\n";
+
+const ONE_ERROR_REPLIES: &str =
+    "ok\na.py:1: error: Incompatible types in assignment (expression has type \"str\", variable has type \"int\")  [assignment]\nFound 1 error in 1 file (checked 1 source file)\nstatus 1\nok\n";
 
 #[test]
 fn ends_of_a_session(rt: HostRuntime) -> Result<(), Fail> {
-    assert_sessions(
-        &rt,
-        rt.alloc(),
-        &[
-            ("", "", End::EndOfInput),
-            ("stop", "ok\n", End::Stopped),
-            ("stop\ncheck\n", "ok\n", End::Stopped),
-            ("stop\r\n", "ok\n", End::Stopped),
-            ("stop\r", "refused 1 command\n", End::EndOfInput),
-            ("add a.py 0", "ok\n", End::EndOfInput),
-            (
-                "add ../a.py 10\nx=1\n",
-                "refused 8 truncated\n",
-                End::Broken,
-            ),
-        ],
-    )
-}
-
-#[test]
-fn lines_that_are_no_command(rt: HostRuntime) -> Result<(), Fail> {
-    assert_sessions(
-        &rt,
-        rt.alloc(),
-        &[
-            ("\n", "refused 1 command\n", End::EndOfInput),
-            (
-                "check now\nstatus \nupdate\nremove a.py x\n",
-                "refused 1 command\nrefused 1 command\nrefused 1 command\nrefused 1 command\n",
-                End::EndOfInput,
-            ),
-            (
-                "add  a.py 0\nadd a.py x\nadd a.py 0 x\n",
-                "refused 1 command\nrefused 1 command\nrefused 1 command\n",
-                End::EndOfInput,
-            ),
-            ("add a.py 0000000000\nstop\n", "ok\nok\n", End::Stopped),
-            (
-                "add a.py 00000000000\nstop\n",
-                "refused 1 command\n",
-                End::Broken,
-            ),
-            (
-                "add a.py 00000000000 x\nstop\n",
-                "refused 1 command\nok\n",
-                End::Stopped,
-            ),
-        ],
-    )
-}
-
-#[test]
-fn files_that_come_change_and_go(rt: HostRuntime) -> Result<(), Fail> {
-    assert_sessions(
-        &rt,
-        rt.alloc(),
-        &[
-            (
-                "add __init__.py 0\nadd .py 0\nadd a/./b.py 0\nadd a//b.py 0\nadd a/.py 0\n",
-                "refused 2 path\nrefused 2 path\nrefused 2 path\nrefused 2 path\nrefused 2 path\n",
-                End::EndOfInput,
-            ),
-            (
-                "add p/__init__.py 0\ncheck\n",
-                "ok\nSuccess: no issues found in 1 source file\nstatus 0\n",
-                End::EndOfInput,
-            ),
-            (
-                "add a.py 0\ncheck\nremove a.py\nstatus\ncheck\nstatus\n",
-                "ok\nSuccess: no issues found in 1 source file\nstatus 0\nok\nfiles 1 bodies 2 rechecked 2\nSuccess: no issues found in 0 source files\nstatus 0\nfiles 0 bodies 0 rechecked 0\n",
-                End::EndOfInput,
-            ),
-            (
-                "change a.py 3\nx=1add a.py 0\nchange a.py 13\nx: int = \"a\"\nchange a.py 0\ncheck\n",
-                "refused 4 absent\nok\nok\nok\nSuccess: no issues found in 1 source file\nstatus 0\n",
-                End::EndOfInput,
-            ),
-        ],
-    )
+    for (input, replies, end) in &[
+        (ONE_ERROR, ONE_ERROR_REPLIES, End::Stopped),
+        ("", "", End::EndOfInput),
+        ("add a.py 10\nx=1\n", "refused 8 truncated\n", End::Broken),
+    ] {
+        for most in &[NEVER, 1, 2, 3] {
+            let mut kept = Vec::new(rt.alloc());
+            let reader = ShortReads::new(input.as_bytes(), *most);
+            let answer = session(rt.alloc(), reader, Sink::new(&mut kept), OPTIONS.turns);
+            assert_eq!(rt;
+                kept.as_slice(),
+                replies.as_bytes(),
+                "{input:?}, at most {most} bytes a read"
+            );
+            assert!(rt;
+                answer == Ok(*end),
+                "{input:?}, at most {most} bytes a read"
+            );
+        }
+    }
+    Ok(())
 }
 
 // The first commands of that session end at these bytes.
@@ -167,43 +113,6 @@ fn as_many_reads_as_there_may_be(rt: HostRuntime) -> Result<(), Fail> {
     Ok(())
 }
 
-// `add`, a path of so many bytes, and no bytes.
-fn add_line(alloc: Global, path: usize, end: &str) -> Result<Vec<u8>, AllocError> {
-    let mut line = Vec::from_slice(alloc, b"add ")?;
-    for _ in 3..path {
-        line.push(b'a')?;
-    }
-    line.extend_from_slice(b".py 0")?;
-    line.extend_from_slice(end.as_bytes())?;
-    Ok(line)
-}
-
-#[test]
-fn lines_and_paths_at_their_limits(rt: HostRuntime) -> Result<(), Fail> {
-    let rows = [
-        (255, "\n", "ok\n"),
-        (256, "\n", "refused 2 path\n"),
-        (506, "\n", "refused 2 path\n"),
-        (506, "\r\n", "refused 2 path\n"),
-        (507, "\n", "refused 1 command\n"),
-        (507, "\r\n", "refused 1 command\n"),
-        (5000, "\n", "refused 1 command\n"),
-    ];
-    for (path, end, reply) in &rows {
-        let mut kept = Vec::new(rt.alloc());
-        let line = add_line(rt.alloc(), *path, end)?;
-        let answer = session(
-            rt.alloc(),
-            ShortReads::new(&line, NEVER),
-            Sink::new(&mut kept),
-            1_000_000,
-        );
-        assert!(rt; answer == Ok(End::EndOfInput), "a path of {path} bytes");
-        assert_eq!(rt; kept.as_slice(), reply.as_bytes(), "a path of {path} bytes");
-    }
-    Ok(())
-}
-
 #[test]
 fn calls_on_a_daemon(rt: HostRuntime) -> Result<(), Fail> {
     let mut daemon = Daemon::new(rt.alloc(), OPTIONS);
@@ -228,23 +137,5 @@ fn calls_on_a_daemon(rt: HostRuntime) -> Result<(), Fail> {
         rechecked: 2,
     };
     assert!(rt; daemon.status() == seen);
-    Ok(())
-}
-
-#[test]
-fn as_many_files_as_there_may_be(rt: HostRuntime) -> Result<(), Fail> {
-    let mut daemon = Daemon::new(rt.alloc(), OPTIONS);
-    for file in 0..1024 {
-        let path = format!(in rt.alloc(); "m{file}.py")?;
-        assert!(rt; daemon.add(path.as_bytes(), Vec::new(rt.alloc())).is_ok());
-    }
-    assert!(rt; daemon.add(b"more.py", Vec::new(rt.alloc())) == Err(Refusal::Many));
-    assert!(rt; daemon.add(b"m7/__init__.py", Vec::new(rt.alloc())) == Err(Refusal::Module));
-    assert!(rt; daemon.remove(b"m7.py").is_ok());
-    assert!(rt; daemon.add(b"more.py", Vec::new(rt.alloc())).is_ok());
-    assert_eq!(rt;
-        daemon.check()?.text.as_str(),
-        "Success: no issues found in 1024 source files\n"
-    );
     Ok(())
 }

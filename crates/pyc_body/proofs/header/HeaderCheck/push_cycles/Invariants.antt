@@ -2,7 +2,7 @@ use Rattle.std.proofs.Common.{◌≡◌, ◌++◌, [], map, flat_map, take, drop
 use Rattle.pyc_bindings.specs.BindingView.{binding_of}
 use Rattle.pyc_body.specs.Header.{cycles_after}
 use Rattle.pyc_iface.specs.Answers.{answer_of}
-use Rattle.pyc_iface.specs.Readings.{told}
+use Rattle.pyc_reading.specs.Readings.{told}
 use Rattle.pyc_iface.specs.WorldView.{world_in}
 use Rattle.pyc_names.specs.SourceFileView.{source_in}
 use Rattle.pyc_report.specs.Message.{message_in}

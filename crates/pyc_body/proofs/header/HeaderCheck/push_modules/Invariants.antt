@@ -3,7 +3,7 @@ use Rattle.pyc_ast.specs.Statements.{ImportedModule}
 use Rattle.pyc_ast.specs.StatementView.{imported_of}
 use Rattle.pyc_body.specs.Header.{module_reading}
 use Rattle.pyc_iface.specs.Answers.{answer_of}
-use Rattle.pyc_iface.specs.Readings.{told}
+use Rattle.pyc_reading.specs.Readings.{told}
 use Rattle.pyc_iface.specs.WorldView.{world_in}
 use Rattle.pyc_names.specs.SourceFileView.{source_in}
 use Rattle.pyc_report.specs.Message.{message_in}

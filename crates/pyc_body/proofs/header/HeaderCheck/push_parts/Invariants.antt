@@ -3,7 +3,7 @@ use Rattle.pyc_bindings.specs.Scopes.{Part}
 use Rattle.pyc_bindings.specs.ScopeView.{part_of}
 use Rattle.pyc_body.specs.Header.{part_reading}
 use Rattle.pyc_iface.specs.Answers.{answer_of}
-use Rattle.pyc_iface.specs.Readings.{told}
+use Rattle.pyc_reading.specs.Readings.{told}
 use Rattle.pyc_iface.specs.WorldView.{world_in}
 use Rattle.pyc_names.specs.SourceFileView.{source_in}
 use Rattle.pyc_report.specs.Message.{message_in}

@@ -1,6 +1,6 @@
 use Rattle.std.proofs.Common.{arith}
 use Rattle.std.proofs.lemmas.Grind.{common_steps}
-use Rattle.pyc_iface.proofs.ReadingLemmas.{told-each}
+use Rattle.pyc_reading.proofs.ReadingLemmas.{told-each}
 use Rattle.pyc_body.proofs.header.HeaderCheck.push_redefinitions.Goals as goal
 
 pub returns : goal.returns

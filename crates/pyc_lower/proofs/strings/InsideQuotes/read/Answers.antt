@@ -1,12 +1,9 @@
-use Rattle.std.proofs.Common.{◌≡◌, refl, ap, sym, ◌∙◌, true, false, Option, None, Some}
-use Rattle.std.specs.Option.{option_map}
+use Rattle.std.proofs.Common.{ap, sym, ◌∙◌, Some}
+use Rattle.std.specs.Option.{option_map, option_and_then}
 use Rattle.pyc_lower.proofs.StringLemmas.{spelled-none, spelled-other, spelled-tree}
-use Rattle.pyc_lower.specs.ExpressionInput.{of_outcome, of_statements}
+use Rattle.pyc_lower.specs.ExpressionInput.{of_line}
 use Rattle.pyc_lower.specs.Strings.{is_passed_over, content}
-use Rattle.pyc_parse.specs.Outcome.{outcome_in}
-use Rattle.pyc_tree.specs.BlockTrees.{no_statement}
-use Rattle.pyc_tree.specs.BlockView.{stmts_before}
-use Rattle.pyc_tree.specs.View.{tree_of}
+use Rattle.pyc_tree.specs.LineView.{line_of}
 use Rattle.pyc_lower.proofs.strings.InsideQuotes.read.Goals as goal
 
 pub returns-then-is_passed_over : goal.returns-then-is_passed_over
@@ -19,18 +16,16 @@ returns-in_default g c =
     spelled-other _ _ _ _ _
     (ap is_passed_over (sym c.as_bytes-text.ensures.value) ∙ sym c.is_passed_over.ensures ∙ c.if-is_passed_over.false)
     (c.content-source.ensures ∙ ap content c.as_bytes-text.ensures.value)
-    c.in_ok-module.ensures.outcome
-    (ap (λ outcome. of_outcome (outcome_in outcome)) c.in_default.is)
+    c.in_ok-line.ensures
+    (ap (λ line. option_and_then of_line (option_map line_of line)) c.in_default.is)
 
-pub returns-in_default-expression_input : goal.returns-in_default-expression_input
-returns-in_default-expression_input g c =
+pub returns-in_default-of_line : goal.returns-in_default-of_line
+returns-in_default-of_line g c =
     spelled-other _ _ _ _ _
     (ap is_passed_over (sym c.as_bytes-text.ensures.value) ∙ sym c.is_passed_over.ensures ∙ c.if-is_passed_over.false)
     (c.content-source.ensures ∙ ap content c.as_bytes-text.ensures.value)
-    c.in_ok-module.ensures.outcome
-    (ap (λ outcome. of_outcome (outcome_in outcome)) c.in-Tree.is
-    ∙ ap (λ statements. of_statements (stmts_before statements no_statement)) (sym c.deref.ensures.value)
-    ∙ sym c.in_default-expression_input.ensures)
+    c.in_ok-line.ensures
+    (ap (λ line. option_and_then of_line (option_map line_of line)) c.in-Some.is ∙ sym c.in_default-of_line.ensures)
 
 pub returns : goal.returns
 returns g c =
@@ -38,7 +33,5 @@ returns g c =
     ∙ spelled-tree _ _ _ _ _ _
     (ap is_passed_over (sym c.as_bytes-text.ensures.value) ∙ sym c.is_passed_over.ensures ∙ c.if-is_passed_over.false)
     (c.content-source.ensures ∙ ap content c.as_bytes-text.ensures.value)
-    c.in_ok-module.ensures.outcome
-    (ap (λ outcome. of_outcome (outcome_in outcome)) c.in-Tree.is
-    ∙ ap (λ statements. of_statements (stmts_before statements no_statement)) (sym c.deref.ensures.value)
-    ∙ sym c.in-Some.ensures)
+    c.in_ok-line.ensures
+    (ap (λ line. option_and_then of_line (option_map line_of line)) c.in-Some.is ∙ sym c.in-Some-of_line.ensures)

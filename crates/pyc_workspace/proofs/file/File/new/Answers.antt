@@ -17,11 +17,6 @@ invariant_of-result-clause-source_is c =
 pub invariant_of-result-clause-units_is : goal.invariant_of-result-clause-units_is
 invariant_of-result-clause-units_is c = c.in_ok-units.ensures ∙ ap unit_count (c.in_ok-outcome.ensures ∙ ap read_of c.deref.ensures.value)
 
-pub invariant_of-result-clause-units_are : goal.invariant_of-result-clause-units_are
-invariant_of-result-clause-units_are c =
-    c.in_ok-units.ensures
-    ∙ sym (ap unit_count (outcome_is c.args.path.now c.args.bytes.items _ _ (ap source_in c.in_ok-new.ensures.ok ∙ c.in_ok-source.ensures) (c.in_ok-outcome.ensures ∙ ap read_of c.deref.ensures.value)))
-
 pub returns : goal.returns
 returns c =
     let at = path_is c.args.path.now c.args.bytes.items _ _ (ap source_in c.in_ok-new.ensures.ok ∙ c.in_ok-source.ensures) (c.in_ok-outcome.ensures ∙ ap read_of c.deref.ensures.value) in

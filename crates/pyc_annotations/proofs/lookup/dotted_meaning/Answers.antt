@@ -1,0 +1,22 @@
+use Rattle.std.proofs.Common.{List, ℕ, length, ap, ◌∙◌}
+use Rattle.std.specs.List.{between}
+use Rattle.pyc_annotations.proofs.Names.{first_and_rest}
+use Rattle.pyc_annotations.specs.Annotations.{dotted_meaning, attributes}
+use Rattle.pyc_annotations.specs.Meanings.{own_name}
+use Rattle.pyc_names.specs.SourceFileView.{source_in}
+use Rattle.pyc_reading.proofs.RunLemmas.{after, grown_trans}
+use Rattle.pyc_reading.specs.Desks.{run}
+use Rattle.pyc_annotations.proofs.lookup.dotted_meaning.Goals as goal
+
+pub returns-in_ok-meaning-in-len1-up : goal.returns-in_ok-meaning-in-len1-up
+unfolding dotted_meaning
+returns-in_ok-meaning-in-len1-up g c =
+    let file = source_in c.args.file.now in
+    let names = c.args.names.now in
+    let rest = between 1 (length names) names in
+    record {
+      done =
+          ap (λ (l : List (List ℕ)). run (dotted_meaning c.args.role file l) (g.N.Notes.desk c.args.notes.now)) (first_and_rest names _ c.in-len1-up.len_at_least c.first-item.is)
+          ∙ after (own_name file c.first-item.result) (attributes c.args.role rest) (g.N.Notes.desk c.args.notes.now) _ _ _ _ c.in_ok-found-in-len1-up.ensures.done c.in_ok-meaning-in-len1-up.ensures.done;
+      grown = grown_trans c.own_name.ensures.grown c.attributes.ensures.grown;
+    }

@@ -1,0 +1,119 @@
+use Rattle.std.proofs.Common.{◌≡◌, ◌∷◌, ◌∙◌, [], ◌<◌, ◌≤◌, List, length, map, ap, sym, subst, arith, rules, true, false}
+use Rattle.std.proofs.lemmas.List.{map_push}
+use Rattle.pyc_annotations.proofs.Arguments.{readings_of, length_readings, form_taken, form_not_taken, callable_two, callable_other, tuple_other}
+use Rattle.pyc_annotations.proofs.Sizes.{arguments_below}
+use Rattle.pyc_annotations.proofs.Steps.{performs_same}
+use Rattle.pyc_annotations.proofs.Turns.{argument_turn, type_turn}
+use Rattle.pyc_annotations.specs.Annotations.{Annotation, of_type, plain_callable, more_types, type_readings, read_type, callable_of, shape_reading, takes, subscripted_rule, union_rule}
+use Rattle.pyc_annotations.specs.Views.{annotation_in, subscripted_of}
+use Rattle.pyc_names.specs.SourceFileView.{source_in}
+use Rattle.pyc_reading.proofs.RunLemmas.{after, grown_trans}
+use Rattle.pyc_reading.specs.Desks.{Step, run}
+use Rattle.pyc_reading.specs.Readings.{Done, and_then}
+use Rattle.pyc_type_exprs.specs.declared.forms.ArgumentShape.TheFolds.{the_lemmas}
+use Rattle.pyc_type_exprs.specs.declared.forms.ArgumentShape.TheViews.{size-TypeExpr, size-TypeArgument}
+use Rattle.pyc_type_exprs.specs.TypeExprs.{TypeExpr as Written, list_shape, other_shape, type_exprs, union_written}
+use Rattle.pyc_type_exprs.specs.TypeExprView.{type_expr_of, shape_in, dotted_name_of}
+use Rattle.pyc_type_forms.specs.declared.types.Ty.{Ty}
+use Rattle.pyc_type_forms.specs.TypeView.{ty_of}
+use Rattle.pyc_type_forms.specs.Unions.{union_of}
+use denote.Param.Weighed.{most}
+use Rattle.pyc_annotations.proofs.reading.+reading.Goals.{read_callable-in_default-via-then-arguments-lt2, read_callable-in_default-via-else-arguments-lt2+else-arguments-lt3}
+use Rattle.pyc_annotations.proofs.reading.+reading.Goals.{read_tuple-in_default-via-then-arguments-lt2, read_tuple-in_default-via-else-arguments-lt2+else-arguments-lt3}
+use Rattle.pyc_annotations.proofs.reading.+reading.Goals as goal
+
+pub argument_types-loop-argument-preserved : goal.argument_types-loop-argument-preserved
+argument_types-loop-argument-preserved g t c =
+    let types = c.loop-argument.types.items in
+    record {
+      same =
+          argument_turn (source_in c.args.file.now) (map ty_of types) _ c.args.arguments.now c.loop-argument.argument-index _ _ _ _ c.loop-argument-test.true c.argument-item.is c.in_ok-found.ensures.done (ap (map ty_of) c.in_ok-push.ensures.items ∙ map_push ty_of types c.in_ok-found.found.ty)
+          ∙ c.loop-argument.invariant.same;
+      grown = grown_trans c.loop-argument.invariant.grown c.read_type.ensures.grown;
+    }
+
+pub listed_types-loop-written-preserved : goal.listed_types-loop-written-preserved
+listed_types-loop-written-preserved g t c =
+    let types = c.loop-written.types.items in
+    record {
+      same =
+          type_turn (source_in c.args.file.now) (map ty_of types) _ c.args.listed.now c.loop-written.written-index _ _ _ _ c.loop-written-test.true c.written-item.is c.in_ok-found.ensures.done (ap (map ty_of) c.in_ok-push.ensures.items ∙ map_push ty_of types c.in_ok-found.found.ty)
+          ∙ c.loop-written.invariant.same;
+      grown = grown_trans c.loop-written.invariant.grown c.read_type.ensures.grown;
+    }
+
+pub read_callable-returns-in_ok-found-in-List : goal.read_callable-returns-in_ok-found-in-List
+read_callable-returns-in_ok-found-in-List g t c =
+    let file = source_in c.args.file.now in
+    let desk = g.N.Notes.desk c.args.notes.now in
+    let answer = read_type file (type_expr_of c.answer-item.result.written) in
+    let listed : shape_in c.params-item.result.shape ≡ list_shape (type_exprs (map type_expr_of c.deref.result.now)) = rw c.in-List.is (search (rules, the_lemmas)) in
+    let found : run (and_then answer (λ found. Done (of_type (plain_callable (map ty_of c.in_ok-types-in-List.types.items) found.ty)))) (g.N.Notes.desk c.listed_types.new.notes) ≡ (annotation_in c.in_ok-found-in-List.found, g.N.Notes.desk c.read_plain_callable.new.notes)
+    = subst (λ (l : List Ty). run (and_then answer (λ found. Done (of_type (plain_callable (map ty_of l) found.ty)))) (g.N.Notes.desk c.listed_types.new.notes) ≡ (annotation_in c.in_ok-found-in-List.found, g.N.Notes.desk c.read_plain_callable.new.notes)) c.deref-in-List.ensures.value c.in_ok-found-in-List.ensures.done in
+    record {
+      done =
+          ap (λ (r : Step Annotation). run r desk) (callable_two file c.args.at c.args.arguments.now _ _ c.in-len2.len_at_least c.in-len2.len_below c.params-item.is c.answer-item.is ∙ ap (λ s. callable_of c.args.at (shape_reading file s) answer) listed)
+          ∙ after (more_types [] (type_readings file (type_exprs (map type_expr_of c.deref.result.now)))) (λ tys. and_then answer (λ found. Done (of_type (plain_callable tys found.ty)))) desk _ _ _ _ c.in_ok-types-in-List.ensures.done found;
+      grown = grown_trans c.listed_types.ensures.grown c.read_plain_callable.ensures.grown;
+    }
+
+pub read_callable-returns-in-Other : goal.read_callable-returns-in-Other
+read_callable-returns-in-Other g t c =
+    let file = source_in c.args.file.now in
+    let answer = read_type file (type_expr_of c.answer-item.result.written) in
+    let other : shape_in c.params-item.result.shape ≡ other_shape = rw c.in-Other.is (search (rules, the_lemmas)) in
+    performs_same _ _ _ _ _ _ (callable_two file c.args.at c.args.arguments.now _ _ c.in-len2.len_at_least c.in-len2.len_below c.params-item.is c.answer-item.is ∙ ap (λ s. callable_of c.args.at (shape_reading file s) answer) other) c.invalid.ensures
+
+pub read_callable-returns-in_default : goal.read_callable-returns-in_default
+read_callable-returns-in_default g t c =
+    let file = source_in c.args.file.now in
+    let xs = c.args.arguments.now in
+    let other : length xs ≡ 2 → ⊥ = elim c.in_default.branch as (λ b. length xs ≡ 2 → ⊥) [
+      | read_callable-in_default-via-then-arguments-lt2 w ↦ λ e. let h : length xs < 2 = search rules in omega arith
+      | read_callable-in_default-via-else-arguments-lt2+else-arguments-lt3 w ↦ λ e. let h : 3 ≤ length xs = search rules in omega arith
+    ] in
+    performs_same _ _ _ _ _ _ (callable_other c.args.at (readings_of file xs) (λ e. other (sym (length_readings file xs) ∙ e))) c.invalid-in_default.ensures
+
+pub read_subscripted-returns-then-takes : goal.read_subscripted-returns-then-takes
+read_subscripted-returns-then-takes g t c =
+    let name = dotted_name_of c.args.name.now in
+    let xs = readings_of (source_in c.args.file.now) c.args.arguments.now in
+    let taken : takes c.in-Form.form (length xs) ≡ true = ap (takes c.in-Form.form) (length_readings (source_in c.args.file.now) c.args.arguments.now) ∙ sym c.takes.ensures ∙ c.if-takes.true in
+    performs_same _ _ _ _ _ _ (ap (λ s. subscripted_rule c.args.at name xs (subscripted_of s)) c.in-Form.is ∙ form_taken c.args.at name xs c.in-Form.form taken) c.read_form.ensures
+
+pub read_subscripted-returns-else-takes : goal.read_subscripted-returns-else-takes
+read_subscripted-returns-else-takes g t c =
+    let name = dotted_name_of c.args.name.now in
+    let xs = readings_of (source_in c.args.file.now) c.args.arguments.now in
+    let not_taken : takes c.in-Form.form (length xs) ≡ false = ap (takes c.in-Form.form) (length_readings (source_in c.args.file.now) c.args.arguments.now) ∙ sym c.takes.ensures ∙ c.if-takes.false in
+    performs_same _ _ _ _ _ _ (ap (λ s. subscripted_rule c.args.at name xs (subscripted_of s)) c.in-Form.is ∙ form_not_taken c.args.at name xs c.in-Form.form not_taken) c.wrong_count.ensures
+
+pub read_tuple-returns-in_default : goal.read_tuple-returns-in_default
+read_tuple-returns-in_default g t c =
+    let file = source_in c.args.file.now in
+    let xs = c.args.arguments.now in
+    let other : length xs ≡ 2 → ⊥ = elim c.in_default.branch as (λ b. length xs ≡ 2 → ⊥) [
+      | read_tuple-in_default-via-then-arguments-lt2 w ↦ λ e. let h : length xs < 2 = search rules in omega arith
+      | read_tuple-in_default-via-else-arguments-lt2+else-arguments-lt3 w ↦ λ e. let h : 3 ≤ length xs = search rules in omega arith
+    ] in
+    performs_same _ _ _ _ _ _ (tuple_other (readings_of file xs) (λ e. other (sym (length_readings file xs) ∙ e))) c.read_built-in_default.ensures
+
+pub read_type-returns-in_ok-union-in-Union : goal.read_type-returns-in_ok-union-in-Union
+unfolding union_rule
+read_type-returns-in_ok-union-in-Union g t c =
+    let file = source_in c.args.file.now in
+    let desk = g.N.Notes.desk c.args.notes.now in
+    let left = c.deref.result.now in
+    let right = c.deref-in-Union.result.now in
+    let written : type_expr_of c.args.written.now ≡ union_written (type_expr_of left) (type_expr_of right) = rw c.in-Union.is (search (rules, the_lemmas)) in
+    record {
+      done =
+          ap (λ (w : Written). run (read_type file w) desk) written
+          ∙ after (read_type file (type_expr_of left)) (λ l. and_then (read_type file (type_expr_of right)) (λ r. Done (of_type (union_of (l.ty ∷ r.ty ∷ []))))) desk _ _ _ _ c.in_ok-left-in-Union.ensures.done c.in_ok-union-in-Union.ensures.done;
+      grown = grown_trans c.read_type.ensures.grown c.read_right.ensures.grown;
+    }
+
+pub read_type-read_subscript-requires : goal.read_type-read_subscript-requires
+read_type-read_subscript-requires g t c κs within =
+    let h : most size-TypeArgument c.deref-in-Subscript.result.now < size-TypeExpr c.args.written.now = rw (c.in-Subscript.is, c.deref-in-Subscript.ensures.value) (arguments_below _ _ _ _) in
+    (omega (arith, h, c.decreases), search rules)

@@ -1,0 +1,79 @@
+-- What the bases of a class are (Python reference 3.13, "Class definitions").
+use Rattle.std.specs.Prelude.{ℕ, true, List, [], ◌∷◌, ◌++◌, codes, Option, None, Some}
+use Rattle.pyc_annotations.specs.declared.meaning.Role.TheVariants as role
+use Rattle.pyc_annotations.specs.Annotations.{dotted_meaning}
+use Rattle.pyc_annotations.specs.Meanings.{Meaning, class_meant, any_meant, type_meant, fixed_meant}
+use Rattle.pyc_annotations.specs.Meanings.{variable_meant, function_meant}
+use Rattle.pyc_ast.specs.declared.expr.ArgumentKind.{ArgumentKind}
+use Rattle.pyc_ast.specs.declared.expr.ArgumentKind.TheVariants as argument_kind
+use Rattle.pyc_ast.specs.declared.position.Position.{Position}
+use Rattle.pyc_ast.specs.Exprs.{Expr, Argument, argument, at_of}
+use Rattle.pyc_class.specs.Class.{Id}
+use Rattle.pyc_names.specs.SourceFiles.{SourceFile}
+use Rattle.pyc_reading.specs.Desks.{Step}
+use Rattle.pyc_reading.specs.Readings.{Done, Tell, and_then}
+use Rattle.pyc_report.specs.declared.message.Code.TheVariants.{Misc}
+use Rattle.pyc_report.specs.Message.{error_at}
+use Rattle.pyc_report.specs.NameTexts.{joined_names}
+use Rattle.pyc_type_exprs.specs.TypeExprs.{dotted_names, innermost}
+
+-- what a base is
+pub data Base : Type 0 where
+  class_base : Id → Base
+  -- Any: nothing is known of it
+  any_base : Base
+  -- a thing that no base is
+  no_base : Base
+
+unfoldable pub invalid_base_text : List ℕ → List ℕ
+invalid_base_text shown = codes "Invalid base class \"" ++ (shown ++ codes "\"")
+
+unfoldable pub invalid_base : Position → List ℕ → Step Base
+invalid_base at shown = Tell (error_at at Misc (invalid_base_text shown)) (Done no_base)
+
+-- what is told of a base that is no name
+abbrev pub unnamed : List ℕ
+unnamed = codes "expression"
+
+-- what a name is as a base: a variable or a function of type Any is Any
+unfoldable pub base_named : Position → List ℕ → Meaning → Step Base
+base_named at names (class_meant c) = Done (class_base c)
+base_named at names any_meant = Done any_base
+base_named at names type_meant = Done any_base
+base_named at names (fixed_meant found) = Done any_base
+base_named at names (variable_meant true) = Done any_base
+base_named at names (function_meant true) = Done any_base
+base_named at names _ = invalid_base at names
+
+-- names joined by dots, or another expression, as a base that begins at a position
+abbrev pub written_base : SourceFile → Position → Option (List (List ℕ)) → Step Base
+written_base file at (Some names) = and_then (dotted_meaning role.Base file names) (base_named at (joined_names names))
+written_base file at None = invalid_base at unnamed
+
+-- a base that stands in a file: a subscript on it is ignored
+unfoldable pub base : SourceFile → Expr → Step Base
+base file e = written_base file (at_of e) (dotted_names (innermost e))
+
+-- an argument of a class: one by place is a base, one after `*` is none that is known, and one by name is not asked for
+abbrev pub argument_base : SourceFile → Position → ArgumentKind → Expr → Step (Option Base)
+argument_base file at argument_kind.Positional e = and_then (base file e) (λ found. Done (Some found))
+argument_base file at argument_kind.Starred e = and_then (invalid_base at unnamed) (λ found. Done (Some found))
+argument_base file at _ e = Done None
+
+unfoldable pub base_of_argument : SourceFile → Argument → Step (Option Base)
+base_of_argument file (argument at kind e) = argument_base file at kind e
+
+-- some bases, and one more where there is one
+abbrev pub with_base : List Base → Option Base → List Base
+with_base found (Some more) = found ++ (more ∷ [])
+with_base found None = found
+
+-- these bases, and then those of arguments, in turn
+unfoldable pub more_bases : SourceFile → List Base → List Argument → Step (List Base)
+more_bases file found [] = Done found
+more_bases file found (x ∷ rest) =
+    and_then (base_of_argument file x) (λ more. more_bases file (with_base found more) rest)
+
+-- the bases of a class whose arguments are these, in turn
+abbrev pub bases : SourceFile → List Argument → Step (List Base)
+bases file arguments = more_bases file [] arguments

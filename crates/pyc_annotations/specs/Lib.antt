@@ -1,0 +1,4 @@
+pub mod Meanings
+pub mod Annotations
+pub mod Bases
+pub mod Views

@@ -1,0 +1,160 @@
+//! What the bases of a class are.
+
+ghost use Rattle.std.specs.Prelude.{◌≡◌, ◌++◌, ◌∷◌, [], IfOk, OnOk, map, option_map, Some};
+ghost use Rattle.pyc_annotations.specs.Bases as spec;
+ghost use Rattle.pyc_annotations.specs.Views.{base_of, meaning_of};
+ghost use Rattle.pyc_ast.specs.ExprView.{expr_of, argument_of};
+ghost use Rattle.pyc_names.specs.SourceFileView.{source_in};
+ghost use Rattle.pyc_reading.specs.Desks.{Performs};
+
+use crate::lookup::dotted_meaning;
+use crate::meaning::{Meaning, Role};
+use crate::messages::{invalid_base, names_text};
+use pyc_ast::{Argument, ArgumentKind, Expr, Position, Text};
+use pyc_class::ClassId;
+use pyc_names::SourceFile;
+use pyc_reading::Notes;
+use pyc_type_exprs::{dotted_names, innermost};
+use std::alloc::{AllocError, Global};
+
+/// What a base of a class is.
+#[derive(Drop)]
+pub enum Base {
+    Class(ClassId),
+    /// Nothing is known of it.
+    Any,
+    /// A thing that no base is.
+    Invalid,
+}
+
+/// What is told of a base that is no name.
+const UNNAMED: &str = "expression";
+
+/// What a name is as a base: a variable or a function of type Any is Any.
+#[tactic(auto, unfolding(crate::specs::Bases::base_named))]
+fn base_named<N: Notes>(
+    alloc: Global,
+    notes: &mut N,
+    at: Position,
+    shown: &str,
+    meaning: Meaning,
+) -> Result<Base, AllocError>
+    ensures { Performs base_of (spec.base_named at shown.now (meaning_of meaning)) (N.desk notes.old) result
+        (N.desk notes.new) }
+{
+    match meaning {
+        Meaning::Class(class) => Ok(Base::Class(class)),
+        Meaning::Any | Meaning::Type | Meaning::Fixed(_) => Ok(Base::Any),
+        Meaning::Variable(true) | Meaning::Function(true) => Ok(Base::Any),
+        _ => invalid_base(alloc, notes, at, shown),
+    }
+}
+
+/// Names joined by dots as a base.
+#[tactic(auto, using(crate::proofs::Steps::performing))]
+fn named_base<N: Notes>(
+    alloc: Global,
+    notes: &mut N,
+    file: &SourceFile,
+    at: Position,
+    names: &[Text],
+) -> Result<Base, AllocError>
+    ensures { Performs base_of (spec.written_base (source_in file.now) at (Some names.now)) (N.desk notes.old) result
+        (N.desk notes.new) }
+{
+    let meaning = dotted_meaning(alloc, notes, Role::Base, file, names)?;
+    let shown = names_text(alloc, names)?;
+    let base = base_named(alloc, notes, at, shown.as_str(), meaning)?;
+    Ok(base)
+}
+
+/// A base that stands in a file: a subscript on it is ignored.
+#[tactic(auto, unfolding(crate::specs::Bases::base))]
+fn read_base<N: Notes>(
+    alloc: Global,
+    notes: &mut N,
+    file: &SourceFile,
+    e: &Expr,
+) -> Result<Base, AllocError>
+    ensures { Performs base_of (spec.base (source_in file.now) (expr_of e.now)) (N.desk notes.old) result
+        (N.desk notes.new) }
+{
+    let names = dotted_names(alloc, innermost(e))?;
+    let found = written_base(alloc, notes, file, e.at, names)?;
+    Ok(found)
+}
+
+/// Names joined by dots, or another expression, as a base.
+fn written_base<N: Notes>(
+    alloc: Global,
+    notes: &mut N,
+    file: &SourceFile,
+    at: Position,
+    names: Option<Vec<Text>>,
+) -> Result<Base, AllocError>
+    ensures { Performs base_of (spec.written_base (source_in file.now) at (option_map (λ v. v.items) names))
+        (N.desk notes.old) result (N.desk notes.new) }
+{
+    match names {
+        Some(names) => named_base(alloc, notes, file, at, &names),
+        None => invalid_base(alloc, notes, at, UNNAMED),
+    }
+}
+
+/// What an argument of a class is as a base: one by place is a base, one after `*` is none, and one by name is not
+/// asked for.
+#[tactic(auto, using(crate::proofs::Steps::performing), unfolding(crate::specs::Bases::base_of_argument))]
+fn argument_base<N: Notes>(
+    alloc: Global,
+    notes: &mut N,
+    file: &SourceFile,
+    argument: &Argument,
+) -> Result<Option<Base>, AllocError>
+    ensures { Performs (option_map base_of)
+        (spec.base_of_argument (source_in file.now) (argument_of argument.now)) (N.desk notes.old) result
+        (N.desk notes.new) }
+{
+    match &argument.kind {
+        ArgumentKind::Positional => {
+            let found = read_base(alloc, notes, file, &argument.value)?;
+            Ok(Some(found))
+        }
+        ArgumentKind::Starred => {
+            let found = invalid_base(alloc, notes, argument.at, UNNAMED)?;
+            Ok(Some(found))
+        }
+        _ => Ok(None),
+    }
+}
+
+/// Adds a base, where there is one.
+fn push_base(base: Option<Base>, found: &mut Vec<Base>) -> Result<(), AllocError>
+    ensures { OnOk result (map base_of found.new.items
+        ≡ spec.with_base (map base_of found.old.items) (option_map base_of base)) }
+{
+    if let Some(base) = base {
+        found.push(base)?;
+    }
+    Ok(())
+}
+
+/// The bases of a class that stands in a file and has these arguments, in turn: what is no base is told. The only error
+/// is that memory runs out.
+#[tactic(auto, using(crate::proofs::Steps::performing), unfolding(crate::specs::Bases::more_bases))]
+pub fn read_bases<N: Notes>(
+    alloc: Global,
+    notes: &mut N,
+    file: &SourceFile,
+    arguments: &[Argument],
+) -> Result<Vec<Base>, AllocError>
+    ensures { Performs (λ found. map base_of found.items)
+        (spec.bases (source_in file.now) (map argument_of arguments.now)) (N.desk notes.old) result
+        (N.desk notes.new) }
+{
+    let mut found = Vec::with_capacity(alloc, arguments.len())?;
+    for argument in arguments {
+        let base = argument_base(alloc, notes, file, argument)?;
+        push_base(base, &mut found)?;
+    }
+    Ok(found)
+}

@@ -1,0 +1,129 @@
+//! What is told of annotations and bases.
+
+ghost use Rattle.std.specs.Prelude.{◌≡◌, IfOk, string_bytes};
+ghost use Rattle.pyc_annotations.specs.Annotations as spec;
+ghost use Rattle.pyc_annotations.specs.Bases as base_spec;
+ghost use Rattle.pyc_annotations.specs.Views.{annotation_in, base_of};
+ghost use Rattle.pyc_reading.specs.Desks.{Performs};
+ghost use Rattle.pyc_report.specs.NameTexts.{joined_names};
+ghost use Rattle.pyc_type_exprs.specs.TypeExprView.{dotted_name_of};
+
+use crate::class_bases::Base;
+use crate::reading::{Annotation, of_type};
+use crate::type_form::TypeForm;
+use pyc_ast::{Position, Text};
+use pyc_reading::Notes;
+use pyc_report::{Code, Message, push_names};
+use pyc_type_exprs::DottedName;
+use pyc_type_forms::Ty;
+use std::alloc::{AllocError, Global};
+
+/// Tells an error of an annotation, which is Any.
+fn wrong<N: Notes>(notes: &mut N, at: Position, text: String) -> Result<Annotation, AllocError>
+    ensures { Performs annotation_in (spec.wrong at (string_bytes text)) (N.desk notes.old) result
+        (N.desk notes.new) }
+{
+    notes.tell(Message::error_at(at, Code::ValidType, text))?;
+    Ok(of_type(Ty::Any))
+}
+
+/// Names with a dot between each two.
+pub(crate) fn names_text(alloc: Global, names: &[Text]) -> Result<String, AllocError>
+    ensures { IfOk result (λ text. string_bytes text ≡ joined_names names.now) }
+{
+    let mut text = String::new(alloc);
+    push_names(&mut text, names)?;
+    Ok(text)
+}
+
+/// The text on what is no type.
+#[tactic(auto, unfolding(crate::specs::Annotations::not_a_type_text))]
+fn not_a_type_text(alloc: Global, names: &str) -> Result<String, AllocError>
+    ensures { IfOk result (λ text. string_bytes text ≡ spec.not_a_type_text names.now) }
+{
+    format!(in alloc; "\"{names}\" is not valid as a type")
+}
+
+/// The text on a form with another number of arguments than it takes.
+#[tactic(auto, unfolding(crate::specs::Annotations::wrong_count_text))]
+fn wrong_count_text(alloc: Global, form: &str) -> Result<String, AllocError>
+    ensures { IfOk result (λ text. string_bytes text ≡ spec.wrong_count_text form.now) }
+{
+    format!(in alloc; "Wrong number of type arguments for \"{form}\"")
+}
+
+/// The text on any other wrong annotation.
+#[tactic(auto, unfolding(crate::specs::Annotations::invalid_text))]
+fn invalid_text(alloc: Global) -> Result<String, AllocError>
+    ensures { IfOk result (λ text. string_bytes text ≡ spec.invalid_text) }
+{
+    Ok(String::from_str(alloc, "Invalid type comment or annotation")?)
+}
+
+/// Tells that a variable, a function or a module is no type.
+#[tactic(auto, unfolding(crate::specs::Annotations::not_a_type))]
+pub(crate) fn not_a_type<N: Notes>(
+    alloc: Global,
+    notes: &mut N,
+    name: &DottedName,
+) -> Result<Annotation, AllocError>
+    ensures { Performs annotation_in (spec.not_a_type (dotted_name_of name.now)) (N.desk notes.old) result
+        (N.desk notes.new) }
+{
+    let names = names_text(alloc, &name.names)?;
+    let text = not_a_type_text(alloc, names.as_str())?;
+    let told = wrong(notes, name.at, text)?;
+    Ok(told)
+}
+
+/// Tells that a form has another number of arguments than it takes.
+#[tactic(auto, unfolding(crate::specs::Annotations::wrong_count))]
+pub(crate) fn wrong_count<N: Notes>(
+    alloc: Global,
+    notes: &mut N,
+    at: Position,
+    form: TypeForm,
+) -> Result<Annotation, AllocError>
+    ensures { Performs annotation_in (spec.wrong_count at form) (N.desk notes.old) result (N.desk notes.new) }
+{
+    let text = wrong_count_text(alloc, form.name())?;
+    let told = wrong(notes, at, text)?;
+    Ok(told)
+}
+
+/// Tells that an annotation is wrong.
+#[tactic(auto, unfolding(crate::specs::Annotations::invalid))]
+pub(crate) fn invalid<N: Notes>(
+    alloc: Global,
+    notes: &mut N,
+    at: Position,
+) -> Result<Annotation, AllocError>
+    ensures { Performs annotation_in (spec.invalid at) (N.desk notes.old) result (N.desk notes.new) }
+{
+    let text = invalid_text(alloc)?;
+    let told = wrong(notes, at, text)?;
+    Ok(told)
+}
+
+/// The text on a base that no class is.
+#[tactic(auto, unfolding(crate::specs::Bases::invalid_base_text))]
+fn invalid_base_text(alloc: Global, shown: &str) -> Result<String, AllocError>
+    ensures { IfOk result (λ text. string_bytes text ≡ base_spec.invalid_base_text shown.now) }
+{
+    format!(in alloc; "Invalid base class \"{shown}\"")
+}
+
+/// Tells that a base is no class.
+#[tactic(auto, unfolding(crate::specs::Bases::invalid_base))]
+pub(crate) fn invalid_base<N: Notes>(
+    alloc: Global,
+    notes: &mut N,
+    at: Position,
+    shown: &str,
+) -> Result<Base, AllocError>
+    ensures { Performs base_of (base_spec.invalid_base at shown.now) (N.desk notes.old) result (N.desk notes.new) }
+{
+    let text = invalid_base_text(alloc, shown)?;
+    notes.tell(Message::error_at(at, Code::Misc, text))?;
+    Ok(Base::Invalid)
+}

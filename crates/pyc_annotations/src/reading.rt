@@ -1,0 +1,461 @@
+//! The types that annotations mean.
+
+ghost use Rattle.std.specs.Prelude.{◌≡◌, ◌∷◌, [], IfOk, map};
+ghost use Rattle.pyc_annotations.specs.Annotations as spec;
+ghost use Rattle.pyc_annotations.specs.Views.{annotation_in, meaning_of, subscripted_of};
+ghost use Rattle.pyc_ast.specs.ExprView.{expr_of};
+ghost use Rattle.pyc_names.specs.SourceFileView.{source_in};
+ghost use Rattle.pyc_reading.specs.Desks.{Performs};
+ghost use Rattle.pyc_reading.specs.Readings.{Done, and_then};
+ghost use Rattle.pyc_type_exprs.specs.TypeExprs.{type_expr as type_expr_in, type_exprs, type_arguments};
+ghost use Rattle.pyc_type_exprs.specs.TypeExprView.{type_expr_of, type_argument_of, dotted_name_of};
+ghost use Rattle.pyc_type_forms.specs.TypeView.{ty_of};
+ghost use Rattle.pyc_type_forms.specs.Unions.{union_of};
+
+use crate::form_types::{
+    any_callable, any_length, built, dict_type, list_type, object_of, pair_union, plain_callable,
+};
+use crate::lookup::dotted_meaning;
+use crate::meaning::{Meaning, Role};
+use crate::messages::{invalid, not_a_type, wrong_count};
+use crate::subscripted::{Subscripted, with_arguments};
+use crate::type_form::TypeForm;
+use pyc_ast::{Expr, Position};
+use pyc_class::ClassId;
+use pyc_names::{FixedName, SourceFile};
+use pyc_reading::Notes;
+use pyc_type_exprs::{ArgumentShape, DottedName, TypeArgument, TypeExpr, type_expr};
+use pyc_type_forms::{Ty, instance_of};
+use std::alloc::{AllocError, Global};
+
+/// An annotation as it is read: its type, and the class whose name it is, if it is one.
+#[derive(Drop)]
+pub struct Annotation {
+    pub ty: Ty,
+    pub class: Option<ClassId>,
+}
+
+/// An annotation of this type, which is no name of a class.
+pub(crate) fn of_type(ty: Ty) -> Annotation
+    ensures { annotation_in result ≡ spec.of_type (ty_of ty) }
+{
+    Annotation { ty, class: None }
+}
+
+/// The instances of a class, by its name.
+fn of_class(alloc: Global, class: ClassId) -> Result<Annotation, AllocError>
+    ensures { IfOk result (λ found. annotation_in found ≡ spec.of_class class) }
+{
+    let ty = instance_of(alloc, &class)?;
+    Ok(Annotation {
+        ty,
+        class: Some(class),
+    })
+}
+
+/// The type that an annotation means which stands in a file: where it is wrong that is told, and it is Any. The only
+/// error is that memory runs out.
+pub fn read_annotation<N: Notes>(
+    alloc: Global,
+    notes: &mut N,
+    file: &SourceFile,
+    e: &Expr,
+) -> Result<Annotation, AllocError>
+    ensures { Performs annotation_in (spec.read_type (source_in file.now) (type_expr_in (expr_of e.now)))
+        (N.desk notes.old) result (N.desk notes.new) }
+{
+    let written = type_expr(alloc, e)?;
+    let found = read_type(alloc, notes, file, &written)?;
+    Ok(found)
+}
+
+/// The bare name of a special form.
+fn bare_form<N: Notes>(
+    alloc: Global,
+    notes: &mut N,
+    at: Position,
+    name: FixedName,
+) -> Result<Annotation, AllocError>
+    ensures { Performs annotation_in (spec.bare_form at name) (N.desk notes.old) result (N.desk notes.new) }
+{
+    match name {
+        FixedName::Any => Ok(of_type(Ty::Any)),
+        FixedName::List => Ok(of_type(list_type(alloc, Ty::Any)?)),
+        FixedName::Dict => Ok(of_type(dict_type(alloc, Ty::Any, Ty::Any)?)),
+        FixedName::Tuple => Ok(of_type(any_length(alloc, Ty::Any)?)),
+        FixedName::Callable => Ok(of_type(any_callable(alloc, Ty::Any)?)),
+        _ => invalid(alloc, notes, at),
+    }
+}
+
+/// What a name by itself is, by what it means.
+#[tactic(auto, unfolding(crate::specs::Annotations::named))]
+fn named<N: Notes>(
+    alloc: Global,
+    notes: &mut N,
+    at: Position,
+    name: &DottedName,
+    meaning: Meaning,
+) -> Result<Annotation, AllocError>
+    ensures { Performs annotation_in (spec.named at (dotted_name_of name.now) (meaning_of meaning)) (N.desk notes.old)
+        result (N.desk notes.new) }
+{
+    match meaning {
+        Meaning::Class(class) => Ok(of_class(alloc, class)?),
+        Meaning::Any | Meaning::Type => Ok(of_type(Ty::Any)),
+        Meaning::Fixed(found) => bare_form(alloc, notes, at, found),
+        Meaning::Nothing => invalid(alloc, notes, at),
+        _ => not_a_type(alloc, notes, name),
+    }
+}
+
+/// A name by itself.
+#[tactic(auto, using(crate::proofs::Steps::performing), unfolding(crate::specs::Annotations::name_rule))]
+fn read_name<N: Notes>(
+    alloc: Global,
+    notes: &mut N,
+    file: &SourceFile,
+    at: Position,
+    name: &DottedName,
+) -> Result<Annotation, AllocError>
+    ensures { Performs annotation_in (spec.name_rule (source_in file.now) at (dotted_name_of name.now))
+        (N.desk notes.old) result (N.desk notes.new) }
+{
+    let meaning = dotted_meaning(alloc, notes, Role::Annotation, file, &name.names)?;
+    let found = named(alloc, notes, at, name, meaning)?;
+    Ok(found)
+}
+
+/// What an annotation means that stands in a file.
+#[cycle(reading)]
+#[tactic(auto, using(crate::proofs::Steps::performing), unfolding(crate::specs::Annotations::union_rule))]
+fn read_type<N: Notes>(
+    alloc: Global,
+    notes: &mut N,
+    file: &SourceFile,
+    written: &TypeExpr,
+) -> Result<Annotation, AllocError>
+    ensures { Performs annotation_in (spec.read_type (source_in file.now) (type_expr_of written.now))
+        (N.desk notes.old) result (N.desk notes.new) }
+{
+    match written {
+        TypeExpr::None => Ok(of_type(Ty::None)),
+        TypeExpr::Name { at, name } => read_name(alloc, notes, file, *at, name),
+        TypeExpr::Union { left, right } => {
+            let left = read_type(alloc, notes, file, left)?;
+            let union = read_right(alloc, notes, file, right, &left.ty)?;
+            Ok(union)
+        }
+        TypeExpr::Subscript {
+            at,
+            name,
+            is_nested,
+            arguments,
+        } => read_subscript(alloc, notes, file, *at, name, *is_nested, arguments),
+        TypeExpr::Wrong(at) => invalid(alloc, notes, *at),
+    }
+}
+
+/// A name with arguments, by what it means.
+#[cycle(reading)]
+#[tactic(auto, using(crate::proofs::Steps::performing), unfolding(crate::specs::Annotations::subscript_rule))]
+fn read_subscript<N: Notes>(
+    alloc: Global,
+    notes: &mut N,
+    file: &SourceFile,
+    at: Position,
+    name: &DottedName,
+    is_nested: bool,
+    arguments: &[TypeArgument],
+) -> Result<Annotation, AllocError>
+    ensures { Performs annotation_in
+        (spec.subscript_rule (source_in file.now) at (dotted_name_of name.now) is_nested
+        (spec.argument_readings (source_in file.now) (type_arguments (map type_argument_of arguments.now))))
+        (N.desk notes.old) result (N.desk notes.new) }
+{
+    let meaning = dotted_meaning(alloc, notes, Role::Annotation, file, &name.names)?;
+    let subscripted = with_arguments(is_nested, meaning);
+    let found = read_subscripted(alloc, notes, file, at, name, arguments, subscripted)?;
+    Ok(found)
+}
+
+/// What stands right of `|`, where the left side has this type.
+#[cycle(reading)]
+#[tactic(auto, using(crate::proofs::Steps::performing))]
+fn read_right<N: Notes>(
+    alloc: Global,
+    notes: &mut N,
+    file: &SourceFile,
+    right: &TypeExpr,
+    left: &Ty,
+) -> Result<Annotation, AllocError>
+    ensures { Performs annotation_in
+        (and_then (spec.read_type (source_in file.now) (type_expr_of right.now))
+        (λ found. Done (spec.of_type (union_of (ty_of left.now ∷ found.ty ∷ []))))) (N.desk notes.old) result
+        (N.desk notes.new) }
+{
+    let right = read_type(alloc, notes, file, right)?;
+    let union = pair_union(alloc, left, &right.ty)?;
+    Ok(of_type(union))
+}
+
+/// A name with arguments.
+#[cycle(reading)]
+#[tactic(auto, unfolding(crate::specs::Annotations::subscripted_rule))]
+fn read_subscripted<N: Notes>(
+    alloc: Global,
+    notes: &mut N,
+    file: &SourceFile,
+    at: Position,
+    name: &DottedName,
+    arguments: &[TypeArgument],
+    subscripted: Subscripted,
+) -> Result<Annotation, AllocError>
+    ensures { Performs annotation_in
+        (spec.subscripted_rule at (dotted_name_of name.now)
+        (spec.argument_readings (source_in file.now) (type_arguments (map type_argument_of arguments.now)))
+        (subscripted_of subscripted)) (N.desk notes.old) result (N.desk notes.new) }
+{
+    match subscripted {
+        Subscripted::Form(form) => {
+            if form.takes(arguments.len()) {
+                read_form(alloc, notes, file, at, form, arguments)
+            } else {
+                wrong_count(alloc, notes, at, form)
+            }
+        }
+        Subscripted::Class(class) => Ok(of_class(alloc, class)?),
+        Subscripted::Any => Ok(of_type(Ty::Any)),
+        Subscripted::Value => not_a_type(alloc, notes, name),
+        Subscripted::Wrong => invalid(alloc, notes, at),
+    }
+}
+
+/// A form with as many arguments as it takes.
+#[cycle(reading)]
+#[tactic(auto, unfolding(crate::specs::Annotations::form_rule))]
+fn read_form<N: Notes>(
+    alloc: Global,
+    notes: &mut N,
+    file: &SourceFile,
+    at: Position,
+    form: TypeForm,
+    arguments: &[TypeArgument],
+) -> Result<Annotation, AllocError>
+    ensures { Performs annotation_in
+        (spec.form_rule at form
+        (spec.argument_readings (source_in file.now) (type_arguments (map type_argument_of arguments.now))))
+        (N.desk notes.old) result (N.desk notes.new) }
+{
+    match form {
+        TypeForm::Callable => read_callable(alloc, notes, file, at, arguments),
+        TypeForm::Type => read_class_object(alloc, notes, file, arguments),
+        TypeForm::Tuple => read_tuple(alloc, notes, file, arguments),
+        _ => read_built(alloc, notes, file, form, arguments),
+    }
+}
+
+/// A form whose arguments are all types.
+#[cycle(reading)]
+#[tactic(auto, using(crate::proofs::Steps::performing), unfolding(crate::specs::Annotations::built_rule))]
+fn read_built<N: Notes>(
+    alloc: Global,
+    notes: &mut N,
+    file: &SourceFile,
+    form: TypeForm,
+    arguments: &[TypeArgument],
+) -> Result<Annotation, AllocError>
+    ensures { Performs annotation_in
+        (spec.built_rule form
+        (spec.argument_readings (source_in file.now) (type_arguments (map type_argument_of arguments.now))))
+        (N.desk notes.old) result (N.desk notes.new) }
+{
+    let types = argument_types(alloc, notes, file, arguments)?;
+    let ty = built(alloc, form, types)?;
+    Ok(of_type(ty))
+}
+
+/// `type[C]`
+#[cycle(reading)]
+fn read_class_object<N: Notes>(
+    alloc: Global,
+    notes: &mut N,
+    file: &SourceFile,
+    arguments: &[TypeArgument],
+) -> Result<Annotation, AllocError>
+    ensures { Performs annotation_in
+        (spec.class_object_rule
+        (spec.argument_readings (source_in file.now) (type_arguments (map type_argument_of arguments.now))))
+        (N.desk notes.old) result (N.desk notes.new) }
+{
+    match arguments {
+        [first, ..] => read_object(alloc, notes, file, &first.written),
+        [] => Ok(of_type(Ty::Any)),
+    }
+}
+
+/// The class object of the class that an annotation names.
+#[cycle(reading)]
+#[tactic(auto, using(crate::proofs::Steps::performing))]
+fn read_object<N: Notes>(
+    alloc: Global,
+    notes: &mut N,
+    file: &SourceFile,
+    written: &TypeExpr,
+) -> Result<Annotation, AllocError>
+    ensures { Performs annotation_in
+        (spec.object_rule (spec.read_type (source_in file.now) (type_expr_of written.now))) (N.desk notes.old) result
+        (N.desk notes.new) }
+{
+    let found = read_type(alloc, notes, file, written)?;
+    Ok(of_type(object_of(found.class)))
+}
+
+/// A tuple: `T, ...` is one of any length.
+#[cycle(reading)]
+fn read_tuple<N: Notes>(
+    alloc: Global,
+    notes: &mut N,
+    file: &SourceFile,
+    arguments: &[TypeArgument],
+) -> Result<Annotation, AllocError>
+    ensures { Performs annotation_in
+        (spec.tuple_rule
+        (spec.argument_readings (source_in file.now) (type_arguments (map type_argument_of arguments.now))))
+        (N.desk notes.old) result (N.desk notes.new) }
+{
+    match arguments {
+        [item, length] => match &length.shape {
+            ArgumentShape::Ellipsis => read_any_length(alloc, notes, file, &item.written),
+            _ => read_built(alloc, notes, file, TypeForm::Tuple, arguments),
+        },
+        _ => read_built(alloc, notes, file, TypeForm::Tuple, arguments),
+    }
+}
+
+/// `tuple[T, ...]`
+#[cycle(reading)]
+#[tactic(auto, using(crate::proofs::Steps::performing))]
+fn read_any_length<N: Notes>(
+    alloc: Global,
+    notes: &mut N,
+    file: &SourceFile,
+    written: &TypeExpr,
+) -> Result<Annotation, AllocError>
+    ensures { Performs annotation_in
+        (spec.any_length_rule (spec.read_type (source_in file.now) (type_expr_of written.now))) (N.desk notes.old)
+        result (N.desk notes.new) }
+{
+    let found = read_type(alloc, notes, file, written)?;
+    let ty = any_length(alloc, found.ty)?;
+    Ok(of_type(ty))
+}
+
+/// `Callable[.., T]`
+#[cycle(reading)]
+fn read_callable<N: Notes>(
+    alloc: Global,
+    notes: &mut N,
+    file: &SourceFile,
+    at: Position,
+    arguments: &[TypeArgument],
+) -> Result<Annotation, AllocError>
+    ensures { Performs annotation_in
+        (spec.callable_rule at
+        (spec.argument_readings (source_in file.now) (type_arguments (map type_argument_of arguments.now))))
+        (N.desk notes.old) result (N.desk notes.new) }
+{
+    match arguments {
+        [params, answer] => match &params.shape {
+            ArgumentShape::Ellipsis => read_any_callable(alloc, notes, file, &answer.written),
+            ArgumentShape::List(types) => {
+                let types = listed_types(alloc, notes, file, types)?;
+                let found = read_plain_callable(alloc, notes, file, &answer.written, &types)?;
+                Ok(found)
+            }
+            ArgumentShape::Other => invalid(alloc, notes, at),
+        },
+        _ => invalid(alloc, notes, at),
+    }
+}
+
+/// `Callable[..., answer]`
+#[cycle(reading)]
+#[tactic(auto, using(crate::proofs::Steps::performing))]
+fn read_any_callable<N: Notes>(
+    alloc: Global,
+    notes: &mut N,
+    file: &SourceFile,
+    answer: &TypeExpr,
+) -> Result<Annotation, AllocError>
+    ensures { Performs annotation_in
+        (spec.any_callable (spec.read_type (source_in file.now) (type_expr_of answer.now))) (N.desk notes.old) result
+        (N.desk notes.new) }
+{
+    let found = read_type(alloc, notes, file, answer)?;
+    let ty = any_callable(alloc, found.ty)?;
+    Ok(of_type(ty))
+}
+
+/// `Callable[[types], answer]`
+#[cycle(reading)]
+#[tactic(auto, using(crate::proofs::Steps::performing))]
+fn read_plain_callable<N: Notes>(
+    alloc: Global,
+    notes: &mut N,
+    file: &SourceFile,
+    answer: &TypeExpr,
+    types: &[Ty],
+) -> Result<Annotation, AllocError>
+    ensures { Performs annotation_in
+        (and_then (spec.read_type (source_in file.now) (type_expr_of answer.now))
+        (λ found. Done (spec.of_type (spec.plain_callable (map ty_of types.now) found.ty)))) (N.desk notes.old) result
+        (N.desk notes.new) }
+{
+    let found = read_type(alloc, notes, file, answer)?;
+    let ty = plain_callable(alloc, types, found.ty)?;
+    Ok(of_type(ty))
+}
+
+/// The types of arguments, in turn.
+#[cycle(reading)]
+#[tactic(auto, using(crate::proofs::Steps::performing), unfolding(crate::specs::Annotations::more_types))]
+fn argument_types<N: Notes>(
+    alloc: Global,
+    notes: &mut N,
+    file: &SourceFile,
+    arguments: &[TypeArgument],
+) -> Result<Vec<Ty>, AllocError>
+    ensures { Performs (λ types. map ty_of types.items)
+        (spec.argument_types
+        (spec.argument_readings (source_in file.now) (type_arguments (map type_argument_of arguments.now))))
+        (N.desk notes.old) result (N.desk notes.new) }
+{
+    let mut types = Vec::with_capacity(alloc, arguments.len())?;
+    for argument in arguments {
+        let found = read_type(alloc, notes, file, &argument.written)?;
+        types.push(found.ty)?;
+    }
+    Ok(types)
+}
+
+/// The types of annotations, in turn.
+#[cycle(reading)]
+#[tactic(auto, using(crate::proofs::Steps::performing), unfolding(crate::specs::Annotations::more_types))]
+fn listed_types<N: Notes>(
+    alloc: Global,
+    notes: &mut N,
+    file: &SourceFile,
+    listed: &[TypeExpr],
+) -> Result<Vec<Ty>, AllocError>
+    ensures { Performs (λ types. map ty_of types.items)
+        (spec.more_types [] (spec.type_readings (source_in file.now) (type_exprs (map type_expr_of listed.now))))
+        (N.desk notes.old) result (N.desk notes.new) }
+{
+    let mut types = Vec::with_capacity(alloc, listed.len())?;
+    for written in listed {
+        let found = read_type(alloc, notes, file, written)?;
+        types.push(found.ty)?;
+    }
+    Ok(types)
+}

@@ -1,0 +1,19 @@
+use Rattle.std.proofs.Common.{◌≡◌, ◌++◌, List, map, ap, ◌∙◌}
+use Rattle.std.proofs.lemmas.List.{map-append}
+use Rattle.pyc_ast.specs.StatementView.{stmt_of}
+use Rattle.pyc_body.specs.DefinitionReadings.{definition_reading}
+use Rattle.pyc_declarations.proofs.ReadLemmas.{told_read}
+use Rattle.pyc_iface.specs.Answers.{answer_of}
+use Rattle.pyc_names.specs.SourceFiles.{SourceFile}
+use Rattle.pyc_names.specs.SourceFileView.{source_in}
+use Rattle.pyc_reading.specs.Readings.{told}
+use Rattle.pyc_report.specs.Message.{Message, message_in}
+use Rattle.pyc_body.proofs.found_messages.push_definition.Goals as goal
+
+pub returns : goal.returns
+returns c =
+    let r = definition_reading (source_in c.args.file.now) (stmt_of c.args.found.now) in
+    let found =
+    c.into_messages.ensures ∙ told_read r _ _ _ _ c.new-notes.ensures c.in_ok-read_definition.ensures.done
+    ∙ ap (λ (files : List SourceFile). told (answer_of files) r) c.answers.ensures in
+    rw (c.in_ok-append.ensures.items, map-append) (ap (λ (more : List Message). map message_in c.args.messages.now.items ++ more) found)

@@ -1,0 +1,14 @@
+use Rattle.std.proofs.Common.{◌≡◌, ap, ◌∙◌}
+use Rattle.pyc_annotations.specs.Annotations.{Annotation, read_type}
+use Rattle.pyc_ast.specs.ExprView.{expr_of}
+use Rattle.pyc_declarations.specs.Declarations.{annotated_type}
+use Rattle.pyc_names.specs.SourceFileView.{source_in}
+use Rattle.pyc_type_exprs.specs.TypeExprs.{type_expr}
+use Rattle.pyc_declarations.proofs.ReadLemmas.{result_read}
+use Rattle.pyc_declarations.proofs.declarations.Declarations.annotated_type.Goals as goal
+
+pub returns : goal.returns
+unfolding annotated_type
+returns c =
+    let r = read_type (source_in c.args.file.now) (type_expr (expr_of c.args.annotation.now)) in
+    c.type_in.ensures ∙ ap (λ (found : Annotation). found.ty) (result_read r _ _ _ _ c.new-notes.ensures c.in_ok-found.ensures.done)

@@ -1,0 +1,185 @@
+//! Which variables are type aliases.
+
+ghost use Rattle.std.specs.Prelude.{◌≡◌, IfOk};
+ghost use Rattle.pyc_ast.specs.ExprView.{expr_of};
+ghost use Rattle.pyc_declarations.specs.Kinds as spec;
+ghost use Rattle.pyc_names.specs.Following.{follow};
+ghost use Rattle.pyc_names.specs.FollowingView.{referent_of};
+ghost use Rattle.pyc_names.specs.SourceFileView.{source_in};
+ghost use Rattle.pyc_reading.specs.AnswerView.{kind_of};
+ghost use Rattle.pyc_type_exprs.specs.TypeExprView.{type_expr_of};
+
+use crate::kinds::Kinds;
+use pyc_ast::{Expr, Text};
+use pyc_bindings::declaration;
+use pyc_builtins::is_dunder;
+use pyc_names::{ModuleName, QualifiedName, Referent, SourceFile, fixed_module};
+use pyc_reading::NameKind;
+use pyc_type_exprs::{TypeExpr, type_expr};
+use std::alloc::{AllocError, Global};
+
+impl Kinds<'_> {
+    ghost use Rattle.pyc_declarations.specs.KindsView.{kinds_in};
+
+    /// Whether a variable with this annotation, which stands in a file, is a type alias. The only error is that memory
+    /// runs out.
+    #[tactic(auto, unfolding(crate::specs::Kinds::is_alias))]
+    pub(crate) fn is_alias(
+        &self,
+        alloc: Global,
+        file: &SourceFile,
+        annotation: &Expr,
+    ) -> Result<bool, AllocError>
+        ensures { IfOk result (λ found. found
+            ≡ spec.is_alias (kinds_in self.now) (source_in file.now) (expr_of annotation.now)) }
+    {
+        let written = type_expr(alloc, annotation)?;
+        let found = self.is_alias_type(alloc, file, &written)?;
+        Ok(found)
+    }
+
+    /// Whether an annotation is a name of a fixed module that is Any there.
+    fn is_alias_type(
+        &self,
+        alloc: Global,
+        file: &SourceFile,
+        written: &TypeExpr,
+    ) -> Result<bool, AllocError>
+        ensures { IfOk result (λ found. found
+            ≡ spec.is_alias_type (kinds_in self.now) (source_in file.now) (type_expr_of written.now)) }
+    {
+        match written {
+            TypeExpr::Name { name, .. } => {
+                let found = self.dotted_referent(alloc, file, &name.names)?;
+                Ok(is_fixed_any(&found))
+            }
+            _ => Ok(false),
+        }
+    }
+
+    /// What names joined by dots stand for.
+    fn dotted_referent(
+        &self,
+        alloc: Global,
+        file: &SourceFile,
+        names: &[Text],
+    ) -> Result<Referent, AllocError>
+        ensures { IfOk result (λ found. referent_of found
+            ≡ spec.dotted_referent (kinds_in self.now) (source_in file.now) names.now) }
+    {
+        match names.split_first() {
+            Some((first, rest)) => {
+                let found = self.own_referent(alloc, file, first)?;
+                self.attributes_referent(alloc, found, rest)
+            }
+            None => Ok(Referent::NoName),
+        }
+    }
+
+    /// What a name that stands in a file stands for, where the file binds it.
+    fn own_referent(
+        &self,
+        alloc: Global,
+        file: &SourceFile,
+        name: &Text,
+    ) -> Result<Referent, AllocError>
+        ensures { IfOk result (λ found. referent_of found
+            ≡ spec.own_referent (kinds_in self.now) (source_in file.now) name.now) }
+    {
+        match declaration(file.bindings(), name) {
+            Some(_) => self.follow(alloc, file.name(), name),
+            None => Ok(Referent::NoName),
+        }
+    }
+
+    /// Attributes of what a name stands for, one behind another.
+    fn attributes_referent(
+        &self,
+        alloc: Global,
+        found: Referent,
+        names: &[Text],
+    ) -> Result<Referent, AllocError>
+        ensures { IfOk result (λ end. referent_of end
+            ≡ spec.attributes_referent (kinds_in self.now) (referent_of found) names.now) }
+    {
+        let mut end = found;
+        for name in names {
+            end = self.attribute_referent(alloc, end, name)?;
+        }
+        Ok(end)
+    }
+
+    /// An attribute of what a name stands for.
+    fn attribute_referent(
+        &self,
+        alloc: Global,
+        found: Referent,
+        name: &Text,
+    ) -> Result<Referent, AllocError>
+        ensures { IfOk result (λ end. referent_of end
+            ≡ spec.attribute_referent (kinds_in self.now) (referent_of found) name.now) }
+    {
+        match found {
+            Referent::Module(home) => self.module_attribute(alloc, &home, name),
+            _ => Ok(Referent::NoName),
+        }
+    }
+
+    /// An attribute of a module.
+    fn module_attribute(
+        &self,
+        alloc: Global,
+        home: &ModuleName,
+        name: &Text,
+    ) -> Result<Referent, AllocError>
+        ensures { IfOk result (λ end. referent_of end
+            ≡ spec.module_attribute (kinds_in self.now) home.now name.now) }
+    {
+        if is_looked_up(home, name) {
+            self.follow(alloc, home, name)
+        } else {
+            Ok(Referent::NoName)
+        }
+    }
+
+    /// What a name of a module stands for.
+    fn follow(&self, alloc: Global, home: &ModuleName, name: &Text) -> Result<Referent, AllocError>
+        ensures { IfOk result (λ found. referent_of found
+            ≡ follow (kinds_in self.now) (record { home = home.now; name = name.now })) }
+    {
+        let q = QualifiedName {
+            home: home.clone()?,
+            name: name.clone()?,
+        };
+        self.table.follow(alloc, &q)
+    }
+}
+
+/// Whether a name of a module is looked up: one with two underscores at both ends is so in a fixed module alone.
+fn is_looked_up(home: &ModuleName, name: &Text) -> bool
+    ensures { result ≡ spec.is_looked_up home.now name.now }
+{
+    if is_dunder(name.as_str()) {
+        fixed_module(home.parts()).is_some()
+    } else {
+        true
+    }
+}
+
+/// Whether a name stands for one of a fixed module that is Any there.
+fn is_fixed_any(found: &Referent) -> bool
+    ensures { result ≡ spec.is_fixed_any (referent_of found.now) }
+{
+    matches!(found, Referent::FixedAny)
+}
+
+/// The kind of a variable with an annotation, by whether it is an alias.
+pub(crate) fn variable_kind(is_alias: bool) -> NameKind
+    ensures { kind_of result ≡ spec.variable_kind is_alias }
+{
+    if is_alias {
+        NameKind::Alias
+    } else {
+        NameKind::AnnotatedVariable
+    }
+}

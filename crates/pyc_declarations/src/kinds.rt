@@ -1,0 +1,231 @@
+//! What names stand for before annotations are read.
+
+ghost use Rattle.std.specs.Prelude.{◌≡◌, IfOk, option_map};
+ghost use Rattle.pyc_ast.specs.ExprView.{expr_of};
+ghost use Rattle.pyc_bindings.specs.BindingView.{binding_of, binding_form_of};
+ghost use Rattle.pyc_class.specs.Class.{user};
+ghost use Rattle.pyc_declarations.specs.Kinds as spec;
+ghost use Rattle.pyc_declarations.specs.KindsView.{found_in};
+ghost use Rattle.pyc_names.specs.FixedModules.{fixed_module as fixed_module_of};
+ghost use Rattle.pyc_names.specs.FollowingView.{qualified_of, referent_of};
+ghost use Rattle.pyc_names.specs.SourceFileView.{source_in};
+ghost use Rattle.pyc_classes.specs.ClassOrders.{undeclared};
+ghost use Rattle.pyc_reading.specs.AnswerView.{answer_in, class_order_of, kind_of, name_answer_of};
+ghost use Rattle.pyc_reading.specs.KeyView.{key_of};
+
+use crate::alias::variable_kind;
+use crate::answers::Answers;
+use crate::declared_types::initialiser_type;
+use pyc_ast::{ClassDefinition, Text};
+use pyc_bindings::{Binding, BindingForm, declaration, is_decorated};
+use pyc_class::{ClassId, UnknownOrder};
+use pyc_names::{
+    FixedName, ModuleName, QualifiedName, Referent, SourceFile, Table, fixed_module, fixed_name,
+};
+use pyc_reading::{Answer, ClassOrder, Key, NameAnswer, NameKind};
+use pyc_types::Ty;
+use std::alloc::{AllocError, Global};
+
+/// The files of a workspace, and the kinds of things that their names stand for.
+#[derive(Clone, Copy, Drop)]
+pub(crate) struct Kinds<'a> {
+    pub(crate) table: &'a Table,
+}
+
+/// What a name leads to.
+#[derive(Drop)]
+pub(crate) enum Found<'a> {
+    /// A declaration of this form in a file.
+    Declared(&'a SourceFile, &'a BindingForm),
+    /// Something that no file declares.
+    Answered(NameAnswer),
+}
+
+impl Answers for Kinds<'_> {
+    ghost use Rattle.pyc_declarations.specs.Kinds.{kind_answer};
+    ghost use Rattle.pyc_declarations.specs.KindsView.{kinds_in};
+
+    ghost answers = { λ kinds. kind_answer (kinds_in kinds) };
+
+    fn answer(&self, alloc: Global, key: &Key) -> Result<Answer, AllocError> {
+        match key {
+            Key::HasModule(name) => Ok(Answer::Presence(self.module_presence(name))),
+            Key::HasName(name) => Ok(Answer::Presence(self.name_presence(alloc, name)?)),
+            Key::Name(name) => Ok(Answer::Name(self.name_kind(alloc, name)?)),
+            Key::Class(_) => Ok(Answer::Order(unknown_order(alloc))),
+            Key::Member(_) => Ok(Answer::Member(None)),
+        }
+    }
+}
+
+impl<'a> Kinds<'a> {
+    ghost use Rattle.pyc_declarations.specs.KindsView.{kinds_in};
+
+    /// What a name stands for, by its kind alone.
+    fn name_kind(&self, alloc: Global, q: &QualifiedName) -> Result<NameAnswer, AllocError>
+        ensures { IfOk result (λ found. name_answer_of found
+            ≡ spec.name_kind (kinds_in self.now) (qualified_of q.now)) }
+    {
+        match self.found_name(alloc, q)? {
+            Found::Declared(file, form) => self.form_kind(alloc, file, form),
+            Found::Answered(found) => Ok(found),
+        }
+    }
+
+    /// What a name leads to.
+    #[tactic(auto, unfolding(crate::specs::Kinds::found_name))]
+    pub(crate) fn found_name(
+        &self,
+        alloc: Global,
+        q: &QualifiedName,
+    ) -> Result<Found<'a>, AllocError>
+        ensures { IfOk result (λ found. found_in found ≡ spec.found_name (kinds_in self.now) (qualified_of q.now)) }
+    {
+        let found = self.table.follow(alloc, q)?;
+        Ok(self.found_referent(found))
+    }
+
+    /// What following a name came to.
+    fn found_referent(&self, found: Referent) -> Found<'a>
+        ensures { found_in result ≡ spec.found_referent (kinds_in self.now) (referent_of found) }
+    {
+        match found {
+            Referent::Declared(q) => self.found_declared(&q),
+            Referent::Module(name) => Found::Answered(NameAnswer {
+                kind: NameKind::Module(name),
+                ty: Ty::Module,
+            }),
+            Referent::Opaque | Referent::FixedAny => Found::Answered(of_kind(NameKind::Unknown)),
+            Referent::NoModule => Found::Answered(of_kind(NameKind::NoModule)),
+            Referent::NoName => Found::Answered(of_kind(NameKind::NoName)),
+            Referent::Cycle => Found::Answered(of_kind(NameKind::Cycle)),
+        }
+    }
+
+    /// What is declared under a name.
+    fn found_declared(&self, q: &QualifiedName) -> Found<'a>
+        ensures { found_in result ≡ spec.found_declared (kinds_in self.now) (qualified_of q.now)
+            (fixed_module_of q.now.home) }
+    {
+        let parts = q.home.parts();
+        match fixed_module(parts) {
+            Some(found) => fixed_found(fixed_name(found, q.name.as_str())),
+            None => found_in_file(q, self.table.file(parts)),
+        }
+    }
+
+    /// What a declaration of this form is in a file.
+    pub(crate) fn form_kind(
+        &self,
+        alloc: Global,
+        file: &SourceFile,
+        form: &BindingForm,
+    ) -> Result<NameAnswer, AllocError>
+        ensures { IfOk result (λ found. name_answer_of found
+            ≡ spec.form_kind (kinds_in self.now) (source_in file.now) (binding_form_of form.now)) }
+    {
+        match form {
+            BindingForm::Function(_) => Ok(of_kind(NameKind::Function)),
+            BindingForm::Class(head) => class_kind(alloc, file, head),
+            BindingForm::Annotated(found) => {
+                let is_alias = self.is_alias(alloc, file, &found.annotation)?;
+                Ok(of_kind(variable_kind(is_alias)))
+            }
+            BindingForm::Assigned(value) => Ok(NameAnswer {
+                kind: NameKind::Variable,
+                ty: initialiser_type(value),
+            }),
+            _ => Ok(of_kind(NameKind::Variable)),
+        }
+    }
+}
+
+/// A thing of this kind, of which no type is known.
+fn of_kind(kind: NameKind) -> NameAnswer
+    ensures { name_answer_of result ≡ spec.of_kind (kind_of kind) }
+{
+    NameAnswer { kind, ty: Ty::Any }
+}
+
+/// What a name of a fixed module is.
+fn fixed_found<'a>(found: Option<FixedName>) -> Found<'a>
+    ensures { found_in result ≡ spec.fixed_found found }
+{
+    match found {
+        Some(name) => Found::Answered(of_kind(NameKind::Fixed(name))),
+        None => Found::Answered(of_kind(NameKind::Unknown)),
+    }
+}
+
+/// What a file declares under a name.
+fn found_in_file<'a>(q: &QualifiedName, file: Option<&'a SourceFile>) -> Found<'a>
+    ensures { found_in result
+        ≡ spec.found_in_file (qualified_of q.now) (option_map (λ file. source_in file.now) file.entry) }
+{
+    match file {
+        Some(file) => found_binding(file, declaration(file.bindings(), &q.name)),
+        None => Found::Answered(of_kind(NameKind::Unknown)),
+    }
+}
+
+/// What a binding declares in a file.
+fn found_binding<'a>(file: &'a SourceFile, found: Option<&'a Binding>) -> Found<'a>
+    ensures { found_in result
+        ≡ spec.found_binding (source_in file.now) (option_map (λ b. binding_of b.now) found.entry) }
+{
+    match found {
+        Some(binding) => {
+            if is_decorated(&binding.form) {
+                Found::Answered(of_kind(NameKind::Unknown))
+            } else {
+                Found::Declared(file, &binding.form)
+            }
+        }
+        None => Found::Answered(of_kind(NameKind::Unknown)),
+    }
+}
+
+/// A class of a file.
+fn class_kind(
+    alloc: Global,
+    file: &SourceFile,
+    head: &ClassDefinition,
+) -> Result<NameAnswer, AllocError>
+    ensures { IfOk result (λ found. name_answer_of found ≡ spec.class_kind (source_in file.now).name head.now.name) }
+{
+    let class = own_class(alloc, file, &head.name)?;
+    Ok(NameAnswer {
+        kind: NameKind::Class,
+        ty: Ty::Class(class),
+    })
+}
+
+/// The order of a class of which none is known.
+pub(crate) fn unknown_order(alloc: Global) -> ClassOrder
+    ensures { class_order_of result ≡ undeclared }
+{
+    ClassOrder {
+        classes: Vec::new(alloc),
+        unknown: Some(UnknownOrder::Base),
+        has_call: false,
+    }
+}
+
+/// The class of this name of a file. The only error is that memory runs out.
+pub fn own_class(alloc: Global, file: &SourceFile, name: &Text) -> Result<ClassId, AllocError>
+    ensures { IfOk result (λ class. class ≡ user (source_in file.now).name name.now) }
+{
+    let home = copied(alloc, file.name().parts())?;
+    ClassId::user(alloc, home, name.clone()?)
+}
+
+/// These parts once more.
+fn copied(alloc: Global, parts: &[Text]) -> Result<Vec<Text>, AllocError>
+    ensures { IfOk result (λ copy. copy.items ≡ parts.now) }
+{
+    let mut copy = Vec::with_capacity(alloc, parts.len())?;
+    for part in parts {
+        copy.push(part.clone()?)?;
+    }
+    Ok(copy)
+}

@@ -1,0 +1,144 @@
+//! Whether modules and names are there.
+
+ghost use Rattle.std.specs.Prelude.{◌≡◌, IfOk, option_map};
+ghost use Rattle.pyc_ast.specs.Modules.{outcome_of};
+ghost use Rattle.pyc_bindings.specs.BindingView.{binding_of};
+ghost use Rattle.pyc_declarations.specs.Presences as spec;
+ghost use Rattle.pyc_names.specs.FollowingView.{qualified_of};
+ghost use Rattle.pyc_names.specs.SourceFileView.{source_in};
+
+use crate::kinds::Kinds;
+use pyc_ast::Outcome;
+use pyc_bindings::{Binding, declaration};
+use pyc_names::{ModuleName, QualifiedName, SourceFile, fixed_module, joined};
+use pyc_reading::Presence;
+use std::alloc::{AllocError, Global};
+use std::slice;
+
+impl Kinds<'_> {
+    ghost use Rattle.pyc_declarations.specs.KindsView.{kinds_in};
+
+    /// Whether a module is there.
+    #[tactic(auto, unfolding(crate::specs::Presences::module_presence))]
+    pub(crate) fn module_presence(&self, name: &ModuleName) -> Presence
+        ensures { result ≡ spec.module_presence (kinds_in self.now) name.now }
+    {
+        let parts = name.parts();
+        if !self.table.has_module(parts) {
+            return Presence::NoModule;
+        }
+        match fixed_module(parts) {
+            Some(_) => Presence::There,
+            None => file_presence(self.table.file(parts)),
+        }
+    }
+
+    /// Whether a module has a name.
+    #[tactic(auto, unfolding(crate::specs::Presences::name_presence))]
+    pub(crate) fn name_presence(
+        &self,
+        alloc: Global,
+        q: &QualifiedName,
+    ) -> Result<Presence, AllocError>
+        ensures { IfOk result (λ found. found ≡ spec.name_presence (kinds_in self.now) (qualified_of q.now)) }
+    {
+        let parts = q.home.parts();
+        if !self.table.has_module(parts) {
+            return Ok(Presence::NoModule);
+        }
+        match fixed_module(parts) {
+            Some(_) => Ok(Presence::There),
+            None => self.name_in_file(alloc, q, self.table.file(parts)),
+        }
+    }
+
+    /// Whether a module that is no fixed one has a name.
+    fn name_in_file(
+        &self,
+        alloc: Global,
+        q: &QualifiedName,
+        file: Option<&SourceFile>,
+    ) -> Result<Presence, AllocError>
+        ensures { IfOk result (λ found. found ≡ spec.name_in_file (kinds_in self.now) (qualified_of q.now)
+            (option_map (λ file. source_in file.now) file.entry)) }
+    {
+        match file {
+            Some(file) => self.name_in_outcome(alloc, q, file),
+            None => self.submodule_presence(alloc, q),
+        }
+    }
+
+    /// Whether a file has a name.
+    fn name_in_outcome(
+        &self,
+        alloc: Global,
+        q: &QualifiedName,
+        file: &SourceFile,
+    ) -> Result<Presence, AllocError>
+        ensures { IfOk result (λ found. found ≡ spec.name_in_outcome (kinds_in self.now) (qualified_of q.now)
+            (source_in file.now) (source_in file.now).outcome) }
+    {
+        match file.outcome() {
+            Outcome::Tree(_) => self.binding_presence(
+                alloc,
+                q,
+                declaration(file.bindings(), &q.name),
+            ),
+            Outcome::Fault(_) => Ok(Presence::Opaque),
+        }
+    }
+
+    /// Whether a name that has this declaration is there.
+    fn binding_presence(
+        &self,
+        alloc: Global,
+        q: &QualifiedName,
+        found: Option<&Binding>,
+    ) -> Result<Presence, AllocError>
+        ensures { IfOk result (λ presence. presence ≡ spec.binding_presence (kinds_in self.now) (qualified_of q.now)
+            (option_map (λ b. binding_of b.now) found.entry)) }
+    {
+        match found {
+            Some(_) => {
+                if self.table.is_on_ring(alloc, q)? {
+                    Ok(Presence::Cycle)
+                } else {
+                    Ok(Presence::There)
+                }
+            }
+            None => self.submodule_presence(alloc, q),
+        }
+    }
+
+    /// Whether the submodule of a name is there.
+    fn submodule_presence(&self, alloc: Global, q: &QualifiedName) -> Result<Presence, AllocError>
+        ensures { IfOk result (λ found. found ≡ spec.submodule_presence (kinds_in self.now) (qualified_of q.now)) }
+    {
+        let under = joined(alloc, q.home.parts(), slice::from_ref(&q.name))?;
+        if self.table.has_module(under.parts()) {
+            Ok(Presence::There)
+        } else {
+            Ok(Presence::NoName)
+        }
+    }
+}
+
+/// Whether a module with this file is there.
+fn file_presence(file: Option<&SourceFile>) -> Presence
+    ensures { result ≡ spec.file_presence (option_map (λ file. source_in file.now) file.entry) }
+{
+    match file {
+        Some(file) => outcome_presence(file.outcome()),
+        None => Presence::There,
+    }
+}
+
+/// Whether a module with this source is there.
+fn outcome_presence(outcome: &Outcome) -> Presence
+    ensures { result ≡ spec.outcome_presence (outcome_of outcome.now) }
+{
+    match outcome {
+        Outcome::Tree(_) => Presence::There,
+        Outcome::Fault(_) => Presence::Opaque,
+    }
+}

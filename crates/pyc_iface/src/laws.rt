@@ -1,0 +1,9 @@
+//! A law of the answers, proved for all files.
+
+ghost use Rattle.pyc_iface.specs.WorldLaws.{OrdersAreOrderly};
+
+/// The orders of the classes that files declare meet what the laws of assignability ask of orders: each known one holds
+/// its class, and the order of each class in it; and those of the builtin classes are theirs.
+pub fn orders_are_orderly()
+    ensures { OrdersAreOrderly }
+{}

@@ -1,0 +1,53 @@
+//! Sources of one logical line.
+
+ghost use Rattle.std.specs.Prelude.{◌≡◌, IfOk, map, option_map};
+ghost use Rattle.pyc_lex.specs.Lines.{lines_of};
+ghost use Rattle.pyc_lex.specs.View as lex;
+ghost use Rattle.pyc_lower.specs.ExpressionInput as spec;
+ghost use Rattle.pyc_tree.specs.Headers as grammar;
+ghost use Rattle.pyc_tree.specs.LineView.{line_of};
+
+use pyc_lex::{LexFault, LogicalLine, scan};
+use pyc_line::{ParseFault, What, parse_line};
+use pyc_token::Token;
+use pyc_tree::Line;
+use std::alloc::{AllocError, Global};
+
+/// The tree of a line with these tokens. The only error is that memory runs out.
+fn line_tree(alloc: Global, tokens: &[Token]) -> Result<Option<Line>, AllocError>
+    ensures { IfOk result (λ found. option_map line_of found ≡ grammar.line_tree tokens.now) }
+{
+    match parse_line(alloc, tokens) {
+        Ok(line) => Ok(Some(line)),
+        Err(
+            ParseFault {
+                what: What::Memory,
+                ..
+            },
+        ) => Err(AllocError),
+        Err(ParseFault { .. }) => Ok(None),
+    }
+}
+
+/// The tree of the only one of these lines, whatever its indent. The only error is that memory runs out.
+fn only_tree(alloc: Global, lines: &[LogicalLine]) -> Result<Option<Line>, AllocError>
+    ensures { IfOk result (λ found. option_map line_of found ≡ spec.only_tree (map lex.line_in lines.now)) }
+{
+    match lines {
+        [] => Ok(None),
+        [line] => line_tree(alloc, &line.tokens),
+        [_, _, ..] => Ok(None),
+    }
+}
+
+/// The tree of the only logical line of a source, whatever its indent: a source with a lexical fault has none. The only
+/// error is that memory runs out.
+pub fn only_line(alloc: Global, source: &[u8]) -> Result<Option<Line>, AllocError>
+    ensures { IfOk result (λ found. option_map line_of found ≡ spec.tree_read (lines_of source.now)) }
+{
+    match scan(alloc, source) {
+        Ok(scan) => only_tree(alloc, &scan.lines),
+        Err(LexFault::Memory) => Err(AllocError),
+        Err(_) => Ok(None),
+    }
+}

@@ -1,0 +1,57 @@
+//! Modules, with the classes that they declare.
+
+use crate::sources::module_of;
+use pyc_bindings::scope_bindings;
+use pyc_members::declared_classes;
+use std::alloc::Global;
+use std::fmt::Write;
+use std::test::Fail;
+
+/// The classes that a source declares, each as its name, its line, and how many names its body binds.
+fn classes_of(alloc: Global, source: &str) -> Result<String, Fail> {
+    let module = module_of(alloc, source)?;
+    let bindings = scope_bindings(alloc, &module.statements)?;
+    let mut shown = String::new(alloc);
+    for class in &declared_classes(alloc, &module.statements, &bindings)? {
+        let name = class.name.as_str();
+        let line = class.at.line;
+        let bound = class.body.bindings.len();
+        write!(shown, "{name} {line} {bound}; ")?;
+    }
+    Ok(shown)
+}
+
+#[test]
+fn classes_in_text_order(rt: HostRuntime) -> Result<(), Fail> {
+    let source =
+        "class B(A):\n    x = 1\n    class C: ...\nclass A: ...\nif x:\n    @known\n    class D:\n        y: int\n\
+                  else:\n    for z in x:\n        class E: pass\n\
+                  def f():\n    class F: ...\nx = lambda: 1\n";
+    assert_eq!(rt;
+        classes_of(rt.alloc(), source)?.as_str(),
+        "B 1 2; A 4 0; D 7 1; E 11 0; "
+    );
+    Ok(())
+}
+
+/// A class statement declares a class only where it is the first that binds its name.
+#[test]
+fn classes_that_are_no_declarations(rt: HostRuntime) -> Result<(), Fail> {
+    for (source, want) in &[
+        ("class A: x = 1\nclass A: ...\n", "A 1 1; "),
+        ("A = 1\nclass A: ...\n", ""),
+        ("import A.b\nclass A: ...\n", ""),
+        ("from m import b as A\nclass A: ...\n", ""),
+        ("def A(): ...\nclass A: ...\n", ""),
+        ("for A in x:\n    class A: ...\n", ""),
+        (
+            "if x:\n    class A: ...\nelse:\n    class A: ...\n",
+            "A 2 0; ",
+        ),
+        ("class A: ...\nA = 1\n", "A 1 0; "),
+        ("def f():\n    A = 1\nclass A: ...\n", "A 3 0; "),
+    ] {
+        assert_eq!(rt; classes_of(rt.alloc(), source)?.as_str(), *want, "{source}");
+    }
+    Ok(())
+}

@@ -1,0 +1,94 @@
+//! Bodies of classes, with their methods.
+
+use crate::sources::module_of;
+use pyc_members::{method_kind, methods, self_name};
+use std::alloc::Global;
+use std::fmt::Write;
+use std::test::Fail;
+
+/// The methods of a class with this body, each as its name, its line, its kind, and the name by which it has its
+/// instance, `-` where it has none.
+fn methods_of(alloc: Global, body: &str) -> Result<String, Fail> {
+    let module = module_of(alloc, body)?;
+    let mut shown = String::new(alloc);
+    for method in &methods(alloc, &module.statements)? {
+        let name = method.head.name.as_str();
+        let line = method.at.line;
+        let kind = method_kind(&method.head.decorators);
+        let own = self_name(method.head).map_or("-", |own| own.as_str());
+        write!(shown, "{name} {line} {kind:?} {own}; ")?;
+    }
+    Ok(shown)
+}
+
+/// Of several decorators property decides before static, and static before class.
+#[test]
+fn kinds_by_the_spelling_of_decorators(rt: HostRuntime) -> Result<(), Fail> {
+    for (body, want) in &[
+        ("def f(self): ...\n", "f 1 Plain self; "),
+        ("@property\ndef f(self): ...\n", "f 2 Property self; "),
+        ("@x.setter\ndef f(self, v): ...\n", "f 2 Property self; "),
+        ("@staticmethod\ndef f(a): ...\n", "f 2 Static -; "),
+        ("@classmethod\ndef f(cls): ...\n", "f 2 Class -; "),
+        ("@abstractmethod\ndef f(self): ...\n", "f 2 Plain self; "),
+        (
+            "@abc.abstractmethod\ndef f(self): ...\n",
+            "f 2 Plain self; ",
+        ),
+        ("@known\ndef f(self): ...\n", "f 2 Plain self; "),
+        (
+            "@known(1)\n@staticmethod\ndef f(a): ...\n",
+            "f 3 Static -; ",
+        ),
+        ("@builtins.property\ndef f(self): ...\n", "f 2 Plain self; "),
+        ("def __new__(cls): ...\n", "__new__ 1 Plain cls; "),
+        (
+            "@classmethod\n@property\ndef f(me): ...\n",
+            "f 3 Property me; ",
+        ),
+        (
+            "@staticmethod\n@x.setter\ndef f(me): ...\n",
+            "f 3 Property me; ",
+        ),
+        (
+            "@classmethod\n@staticmethod\ndef f(me): ...\n",
+            "f 3 Static -; ",
+        ),
+        (
+            "@abstractmethod\n@classmethod\ndef f(me): ...\n",
+            "f 3 Class -; ",
+        ),
+    ] {
+        assert_eq!(rt; methods_of(rt.alloc(), body)?.as_str(), *want, "{body}");
+    }
+    Ok(())
+}
+
+/// The first parameter is the instance only where an argument at its place fills it.
+#[test]
+fn first_parameters_are_instances(rt: HostRuntime) -> Result<(), Fail> {
+    for (body, want) in &[
+        ("def f(this, that): ...\n", "f 1 Plain this; "),
+        ("def f(this: int = 1): ...\n", "f 1 Plain this; "),
+        ("async def f(this): ...\n", "f 1 Plain this; "),
+        ("def f(): ...\n", "f 1 Plain -; "),
+        ("def f(*this): ...\n", "f 1 Plain -; "),
+        ("def f(*, this): ...\n", "f 1 Plain -; "),
+        ("def f(**this): ...\n", "f 1 Plain -; "),
+    ] {
+        assert_eq!(rt; methods_of(rt.alloc(), body)?.as_str(), *want, "{body}");
+    }
+    Ok(())
+}
+
+#[test]
+fn methods_stand_in_blocks_and_in_no_definition(rt: HostRuntime) -> Result<(), Fail> {
+    let body =
+        "if x:\n    def f(a):\n        def g(b): ...\nelse:\n    for y in x:\n        def f(c): ...\n\
+                class C:\n    def h(d): ...\nk = lambda e: e\ntry:\n    pass\nfinally:\n    def l(f): ...\n";
+    assert_eq!(rt;
+        methods_of(rt.alloc(), body)?.as_str(),
+        "f 2 Plain a; f 6 Plain c; l 13 Plain f; "
+    );
+    Ok(())
+}

@@ -1,0 +1,281 @@
+//! Annotations, with what they are written as.
+
+use crate::sources::module_of;
+use pyc_ast::{AnnotatedAssignment, StmtForm, Text};
+use pyc_type_exprs::{ArgumentShape, TypeArgument, TypeExpr, dotted_names, innermost, type_expr};
+use std::alloc::Global;
+use std::fmt::Write;
+use std::rc::Rc;
+use std::test::Fail;
+
+/// The assignment `x: ANNOTATION` with this annotation.
+fn annotated(alloc: Global, annotation: &str) -> Result<Rc<AnnotatedAssignment>, Fail> {
+    let source = format!(in alloc; "x: {annotation}\n")?;
+    let module = module_of(alloc, source.as_str())?;
+    let Some(first) = module.statements.first() else {
+        return Err("no statement".into());
+    };
+    match &first.form {
+        StmtForm::Annotate(found) => Ok(found.clone()?),
+        _ => Err("no annotation".into()),
+    }
+}
+
+/// Writes names with dots between them.
+fn write_names(names: &[Text], shown: &mut String) -> Result<(), Fail> {
+    let mut is_first = true;
+    for name in names {
+        if !is_first {
+            shown.push_str(".")?;
+        }
+        is_first = false;
+        shown.push_str(name.as_str())?;
+    }
+    Ok(())
+}
+
+/// Writes an annotation without its parts: a name, `None`, `|` for a union, `[]` after a name with arguments, and where
+/// any other expression stands `?` with its column.
+fn write_head(written: &TypeExpr, shown: &mut String) -> Result<(), Fail> {
+    match written {
+        TypeExpr::None => shown.push_str("None")?,
+        TypeExpr::Name { name, .. } => write_names(&name.names, shown)?,
+        TypeExpr::Union { .. } => shown.push_str("|")?,
+        TypeExpr::Subscript { name, .. } => {
+            write_names(&name.names, shown)?;
+            shown.push_str("[]")?;
+        }
+        TypeExpr::Wrong(at) => {
+            let column = at.column;
+            write!(shown, "?{column}")?;
+        }
+    }
+    Ok(())
+}
+
+/// Writes an argument: its head, or its shape with those of the types in a list.
+fn write_argument(argument: &TypeArgument, shown: &mut String) -> Result<(), Fail> {
+    match &argument.shape {
+        ArgumentShape::Ellipsis => shown.push_str("...")?,
+        ArgumentShape::List(types) => {
+            shown.push_str("list")?;
+            for written in types {
+                shown.push_str(" ")?;
+                write_head(written, shown)?;
+            }
+        }
+        ArgumentShape::Other => write_head(&argument.written, shown)?,
+    }
+    shown.push_str(";")?;
+    Ok(())
+}
+
+/// What an annotation is written as: a union with the heads of both sides, a name with its arguments, and `2` before
+/// them where it is subscripted more than once, or its head alone.
+fn written(alloc: Global, annotation: &str) -> Result<String, Fail> {
+    let found = annotated(alloc, annotation)?;
+    let mut shown = String::new(alloc);
+    match &type_expr(alloc, &found.annotation)? {
+        TypeExpr::Union { left, right } => {
+            write_head(left, &mut shown)?;
+            shown.push_str(" | ")?;
+            write_head(right, &mut shown)?;
+        }
+        TypeExpr::Subscript {
+            name,
+            is_nested,
+            arguments,
+            ..
+        } => {
+            write_names(&name.names, &mut shown)?;
+            shown.push_str(if *is_nested { "2[" } else { "[" })?;
+            for argument in arguments {
+                write_argument(argument, &mut shown)?;
+            }
+            shown.push_str("]")?;
+        }
+        other => write_head(other, &mut shown)?,
+    }
+    Ok(shown)
+}
+
+#[test]
+fn names_and_unions(rt: HostRuntime) -> Result<(), Fail> {
+    for (annotation, want) in &[
+        ("int", "int"),
+        ("((a))", "a"),
+        ("a.b.c", "a.b.c"),
+        ("\u{fb01}.b", "fi.b"),
+        ("None", "None"),
+        ("a | None", "a | None"),
+        ("a.b | (c | d)", "a.b | |"),
+        ("a | b[c] | d", "| | d"),
+        ("list[a] | 1", "list[] | ?14"),
+    ] {
+        assert_eq!(rt;
+            written(rt.alloc(), annotation)?.as_str(),
+            *want,
+            "{annotation}"
+        );
+    }
+    Ok(())
+}
+
+#[test]
+fn other_expressions_are_wrong(rt: HostRuntime) -> Result<(), Fail> {
+    for annotation in &[
+        "1",
+        "...",
+        "True",
+        "1.5",
+        "a()",
+        "a().b",
+        "a() | b if c else d",
+        "a + b",
+        "-a",
+        "not a",
+        "a or b",
+        "a < b",
+        "(a, b)",
+        "[a]",
+        "{a}",
+        "{a: b}",
+        "()",
+        "lambda: a",
+        "await a",
+        "(a)()[b]",
+        "[a][b]",
+        "b''",
+        "f'a'",
+        "r'a'",
+        "'a' 'b'",
+        "'a b'",
+        "'\\x61'",
+        "''",
+    ] {
+        assert_eq!(rt;
+            written(rt.alloc(), annotation)?.as_str(),
+            "?4",
+            "{annotation}"
+        );
+    }
+    Ok(())
+}
+
+/// The items of a tuple are the arguments, also in parentheses.
+#[test]
+fn arguments_in_brackets(rt: HostRuntime) -> Result<(), Fail> {
+    for (annotation, want) in &[
+        ("list[int]", "list[int;]"),
+        ("(a.b)[c | d]", "a.b[|;]"),
+        ("dict[str, a.b]", "dict[str;a.b;]"),
+        ("dict[(str, int)]", "dict[str;int;]"),
+        ("dict[((str, int),)]", "dict[?10;]"),
+        ("tuple[()]", "tuple[]"),
+        ("tuple[int, ...]", "tuple[int;...;]"),
+        ("tuple[None]", "tuple[None;]"),
+        ("a[b[c], 1]", "a[b[];?12;]"),
+        ("a[b:c]", "a[?6;]"),
+        ("a[b, c:d]", "a[b;?9;]"),
+        ("Callable[..., a]", "Callable[...;a;]"),
+        (
+            "Callable[[a, b.c, None], d]",
+            "Callable[list a b.c None;d;]",
+        ),
+        ("Callable[[], [1]]", "Callable[list;list ?18;]"),
+        ("Callable[([a]), (...)]", "Callable[list a;...;]"),
+        ("a[b][c, d]", "a2[c;d;]"),
+        ("(a.b[c])[d]", "a.b2[d;]"),
+    ] {
+        assert_eq!(rt;
+            written(rt.alloc(), annotation)?.as_str(),
+            *want,
+            "{annotation}"
+        );
+    }
+    Ok(())
+}
+
+/// A string without prefix and backslash is read as the expression that its text spells, each part of which stands at
+/// the string.
+#[test]
+fn strings_are_read(rt: HostRuntime) -> Result<(), Fail> {
+    for (annotation, want) in &[
+        ("'a'", "a"),
+        ("\" a.b \"", "a.b"),
+        ("'''a | None'''", "a | None"),
+        ("'a' | 'b[c]'", "a | b[]"),
+        ("'a[b, 1, ...]'", "a[b;?4;...;]"),
+        ("a['b', 'c d']", "a[b;?11;]"),
+        ("'\"a\"'", "a"),
+        ("'1'", "?4"),
+        ("a['...']", "a[?6;]"),
+        ("Callable['[a]', b]", "Callable[?13;b;]"),
+        ("dict['a, b']", "dict[?9;]"),
+    ] {
+        assert_eq!(rt;
+            written(rt.alloc(), annotation)?.as_str(),
+            *want,
+            "{annotation}"
+        );
+    }
+    Ok(())
+}
+
+/// Where a name begins, with its parentheses and without.
+#[test]
+fn names_have_their_places(rt: HostRuntime) -> Result<(), Fail> {
+    for (annotation, outside, inside) in &[
+        ("a.b", 4, 4),
+        ("((a.b))", 4, 6),
+        ("'(a)'", 4, 4),
+        ("a[b]", 4, 4),
+        ("((a)[b])", 4, 6),
+    ] {
+        let found = annotated(rt.alloc(), annotation)?;
+        let places = match type_expr(rt.alloc(), &found.annotation)? {
+            TypeExpr::Name { at, name } => (at.column, name.at.column),
+            TypeExpr::Subscript { at, name, .. } => (at.column, name.at.column),
+            _ => (0, 0),
+        };
+        assert!(rt; places == (*outside, *inside), "{annotation}");
+    }
+    Ok(())
+}
+
+#[test]
+fn dotted_names_and_what_is_subscripted(rt: HostRuntime) -> Result<(), Fail> {
+    for (annotation, names, under) in &[
+        ("a", "a", "a"),
+        ("a.b.c", "a.b.c", "a.b.c"),
+        ("((a).b)", "a.b", "a.b"),
+        ("a.b[c]", "-", "a.b"),
+        ("(a[b])[c][d]", "-", "a"),
+        ("a[b].c", "-", "-"),
+        ("a()", "-", "-"),
+        ("a()[b]", "-", "-"),
+        ("None", "-", "-"),
+        ("'a'", "-", "-"),
+    ] {
+        let found = annotated(rt.alloc(), annotation)?;
+        let own = names_shown(rt.alloc(), dotted_names(rt.alloc(), &found.annotation)?)?;
+        assert_eq!(rt; own.as_str(), *names, "{annotation}");
+        let below = dotted_names(rt.alloc(), innermost(&found.annotation))?;
+        assert_eq!(rt;
+            names_shown(rt.alloc(), below)?.as_str(),
+            *under,
+            "{annotation}"
+        );
+    }
+    Ok(())
+}
+
+/// Names with dots between them, or `-` for none.
+fn names_shown(alloc: Global, names: Option<Vec<Text>>) -> Result<String, Fail> {
+    let mut shown = String::new(alloc);
+    match names {
+        Some(names) => write_names(&names, &mut shown)?,
+        None => shown.push_str("-")?,
+    }
+    Ok(shown)
+}

@@ -1,0 +1,6 @@
+//! The types of functions.
+#![tactic(auto)]
+
+mod signature;
+
+pub use signature::read_function;

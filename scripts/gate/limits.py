@@ -1,0 +1,98 @@
+"""Sessions at the limits, each with its name and what it prints: too large, or too regular, to be stored."""
+
+OK = b"ok\n"
+COMMAND = b"refused 1 command\n"
+PATH = b"refused 2 path\n"
+LARGE = b"refused 5 large\n"
+MANY = b"refused 6 many\n"
+MODULE = b"refused 7 module\n"
+MOST_BYTES = 1_048_576
+MOST_FILES = 1024
+
+
+def add(path, text=""):
+    """The command that adds a file."""
+    return f"add {path} {len(text.encode())}\n{text}".encode()
+
+
+def clean(files):
+    """What a check prints for so many files without an error."""
+    return f"Success: no issues found in {files} source file{'' if files == 1 else 's'}\nstatus 0\n".encode()
+
+
+def checked(path, text, errors=()):
+    """A session that adds one file and checks it, and what it prints: these errors, each a line and its message."""
+    lines = "".join(f"{path}:{line}: error: {message}\n" for line, message in errors)
+    count = f"{len(errors)} error{'' if len(errors) == 1 else 's'}"
+    found = f"{lines}Found {count} in 1 file (checked 1 source file)\nstatus 1\n".encode()
+    return add(path, text) + b"check\n", OK + (found if errors else clean(1))
+
+
+def path_of(count):
+    """A path of so many bytes."""
+    return "a" * (count - 3) + ".py"
+
+
+def nested(count):
+    """An assignment of a number in so many parentheses."""
+    return f"x = {'(' * count}1{')' * count}\n"
+
+
+def blocks(count):
+    """So many headers, each in the block of the one before, and a statement in the last."""
+    return "".join(f"{' ' * depth}if 1:\n" for depth in range(count)) + f"{' ' * count}pass\n"
+
+
+def full():
+    """A session that holds as many files as there may be, and what it prints."""
+    paths = [f"m{at}.py" for at in range(MOST_FILES)]
+    session = b"".join(map(add, paths)) + add("more.py") + add("m7/__init__.py")
+    session += b"remove m7.py\n" + add("more.py") + b"check\n"
+    return session, OK * MOST_FILES + MANY + MODULE + OK + OK + clean(MOST_FILES)
+
+
+def ring(count):
+    """A session with so many files that import one name around, until the first declares it, and what it prints."""
+    files = {f"m{at}.py": f"from m{(at + 1) % count} import x\n" for at in range(count)}
+    told = 'error: Cannot resolve name "x" (possible cyclic definition)  [misc]'
+    report = "".join(f"{path}:1: {told}\n" for path in sorted(files))
+    counts = f"Found {count} errors in {count} files (checked {count} source files)\nstatus 1\n"
+    session = b"".join(add(path, text) for path, text in files.items()) + b"check\n"
+    session += b"change m0.py 11\nx: int = 1\ncheck\n"
+    return session, OK * count + (report + counts).encode() + OK + clean(count)
+
+
+TOO_DEEP = "Too deeply nested  [syntax]"
+INVALID = "Invalid syntax  [syntax]"
+LISTS = "list[" * 60 + "int" + "]" * 60
+CALLS = "f(" * 60 + "1" + ")" * 60
+CALLED = "Union[Callable[[int], int], Callable[[float], int]]"
+
+LIMITS = [
+    ("limits/largest_file", add("a.py", "\n" * MOST_BYTES) + b"check\n", OK + clean(1)),
+    ("limits/file_one_byte_too_large", add("a.py", "\n" * (MOST_BYTES + 1)) + b"check\n", LARGE + clean(0)),
+    ("limits/file_one_byte_too_large_at_the_end", add("a.py", "\n" * (MOST_BYTES + 1)), LARGE),
+    ("limits/as_many_files_as_there_may_be", *full()),
+    ("limits/long_import_ring", *ring(300)),
+    ("limits/longest_path", add(path_of(255)), OK),
+    ("limits/path_one_byte_too_long", add(path_of(256)), PATH),
+    ("limits/longest_line", add(path_of(506)), PATH),
+    ("limits/longest_line_with_a_carriage_return", add(path_of(506)).replace(b"\n", b"\r\n"), PATH),
+    ("limits/line_one_byte_too_long", add(path_of(507)), COMMAND),
+    ("limits/line_one_byte_too_long_with_a_carriage_return", add(path_of(507)).replace(b"\n", b"\r\n"), COMMAND),
+    ("limits/line_longer_than_one_read", add(path_of(5000)), COMMAND),
+    ("limits/overlong_line_is_skipped", b"q" * 513 + b"\ncheck\n", COMMAND + clean(0)),
+    ("limits/deepest_brackets", *checked("d.py", nested(64))),
+    ("limits/brackets_one_too_deep", *checked("d.py", nested(65), [(1, TOO_DEEP)])),
+    ("limits/deepest_blocks", *checked("d.py", blocks(64))),
+    ("limits/blocks_one_too_deep", *checked("d.py", blocks(65), [(66, TOO_DEEP)])),
+    ("limits/many_signs", *checked("d.py", f"x = {'-' * 900}1\n")),
+    ("limits/highest_tree", *checked("d.py", f"x = {'-' * 997}1\n")),
+    ("limits/tree_one_node_too_high", *checked("d.py", f"x = {'-' * 998}1\n", [(1, INVALID)])),
+    ("limits/too_many_signs", *checked("d.py", f"x = {'-' * 2000}1\n", [(1, INVALID)])),
+    ("limits/lists_in_lists", *checked("l.py", f"def f(a: {LISTS}) -> {LISTS}:\n    return a\n")),
+    (
+        "limits/calls_in_calls",
+        *checked("u.py", f"from typing import Callable, Union\ndef g(f: {CALLED}) -> int:\n    return {CALLS}\n"),
+    ),
+]
