@@ -58,18 +58,23 @@ abbrev pub found_declared : List SourceFile → QualifiedName → Option FixedMo
 found_declared files q (Some found) = fixed_found (fixed_name found q.name)
 found_declared files q None = found_in_file q (file_of files q.home)
 
+-- a name that leads to none: its module does not have it, or an import binds it there
+abbrev pub absent_name : Option SourceFile → List ℕ → NameKind
+absent_name (Some file) x = if is_some (declaration file.bindings x) then kind.no_target else kind.no_name
+absent_name None x = kind.no_name
+
 -- what following a name came to
-abbrev pub found_referent : List SourceFile → Referent → Found
-found_referent files (names.declared q) = found_declared files q (fixed_module q.home)
-found_referent files (names.module_itself m) = answered (answer_with (kind.module_name m) module_type)
-found_referent files names.opaque = answered (of_kind kind.unknown)
-found_referent files names.fixed_any = answered (of_kind kind.unknown)
-found_referent files names.no_module = answered (of_kind kind.no_module)
-found_referent files names.no_name = answered (of_kind kind.no_name)
-found_referent files names.cycle = answered (of_kind kind.cycle)
+abbrev pub found_referent : List SourceFile → QualifiedName → Referent → Found
+found_referent files q (names.declared r) = found_declared files r (fixed_module r.home)
+found_referent files q (names.module_itself m) = answered (answer_with (kind.module_name m) module_type)
+found_referent files q names.opaque = answered (of_kind kind.unknown)
+found_referent files q names.fixed_any = answered (of_kind kind.unknown)
+found_referent files q names.no_module = answered (of_kind kind.no_module)
+found_referent files q names.no_name = answered (of_kind (absent_name (file_of files q.home) q.name))
+found_referent files q names.cycle = answered (of_kind kind.cycle)
 
 unfoldable pub found_name : List SourceFile → QualifiedName → Found
-found_name files q = found_referent files (follow files q)
+found_name files q = found_referent files q (follow files q)
 
 -- ---- aliases
 

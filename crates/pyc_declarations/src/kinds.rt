@@ -82,12 +82,13 @@ impl<'a> Kinds<'a> {
         ensures { IfOk result (λ found. found_in found ≡ spec.found_name (kinds_in self.now) (qualified_of q.now)) }
     {
         let found = self.table.follow(alloc, q)?;
-        Ok(self.found_referent(found))
+        Ok(self.found_referent(q, found))
     }
 
     /// What following a name came to.
-    fn found_referent(&self, found: Referent) -> Found<'a>
-        ensures { found_in result ≡ spec.found_referent (kinds_in self.now) (referent_of found) }
+    fn found_referent(&self, q: &QualifiedName, found: Referent) -> Found<'a>
+        ensures { found_in result
+            ≡ spec.found_referent (kinds_in self.now) (qualified_of q.now) (referent_of found) }
     {
         match found {
             Referent::Declared(q) => self.found_declared(&q),
@@ -97,7 +98,10 @@ impl<'a> Kinds<'a> {
             }),
             Referent::Opaque | Referent::FixedAny => Found::Answered(of_kind(NameKind::Unknown)),
             Referent::NoModule => Found::Answered(of_kind(NameKind::NoModule)),
-            Referent::NoName => Found::Answered(of_kind(NameKind::NoName)),
+            Referent::NoName => {
+                let file = self.table.file(q.home.parts());
+                Found::Answered(of_kind(absent_name(file, &q.name)))
+            }
             Referent::Cycle => Found::Answered(of_kind(NameKind::Cycle)),
         }
     }
@@ -145,6 +149,22 @@ fn of_kind(kind: NameKind) -> NameAnswer
     ensures { name_answer_of result ≡ spec.of_kind (kind_of kind) }
 {
     NameAnswer { kind, ty: Ty::Any }
+}
+
+/// The kind of a name that leads to none.
+fn absent_name(file: Option<&SourceFile>, name: &Text) -> NameKind
+    ensures { kind_of result ≡ spec.absent_name (option_map (λ file. source_in file.now) file.entry) name.now }
+{
+    match file {
+        Some(file) => {
+            if declaration(file.bindings(), name).is_some() {
+                NameKind::NoTarget
+            } else {
+                NameKind::NoName
+            }
+        }
+        None => NameKind::NoName,
+    }
 }
 
 /// What a name of a fixed module is.

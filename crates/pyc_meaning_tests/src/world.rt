@@ -42,6 +42,7 @@ fn shown(alloc: Global, found: &NameAnswer) -> Result<String, Fail> {
         NameKind::Unknown => Ok(format!(in alloc; "unknown: {ty}")?),
         NameKind::NoModule => Ok(format!(in alloc; "no module: {ty}")?),
         NameKind::NoName => Ok(format!(in alloc; "no name: {ty}")?),
+        NameKind::NoTarget => Ok(format!(in alloc; "no target: {ty}")?),
         NameKind::Cycle => Ok(format!(in alloc; "cycle: {ty}")?),
     }
 }
@@ -171,7 +172,7 @@ fn imported_names(rt: HostRuntime) -> Result<(), Fail> {
     for (home, name, want) in &[
         ("a", "i", "annotated: int"),
         ("b", "i", "annotated: int"),
-        ("a", "j", "no name: Any"),
+        ("a", "j", "no target: Any"),
         ("a", "d", "module p.d: Module"),
         ("a", "p", "module p: Module"),
         ("b", "O", "fixed Optional: Any"),

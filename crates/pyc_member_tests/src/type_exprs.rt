@@ -222,6 +222,15 @@ fn strings_are_read(rt: HostRuntime) -> Result<(), Fail> {
     Ok(())
 }
 
+/// The columns at which a name begins, with its parentheses and without.
+fn columns(form: &TypeExpr) -> (u32, u32) {
+    match form {
+        TypeExpr::Name { at, name } => (at.column, name.at.column),
+        TypeExpr::Subscript { at, name, .. } => (at.column, name.at.column),
+        _ => (0, 0),
+    }
+}
+
 /// Where a name begins, with its parentheses and without.
 #[test]
 fn names_have_their_places(rt: HostRuntime) -> Result<(), Fail> {
@@ -233,12 +242,8 @@ fn names_have_their_places(rt: HostRuntime) -> Result<(), Fail> {
         ("((a)[b])", 4, 6),
     ] {
         let found = annotated(rt.alloc(), annotation)?;
-        let places = match type_expr(rt.alloc(), &found.annotation)? {
-            TypeExpr::Name { at, name } => (at.column, name.at.column),
-            TypeExpr::Subscript { at, name, .. } => (at.column, name.at.column),
-            _ => (0, 0),
-        };
-        assert!(rt; places == (*outside, *inside), "{annotation}");
+        let form = type_expr(rt.alloc(), &found.annotation)?;
+        assert!(rt; columns(&form) == (*outside, *inside), "{annotation}");
     }
     Ok(())
 }

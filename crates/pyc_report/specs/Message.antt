@@ -2,8 +2,9 @@
 use Rattle.std.specs.Prelude.{ℕ, List, [], codes, string_bytes}
 use Rattle.pyc_ast.specs.declared.position.Position.{Position}
 use Rattle.pyc_report.specs.declared.message.Code.{Code}
-use Rattle.pyc_report.specs.declared.message.Code.TheVariants.{Assignment, AttrDefined, ImportNotFound, Misc}
-use Rattle.pyc_report.specs.declared.message.Code.TheVariants.{NameDefined, NoRedef, Syntax, ValidType}
+use Rattle.pyc_report.specs.declared.message.Code.TheVariants.{ArgType, Assignment, AttrDefined, CallArg, DictItem}
+use Rattle.pyc_report.specs.declared.message.Code.TheVariants.{ImportNotFound, Index, ListItem, Misc, NameDefined}
+use Rattle.pyc_report.specs.declared.message.Code.TheVariants.{NoRedef, Operator, Syntax, UnionAttr, ValidType}
 use Rattle.pyc_report.specs.declared.message.MessageKind.{MessageKind}
 use Rattle.pyc_report.specs.declared.message.MessageKind.TheVariants.{Error, Note}
 use Rattle.pyc_report.specs.declared.message.Message.{Message as Declared}
@@ -17,13 +18,20 @@ pub record Message : Type 0 where
 
 -- a code as it is printed
 abbrev pub code_name : Code → List ℕ
+code_name ArgType = codes "arg-type"
 code_name Assignment = codes "assignment"
 code_name AttrDefined = codes "attr-defined"
+code_name CallArg = codes "call-arg"
+code_name DictItem = codes "dict-item"
 code_name ImportNotFound = codes "import-not-found"
+code_name Index = codes "index"
+code_name ListItem = codes "list-item"
 code_name Misc = codes "misc"
 code_name NameDefined = codes "name-defined"
 code_name NoRedef = codes "no-redef"
+code_name Operator = codes "operator"
 code_name Syntax = codes "syntax"
+code_name UnionAttr = codes "union-attr"
 code_name ValidType = codes "valid-type"
 
 -- the code of a message of this kind as it is printed: none for a note
@@ -39,3 +47,7 @@ message_in message =
 -- an error at a position
 abbrev pub error_at : Position → Code → List ℕ → Message
 error_at at code text = record { line = at.line; column = at.column; kind = Error code; text = text }
+
+-- a note at a position
+abbrev pub note_at : Position → List ℕ → Message
+note_at at text = record { line = at.line; column = at.column; kind = Note; text = text }

@@ -1,20 +1,27 @@
 //! An error or a note on a file.
 
 ghost use Rattle.std.specs.Prelude.{◌≡◌, string_bytes};
-ghost use Rattle.pyc_report.specs.Message.{code_name, code_of, error_at, message_in};
+ghost use Rattle.pyc_report.specs.Message.{code_name, code_of, error_at, message_in, note_at};
 
 use pyc_ast::Position;
 
 /// The code of an error.
 #[derive(Clone, Copy, Debug, PartialEq, Eq)]
 pub enum Code {
+    ArgType,
     Assignment,
     AttrDefined,
+    CallArg,
+    DictItem,
     ImportNotFound,
+    Index,
+    ListItem,
     Misc,
     NameDefined,
     NoRedef,
+    Operator,
     Syntax,
+    UnionAttr,
     ValidType,
 }
 
@@ -46,6 +53,18 @@ impl Message {
             text,
         }
     }
+
+    /// A note at a position. Takes no memory.
+    pub fn note_at(at: Position, text: String) -> Message
+        ensures { message_in result ≡ note_at at (string_bytes text) }
+    {
+        Message {
+            line: at.line as usize,
+            column: at.column as usize,
+            kind: MessageKind::Note,
+            text,
+        }
+    }
 }
 
 impl Code {
@@ -54,13 +73,20 @@ impl Code {
         ensures { result.now ≡ code_name self }
     {
         match self {
+            Code::ArgType => "arg-type",
             Code::Assignment => "assignment",
             Code::AttrDefined => "attr-defined",
+            Code::CallArg => "call-arg",
+            Code::DictItem => "dict-item",
             Code::ImportNotFound => "import-not-found",
+            Code::Index => "index",
+            Code::ListItem => "list-item",
             Code::Misc => "misc",
             Code::NameDefined => "name-defined",
             Code::NoRedef => "no-redef",
+            Code::Operator => "operator",
             Code::Syntax => "syntax",
+            Code::UnionAttr => "union-attr",
             Code::ValidType => "valid-type",
         }
     }

@@ -14,4 +14,4 @@ pub use instances::instance_of;
 pub use narrowing::{narrow_away, narrow_to, without_none};
 pub use text::show;
 pub use types::{DictTypes, Param, ParamKind, Params, Signature, Ty};
-pub use unions::union_of;
+pub use unions::{items_of, union_of};

@@ -27,7 +27,7 @@ pub fn union_of(alloc: Global, types: &[Ty]) -> Result<Ty, AllocError>
 }
 
 /// The items of a type: those of the items of a union, else the type itself.
-pub(crate) fn items_of(alloc: Global, ty: &Ty) -> Result<Vec<Ty>, AllocError>
+pub fn items_of(alloc: Global, ty: &Ty) -> Result<Vec<Ty>, AllocError>
     ensures { IfOk result (λ items. map ty_of items.items ≡ spec.items_of (ty_of ty.now)) }
 {
     let mut items = Vec::new(alloc);

@@ -13,6 +13,6 @@ pub use pyc_builtins::{
 };
 pub use pyc_class::{BuiltinClass, ClassId, InstanceForm, Lin, Lins, UnknownOrder};
 pub use pyc_type_forms::{
-    DictTypes, Param, ParamKind, Params, Signature, Ty, instance_of, narrow_away, narrow_to,
-    same_type, show, union_of, without_none,
+    DictTypes, Param, ParamKind, Params, Signature, Ty, instance_of, items_of, narrow_away,
+    narrow_to, same_type, show, union_of, without_none,
 };

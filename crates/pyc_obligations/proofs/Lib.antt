@@ -1,0 +1,5 @@
+pub mod Steps
+pub mod Asked
+pub mod Known
+pub mod QuietLemmas
+pub mod LawLemmas

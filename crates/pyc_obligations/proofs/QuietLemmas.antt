@@ -1,0 +1,54 @@
+-- Readings of which nothing is told, performed.
+use Rattle.std.proofs.Common.{◌≡◌, ℕ, Bool, true, false, ◌||◌, not, List, [], ◌∷◌, ◌++◌, length, nat_lt, refl, sym, ap, ◌∙◌, append-nil, length-append, arith}
+use Rattle.std.proofs.lemmas.Bool.{le-ltb, lt-ltb}
+use Rattle.std.proofs.Math.Nat.{le_refl}
+use Rattle.std.proofs.Math.Seq.{take-append_seam}
+use Rattle.pyc_obligations.specs.Asking.{first_messages}
+use Rattle.pyc_obligations.specs.Quiet.{Heard, quiet, quiet_after}
+use Rattle.pyc_reading.proofs.RunLemmas.{runs_are_folds}
+use Rattle.pyc_reading.specs.Desks.{Step, Desk, run, noted, with_keys, desk_after}
+use Rattle.pyc_reading.specs.Readings.{Done, Ask, Tell, result_of, told, asked}
+use Rattle.pyc_report.specs.Message.{Message}
+
+-- whether some messages are there
+abbrev pub are_there : List Message → Bool
+are_there [] = false
+are_there (m ∷ ms) = true
+
+-- the desk after a reading of which nothing is told
+abbrev pub quiet_desk : {A : Type 0} → Step A → Desk → Desk
+quiet_desk r d = record { answers = d.answers; keys = with_keys d.keys (asked d.answers r); messages = d.messages }
+
+or_there : (b : Bool) → b || true ≡ true
+or_there true = refl
+or_there false = refl
+
+or_nothing : (b : Bool) → b || false ≡ b
+or_nothing true = refl
+or_nothing false = refl
+
+-- what it comes to
+pub run_quiet_after : {A : Type 0} (b : Bool) (r : Step A) (d : Desk)
+    → run (quiet_after b r) d ≡ (record { result = result_of d.answers r; is_told = b || are_there (told d.answers r) }, quiet_desk r d)
+unfolding quiet_after
+run_quiet_after b (Done a) d = ap (λ told. (record { result = a; is_told = told }, d)) (sym (or_nothing b))
+run_quiet_after b (Ask key go) d = run_quiet_after b (go (d.answers key)) (noted d key)
+run_quiet_after b (Tell message rest) d =
+    run_quiet_after true rest d
+    ∙ ap (λ told. (record { result = result_of d.answers rest; is_told = told }, quiet_desk rest d)) (sym (or_there b))
+
+-- a row is longer with some messages behind it
+longer : (xs ys : List Message) → nat_lt (length xs) (length (xs ++ ys)) ≡ are_there ys
+longer xs [] = ap (λ l. nat_lt (length xs) (length l)) (append-nil xs) ∙ le-ltb (length xs) (length xs) (le_refl (length xs))
+longer xs (y ∷ ys) = lt-ltb (length xs) (length (xs ++ (y ∷ ys))) (rw (length-append xs (y ∷ ys)) (omega arith))
+
+-- who performs a reading and takes back what was told performs the quiet one
+pub quiet_done : {A : Type 0} (r : Step A) (d e : Desk) (a : A) → run r d ≡ (a, e)
+    → run (quiet r) d ≡ (record { result = a; is_told = nat_lt (length d.messages) (length e.messages) }, first_messages (length d.messages) e)
+unfolding quiet
+quiet_done r d e a done =
+    let folds : (result_of d.answers r, desk_after r d) ≡ (a, e) = sym (runs_are_folds r d) ∙ done in
+    run_quiet_after false r d
+    ∙ ap (λ told. (record { result = result_of d.answers r; is_told = told }, quiet_desk r d)) (sym (longer d.messages (told d.answers r)))
+    ∙ ap (λ messages. (record { result = result_of d.answers r; is_told = nat_lt (length d.messages) (length (d.messages ++ told d.answers r)) }, record { answers = d.answers; keys = with_keys d.keys (asked d.answers r); messages = messages })) (sym (take-append_seam d.messages (told d.answers r)))
+    ∙ ap (λ (found : _ × Desk). (record { result = found.0; is_told = nat_lt (length d.messages) (length found.1.messages) }, first_messages (length d.messages) found.1)) folds

@@ -1,0 +1,96 @@
+//! What readings of expressions ask.
+
+ghost use Rattle.std.specs.Prelude.{◌≡◌, option_map};
+ghost use Rattle.pyc_class.specs.Order.{is_unknown};
+ghost use Rattle.pyc_names.specs.FollowingView.{qualified_of};
+ghost use Rattle.pyc_obligations.specs.Asking as spec;
+ghost use Rattle.pyc_reading.specs.AnswerView.{answer_in, member_answer_of, name_answer_of};
+ghost use Rattle.pyc_reading.specs.Desks.{Performs};
+
+use crate::judging::Judge;
+use pyc_ast::Text;
+use pyc_class::ClassId;
+use pyc_names::QualifiedName;
+use pyc_reading::{Answer, Key, MemberAnswer, MemberName, NameAnswer, NameKind, Notes};
+use pyc_type_forms::Ty;
+use std::alloc::{AllocError, Global};
+
+/// Whether the order of a class is not known, which is asked. The only error is that memory runs out.
+pub fn is_unknown_class<N: Judge>(
+    alloc: Global,
+    notes: &mut N,
+    class: &ClassId,
+) -> Result<bool, AllocError>
+    ensures { Performs (λ b. b) (spec.is_unknown_class class.now) (N.desk notes.old) result (N.desk notes.new) }
+{
+    if class.as_builtin().is_some() {
+        return Ok(false);
+    }
+    let key = Key::Class(class.clone()?);
+    let answer = notes.ask(alloc, key)?;
+    Ok(is_unknown_in(&answer))
+}
+
+/// Whether the order that an answer tells is not known.
+fn is_unknown_in(answer: &Answer) -> bool
+    ensures { result ≡ is_unknown (spec.order_in (answer_in answer.now)) }
+{
+    match answer {
+        Answer::Order(order) => order.unknown.is_some(),
+        _ => true,
+    }
+}
+
+/// What a class has under a name, which is asked. The only error is that memory runs out.
+pub fn asked_member<N: Notes>(
+    alloc: Global,
+    notes: &mut N,
+    class: &ClassId,
+    name: &str,
+) -> Result<Option<MemberAnswer>, AllocError>
+    ensures { Performs (option_map member_answer_of) (spec.asked_member class.now name.now) (N.desk notes.old) result
+        (N.desk notes.new) }
+{
+    let key = Key::Member(MemberName {
+        class: class.clone()?,
+        name: Text::new(alloc, name)?,
+    });
+    let answer = notes.ask(alloc, key)?;
+    Ok(member_in(answer))
+}
+
+/// The member that an answer tells.
+fn member_in(answer: Answer) -> Option<MemberAnswer>
+    ensures { option_map member_answer_of result ≡ spec.member_in (answer_in answer) }
+{
+    match answer {
+        Answer::Member(found) => found,
+        _ => None,
+    }
+}
+
+/// What a name of a module stands for, which is asked. The only error is that memory runs out.
+pub fn asked_name<N: Notes>(
+    alloc: Global,
+    notes: &mut N,
+    name: QualifiedName,
+) -> Result<NameAnswer, AllocError>
+    ensures { Performs name_answer_of (spec.asked_name (qualified_of name)) (N.desk notes.old) result
+        (N.desk notes.new) }
+{
+    let answer = notes.ask(alloc, Key::Name(name))?;
+    Ok(name_in(answer))
+}
+
+/// What a name stands for, as an answer tells it.
+fn name_in(answer: Answer) -> NameAnswer
+    ensures { name_answer_of result ≡ spec.name_in (answer_in answer) }
+{
+    match answer {
+        Answer::Name(found) => found,
+        _ => NameAnswer {
+            kind: NameKind::Unknown,
+            ty: Ty::Any,
+        },
+    }
+}

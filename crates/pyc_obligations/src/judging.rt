@@ -1,0 +1,177 @@
+//! Whether one type is assignable to another, by what was asked.
+
+ghost use Rattle.std.specs.Prelude.{◌≡◌, ◌++◌, length};
+ghost use Rattle.pyc_class.specs.Order.{order_of};
+ghost use Rattle.pyc_obligations.specs.Asking.{orders_at, first_messages};
+ghost use Rattle.pyc_obligations.specs.Judging as spec;
+ghost use Rattle.pyc_obligations.specs.Judging.{class_asked, classes_asked};
+ghost use Rattle.pyc_reading.specs.Desks.{Performs};
+ghost use Rattle.pyc_type_forms.specs.TypeView.{ty_of, row, params_of, param_row};
+
+use pyc_class::{ClassId, Lin, Lins};
+use pyc_reading::{Key, Notes};
+use pyc_type_forms::{DictTypes, Param, Params, Signature, Ty};
+use pyc_types::assignable;
+use std::alloc::{AllocError, Global};
+
+/// Who performs readings of expressions: it knows the orders of the classes that were asked, and can take back what was
+/// told last.
+pub trait Judge: Notes {
+    /// The order of a class. It takes no memory, and takes nothing down.
+    fn lin(&self, class: &ClassId) -> Lin<'_>
+        ensures { order_of result ≡ orders_at (Self.desk self.now) class.now };
+
+    /// How many messages were told. It takes no memory.
+    fn told_count(&self) -> usize
+        ensures { result ≡ length (Self.desk self.now).messages };
+
+    /// Takes back the messages after so many. It takes no memory.
+    fn forget_after(&mut self, count: usize)
+        ensures { Self.desk self.new ≡ first_messages count (Self.desk self.old) };
+}
+
+/// The orders of classes, as who performs readings knows them.
+#[derive(Clone, Copy, Drop)]
+pub struct KnownOrders<'a, N> {
+    notes: &'a N,
+}
+
+impl<N: Judge> Lins for KnownOrders<'_, N> {
+    ghost orders = { λ known. orders_at (N.desk known.notes.now) };
+
+    fn lin(&self, class: &ClassId) -> Lin<'_> {
+        self.notes.lin(class)
+    }
+}
+
+/// The orders of classes, as who performs readings knows them. It takes no memory.
+pub fn known_orders<N: Judge>(notes: &N) -> KnownOrders<'_, N>
+    ensures { result.notes.now ≡ notes.now }
+{
+    KnownOrders { notes }
+}
+
+/// Asks the order of a class. The only error is that memory runs out.
+pub fn ask_class<N: Judge>(alloc: Global, notes: &mut N, class: &ClassId) -> Result<(), AllocError>
+    ensures { Performs (λ u. u) (class_asked class.now) (N.desk notes.old) result (N.desk notes.new) }
+{
+    if class.as_builtin().is_some() {
+        return Ok(());
+    }
+    let key = Key::Class(class.clone()?);
+    notes.ask(alloc, key)?;
+    Ok(())
+}
+
+/// Whether a type is assignable to another, by the orders of the classes that are written in both, each of which is
+/// asked. The only error is that memory runs out.
+pub fn judged<N: Judge>(
+    alloc: Global,
+    notes: &mut N,
+    got: &Ty,
+    want: &Ty,
+) -> Result<bool, AllocError>
+    ensures { Performs (λ holds. holds) (spec.judged (ty_of got.now) (ty_of want.now)) (N.desk notes.old) result
+        (N.desk notes.new) }
+{
+    ask_written(alloc, notes, got)?;
+    ask_written(alloc, notes, want)?;
+    let holds = assignable(&known_orders(notes), got, want);
+    Ok(holds)
+}
+
+/// Asks the orders of the classes that are written in a type.
+#[cycle(written)]
+#[tactic(auto, using(crate::proofs::Steps::performing))]
+fn ask_written<N: Judge>(alloc: Global, notes: &mut N, ty: &Ty) -> Result<(), AllocError>
+    ensures { Performs (λ u. u) (classes_asked (spec.written (ty_of ty.now))) (N.desk notes.old) result
+        (N.desk notes.new) }
+{
+    match ty {
+        Ty::Any | Ty::None | Ty::Module => Ok(()),
+        Ty::Instance(class) => ask_class(alloc, notes, class),
+        Ty::Class(class) => ask_class(alloc, notes, class),
+        Ty::List(item) | Ty::TupleOf(item) => ask_written(alloc, notes, item),
+        Ty::Dict(types) => ask_dict_written(alloc, notes, types),
+        Ty::Tuple(items) | Ty::Union(items) => ask_row_written(alloc, notes, items),
+        Ty::Callable(signature) => ask_signature_written(alloc, notes, signature),
+    }
+}
+
+/// The same of the types of a dictionary.
+#[cycle(written)]
+#[tactic(auto, using(crate::proofs::Steps::performing))]
+fn ask_dict_written<N: Judge>(
+    alloc: Global,
+    notes: &mut N,
+    types: &DictTypes,
+) -> Result<(), AllocError>
+    ensures { Performs (λ u. u) (classes_asked (spec.written (ty_of types.now.key) ++ spec.written (ty_of types.now.value)))
+        (N.desk notes.old) result (N.desk notes.new) }
+{
+    ask_written(alloc, notes, &types.key)?;
+    ask_written(alloc, notes, &types.value)
+}
+
+/// The same of the types of a signature.
+#[cycle(written)]
+#[tactic(auto, using(crate::proofs::Steps::performing))]
+fn ask_signature_written<N: Judge>(
+    alloc: Global,
+    notes: &mut N,
+    signature: &Signature,
+) -> Result<(), AllocError>
+    ensures { Performs (λ u. u)
+        (classes_asked (spec.params_written (params_of signature.now.params) ++ spec.written (ty_of signature.now.result)))
+        (N.desk notes.old) result (N.desk notes.new) }
+{
+    ask_params_written(alloc, notes, &signature.params)?;
+    ask_written(alloc, notes, &signature.result)
+}
+
+/// The same of the types of a row.
+#[cycle(written)]
+#[tactic(auto, using(crate::proofs::Steps::performing))]
+fn ask_row_written<N: Judge>(alloc: Global, notes: &mut N, types: &[Ty]) -> Result<(), AllocError>
+    ensures { Performs (λ u. u) (classes_asked (spec.row_written (row types.now))) (N.desk notes.old) result
+        (N.desk notes.new) }
+{
+    for ty in types {
+        ask_written(alloc, notes, ty)?;
+    }
+    Ok(())
+}
+
+/// The same of the types of what a call takes.
+#[cycle(written)]
+#[tactic(auto, using(crate::proofs::Steps::performing))]
+fn ask_params_written<N: Judge>(
+    alloc: Global,
+    notes: &mut N,
+    params: &Params,
+) -> Result<(), AllocError>
+    ensures { Performs (λ u. u) (classes_asked (spec.params_written (params_of params.now))) (N.desk notes.old) result
+        (N.desk notes.new) }
+{
+    match params {
+        Params::Dots => Ok(()),
+        Params::Listed(listed) => ask_listed_written(alloc, notes, listed),
+    }
+}
+
+/// The same of the types of a row of parameters.
+#[cycle(written)]
+#[tactic(auto, using(crate::proofs::Steps::performing))]
+fn ask_listed_written<N: Judge>(
+    alloc: Global,
+    notes: &mut N,
+    params: &[Param],
+) -> Result<(), AllocError>
+    ensures { Performs (λ u. u) (classes_asked (spec.listed_written (param_row params.now))) (N.desk notes.old) result
+        (N.desk notes.new) }
+{
+    for param in params {
+        ask_written(alloc, notes, &param.ty)?;
+    }
+    Ok(())
+}
