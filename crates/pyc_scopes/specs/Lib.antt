@@ -1,0 +1,4 @@
+pub mod Literals
+pub mod Scopes
+pub mod ScopeView
+pub mod NamedValues

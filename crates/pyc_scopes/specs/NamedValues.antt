@@ -1,0 +1,123 @@
+-- What a name in an expression is (Python reference 3.13, "Resolution of names"; the library reference, "Built-in
+-- Functions").
+use Rattle.std.specs.Prelude.{ℕ, Bool, bytes_eq, codes, if◌then◌else◌, is_some, List, ◌++◌, Option, None, Some}
+use Rattle.pyc_ast.specs.declared.position.Position.{Position}
+use Rattle.pyc_bindings.specs.Redefinitions.{declaration}
+use Rattle.pyc_builtins.specs.declared.names.BuiltinName.{BuiltinName}
+use Rattle.pyc_builtins.specs.declared.names.BuiltinName.TheVariants as builtins
+use Rattle.pyc_builtins.specs.declared.names.FunctionResult.{FunctionResult}
+use Rattle.pyc_builtins.specs.declared.names.FunctionResult.TheVariants as gives
+use Rattle.pyc_builtins.specs.Members.{is_dunder}
+use Rattle.pyc_builtins.specs.Names.{builtin_name}
+use Rattle.pyc_class.specs.declared.builtin_class.BuiltinClass.TheVariants as class
+use Rattle.pyc_class.specs.Class.{builtin}
+use Rattle.pyc_names.specs.declared.fixed.FixedModule.{FixedModule}
+use Rattle.pyc_names.specs.declared.fixed.FixedName.{FixedName}
+use Rattle.pyc_names.specs.FixedModules.{fixed_module, fixed_name}
+use Rattle.pyc_names.specs.SourceFiles.{SourceFile}
+use Rattle.pyc_obligations.specs.Asking.{asked_name}
+use Rattle.pyc_obligations.specs.Values.{Thing, Value, plain_thing, module_thing, fixed_thing, reveal_type_thing}
+use Rattle.pyc_obligations.specs.Values.{isinstance_thing, plain_value}
+use Rattle.pyc_reading.specs.Answers.{NameAnswer, NameKind}
+use Rattle.pyc_reading.specs.Answers as kind
+use Rattle.pyc_reading.specs.Desks.{Step}
+use Rattle.pyc_reading.specs.Readings.{Done, Tell, and_then}
+use Rattle.pyc_report.specs.declared.message.Code.TheVariants.{NameDefined}
+use Rattle.pyc_report.specs.Message.{error_at}
+use Rattle.pyc_scopes.specs.Scopes.{Local, Scope, local_of}
+use Rattle.pyc_type_forms.specs.Types.{Ty, any, none, instance, class_object, list, callable, dots}
+
+-- a value of this type that is this thing
+abbrev pub value_with : Ty → Thing → Value
+value_with ty thing = record { ty = ty; thing = thing }
+
+-- ---- what an answer tells
+
+-- which thing a name of this kind is
+abbrev pub thing_of_kind : NameKind → Thing
+thing_of_kind (kind.module_name m) = module_thing m
+thing_of_kind (kind.fixed found) = fixed_thing found
+thing_of_kind _ = plain_thing
+
+abbrev pub answered_value : NameAnswer → Value
+answered_value found = value_with found.ty (thing_of_kind found.kind)
+
+-- a name of a fixed module: Any, but that it may be a special one
+abbrev pub fixed_value : Option FixedName → Value
+fixed_value (Some found) = value_with any (fixed_thing found)
+fixed_value None = plain_value any
+
+-- ---- builtins
+
+-- what a call of a builtin function gives
+abbrev pub result_type : FunctionResult → Ty
+result_type gives.Int = instance (builtin class.Int)
+result_type gives.Str = instance (builtin class.Str)
+result_type gives.Bool = instance (builtin class.Bool)
+result_type gives.None = none
+result_type gives.ListOfAny = list any
+
+-- which thing a builtin function of this name is
+abbrev pub function_thing : List ℕ → Thing
+function_thing x = if bytes_eq x (codes "isinstance") then isinstance_thing else plain_thing
+
+-- a builtin of this name: a function takes any arguments
+abbrev pub builtin_value : List ℕ → BuiltinName → Value
+builtin_value x (builtins.Class c) = plain_value (class_object (builtin c))
+builtin_value x (builtins.Function result) = value_with (callable dots (result_type result)) (function_thing x)
+builtin_value x builtins.RevealType = value_with any reveal_type_thing
+builtin_value x builtins.Any = plain_value any
+
+unfoldable pub not_defined_text : List ℕ → List ℕ
+not_defined_text x = codes "Name \"" ++ (x ++ codes "\" is not defined")
+
+-- a name that nothing defines
+unfoldable pub not_defined : Position → List ℕ → Step Value
+not_defined at x = Tell (error_at at NameDefined (not_defined_text x)) (Done (plain_value any))
+
+-- a name that is no builtin: Any where two underscores stand at both ends
+abbrev pub no_builtin : Position → List ℕ → Step Value
+no_builtin at x = if is_dunder x then Done (plain_value any) else not_defined at x
+
+-- a name that the module does not bind
+abbrev pub found_builtin : Position → List ℕ → Option BuiltinName → Step Value
+found_builtin at x (Some found) = Done (builtin_value x found)
+found_builtin at x None = no_builtin at x
+
+unfoldable pub unbound : Position → List ℕ → Step Value
+unbound at x = found_builtin at x (builtin_name x)
+
+-- ---- names of the module
+
+-- whether a file binds a name at its top level
+abbrev pub binds : SourceFile → List ℕ → Bool
+binds file x = is_some (declaration file.bindings x)
+
+-- a name of the module, by whether that binds it: where it does not, what is found under it says nothing
+abbrev pub own_value : Position → List ℕ → Bool → Value → Step Value
+own_value at x is_bound found = if is_bound then Done found else unbound at x
+
+-- a name of the module in which it stands, of a fixed one or by its key
+abbrev pub name_in_module : SourceFile → Position → List ℕ → Option FixedModule → Step Value
+name_in_module file at x (Some found) = own_value at x (binds file x) (fixed_value (fixed_name found x))
+name_in_module file at x None =
+    and_then (asked_name (record { home = file.name; name = x }))
+    (λ found. own_value at x (binds file x) (answered_value found))
+
+unfoldable pub module_name : SourceFile → Position → List ℕ → Step Value
+module_name file at x = name_in_module file at x (fixed_module file.name)
+
+-- ---- the whole
+
+-- the type of a local: Any before it is declared
+abbrev pub local_type : Option Ty → Ty
+local_type (Some ty) = ty
+local_type None = any
+
+abbrev pub by_local : Scope → Position → List ℕ → Option Local → Step Value
+by_local scope at x (Some found) = Done (plain_value (local_type found.ty))
+by_local scope at x None = module_name scope.file at x
+
+-- what a name in an expression is
+unfoldable pub named : Scope → Position → List ℕ → Step Value
+named scope at x = by_local scope at x (local_of scope.locals x)

@@ -1,0 +1,11 @@
+//! What names and literals in expressions are.
+#![tactic(auto)]
+
+mod builtin_values;
+mod literals;
+mod names;
+mod scope;
+
+pub use literals::constant_type;
+pub use names::named;
+pub use scope::{Local, Scope};

@@ -1,0 +1,215 @@
+//! What names in expressions are.
+
+ghost use Rattle.std.specs.Prelude.{◌≡◌, IfOk, None, string_bytes};
+ghost use Rattle.pyc_names.specs.SourceFileView.{source_in};
+ghost use Rattle.pyc_obligations.specs.ValueView.{thing_of, value_of};
+ghost use Rattle.pyc_reading.specs.AnswerView.{kind_of, name_answer_of};
+ghost use Rattle.pyc_reading.specs.Desks.{Performs};
+ghost use Rattle.pyc_scopes.specs.NamedValues as spec;
+ghost use Rattle.pyc_scopes.specs.ScopeView.{local_in, scope_in};
+ghost use Rattle.pyc_type_forms.specs.TypeView.{ty_of};
+
+use crate::builtin_values::builtin_value;
+use crate::scope::{Local, Scope, local_named};
+use pyc_ast::{Position, Text};
+use pyc_bindings::declaration;
+use pyc_builtins::{builtin_name, is_dunder};
+use pyc_names::{FixedName, QualifiedName, SourceFile, fixed_module, fixed_name};
+use pyc_obligations::{Judge, Thing, Value, asked_name, tell_error};
+use pyc_reading::{NameAnswer, NameKind};
+use pyc_report::Code;
+use pyc_type_forms::Ty;
+use std::alloc::{AllocError, Global};
+
+/// What a name in an expression is: a name that nothing defines is told, and is Any. The only error is that memory runs
+/// out.
+#[tactic(auto, unfolding(crate::specs::NamedValues::named))]
+pub fn named<N: Judge>(
+    alloc: Global,
+    notes: &mut N,
+    scope: Scope<'_>,
+    at: Position,
+    name: &Text,
+) -> Result<Value, AllocError>
+    ensures { Performs value_of (spec.named (scope_in scope.entry) at name.now) (N.desk notes.old) result
+        (N.desk notes.new) }
+{
+    match local_named(scope.locals, name) {
+        Some(local) => Ok(Value::plain(local_type(local)?)),
+        None => module_name(alloc, notes, scope.file, at, name),
+    }
+}
+
+/// The type of a local: Any before it is declared.
+fn local_type(local: &Local) -> Result<Ty, AllocError>
+    ensures { IfOk result (λ ty. ty_of ty ≡ spec.local_type (local_in local.now).ty) }
+{
+    match &local.ty {
+        Some(ty) => Ok(ty.clone()?),
+        None => Ok(Ty::Any),
+    }
+}
+
+/// A name of the module in which it stands.
+#[tactic(auto, unfolding(crate::specs::NamedValues::module_name))]
+fn module_name<N: Judge>(
+    alloc: Global,
+    notes: &mut N,
+    file: &SourceFile,
+    at: Position,
+    name: &Text,
+) -> Result<Value, AllocError>
+    ensures { Performs value_of (spec.module_name (source_in file.now) at name.now) (N.desk notes.old) result
+        (N.desk notes.new) }
+{
+    match fixed_module(file.name().parts()) {
+        Some(found) => {
+            let value = fixed_value(fixed_name(found, name.as_str()));
+            own_value(alloc, notes, at, name, binds(file, name), value)
+        }
+        None => asked_value(alloc, notes, file, at, name),
+    }
+}
+
+/// A name of a module that is no fixed one.
+#[tactic(auto, using(crate::proofs::Steps::performing))]
+fn asked_value<N: Judge>(
+    alloc: Global,
+    notes: &mut N,
+    file: &SourceFile,
+    at: Position,
+    name: &Text,
+) -> Result<Value, AllocError>
+    ensures { Performs value_of (spec.name_in_module (source_in file.now) at name.now None) (N.desk notes.old) result
+        (N.desk notes.new) }
+{
+    let asked = QualifiedName {
+        home: file.name().clone()?,
+        name: name.clone()?,
+    };
+    let found = asked_name(alloc, notes, asked)?;
+    let value = own_value(
+        alloc,
+        notes,
+        at,
+        name,
+        binds(file, name),
+        answered_value(found),
+    )?;
+    Ok(value)
+}
+
+/// A name of the module, by whether that binds it.
+fn own_value<N: Judge>(
+    alloc: Global,
+    notes: &mut N,
+    at: Position,
+    name: &Text,
+    is_bound: bool,
+    found: Value,
+) -> Result<Value, AllocError>
+    ensures { Performs value_of (spec.own_value at name.now is_bound (value_of found)) (N.desk notes.old) result
+        (N.desk notes.new) }
+{
+    if is_bound {
+        Ok(found)
+    } else {
+        unbound(alloc, notes, at, name)
+    }
+}
+
+/// Whether a file binds a name at its top level.
+fn binds(file: &SourceFile, name: &Text) -> bool
+    ensures { result ≡ spec.binds (source_in file.now) name.now }
+{
+    declaration(file.bindings(), name).is_some()
+}
+
+/// A name that the module does not bind.
+#[tactic(auto, unfolding(crate::specs::NamedValues::unbound))]
+fn unbound<N: Judge>(
+    alloc: Global,
+    notes: &mut N,
+    at: Position,
+    name: &Text,
+) -> Result<Value, AllocError>
+    ensures { Performs value_of (spec.unbound at name.now) (N.desk notes.old) result (N.desk notes.new) }
+{
+    match builtin_name(name.as_str()) {
+        Some(found) => Ok(builtin_value(alloc, name.as_str(), found)?),
+        None => no_builtin(alloc, notes, at, name),
+    }
+}
+
+/// A name that is no builtin.
+fn no_builtin<N: Judge>(
+    alloc: Global,
+    notes: &mut N,
+    at: Position,
+    name: &Text,
+) -> Result<Value, AllocError>
+    ensures { Performs value_of (spec.no_builtin at name.now) (N.desk notes.old) result (N.desk notes.new) }
+{
+    if is_dunder(name.as_str()) {
+        Ok(Value::plain(Ty::Any))
+    } else {
+        not_defined(alloc, notes, at, name)
+    }
+}
+
+/// Tells that nothing defines a name.
+#[tactic(auto, using(crate::proofs::Steps::performing), unfolding(crate::specs::NamedValues::not_defined))]
+fn not_defined<N: Judge>(
+    alloc: Global,
+    notes: &mut N,
+    at: Position,
+    name: &Text,
+) -> Result<Value, AllocError>
+    ensures { Performs value_of (spec.not_defined at name.now) (N.desk notes.old) result (N.desk notes.new) }
+{
+    let text = not_defined_text(alloc, name.as_str())?;
+    tell_error(notes, at, Code::NameDefined, text)?;
+    Ok(Value::plain(Ty::Any))
+}
+
+/// The text on a name that nothing defines.
+#[tactic(auto, unfolding(crate::specs::NamedValues::not_defined_text))]
+fn not_defined_text(alloc: Global, name: &str) -> Result<String, AllocError>
+    ensures { IfOk result (λ text. string_bytes text ≡ spec.not_defined_text name.now) }
+{
+    format!(in alloc; "Name \"{name}\" is not defined")
+}
+
+/// A name of a fixed module.
+fn fixed_value(found: Option<FixedName>) -> Value
+    ensures { value_of result ≡ spec.fixed_value found }
+{
+    match found {
+        Some(name) => Value {
+            ty: Ty::Any,
+            thing: Thing::Fixed(name),
+        },
+        None => Value::plain(Ty::Any),
+    }
+}
+
+/// What an answer gives.
+fn answered_value(found: NameAnswer) -> Value
+    ensures { value_of result ≡ spec.answered_value (name_answer_of found) }
+{
+    Value {
+        ty: found.ty,
+        thing: thing_of_kind(found.kind),
+    }
+}
+
+/// Which thing a name of this kind is.
+fn thing_of_kind(kind: NameKind) -> Thing
+    ensures { thing_of result ≡ spec.thing_of_kind (kind_of kind) }
+{
+    match kind {
+        NameKind::Module(home) => Thing::Module(home),
+        NameKind::Fixed(name) => Thing::Fixed(name),
+        _ => Thing::Plain,
+    }
+}
