@@ -1,0 +1,14 @@
+use Rattle.std.proofs.Common.{◌∙◌, map}
+use Rattle.pyc_operators.proofs.Turns.{left_turn}
+use Rattle.pyc_operators.specs.ResultsView.{results_of}
+use Rattle.pyc_reading.proofs.RunLemmas.{grown_trans}
+use Rattle.pyc_type_forms.specs.TypeView.{ty_of}
+use Rattle.pyc_operators.proofs.results.pairs_of.Goals as goal
+
+pub loop-left-preserved : goal.loop-left-preserved
+loop-left-preserved g c = record {
+  same =
+      left_turn (g.C.CallsMethods.caller c.args.caller.now) c.args.operation (results_of c.loop-left.results) _ (map ty_of c.args.rights.now) c.args.lefts.now c.loop-left.left-index _ _ _ c.loop-left-test.true c.left-item.is c.in_ok-results.ensures.done
+      ∙ c.loop-left.invariant.same;
+  grown = grown_trans c.loop-left.invariant.grown c.pairs_of_left.ensures.grown;
+}

@@ -1,0 +1,13 @@
+use Rattle.std.proofs.Common.{◌∙◌}
+use Rattle.pyc_operators.proofs.Turns.{item_turn}
+use Rattle.pyc_operators.specs.ResultsView.{results_of}
+use Rattle.pyc_reading.proofs.RunLemmas.{grown_trans}
+use Rattle.pyc_operators.proofs.unary_operator.each_item.Goals as goal
+
+pub loop-operand-preserved : goal.loop-operand-preserved
+loop-operand-preserved g c = record {
+  same =
+      item_turn (g.C.CallsMethods.caller c.args.caller.now) c.args.operation (results_of c.loop-operand.results) _ c.args.operands.now c.loop-operand.operand-index _ _ _ _ c.loop-operand-test.true c.operand-item.is c.in_ok-found.ensures.done c.in_ok-results.ensures
+      ∙ c.loop-operand.invariant.same;
+  grown = grown_trans c.loop-operand.invariant.grown c.one_item.ensures.grown;
+}

@@ -1,0 +1,11 @@
+pub mod Operations
+pub mod Table
+pub mod Sorts
+pub mod Made
+pub mod Messages
+pub mod Methods
+pub mod Pairs
+pub mod Results
+pub mod ResultsView
+pub mod Binary
+pub mod Unary

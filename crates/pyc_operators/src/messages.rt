@@ -1,0 +1,87 @@
+//! What is told where there is no such operation.
+
+ghost use Rattle.std.specs.Prelude.{◌≡◌, IfOk, string_bytes};
+ghost use Rattle.pyc_operators.specs.Messages as spec;
+ghost use Rattle.pyc_reading.specs.Desks.{Performs};
+ghost use Rattle.pyc_type_forms.specs.TypeView.{ty_of};
+
+use crate::operation::{Operation, UnaryOperation, symbol, unary_symbol};
+use pyc_ast::Position;
+use pyc_obligations::{Judge, tell_error};
+use pyc_report::Code;
+use pyc_type_forms::{Ty, show};
+use std::alloc::{AllocError, Global};
+
+/// Tells an error of an operation, which is Any.
+fn wrong<N: Judge>(notes: &mut N, at: Position, text: String) -> Result<Ty, AllocError>
+    ensures { Performs ty_of (spec.wrong at (string_bytes text)) (N.desk notes.old) result (N.desk notes.new) }
+{
+    tell_error(notes, at, Code::Operator, text)?;
+    Ok(Ty::Any)
+}
+
+/// Tells that an operation does not take these operands. The only error is that memory runs out.
+#[tactic(auto, unfolding(crate::specs::Messages::wrong_operands))]
+pub(crate) fn wrong_operands<N: Judge>(
+    alloc: Global,
+    notes: &mut N,
+    at: Position,
+    operation: Operation,
+    left: &Ty,
+    right: &Ty,
+) -> Result<Ty, AllocError>
+    ensures { Performs ty_of (spec.wrong_operands at operation (ty_of left.now) (ty_of right.now)) (N.desk notes.old)
+        result (N.desk notes.new) }
+{
+    let text = operands_text(alloc, operation, left, right)?;
+    let told = wrong(notes, at, text)?;
+    Ok(told)
+}
+
+/// The text on operands that an operation does not take.
+#[tactic(auto, unfolding(crate::specs::Messages::operands_text))]
+fn operands_text(
+    alloc: Global,
+    operation: Operation,
+    left: &Ty,
+    right: &Ty,
+) -> Result<String, AllocError>
+    ensures { IfOk result (λ text. string_bytes text
+        ≡ spec.operands_text operation (ty_of left.now) (ty_of right.now)) }
+{
+    let symbol = symbol(operation);
+    let left = show(alloc, left)?;
+    let right = show(alloc, right)?;
+    format!(in alloc; "Unsupported operand types for {symbol} (\"{left}\" and \"{right}\")")
+}
+
+/// Tells that a unary operation does not take this operand. The only error is that memory runs out.
+#[tactic(auto, unfolding(crate::specs::Messages::wrong_operand))]
+pub(crate) fn wrong_operand<N: Judge>(
+    alloc: Global,
+    notes: &mut N,
+    at: Position,
+    operation: UnaryOperation,
+    operand: &Ty,
+) -> Result<Ty, AllocError>
+    ensures { Performs ty_of (spec.wrong_operand at operation (ty_of operand.now)) (N.desk notes.old) result
+        (N.desk notes.new) }
+{
+    let text = operand_text(alloc, operation, operand)?;
+    let told = wrong(notes, at, text)?;
+    Ok(told)
+}
+
+/// The text on an operand that a unary operation does not take.
+#[tactic(auto, unfolding(crate::specs::Messages::operand_text))]
+fn operand_text(
+    alloc: Global,
+    operation: UnaryOperation,
+    operand: &Ty,
+) -> Result<String, AllocError>
+    ensures { IfOk result (λ text. string_bytes text ≡ spec.operand_text operation (ty_of operand.now)) }
+{
+    let symbol = unary_symbol(operation);
+    let operand = show(alloc, operand)?;
+    format!(in alloc; "Unsupported operand type for unary {symbol} (\"{operand}\")")
+}

@@ -1,0 +1,91 @@
+//! What the pairs of two operands give.
+
+ghost use Rattle.std.specs.Prelude.{◌≡◌, IfOk, map, option_map};
+ghost use Rattle.pyc_operators.specs.Results as spec;
+ghost use Rattle.pyc_operators.specs.ResultsView.{results_of};
+ghost use Rattle.pyc_reading.specs.Desks.{Performs};
+ghost use Rattle.pyc_type_forms.specs.TypeView.{ty_of};
+
+use crate::methods::CallsMethods;
+use crate::operation::Operation;
+use crate::pairs::pair;
+use pyc_obligations::Judge;
+use pyc_type_forms::Ty;
+use std::alloc::{AllocError, Global};
+
+/// What the pairs give that were read so far: the types, and whether there is no such operation for one of them.
+#[derive(Debug, Drop)]
+pub(crate) struct Results {
+    pub(crate) types: Vec<Ty>,
+    pub(crate) is_failed: bool,
+}
+
+impl Results {
+    /// Of no pairs.
+    pub(crate) fn new(alloc: Global) -> Results
+        ensures { results_of result ≡ spec.no_results }
+    {
+        Results {
+            types: Vec::new(alloc),
+            is_failed: false,
+        }
+    }
+
+    /// With what one more pair gives. The only error is that memory runs out.
+    pub(crate) fn with(self, found: Option<Ty>) -> Result<Results, AllocError>
+        ensures { IfOk result (λ results. results_of results
+            ≡ spec.with_result (results_of self) (option_map ty_of found)) }
+    {
+        let mut results = self;
+        match found {
+            Some(ty) => results.types.push(ty)?,
+            None => results.is_failed = true,
+        }
+        Ok(results)
+    }
+}
+
+/// What an operation gives on each pair of these operands. The only error is that memory runs out.
+#[tactic(auto, using(crate::proofs::Steps::performing), unfolding(crate::specs::Results::pairs_of))]
+pub(crate) fn pairs_of<N: Judge, C: CallsMethods<N>>(
+    alloc: Global,
+    notes: &mut N,
+    caller: &C,
+    operation: Operation,
+    lefts: &[Ty],
+    rights: &[Ty],
+) -> Result<Results, AllocError>
+    ensures { Performs results_of
+        (spec.pairs_of (C.caller caller.now) operation spec.no_results (map ty_of lefts.now) (map ty_of rights.now))
+        (N.desk notes.old) result (N.desk notes.new) }
+{
+    let mut results = Results::new(alloc);
+    for left in lefts {
+        results = pairs_of_left(alloc, notes, caller, operation, results, left, rights)?;
+    }
+    Ok(results)
+}
+
+/// What an operation gives on each pair of an operand and one of these, after what was given before.
+#[tactic(auto, using(crate::proofs::Steps::performing), unfolding(crate::specs::Results::pairs_of_left))]
+fn pairs_of_left<N: Judge, C: CallsMethods<N>>(
+    alloc: Global,
+    notes: &mut N,
+    caller: &C,
+    operation: Operation,
+    before: Results,
+    left: &Ty,
+    rights: &[Ty],
+) -> Result<Results, AllocError>
+    ensures { Performs results_of
+        (spec.pairs_of_left (C.caller caller.now) operation (results_of before) (ty_of left.now)
+        (map ty_of rights.now))
+        (N.desk notes.old) result (N.desk notes.new) }
+{
+    let mut results = before;
+    for right in rights {
+        let found = pair(alloc, notes, caller, operation, left, right)?;
+        results = results.with(found)?;
+    }
+    Ok(results)
+}
