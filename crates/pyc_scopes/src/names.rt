@@ -180,8 +180,8 @@ fn not_defined_text(alloc: Global, name: &str) -> Result<String, AllocError>
     format!(in alloc; "Name \"{name}\" is not defined")
 }
 
-/// A name of a fixed module.
-fn fixed_value(found: Option<FixedName>) -> Value
+/// A name of a fixed module: Any, but that it may be a special one. It takes no memory.
+pub fn fixed_value(found: Option<FixedName>) -> Value
     ensures { value_of result ≡ spec.fixed_value found }
 {
     match found {
@@ -193,8 +193,8 @@ fn fixed_value(found: Option<FixedName>) -> Value
     }
 }
 
-/// What an answer gives.
-fn answered_value(found: NameAnswer) -> Value
+/// What an answer gives: the type of what a name stands for, and which thing it is. It takes no memory.
+pub fn answered_value(found: NameAnswer) -> Value
     ensures { value_of result ≡ spec.answered_value (name_answer_of found) }
 {
     Value {

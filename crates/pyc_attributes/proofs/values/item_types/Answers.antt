@@ -1,0 +1,21 @@
+use Rattle.std.proofs.Common.{◌≡◌, ◌∷◌, [], ◌++◌, map, sym, ◌∙◌, refl}
+use Rattle.std.proofs.lemmas.List.{map-append}
+use Rattle.pyc_attributes.specs.AttributeValues.{item_types, union_item}
+use Rattle.pyc_reading.proofs.RunLemmas.{one_turn, grown_trans}
+use Rattle.pyc_type_forms.specs.TypeView.{ty_of}
+use Rattle.pyc_attributes.proofs.values.item_types.Goals as goal
+
+pub loop-item-preserved : goal.loop-item-preserved
+unfolding item_types
+loop-item-preserved g c =
+    let at = c.args.at in
+    let whole = ty_of c.args.whole.now in
+    let name = c.args.name.now in
+    let before = map ty_of c.loop-item.found.items in
+    record {
+      same =
+          rw (c.in_ok-push.ensures.items, map-append)
+          (sym (one_turn (λ xs. item_types at whole name before (map ty_of xs)) (λ x. union_item at whole name (ty_of x)) (λ ty xs. item_types at whole name (before ++ (ty ∷ [])) (map ty_of xs)) (λ x xs. refl) c.args.items.now c.loop-item.item-index _ _ _ _ c.loop-item-test.true c.item-item.is c.in_ok-ty.ensures.done)
+          ∙ c.loop-item.invariant.same);
+      grown = grown_trans c.loop-item.invariant.grown c.union_item.ensures.grown;
+    }

@@ -1,0 +1,4 @@
+pub mod Binding
+pub mod FoundAttributes
+pub mod FoundView
+pub mod AttributeValues

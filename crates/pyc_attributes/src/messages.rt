@@ -1,0 +1,97 @@
+//! What is told of attributes that are not there.
+
+ghost use Rattle.std.specs.Prelude.{◌≡◌, IfOk, string_bytes};
+ghost use Rattle.pyc_attributes.specs.AttributeValues as spec;
+ghost use Rattle.pyc_obligations.specs.ValueView.{value_of};
+ghost use Rattle.pyc_reading.specs.Desks.{Performs};
+ghost use Rattle.pyc_type_forms.specs.TypeView.{ty_of};
+
+use pyc_ast::Position;
+use pyc_obligations::{Judge, Value, tell_error};
+use pyc_report::Code;
+use pyc_type_forms::{Ty, show};
+use std::alloc::{AllocError, Global};
+
+/// The text on a type that has no such attribute.
+#[tactic(auto, unfolding(crate::specs::AttributeValues::no_attribute_text))]
+fn no_attribute_text(alloc: Global, shown: &str, name: &str) -> Result<String, AllocError>
+    ensures { IfOk result (λ text. string_bytes text ≡ spec.no_attribute_text shown.now name.now) }
+{
+    format!(in alloc; "\"{shown}\" has no attribute \"{name}\"")
+}
+
+/// Tells that a type has no such attribute.
+#[tactic(auto, using(crate::proofs::Steps::performing), unfolding(crate::specs::AttributeValues::no_attribute))]
+pub(crate) fn no_attribute<N: Judge>(
+    alloc: Global,
+    notes: &mut N,
+    at: Position,
+    ty: &Ty,
+    name: &str,
+) -> Result<Ty, AllocError>
+    ensures { Performs ty_of (spec.no_attribute at (ty_of ty.now) name.now) (N.desk notes.old) result
+        (N.desk notes.new) }
+{
+    let shown = show(alloc, ty)?;
+    let text = no_attribute_text(alloc, shown.as_str(), name)?;
+    tell_error(notes, at, Code::AttrDefined, text)?;
+    Ok(Ty::Any)
+}
+
+/// The text on a module that has no such attribute.
+#[tactic(auto, unfolding(crate::specs::AttributeValues::no_module_attribute_text))]
+fn no_module_attribute_text(alloc: Global, name: &str) -> Result<String, AllocError>
+    ensures { IfOk result (λ text. string_bytes text ≡ spec.no_module_attribute_text name.now) }
+{
+    format!(in alloc; "Module has no attribute \"{name}\"")
+}
+
+/// Tells that a module has no such attribute.
+#[tactic(auto, using(crate::proofs::Steps::performing), unfolding(crate::specs::AttributeValues::no_module_attribute))]
+pub(crate) fn no_module_attribute<N: Judge>(
+    alloc: Global,
+    notes: &mut N,
+    at: Position,
+    name: &str,
+) -> Result<Value, AllocError>
+    ensures { Performs value_of (spec.no_module_attribute at name.now) (N.desk notes.old) result
+        (N.desk notes.new) }
+{
+    let text = no_module_attribute_text(alloc, name)?;
+    tell_error(notes, at, Code::AttrDefined, text)?;
+    Ok(Value::plain(Ty::Any))
+}
+
+/// The text on an item of a union that has no such attribute.
+#[tactic(auto, unfolding(crate::specs::AttributeValues::no_item_attribute_text))]
+fn no_item_attribute_text(
+    alloc: Global,
+    item: &str,
+    whole: &str,
+    name: &str,
+) -> Result<String, AllocError>
+    ensures { IfOk result (λ text. string_bytes text
+        ≡ spec.no_item_attribute_text item.now whole.now name.now) }
+{
+    format!(in alloc; "Item \"{item}\" of \"{whole}\" has no attribute \"{name}\"")
+}
+
+/// Tells that an item of a union has no such attribute.
+#[tactic(auto, using(crate::proofs::Steps::performing), unfolding(crate::specs::AttributeValues::no_item_attribute))]
+pub(crate) fn no_item_attribute<N: Judge>(
+    alloc: Global,
+    notes: &mut N,
+    at: Position,
+    whole: &Ty,
+    item: &Ty,
+    name: &str,
+) -> Result<Ty, AllocError>
+    ensures { Performs ty_of (spec.no_item_attribute at (ty_of whole.now) (ty_of item.now) name.now)
+        (N.desk notes.old) result (N.desk notes.new) }
+{
+    let item = show(alloc, item)?;
+    let whole = show(alloc, whole)?;
+    let text = no_item_attribute_text(alloc, item.as_str(), whole.as_str(), name)?;
+    tell_error(notes, at, Code::UnionAttr, text)?;
+    Ok(Ty::Any)
+}
