@@ -11,7 +11,7 @@ use Rattle.pyc_ast.specs.declared.expr.Expr.{Expr}
 use Rattle.pyc_ast.specs.Exprs.{expr, element, at_of}
 use Rattle.pyc_ast.specs.ExprView.{expr_of, form_of, element_of}
 use Rattle.pyc_displays.specs.Displays.{value_in}
-use Rattle.pyc_displays.specs.Expecting.{listed}
+use Rattle.pyc_displays.specs.Expecting.{types_in}
 use Rattle.pyc_type_forms.specs.declared.types.Params.TheFolds.{the_lemmas as type_lemmas}
 use Rattle.pyc_type_forms.specs.declared.types.Ty.{Ty as TyOf}
 use Rattle.pyc_type_forms.specs.declared.types.Ty.TheVariants as t
@@ -33,9 +33,9 @@ pub stands_in : (x : Element) → value_in (element_of x) ≡ expr_of x.value
 stands_in x = ap value_in (view_element x)
 
 -- the types of a row of a list are the list
-pub listed-tys_of : (tys : List Ty) → listed (tys_of tys) ≡ tys
-listed-tys_of [] = refl
-listed-tys_of (ty ∷ tys) = ap (λ rest. ty ∷ rest) (listed-tys_of tys)
+pub types_in-tys_of : (tys : List Ty) → types_in (tys_of tys) ≡ tys
+types_in-tys_of [] = refl
+types_in-tys_of (ty ∷ tys) = ap (λ rest. ty ∷ rest) (types_in-tys_of tys)
 
 -- a type that is lent out of some
 pub lent : (xs : List TyOf) (i : ℕ) (r : Option (Bor TyOf)) → IsItemAt xs i r → slice_get (map ty_of xs) i ≡ option_map (λ (ty : Bor TyOf). ty_of ty.now) r

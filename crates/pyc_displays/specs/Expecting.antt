@@ -67,9 +67,9 @@ expected_entry want = entry_of (expected kind.Dict want)
 -- ---- tuples
 
 -- the types of a row
-abbrev pub listed : Tys → List Ty
-listed nil = []
-listed (cons ty tys) = ty ∷ listed tys
+abbrev pub types_in : Tys → List Ty
+types_in nil = []
+types_in (cons ty tys) = ty ∷ types_in tys
 
 -- these types, if they are so many
 abbrev pub if_as_many : ℕ → List Ty → List Ty
@@ -77,7 +77,7 @@ if_as_many count tys = if nat_eq (length tys) count then tys else []
 
 -- the types of the places of a tuple with so many; else nothing is known of them
 abbrev pub tuple_places : ℕ → Ty → List Ty
-tuple_places count (tuple places) = if_as_many count (listed places)
+tuple_places count (tuple places) = if_as_many count (types_in places)
 tuple_places count _ = []
 
 abbrev pub places_of : ℕ → Option Ty → List Ty
