@@ -1,0 +1,13 @@
+use Rattle.std.proofs.Common.{◌∙◌}
+use Rattle.pyc_displays.proofs.Turns.{entry_to_turn}
+use Rattle.pyc_displays.specs.Views.{entry_in}
+use Rattle.pyc_reading.proofs.RunLemmas.{grown_trans}
+use Rattle.pyc_displays.proofs.dicts.entries_to.Goals as goal
+
+pub loop-index-preserved : goal.loop-index-preserved
+loop-index-preserved g c = record {
+  same =
+      entry_to_turn (g.R.Reader.reads c.args.reader.now) (entry_in c.args.want.now) c.args.items.now c.loop-index.index c.index-items-index.result _ _ _ c.loop-index-test.true c.index-items-index.is c.in_ok-entry_to.ensures.done
+      ∙ c.loop-index.invariant.same;
+  grown = grown_trans c.loop-index.invariant.grown c.entry_to.ensures.grown;
+}

@@ -1,0 +1,13 @@
+use Rattle.std.proofs.Common.{◌∙◌}
+use Rattle.pyc_displays.proofs.Turns.{item_turn}
+use Rattle.pyc_reading.proofs.RunLemmas.{grown_trans}
+use Rattle.pyc_type_forms.specs.TypeView.{ty_of}
+use Rattle.pyc_displays.proofs.lists.items_to.Goals as goal
+
+pub loop-index-preserved : goal.loop-index-preserved
+loop-index-preserved g c = record {
+  same =
+      item_turn (g.R.Reader.reads c.args.reader.now) (ty_of c.args.want.now) c.args.items.now c.loop-index.index c.index-items-index.result _ _ _ c.loop-index-test.true c.index-items-index.is c.in_ok-item_to.ensures.done
+      ∙ c.loop-index.invariant.same;
+  grown = grown_trans c.loop-index.invariant.grown c.item_to.ensures.grown;
+}

@@ -1,0 +1,16 @@
+use Rattle.std.proofs.Common.{map, [], ap}
+use Rattle.pyc_ast.specs.ExprView.{element_of}
+use Rattle.pyc_displays.specs.Displays.{set_display, types_of}
+use Rattle.pyc_displays.proofs.Parts.{any_in}
+use Rattle.pyc_reading.proofs.RunLemmas.{after}
+use Rattle.pyc_reading.specs.Readings.{Done}
+use Rattle.pyc_type_forms.specs.Types.{any}
+use Rattle.pyc_displays.proofs.tuples.set_display.Goals as goal
+
+pub returns : goal.returns
+unfolding set_display
+returns g c = record {
+  done =
+      after (types_of (g.R.Reader.reads c.args.reader.now) [] (map element_of c.args.items.now)) (λ types. Done any) (g.N.Notes.desk c.args.notes.now) _ _ _ _ c.in_ok-read_types.ensures.done (ap (λ ty. (ty, g.N.Notes.desk c.read_types.new.notes)) any_in);
+  grown = c.read_types.ensures.grown;
+}

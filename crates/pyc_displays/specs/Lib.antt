@@ -1,0 +1,5 @@
+pub mod Expecting
+pub mod Messages
+pub mod Displays
+pub mod Joins
+pub mod Views

@@ -1,0 +1,350 @@
+//! Dict displays.
+
+ghost use Rattle.std.specs.Prelude.{◌≡◌, ◌&&◌, [], OnOk, map, option_map};
+ghost use Rattle.std.specs.List.{list_any};
+ghost use Rattle.pyc_ast.specs.ExprView.{expr_of, dict_item_of};
+ghost use Rattle.pyc_displays.specs.Displays as spec;
+ghost use Rattle.pyc_displays.specs.Views.{entry_in, entry_types_in};
+ghost use Rattle.pyc_reading.specs.Desks.{Performs};
+ghost use Rattle.pyc_type_forms.specs.TypeView.{ty_of};
+
+use crate::built::{dict_of, dict_type};
+use crate::expecting::expected_entry;
+use crate::items::only_read;
+use crate::messages::tell_dict_entry_unless;
+use pyc_ast::{DictItem, Expr};
+use pyc_obligations::{Judge, Reader, judged};
+use pyc_type_forms::{DictTypes, Ty};
+use std::alloc::{AllocError, Global};
+
+/// The types of the keys and the values of entries.
+#[derive(Drop)]
+pub(crate) struct EntryTypes {
+    pub(crate) keys: Vec<Ty>,
+    pub(crate) values: Vec<Ty>,
+}
+
+/// The type of a dict display. Where a dictionary is expected each key and each value must be of its types, and what is
+/// not is told; else it is a dictionary of the unions of the keys and of the values. The only error is that memory runs
+/// out.
+pub fn dict_display<N: Judge, R: Reader<N>>(
+    alloc: Global,
+    notes: &mut N,
+    reader: &R,
+    items: &[DictItem],
+    want: Option<&Ty>,
+) -> Result<Ty, AllocError>
+    requires { R.ready reader.now }
+    ensures { Performs ty_of
+        (spec.dict_display (R.reads reader.now) (map dict_item_of items.now)
+        (option_map (λ ty. ty_of ty.now) want.entry)) (N.desk notes.old) result (N.desk notes.new) }
+{
+    let entry = expected_entry(alloc, want)?;
+    let dict = dict_by(alloc, notes, reader, items, entry)?;
+    Ok(dict)
+}
+
+/// A dict display, by what is expected of its entries.
+fn dict_by<N: Judge, R: Reader<N>>(
+    alloc: Global,
+    notes: &mut N,
+    reader: &R,
+    items: &[DictItem],
+    want: Option<DictTypes>,
+) -> Result<Ty, AllocError>
+    requires { R.ready reader.now }
+    ensures { Performs ty_of
+        (spec.dict_by (R.reads reader.now) (map dict_item_of items.now) (option_map entry_in want)) (N.desk notes.old)
+        result (N.desk notes.new) }
+{
+    match want {
+        Some(entry) => dict_to(alloc, notes, reader, items, entry),
+        None => free_dict(alloc, notes, reader, items),
+    }
+}
+
+/// A dict display of which nothing is expected.
+#[tactic(auto, using(pyc_obligations::proofs::Steps::performing), unfolding(crate::specs::Displays::free_dict))]
+fn free_dict<N: Judge, R: Reader<N>>(
+    alloc: Global,
+    notes: &mut N,
+    reader: &R,
+    items: &[DictItem],
+) -> Result<Ty, AllocError>
+    requires { R.ready reader.now }
+    ensures { Performs ty_of (spec.free_dict (R.reads reader.now) (map dict_item_of items.now)) (N.desk notes.old)
+        result (N.desk notes.new) }
+{
+    let is_open = is_open_dict(items);
+    let types = read_entries(alloc, notes, reader, items)?;
+    let dict = dict_type(alloc, is_open, &types)?;
+    Ok(dict)
+}
+
+/// Whether not all entries are known: there are none, or something stands after `**`.
+fn is_open_dict(items: &[DictItem]) -> bool
+    ensures { result ≡ spec.is_open_dict (map dict_item_of items.now) }
+{
+    items.is_empty() || has_unpacking(items)
+}
+
+/// Whether something stands after `**`.
+fn has_unpacking(items: &[DictItem]) -> bool
+    ensures { result ≡ list_any spec.is_unpacking (map dict_item_of items.now) }
+{
+    for item in items {
+        if is_unpacking(item) {
+            return true;
+        }
+    }
+    false
+}
+
+/// Whether an item stands after `**`.
+fn is_unpacking(item: &DictItem) -> bool
+    ensures { result ≡ spec.is_unpacking (dict_item_of item.now) }
+{
+    match item {
+        DictItem::Entry { .. } => false,
+        DictItem::Unpacking(_) => true,
+    }
+}
+
+/// The types of entries of which nothing is expected, in turn.
+#[tactic(auto, using(pyc_obligations::proofs::Steps::performing), unfolding(crate::specs::Displays::more_entries))]
+fn read_entries<N: Judge, R: Reader<N>>(
+    alloc: Global,
+    notes: &mut N,
+    reader: &R,
+    items: &[DictItem],
+) -> Result<EntryTypes, AllocError>
+    requires { R.ready reader.now }
+    ensures { Performs entry_types_in
+        (spec.more_entries (R.reads reader.now) (record { keys = []; values = [] }) (map dict_item_of items.now))
+        (N.desk notes.old) result (N.desk notes.new) }
+{
+    let mut types = EntryTypes {
+        keys: Vec::with_capacity(alloc, items.len())?,
+        values: Vec::with_capacity(alloc, items.len())?,
+    };
+    for item in items {
+        let found = free_entry(alloc, notes, reader, item)?;
+        push_entry(&mut types, found)?;
+    }
+    Ok(types)
+}
+
+/// Adds the types of an entry, if it has some.
+fn push_entry(types: &mut EntryTypes, found: Option<DictTypes>) -> Result<(), AllocError>
+    ensures { OnOk result (entry_types_in types.new
+        ≡ spec.with_entry (entry_types_in types.old) (option_map entry_in found)) }
+{
+    if let Some(found) = found {
+        types.keys.push(found.key)?;
+        types.values.push(found.value)?;
+    }
+    Ok(())
+}
+
+/// The types of an entry of which nothing is expected.
+fn free_entry<N: Judge, R: Reader<N>>(
+    alloc: Global,
+    notes: &mut N,
+    reader: &R,
+    item: &DictItem,
+) -> Result<Option<DictTypes>, AllocError>
+    requires { R.ready reader.now }
+    ensures { Performs (option_map entry_in) (spec.free_entry (R.reads reader.now) (dict_item_of item.now))
+        (N.desk notes.old) result (N.desk notes.new) }
+{
+    match item {
+        DictItem::Entry { key, value } => free_pair(alloc, notes, reader, key, value),
+        DictItem::Unpacking(part) => free_unpacking(alloc, notes, reader, part),
+    }
+}
+
+/// The types of a key and its value of which nothing is expected.
+#[tactic(auto, using(pyc_obligations::proofs::Steps::performing), unfolding(crate::specs::Displays::free_pair))]
+fn free_pair<N: Judge, R: Reader<N>>(
+    alloc: Global,
+    notes: &mut N,
+    reader: &R,
+    key: &Expr,
+    value: &Expr,
+) -> Result<Option<DictTypes>, AllocError>
+    requires { R.ready reader.now }
+    ensures { Performs (option_map entry_in)
+        (spec.free_pair (R.reads reader.now) (expr_of key.now) (expr_of value.now)) (N.desk notes.old) result
+        (N.desk notes.new) }
+{
+    let found = entry_types(alloc, notes, reader, key, value, None, None)?;
+    Ok(Some(found))
+}
+
+/// What stands after `**` is read alone.
+#[tactic(auto, using(pyc_obligations::proofs::Steps::performing), unfolding(crate::specs::Displays::free_unpacking))]
+fn free_unpacking<N: Judge, R: Reader<N>>(
+    alloc: Global,
+    notes: &mut N,
+    reader: &R,
+    part: &Expr,
+) -> Result<Option<DictTypes>, AllocError>
+    requires { R.ready reader.now }
+    ensures { Performs (option_map entry_in) (spec.free_unpacking (R.reads reader.now) (expr_of part.now))
+        (N.desk notes.old) result (N.desk notes.new) }
+{
+    only_read(alloc, notes, reader, part)?;
+    Ok(None)
+}
+
+/// The types of a key and its value, with what is expected of each.
+#[tactic(auto, using(pyc_obligations::proofs::Steps::performing), unfolding(crate::specs::Displays::entry_types))]
+fn entry_types<N: Judge, R: Reader<N>>(
+    alloc: Global,
+    notes: &mut N,
+    reader: &R,
+    key: &Expr,
+    value: &Expr,
+    want_key: Option<&Ty>,
+    want_value: Option<&Ty>,
+) -> Result<DictTypes, AllocError>
+    requires { R.ready reader.now }
+    ensures { Performs entry_in
+        (spec.entry_types (R.reads reader.now) (expr_of key.now) (expr_of value.now)
+        (option_map (λ ty. ty_of ty.now) want_key.entry) (option_map (λ ty. ty_of ty.now) want_value.entry))
+        (N.desk notes.old) result (N.desk notes.new) }
+{
+    let key = reader.read(alloc, notes, key, want_key)?;
+    let value = reader.read(alloc, notes, value, want_value)?;
+    Ok(DictTypes { key, value })
+}
+
+/// A dict display whose entries must be of these types.
+#[tactic(auto, using(pyc_obligations::proofs::Steps::performing), unfolding(crate::specs::Displays::dict_to))]
+fn dict_to<N: Judge, R: Reader<N>>(
+    alloc: Global,
+    notes: &mut N,
+    reader: &R,
+    items: &[DictItem],
+    want: DictTypes,
+) -> Result<Ty, AllocError>
+    requires { R.ready reader.now }
+    ensures { Performs ty_of (spec.dict_to (R.reads reader.now) (map dict_item_of items.now) (entry_in want))
+        (N.desk notes.old) result (N.desk notes.new) }
+{
+    entries_to(alloc, notes, reader, &want, items)?;
+    let dict = dict_of(alloc, want)?;
+    Ok(dict)
+}
+
+/// Entries that must be of these types, in turn.
+#[tactic(auto, using(pyc_obligations::proofs::Steps::performing), unfolding(crate::specs::Displays::entries_to))]
+fn entries_to<N: Judge, R: Reader<N>>(
+    alloc: Global,
+    notes: &mut N,
+    reader: &R,
+    want: &DictTypes,
+    items: &[DictItem],
+) -> Result<(), AllocError>
+    requires { R.ready reader.now }
+    ensures { Performs (λ u. u)
+        (spec.entries_to (R.reads reader.now) (entry_in want.now) 0 (map dict_item_of items.now)) (N.desk notes.old)
+        result (N.desk notes.new) }
+{
+    for index in 0..items.len() {
+        entry_to(alloc, notes, reader, want, index, &items[index])?;
+    }
+    Ok(())
+}
+
+/// An entry that must be of these types: what stands after `**` is read alone.
+fn entry_to<N: Judge, R: Reader<N>>(
+    alloc: Global,
+    notes: &mut N,
+    reader: &R,
+    want: &DictTypes,
+    index: usize,
+    item: &DictItem,
+) -> Result<(), AllocError>
+    requires { R.ready reader.now }
+    ensures { Performs (λ u. u)
+        (spec.entry_to (R.reads reader.now) (entry_in want.now) index (dict_item_of item.now)) (N.desk notes.old)
+        result (N.desk notes.new) }
+{
+    match item {
+        DictItem::Entry { key, value } => pair_to(alloc, notes, reader, want, index, key, value),
+        DictItem::Unpacking(part) => only_read(alloc, notes, reader, part),
+    }
+}
+
+/// A key and its value that must be of these types.
+#[tactic(auto, using(pyc_obligations::proofs::Steps::performing), unfolding(crate::specs::Displays::pair_to))]
+fn pair_to<N: Judge, R: Reader<N>>(
+    alloc: Global,
+    notes: &mut N,
+    reader: &R,
+    want: &DictTypes,
+    index: usize,
+    key: &Expr,
+    value: &Expr,
+) -> Result<(), AllocError>
+    requires { R.ready reader.now }
+    ensures { Performs (λ u. u)
+        (spec.pair_to (R.reads reader.now) (entry_in want.now) index (expr_of key.now) (expr_of value.now))
+        (N.desk notes.old) result (N.desk notes.new) }
+{
+    let got = entry_types(
+        alloc,
+        notes,
+        reader,
+        key,
+        value,
+        Some(&want.key),
+        Some(&want.value),
+    )?;
+    entry_owed(alloc, notes, key, index, &got, want)?;
+    Ok(())
+}
+
+/// An entry must be of these types, and where one is not that is told at its key.
+#[tactic(auto, using(pyc_obligations::proofs::Steps::performing), unfolding(crate::specs::Displays::entry_owed))]
+fn entry_owed<N: Judge>(
+    alloc: Global,
+    notes: &mut N,
+    key: &Expr,
+    index: usize,
+    got: &DictTypes,
+    want: &DictTypes,
+) -> Result<(), AllocError>
+    ensures { Performs (λ u. u)
+        (spec.entry_owed (expr_of key.now) index (entry_in got.now) (entry_in want.now)) (N.desk notes.old) result
+        (N.desk notes.new) }
+{
+    let holds = entry_judged(alloc, notes, got, want)?;
+    tell_dict_entry_unless(alloc, notes, holds, key.at, index, got, want)?;
+    Ok(())
+}
+
+/// Whether the types of an entry are both assignable to those of another.
+#[tactic(auto, using(pyc_obligations::proofs::Steps::performing), unfolding(crate::specs::Displays::entry_judged))]
+fn entry_judged<N: Judge>(
+    alloc: Global,
+    notes: &mut N,
+    got: &DictTypes,
+    want: &DictTypes,
+) -> Result<bool, AllocError>
+    ensures { Performs (λ holds. holds) (spec.entry_judged (entry_in got.now) (entry_in want.now)) (N.desk notes.old)
+        result (N.desk notes.new) }
+{
+    let key_holds = judged(alloc, notes, &got.key, &want.key)?;
+    let value_holds = judged(alloc, notes, &got.value, &want.value)?;
+    let holds = both(key_holds, value_holds);
+    Ok(holds)
+}
+
+/// Whether both hold.
+fn both(first: bool, second: bool) -> bool
+    ensures { result ≡ first && second }
+{
+    first && second
+}
