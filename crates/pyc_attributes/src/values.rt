@@ -132,8 +132,9 @@ fn item_types<N: Judge>(
     name: &str,
     items: &[Ty],
 ) -> Result<Vec<Ty>, AllocError>
-    ensures { Performs (λ (found : Vec Ty Global). map ty_of found.items) (spec.item_types at (ty_of whole.now) name.now [] (map ty_of items.now))
-        (N.desk notes.old) result (N.desk notes.new) }
+    ensures { Performs (λ (found : Vec Ty Global). map ty_of found.items)
+        (spec.item_types at (ty_of whole.now) name.now [] (map ty_of items.now)) (N.desk notes.old) result
+        (N.desk notes.new) }
 {
     let mut found = Vec::with_capacity(alloc, items.len())?;
     for item in items {

@@ -1,7 +1,7 @@
 //! Sources with the messages that are found in them.
 
 use crate::sources::file_of;
-use pyc_body::{found, file_units, unsilenced};
+use pyc_body::{file_units, found, unsilenced};
 use pyc_iface::{Options, World};
 use pyc_report::Message;
 use pyc_types::Builtins;

@@ -1,5 +1,5 @@
--- Whether a type is assignable to another, by the orders of the classes that are written in both, each of which is asked
--- (typing specification, "Type system concepts").
+-- Whether a type is assignable to another, by the orders of the classes that are written in both, each of which is
+-- asked (typing specification, "Type system concepts").
 use Rattle.std.specs.Prelude.{ℕ, Bool, if◌then◌else◌, List, [], ◌∷◌, ◌++◌}
 use Rattle.pyc_builtins.specs.Orders.{builtin_orders}
 use Rattle.pyc_class.specs.Class.{Id, builtin, user, same_class}

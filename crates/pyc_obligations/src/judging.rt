@@ -106,7 +106,8 @@ fn ask_dict_written<N: Judge>(
     notes: &mut N,
     types: &DictTypes,
 ) -> Result<(), AllocError>
-    ensures { Performs (λ u. u) (classes_asked (spec.written (ty_of types.now.key) ++ spec.written (ty_of types.now.value)))
+    ensures { Performs (λ u. u)
+        (classes_asked (spec.written (ty_of types.now.key) ++ spec.written (ty_of types.now.value)))
         (N.desk notes.old) result (N.desk notes.new) }
 {
     ask_written(alloc, notes, &types.key)?;
@@ -122,7 +123,8 @@ fn ask_signature_written<N: Judge>(
     signature: &Signature,
 ) -> Result<(), AllocError>
     ensures { Performs (λ u. u)
-        (classes_asked (spec.params_written (params_of signature.now.params) ++ spec.written (ty_of signature.now.result)))
+        (classes_asked
+        (spec.params_written (params_of signature.now.params) ++ spec.written (ty_of signature.now.result)))
         (N.desk notes.old) result (N.desk notes.new) }
 {
     ask_params_written(alloc, notes, &signature.params)?;
