@@ -1,0 +1,20 @@
+use Rattle.std.proofs.Common.{◌∷◌, [], ◌++◌, map, sym, ◌∙◌, refl}
+use Rattle.std.proofs.lemmas.List.{map-append}
+use Rattle.pyc_items.specs.Iteration.{more_parts, union_part}
+use Rattle.pyc_reading.proofs.RunLemmas.{one_turn, grown_trans}
+use Rattle.pyc_type_forms.specs.TypeView.{ty_of}
+use Rattle.pyc_items.proofs.iterating.all_parts.Goals as goal
+
+pub loop-item-preserved : goal.loop-item-preserved
+unfolding more_parts
+loop-item-preserved g c =
+    let at = c.args.at in
+    let whole = ty_of c.args.whole.now in
+    let before = map ty_of c.loop-item.found.items in
+    record {
+      same =
+          rw (c.in_ok-push.ensures.items, map-append)
+          (sym (one_turn (λ xs. more_parts at whole before (map ty_of xs)) (λ x. union_part at whole (ty_of x)) (λ ty xs. more_parts at whole (before ++ (ty ∷ [])) (map ty_of xs)) (λ x xs. refl) c.args.items.now c.loop-item.item-index _ _ _ _ c.loop-item-test.true c.item-item.is c.in_ok-part.ensures.done)
+          ∙ c.loop-item.invariant.same);
+      grown = grown_trans c.loop-item.invariant.grown c.union_part.ensures.grown;
+    }

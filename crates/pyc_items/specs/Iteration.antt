@@ -1,0 +1,93 @@
+-- Iteration (Python reference 3.13, "The for statement"; the library reference, "Iterator Types").
+use Rattle.std.specs.Prelude.{ℕ, codes, List, [], ◌∷◌, ◌++◌}
+use Rattle.pyc_ast.specs.declared.position.Position.{Position}
+use Rattle.pyc_class.specs.declared.builtin_class.BuiltinClass.TheVariants as class
+use Rattle.pyc_class.specs.Class.{Id, builtin, user}
+use Rattle.pyc_items.specs.Owners.{Owner, unknown_owner, method_owner, builtin_owner, no_owner, iterable, int_type}
+use Rattle.pyc_items.specs.Owners.{str_type}
+use Rattle.pyc_reading.specs.Desks.{Step}
+use Rattle.pyc_reading.specs.Readings.{Done, Tell, and_then}
+use Rattle.pyc_report.specs.declared.message.Code.TheVariants as code
+use Rattle.pyc_report.specs.Message.{error_at}
+use Rattle.pyc_type_forms.specs.Text.{text_of}
+use Rattle.pyc_type_forms.specs.Types.{Ty, Tys, any, instance, list, dict, tuple, tuple_of, union, nil, cons}
+use Rattle.pyc_type_forms.specs.Unions.{row_items, union_of}
+
+-- ---- what is told
+
+unfoldable pub not_iterable_text : List ℕ → List ℕ
+not_iterable_text shown = codes "\"" ++ (shown ++ codes "\" has no attribute \"__iter__\" (not iterable)")
+
+unfoldable pub not_iterable : Position → Ty → Step Ty
+not_iterable at ty = Tell (error_at at code.AttrDefined (not_iterable_text (text_of ty))) (Done any)
+
+unfoldable pub item_not_iterable_text : List ℕ → List ℕ → List ℕ
+item_not_iterable_text item whole =
+    codes "Item \"" ++ (item ++ (codes "\" of \"" ++ (whole ++ codes "\" has no attribute \"__iter__\" (not iterable)")))
+
+unfoldable pub item_not_iterable : Position → Ty → Ty → Step Ty
+item_not_iterable at whole item =
+    Tell (error_at at code.UnionAttr (item_not_iterable_text (text_of item) (text_of whole))) (Done any)
+
+-- ---- items
+
+abbrev pub text_part : Id → Ty
+text_part (builtin class.Str) = str_type
+text_part (builtin class.Bytes) = int_type
+text_part _ = any
+
+-- the types of a row
+abbrev pub types_of : Tys → List Ty
+types_of nil = []
+types_of (cons x xs) = x ∷ types_of xs
+
+-- an item of a fixed tuple: of one without items nothing is known
+abbrev pub some_part : List Ty → Ty
+some_part [] = any
+some_part (x ∷ xs) = union_of (x ∷ xs)
+
+abbrev pub fixed_part : Tys → Ty
+fixed_part items = some_part (types_of items)
+
+-- what an iteration of a builtin type gives
+abbrev pub part_of : Ty → Ty
+part_of (instance c) = text_part c
+part_of (list item) = item
+part_of (dict key value) = key
+part_of (tuple items) = fixed_part items
+part_of (tuple_of item) = item
+part_of _ = any
+
+abbrev pub part_by : Position → Ty → Owner → Step Ty
+part_by at ty unknown_owner = Done any
+part_by at ty (method_owner given) = Done any
+part_by at ty (builtin_owner found) = Done (part_of found)
+part_by at ty no_owner = not_iterable at ty
+
+abbrev pub item_part : Position → Ty → Ty → Owner → Step Ty
+item_part at whole item unknown_owner = Done any
+item_part at whole item (method_owner given) = Done any
+item_part at whole item (builtin_owner found) = Done (part_of found)
+item_part at whole item no_owner = item_not_iterable at whole item
+
+-- ---- the whole
+
+unfoldable pub union_part : Position → Ty → Ty → Step Ty
+union_part at whole item = and_then (iterable item) (item_part at whole item)
+
+-- these types, and then those of items of a union, in turn
+unfoldable pub more_parts : Position → Ty → List Ty → List Ty → Step (List Ty)
+more_parts at whole found [] = Done found
+more_parts at whole found (item ∷ rest) =
+    and_then (union_part at whole item) (λ ty. more_parts at whole (found ++ (ty ∷ [])) rest)
+
+unfoldable pub union_iterated : Position → Ty → List Ty → Step Ty
+union_iterated at whole items = and_then (more_parts at whole [] items) (λ found. Done (union_of found))
+
+unfoldable pub single_iterated : Position → Ty → Step Ty
+single_iterated at ty = and_then (iterable ty) (part_by at ty)
+
+-- the item of an iteration of a value of a type, in an expression that begins at a position
+abbrev pub iterated : Position → Ty → Step Ty
+iterated at (union items) = union_iterated at (union items) (row_items items)
+iterated at ty = single_iterated at ty

@@ -1,0 +1,5 @@
+pub mod Chosen
+pub mod Owners
+pub mod OwnerView
+pub mod Subscripts
+pub mod Iteration

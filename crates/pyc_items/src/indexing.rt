@@ -1,0 +1,216 @@
+//! What subscripts of builtin types give.
+
+ghost use Rattle.std.specs.Prelude.{◌≡◌, IfOk, option_map};
+ghost use Rattle.pyc_ast.specs.ExprView.{index_of};
+ghost use Rattle.pyc_items.specs.Chosen as chosen;
+ghost use Rattle.pyc_items.specs.Owners as owners;
+ghost use Rattle.pyc_items.specs.Owners.{int_type};
+ghost use Rattle.pyc_items.specs.Subscripts as spec;
+ghost use Rattle.pyc_reading.specs.Desks.{Performs};
+ghost use Rattle.pyc_type_forms.specs.Types as plain;
+ghost use Rattle.pyc_type_forms.specs.TypeView.{row, ty_of};
+
+use crate::chosen::{Chosen, chosen_by, chosen_type, is_slice};
+use crate::messages::{index_told, out_of_range};
+use pyc_ast::{Index, Position};
+use pyc_class::{BuiltinClass, ClassId};
+use pyc_obligations::{Judge, judged};
+use pyc_type_forms::{DictTypes, Ty};
+use std::alloc::{AllocError, Global};
+
+/// What a subscript of a builtin type gives; none where there is no such subscript.
+pub(crate) fn builtin_item<N: Judge>(
+    alloc: Global,
+    notes: &mut N,
+    at: Position,
+    index: &Index,
+    got: &Ty,
+    ty: &Ty,
+) -> Result<Option<Ty>, AllocError>
+    ensures { Performs (option_map ty_of) (spec.builtin_item at (index_of index.now) (ty_of got.now) (ty_of ty.now))
+        (N.desk notes.old) result (N.desk notes.new) }
+{
+    match ty {
+        Ty::Instance(class) => text_item(alloc, notes, index, got, class),
+        Ty::List(item) => sequence_item(alloc, notes, index, got, ty, item),
+        Ty::Dict(types) => dict_item(alloc, notes, index, got, ty, types),
+        Ty::Tuple(items) => fixed_item(alloc, notes, at, chosen_by(index), items),
+        Ty::TupleOf(item) => Ok(Some(any_length_item(index, ty, item)?)),
+        _ => Ok(None),
+    }
+}
+
+/// What a subscript of a dictionary gives.
+fn dict_item<N: Judge>(
+    alloc: Global,
+    notes: &mut N,
+    index: &Index,
+    got: &Ty,
+    whole: &Ty,
+    types: &DictTypes,
+) -> Result<Option<Ty>, AllocError>
+    ensures { Performs (option_map ty_of)
+        (spec.owed_item (chosen.at_of (index_of index.now)) (ty_of got.now) (ty_of whole.now) (ty_of types.now.key)
+        (ty_of types.now.value)) (N.desk notes.old) result (N.desk notes.new) }
+{
+    owed_item(alloc, notes, index.at, got, whole, &types.key, &types.value)
+}
+
+/// An int, or a slice, of a sequence.
+fn sequence_item<N: Judge>(
+    alloc: Global,
+    notes: &mut N,
+    index: &Index,
+    got: &Ty,
+    whole: &Ty,
+    given: &Ty,
+) -> Result<Option<Ty>, AllocError>
+    ensures { Performs (option_map ty_of)
+        (spec.sequence_item (index_of index.now) (ty_of got.now) (ty_of whole.now) (ty_of given.now))
+        (N.desk notes.old) result (N.desk notes.new) }
+{
+    if is_slice(index) {
+        Ok(Some(whole.clone()?))
+    } else {
+        owed_item(alloc, notes, index.at, got, whole, &int(), given)
+    }
+}
+
+/// The type int.
+fn int() -> Ty
+    ensures { ty_of result ≡ int_type }
+{
+    Ty::Instance(ClassId::builtin(BuiltinClass::Int))
+}
+
+/// What a subscript of a string or of bytes gives.
+fn text_item<N: Judge>(
+    alloc: Global,
+    notes: &mut N,
+    index: &Index,
+    got: &Ty,
+    class: &ClassId,
+) -> Result<Option<Ty>, AllocError>
+    ensures { Performs (option_map ty_of) (spec.text_item (index_of index.now) (ty_of got.now) class.now)
+        (N.desk notes.old) result (N.desk notes.new) }
+{
+    match class.as_builtin() {
+        Some(BuiltinClass::Str) => str_item(alloc, notes, index, got),
+        Some(BuiltinClass::Bytes) => bytes_item(alloc, notes, index, got),
+        _ => Ok(None),
+    }
+}
+
+/// What a subscript of a string gives.
+fn str_item<N: Judge>(
+    alloc: Global,
+    notes: &mut N,
+    index: &Index,
+    got: &Ty,
+) -> Result<Option<Ty>, AllocError>
+    ensures { Performs (option_map ty_of)
+        (spec.sequence_item (index_of index.now) (ty_of got.now) owners.str_type owners.str_type) (N.desk notes.old)
+        result (N.desk notes.new) }
+{
+    let text = Ty::Instance(ClassId::builtin(BuiltinClass::Str));
+    let item = sequence_item(alloc, notes, index, got, &text, &text)?;
+    Ok(item)
+}
+
+/// What a subscript of bytes gives.
+fn bytes_item<N: Judge>(
+    alloc: Global,
+    notes: &mut N,
+    index: &Index,
+    got: &Ty,
+) -> Result<Option<Ty>, AllocError>
+    ensures { Performs (option_map ty_of)
+        (spec.sequence_item (index_of index.now) (ty_of got.now) owners.bytes_type int_type) (N.desk notes.old) result
+        (N.desk notes.new) }
+{
+    let text = Ty::Instance(ClassId::builtin(BuiltinClass::Bytes));
+    let item = sequence_item(alloc, notes, index, got, &text, &int())?;
+    Ok(item)
+}
+
+/// An item that an index of a wanted type gives.
+#[tactic(auto, using(crate::proofs::Steps::performing), unfolding(crate::specs::Subscripts::owed_item))]
+fn owed_item<N: Judge>(
+    alloc: Global,
+    notes: &mut N,
+    at: Position,
+    got: &Ty,
+    whole: &Ty,
+    want: &Ty,
+    given: &Ty,
+) -> Result<Option<Ty>, AllocError>
+    ensures { Performs (option_map ty_of)
+        (spec.owed_item at (ty_of got.now) (ty_of whole.now) (ty_of want.now) (ty_of given.now)) (N.desk notes.old)
+        result (N.desk notes.new) }
+{
+    index_owed(alloc, notes, at, got, whole, want)?;
+    Ok(Some(given.clone()?))
+}
+
+/// An index of this type is owed where another is wanted.
+#[tactic(auto, using(crate::proofs::Steps::performing), unfolding(crate::specs::Subscripts::index_owed))]
+fn index_owed<N: Judge>(
+    alloc: Global,
+    notes: &mut N,
+    at: Position,
+    got: &Ty,
+    whole: &Ty,
+    want: &Ty,
+) -> Result<(), AllocError>
+    ensures { Performs (λ u. u) (spec.index_owed at (ty_of got.now) (ty_of whole.now) (ty_of want.now))
+        (N.desk notes.old) result (N.desk notes.new) }
+{
+    let holds = judged(alloc, notes, got, want)?;
+    let told = index_told(alloc, notes, holds, at, got, whole, want)?;
+    Ok(told)
+}
+
+/// The item at a place of a fixed tuple.
+fn fixed_item<N: Judge>(
+    alloc: Global,
+    notes: &mut N,
+    at: Position,
+    place: Option<Chosen>,
+    items: &[Ty],
+) -> Result<Option<Ty>, AllocError>
+    ensures { Performs (option_map ty_of) (spec.fixed_item at place (row items.now)) (N.desk notes.old) result
+        (N.desk notes.new) }
+{
+    match place {
+        Some(place) => placed_item(alloc, notes, at, chosen_type(place, items)),
+        None => Ok(Some(Ty::Any)),
+    }
+}
+
+/// The item at a place, if it is there.
+fn placed_item<N: Judge>(
+    alloc: Global,
+    notes: &mut N,
+    at: Position,
+    found: Option<&Ty>,
+) -> Result<Option<Ty>, AllocError>
+    ensures { Performs (option_map ty_of) (spec.placed_item at (option_map (λ ty. ty_of ty.now) found.entry))
+        (N.desk notes.old) result (N.desk notes.new) }
+{
+    match found {
+        Some(ty) => Ok(Some(ty.clone()?)),
+        None => out_of_range(alloc, notes, at),
+    }
+}
+
+/// An item, or a slice, of a tuple of any length.
+fn any_length_item(index: &Index, whole: &Ty, item: &Ty) -> Result<Ty, AllocError>
+    requires { ty_of whole.now ≡ plain.tuple_of (ty_of item.now) }
+    ensures { IfOk result (λ ty. ty_of ty ≡ spec.any_length_item (index_of index.now) (ty_of item.now)) }
+{
+    if is_slice(index) {
+        Ok(whole.clone()?)
+    } else {
+        Ok(item.clone()?)
+    }
+}
