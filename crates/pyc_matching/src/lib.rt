@@ -1,0 +1,2 @@
+//! Which parameter each argument of a call fills.
+#![tactic(auto)]
