@@ -1,2 +1,6 @@
 //! Which parameter each argument of a call fills.
 #![tactic(auto)]
+
+mod kinds;
+
+pub use kinds::{is_double_star, is_named, is_plain, is_star};
