@@ -84,8 +84,15 @@ more_parts at whole found (item ∷ rest) =
 unfoldable pub union_iterated : Position → Ty → List Ty → Step Ty
 union_iterated at whole items = and_then (more_parts at whole [] items) (λ found. Done (union_of found))
 
+-- one type as a union is: Any where it is too large
+abbrev pub limited_part : Ty → Ty
+limited_part ty = union_of (ty ∷ [])
+
+unfoldable pub found_part : Position → Ty → Owner → Step Ty
+found_part at ty found = and_then (part_by at ty found) (λ part. Done (limited_part part))
+
 unfoldable pub single_iterated : Position → Ty → Step Ty
-single_iterated at ty = and_then (iterable ty) (part_by at ty)
+single_iterated at ty = and_then (iterable ty) (found_part at ty)
 
 -- the item of an iteration of a value of a type, in an expression that begins at a position
 abbrev pub iterated : Position → Ty → Step Ty

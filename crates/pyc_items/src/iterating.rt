@@ -44,8 +44,32 @@ fn single_iterated<N: Judge>(
         (N.desk notes.new) }
 {
     let owner = iterable(alloc, notes, ty)?;
-    let part = part_by(alloc, notes, at, ty, owner)?;
+    let part = found_part(alloc, notes, at, ty, owner)?;
     Ok(part)
+}
+
+/// The same, by what it goes by.
+#[tactic(auto, using(crate::proofs::Steps::performing), unfolding(crate::specs::Iteration::found_part))]
+fn found_part<N: Judge>(
+    alloc: Global,
+    notes: &mut N,
+    at: Position,
+    ty: &Ty,
+    owner: Owner,
+) -> Result<Ty, AllocError>
+    ensures { Performs ty_of (spec.found_part at (ty_of ty.now) (owner_of owner)) (N.desk notes.old) result
+        (N.desk notes.new) }
+{
+    let part = part_by(alloc, notes, at, ty, owner)?;
+    let limited = limited_part(alloc, part)?;
+    Ok(limited)
+}
+
+/// One type as a union is: Any where it is too large.
+fn limited_part(alloc: Global, part: Ty) -> Result<Ty, AllocError>
+    ensures { IfOk result (λ ty. ty_of ty ≡ spec.limited_part (ty_of part)) }
+{
+    union_of(alloc, &[part])
 }
 
 /// The items of an iteration, by what it goes by.
