@@ -90,24 +90,24 @@ attribute_of_value true = any_meant
 attribute_of_value false = nothing_meant
 
 -- an attribute of what a name means: a name of a module; of Any and of what is special it is Any
-abbrev pub attribute_meaning : Role → List ℕ → Meaning → Step Meaning
-attribute_meaning r n (module_meant m) = module_attribute m n
-attribute_meaning r n any_meant = Done any_meant
-attribute_meaning r n type_meant = Done any_meant
-attribute_meaning r n (fixed_meant found) = Done any_meant
-attribute_meaning r n (variable_meant is_any) = Done (attribute_of_value (is_base r && is_any))
-attribute_meaning r n (function_meant is_any) = Done (attribute_of_value (is_base r && is_any))
-attribute_meaning r n _ = Done nothing_meant
+abbrev pub attribute_meaning : Role → Position → List ℕ → Meaning → Step Meaning
+attribute_meaning r at n (module_meant m) = module_attribute at m n
+attribute_meaning r at n any_meant = Done any_meant
+attribute_meaning r at n type_meant = Done any_meant
+attribute_meaning r at n (fixed_meant found) = Done any_meant
+attribute_meaning r at n (variable_meant is_any) = Done (attribute_of_value (is_base r && is_any))
+attribute_meaning r at n (function_meant is_any) = Done (attribute_of_value (is_base r && is_any))
+attribute_meaning r at n _ = Done nothing_meant
 
 -- attributes one behind another
-unfoldable pub attributes : Role → List (List ℕ) → Meaning → Step Meaning
-attributes r [] found = Done found
-attributes r (n ∷ names) found = and_then (attribute_meaning r n found) (attributes r names)
+unfoldable pub attributes : Role → Position → List (List ℕ) → Meaning → Step Meaning
+attributes r at [] found = Done found
+attributes r at (n ∷ names) found = and_then (attribute_meaning r at n found) (attributes r at names)
 
--- what names joined by dots mean where they stand in a file
-unfoldable pub dotted_meaning : Role → SourceFile → List (List ℕ) → Step Meaning
-dotted_meaning r file [] = Done nothing_meant
-dotted_meaning r file (x ∷ names) = and_then (own_name file x) (attributes r names)
+-- what names joined by dots mean that begin at a position in a file
+unfoldable pub dotted_meaning : Role → SourceFile → Position → List (List ℕ) → Step Meaning
+dotted_meaning r file at [] = Done nothing_meant
+dotted_meaning r file at (x ∷ names) = and_then (own_name file at x) (attributes r at names)
 
 -- the bare name of a special form
 abbrev pub bare_form : Position → FixedName → Step Annotation
@@ -128,7 +128,7 @@ named at name nothing_meant = invalid at
 named at name _ = not_a_type name
 
 unfoldable pub name_rule : SourceFile → Position → DottedName → Step Annotation
-name_rule file at name = and_then (dotted_meaning role.Annotation file name.names) (named at name)
+name_rule file at name = and_then (dotted_meaning role.Annotation file name.at name.names) (named at name)
 
 -- ---- forms with arguments
 
@@ -291,7 +291,7 @@ subscripted_rule at name arguments wrong_subscripted = invalid at
 
 unfoldable pub subscript_rule : SourceFile → Position → DottedName → Bool → List ArgumentReading → Step Annotation
 subscript_rule file at name is_nested arguments =
-    and_then (dotted_meaning role.Annotation file name.names)
+    and_then (dotted_meaning role.Annotation file name.at name.names)
     (λ found. subscripted_rule at name arguments (with_arguments is_nested found))
 
 -- `X | Y`

@@ -7,7 +7,7 @@ use Rattle.pyc_annotations.specs.Meanings.{variable_meant, function_meant}
 use Rattle.pyc_ast.specs.declared.expr.ArgumentKind.{ArgumentKind}
 use Rattle.pyc_ast.specs.declared.expr.ArgumentKind.TheVariants as argument_kind
 use Rattle.pyc_ast.specs.declared.position.Position.{Position}
-use Rattle.pyc_ast.specs.Exprs.{Expr, Argument, argument, at_of}
+use Rattle.pyc_ast.specs.Exprs.{Expr, Argument, argument, at_of, inside_of}
 use Rattle.pyc_class.specs.Class.{Id}
 use Rattle.pyc_names.specs.SourceFiles.{SourceFile}
 use Rattle.pyc_reading.specs.Desks.{Step}
@@ -45,14 +45,19 @@ base_named at names (variable_meant true) = Done any_base
 base_named at names (function_meant true) = Done any_base
 base_named at names _ = invalid_base at names
 
--- names joined by dots, or another expression, as a base that begins at a position
-abbrev pub written_base : SourceFile → Position → Option (List (List ℕ)) → Step Base
-written_base file at (Some names) = and_then (dotted_meaning role.Base file names) (base_named at (joined_names names))
-written_base file at None = invalid_base at unnamed
+-- names joined by dots, or another expression, as a base: where the base begins, and where its names do
+abbrev pub written_base : SourceFile → (at inside : Position) → Option (List (List ℕ)) → Step Base
+written_base file at inside (Some names) =
+    and_then (dotted_meaning role.Base file inside names) (base_named at (joined_names names))
+written_base file at inside None = invalid_base at unnamed
+
+-- where the names of a base begin: under its subscripts, in its parentheses
+abbrev pub names_at : Expr → Position
+names_at e = inside_of (innermost e)
 
 -- a base that stands in a file: a subscript on it is ignored
 unfoldable pub base : SourceFile → Expr → Step Base
-base file e = written_base file (at_of e) (dotted_names (innermost e))
+base file e = written_base file (at_of e) (names_at e) (dotted_names (innermost e))
 
 -- an argument of a class: one by place is a base, one after `*` is none that is known, and one by name is not asked for
 abbrev pub argument_base : SourceFile → Position → ArgumentKind → Expr → Step (Option Base)

@@ -1,6 +1,9 @@
 -- What a name means where a type or a base is written (typing specification, "Type annotations", "Valid type expression
--- forms"). Names are sought at the top level of the module where they stand, then among Python's builtins.
-use Rattle.std.specs.Prelude.{ℕ, Bool, true, false, bytes_eq, is_some, codes, if◌then◌else◌, List, Option, None, Some}
+-- forms"; Python reference 3.13, "Resolution of names"). Names are sought at the top level of the module where they
+-- stand, then among Python's builtins, and what is found nowhere is told.
+use Rattle.std.specs.Prelude.{ℕ, Bool, true, false, bytes_eq, is_some, codes, if◌then◌else◌, List, ◌++◌, Option, None}
+use Rattle.std.specs.Prelude.{Some}
+use Rattle.pyc_ast.specs.declared.position.Position.{Position}
 use Rattle.pyc_bindings.specs.Redefinitions.{declaration}
 use Rattle.pyc_builtins.specs.declared.names.BuiltinName.{BuiltinName}
 use Rattle.pyc_builtins.specs.declared.names.BuiltinName.TheVariants as builtins
@@ -15,7 +18,9 @@ use Rattle.pyc_reading.specs.Answers.{Answer, NameAnswer, NameKind, name_is}
 use Rattle.pyc_reading.specs.Answers as kind
 use Rattle.pyc_reading.specs.Desks.{Step}
 use Rattle.pyc_reading.specs.Keys.{name}
-use Rattle.pyc_reading.specs.Readings.{Done, Ask, and_then}
+use Rattle.pyc_reading.specs.Readings.{Done, Ask, Tell, and_then}
+use Rattle.pyc_report.specs.declared.message.Code.TheVariants.{NameDefined, AttrDefined}
+use Rattle.pyc_report.specs.Message.{error_at}
 use Rattle.pyc_type_forms.specs.Types.{Ty, any, class_object}
 
 -- what a name means where a type is written
@@ -33,6 +38,22 @@ pub data Meaning : Type 0 where
   function_meant : Bool → Meaning
   -- a thing that no type is
   nothing_meant : Meaning
+
+-- ---- what is told
+
+unfoldable pub not_defined_text : List ℕ → List ℕ
+not_defined_text x = codes "Name \"" ++ (x ++ codes "\" is not defined")
+
+-- a name that nothing defines
+unfoldable pub not_defined : Position → List ℕ → Step Meaning
+not_defined at x = Tell (error_at at NameDefined (not_defined_text x)) (Done any_meant)
+
+unfoldable pub no_attribute_text : List ℕ → List ℕ
+no_attribute_text n = codes "Module has no attribute \"" ++ (n ++ codes "\"")
+
+-- an attribute that a module does not have
+unfoldable pub no_attribute : Position → List ℕ → Step Meaning
+no_attribute at n = Tell (error_at at AttrDefined (no_attribute_text n)) (Done any_meant)
 
 -- ---- names of modules
 
@@ -79,20 +100,24 @@ builtin_meaning (builtins.Function result) = function_meant false
 builtin_meaning builtins.RevealType = function_meant true
 builtin_meaning builtins.Any = any_meant
 
--- a name that the module does not bind: nothing is known of one that is no builtin either
-abbrev pub found_builtin : Option BuiltinName → Meaning
-found_builtin (Some found) = builtin_meaning found
-found_builtin None = any_meant
+-- a name that is no builtin: Any where two underscores stand at both ends
+abbrev pub no_builtin : Position → List ℕ → Step Meaning
+no_builtin at x = if is_dunder x then Done any_meant else not_defined at x
 
-abbrev pub unbound : List ℕ → Meaning
-unbound x = if bytes_eq x (codes "type") then type_meant else found_builtin (builtin_name x)
+abbrev pub found_builtin : Position → List ℕ → Option BuiltinName → Step Meaning
+found_builtin at x (Some found) = Done (builtin_meaning found)
+found_builtin at x None = no_builtin at x
+
+-- a name that the module does not bind, where it begins
+unfoldable pub unbound : Position → List ℕ → Step Meaning
+unbound at x = if bytes_eq x (codes "type") then Done type_meant else found_builtin at x (builtin_name x)
 
 -- ---- looking up
 
 -- a name of the own module, by whether that binds it: where it does not, the answer to its key says nothing
-abbrev pub own_meaning : List ℕ → Bool → Meaning → Meaning
-own_meaning x true found = found
-own_meaning x false found = unbound x
+abbrev pub own_meaning : Position → List ℕ → Bool → Meaning → Step Meaning
+own_meaning at x true found = Done found
+own_meaning at x false found = unbound at x
 
 -- whether a file binds a name at its top level
 abbrev pub binds : SourceFile → List ℕ → Bool
@@ -106,11 +131,24 @@ name_in_module m x None = Ask (name (record { home = m; name = x })) (λ answer.
 unfoldable pub module_name_meaning : List (List ℕ) → List ℕ → Step Meaning
 module_name_meaning m x = name_in_module m x (fixed_module m)
 
--- a name that stands in a file
-unfoldable pub own_name : SourceFile → List ℕ → Step Meaning
-own_name file x =
-    and_then (module_name_meaning file.name x) (λ found. Done (own_meaning x (binds file x) found))
+-- a name that stands in a file, where it begins
+unfoldable pub own_name : SourceFile → Position → List ℕ → Step Meaning
+own_name file at x = and_then (module_name_meaning file.name x) (own_meaning at x (binds file x))
 
--- an attribute of a module: Any where two underscores stand at both ends
-unfoldable pub module_attribute : List (List ℕ) → List ℕ → Step Meaning
-module_attribute m n = if is_dunder n then Done any_meant else module_name_meaning m n
+-- an attribute of a module, as the answer to its key tells it
+abbrev pub attribute_of_kind : Position → List ℕ → NameAnswer → NameKind → Step Meaning
+attribute_of_kind at n found kind.no_name = no_attribute at n
+attribute_of_kind at n found _ = Done (kind_meaning found.kind found.ty)
+
+abbrev pub answered_attribute : Position → List ℕ → Answer → Step Meaning
+answered_attribute at n (name_is found) = attribute_of_kind at n found found.kind
+answered_attribute at n _ = Done any_meant
+
+-- an attribute of a module, of a fixed one or by its key
+abbrev pub attribute_in_module : Position → List (List ℕ) → List ℕ → Option FixedModule → Step Meaning
+attribute_in_module at m n (Some found) = Done (fixed_meaning (fixed_name found n))
+attribute_in_module at m n None = Ask (name (record { home = m; name = n })) (answered_attribute at n)
+
+-- an attribute of a module, of which is told where its names begin: Any where two underscores stand at both ends
+unfoldable pub module_attribute : Position → List (List ℕ) → List ℕ → Step Meaning
+module_attribute at m n = if is_dunder n then Done any_meant else attribute_in_module at m n (fixed_module m)

@@ -57,12 +57,13 @@ fn named_base<N: Notes>(
     notes: &mut N,
     file: &SourceFile,
     at: Position,
+    inside: Position,
     names: &[Text],
 ) -> Result<Base, AllocError>
-    ensures { Performs base_of (spec.written_base (source_in file.now) at (Some names.now)) (N.desk notes.old) result
-        (N.desk notes.new) }
+    ensures { Performs base_of (spec.written_base (source_in file.now) at inside (Some names.now)) (N.desk notes.old)
+        result (N.desk notes.new) }
 {
-    let meaning = dotted_meaning(alloc, notes, Role::Base, file, names)?;
+    let meaning = dotted_meaning(alloc, notes, Role::Base, file, inside, names)?;
     let shown = names_text(alloc, names)?;
     let base = base_named(alloc, notes, at, shown.as_str(), meaning)?;
     Ok(base)
@@ -79,8 +80,9 @@ fn read_base<N: Notes>(
     ensures { Performs base_of (spec.base (source_in file.now) (expr_of e.now)) (N.desk notes.old) result
         (N.desk notes.new) }
 {
-    let names = dotted_names(alloc, innermost(e))?;
-    let found = written_base(alloc, notes, file, e.at, names)?;
+    let inner = innermost(e);
+    let names = dotted_names(alloc, inner)?;
+    let found = written_base(alloc, notes, file, e.at, inner.inside, names)?;
     Ok(found)
 }
 
@@ -90,13 +92,14 @@ fn written_base<N: Notes>(
     notes: &mut N,
     file: &SourceFile,
     at: Position,
+    inside: Position,
     names: Option<Vec<Text>>,
 ) -> Result<Base, AllocError>
-    ensures { Performs base_of (spec.written_base (source_in file.now) at (option_map (λ v. v.items) names))
+    ensures { Performs base_of (spec.written_base (source_in file.now) at inside (option_map (λ v. v.items) names))
         (N.desk notes.old) result (N.desk notes.new) }
 {
     match names {
-        Some(names) => named_base(alloc, notes, file, at, &names),
+        Some(names) => named_base(alloc, notes, file, at, inside, &names),
         None => invalid_base(alloc, notes, at, UNNAMED),
     }
 }

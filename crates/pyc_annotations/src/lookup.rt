@@ -4,15 +4,18 @@ ghost use Rattle.std.specs.Prelude.{◌≡◌, None};
 ghost use Rattle.pyc_annotations.specs.Annotations as rule;
 ghost use Rattle.pyc_annotations.specs.Meanings as spec;
 ghost use Rattle.pyc_annotations.specs.Views.{meaning_of};
+ghost use Rattle.pyc_names.specs.FixedModules as fixed;
 ghost use Rattle.pyc_names.specs.SourceFileView.{source_in};
+ghost use Rattle.pyc_reading.specs.AnswerView.{answer_in, kind_of, name_answer_of};
 ghost use Rattle.pyc_reading.specs.Desks.{Performs};
 
-use crate::meaning::{Meaning, Role, answer_meaning, fixed_meaning, unbound};
-use pyc_ast::Text;
+use crate::meaning::{Meaning, Role, answer_meaning, builtin_meaning, fixed_meaning, kind_meaning};
+use crate::messages::{no_attribute, not_defined};
+use pyc_ast::{Position, Text};
 use pyc_bindings::declaration;
-use pyc_builtins::is_dunder;
+use pyc_builtins::{BuiltinName, builtin_name, is_dunder};
 use pyc_names::{ModuleName, QualifiedName, SourceFile, fixed_module, fixed_name};
-use pyc_reading::{Key, Notes};
+use pyc_reading::{Answer, Key, NameAnswer, NameKind, Notes};
 use std::alloc::{AllocError, Global};
 
 /// What a name of a module means.
@@ -51,13 +54,71 @@ fn asked_meaning<N: Notes>(
 }
 
 /// What a name of the own module means, by whether that binds it.
-fn own_meaning(name: &Text, is_bound: bool, found: Meaning) -> Meaning
-    ensures { meaning_of result ≡ spec.own_meaning name.now is_bound (meaning_of found) }
+fn own_meaning<N: Notes>(
+    alloc: Global,
+    notes: &mut N,
+    at: Position,
+    name: &Text,
+    is_bound: bool,
+    found: Meaning,
+) -> Result<Meaning, AllocError>
+    ensures { Performs meaning_of (spec.own_meaning at name.now is_bound (meaning_of found)) (N.desk notes.old) result
+        (N.desk notes.new) }
 {
     if is_bound {
-        found
+        Ok(found)
     } else {
-        unbound(name.as_str())
+        unbound(alloc, notes, at, name.as_str())
+    }
+}
+
+/// What a name that the module does not bind means.
+#[tactic(auto, unfolding(crate::specs::Meanings::unbound))]
+fn unbound<N: Notes>(
+    alloc: Global,
+    notes: &mut N,
+    at: Position,
+    name: &str,
+) -> Result<Meaning, AllocError>
+    ensures { Performs meaning_of (spec.unbound at name.now) (N.desk notes.old) result (N.desk notes.new) }
+{
+    if name == "type" {
+        Ok(Meaning::Type)
+    } else {
+        found_builtin(alloc, notes, at, name, builtin_name(name))
+    }
+}
+
+/// What a name that the module does not bind means, by what it is among the builtins.
+fn found_builtin<N: Notes>(
+    alloc: Global,
+    notes: &mut N,
+    at: Position,
+    name: &str,
+    found: Option<BuiltinName>,
+) -> Result<Meaning, AllocError>
+    ensures { Performs meaning_of (spec.found_builtin at name.now found) (N.desk notes.old) result
+        (N.desk notes.new) }
+{
+    match found {
+        Some(found) => Ok(builtin_meaning(found)),
+        None => no_builtin(alloc, notes, at, name),
+    }
+}
+
+/// What a name that is no builtin means: where two underscores stand at both ends it is Any, else it is told.
+fn no_builtin<N: Notes>(
+    alloc: Global,
+    notes: &mut N,
+    at: Position,
+    name: &str,
+) -> Result<Meaning, AllocError>
+    ensures { Performs meaning_of (spec.no_builtin at name.now) (N.desk notes.old) result (N.desk notes.new) }
+{
+    if is_dunder(name) {
+        Ok(Meaning::Any)
+    } else {
+        not_defined(alloc, notes, at, name)
     }
 }
 
@@ -68,36 +129,111 @@ fn binds(file: &SourceFile, name: &Text) -> bool
     declaration(file.bindings(), name).is_some()
 }
 
-/// What a name that stands in a file means.
+/// What a name that stands in a file means: one that nothing defines is told.
 #[tactic(auto, using(crate::proofs::Steps::performing), unfolding(crate::specs::Meanings::own_name))]
 fn own_name<N: Notes>(
     alloc: Global,
     notes: &mut N,
     file: &SourceFile,
+    at: Position,
     name: &Text,
 ) -> Result<Meaning, AllocError>
-    ensures { Performs meaning_of (spec.own_name (source_in file.now) name.now) (N.desk notes.old) result
+    ensures { Performs meaning_of (spec.own_name (source_in file.now) at name.now) (N.desk notes.old) result
         (N.desk notes.new) }
 {
     let found = module_name_meaning(alloc, notes, file.name(), name)?;
-    Ok(own_meaning(name, binds(file, name), found))
+    let meaning = own_meaning(alloc, notes, at, name, binds(file, name), found)?;
+    Ok(meaning)
 }
 
-/// What an attribute of a module means.
+/// What an attribute of a module means: one that the module does not have is told.
 #[tactic(auto, unfolding(crate::specs::Meanings::module_attribute))]
 fn module_attribute<N: Notes>(
     alloc: Global,
     notes: &mut N,
+    at: Position,
     home: &ModuleName,
     name: &Text,
 ) -> Result<Meaning, AllocError>
-    ensures { Performs meaning_of (spec.module_attribute home.now name.now) (N.desk notes.old) result
+    ensures { Performs meaning_of (spec.module_attribute at home.now name.now) (N.desk notes.old) result
         (N.desk notes.new) }
 {
     if is_dunder(name.as_str()) {
         Ok(Meaning::Any)
     } else {
-        module_name_meaning(alloc, notes, home, name)
+        attribute_in_module(alloc, notes, at, home, name)
+    }
+}
+
+/// What an attribute of a module means, which has not two underscores at both ends.
+fn attribute_in_module<N: Notes>(
+    alloc: Global,
+    notes: &mut N,
+    at: Position,
+    home: &ModuleName,
+    name: &Text,
+) -> Result<Meaning, AllocError>
+    ensures { Performs meaning_of (spec.attribute_in_module at home.now name.now (fixed.fixed_module home.now))
+        (N.desk notes.old) result (N.desk notes.new) }
+{
+    match fixed_module(home.parts()) {
+        Some(found) => Ok(fixed_meaning(fixed_name(found, name.as_str()))),
+        None => asked_attribute(alloc, notes, at, home, name),
+    }
+}
+
+/// What an attribute of a module that is no fixed one means.
+#[tactic(auto, using(crate::proofs::Steps::performing))]
+fn asked_attribute<N: Notes>(
+    alloc: Global,
+    notes: &mut N,
+    at: Position,
+    home: &ModuleName,
+    name: &Text,
+) -> Result<Meaning, AllocError>
+    ensures { Performs meaning_of (spec.attribute_in_module at home.now name.now None) (N.desk notes.old) result
+        (N.desk notes.new) }
+{
+    let key = Key::Name(QualifiedName {
+        home: home.clone()?,
+        name: name.clone()?,
+    });
+    let answer = notes.ask(alloc, key)?;
+    let meaning = answered_attribute(alloc, notes, at, name.as_str(), answer)?;
+    Ok(meaning)
+}
+
+/// What an attribute of a module means, as the answer to its key tells it.
+fn answered_attribute<N: Notes>(
+    alloc: Global,
+    notes: &mut N,
+    at: Position,
+    name: &str,
+    answer: Answer,
+) -> Result<Meaning, AllocError>
+    ensures { Performs meaning_of (spec.answered_attribute at name.now (answer_in answer)) (N.desk notes.old) result
+        (N.desk notes.new) }
+{
+    match answer {
+        Answer::Name(found) => attribute_of_kind(alloc, notes, at, name, found),
+        Answer::Presence(_) | Answer::Order(_) | Answer::Member(_) => Ok(Meaning::Any),
+    }
+}
+
+/// What an attribute of a module means, by what it stands for: where its module does not have it that is told.
+fn attribute_of_kind<N: Notes>(
+    alloc: Global,
+    notes: &mut N,
+    at: Position,
+    name: &str,
+    found: NameAnswer,
+) -> Result<Meaning, AllocError>
+    ensures { Performs meaning_of (spec.attribute_of_kind at name.now (name_answer_of found) (kind_of found.kind))
+        (N.desk notes.old) result (N.desk notes.new) }
+{
+    match &found.kind {
+        NameKind::NoName => no_attribute(alloc, notes, at, name),
+        _ => Ok(kind_meaning(found.kind, found.ty)),
     }
 }
 
@@ -117,14 +253,15 @@ fn attribute_meaning<N: Notes>(
     alloc: Global,
     notes: &mut N,
     role: Role,
+    at: Position,
     name: &Text,
     value: Meaning,
 ) -> Result<Meaning, AllocError>
-    ensures { Performs meaning_of (rule.attribute_meaning role name.now (meaning_of value)) (N.desk notes.old) result
-        (N.desk notes.new) }
+    ensures { Performs meaning_of (rule.attribute_meaning role at name.now (meaning_of value)) (N.desk notes.old)
+        result (N.desk notes.new) }
 {
     match value {
-        Meaning::Module(home) => module_attribute(alloc, notes, &home, name),
+        Meaning::Module(home) => module_attribute(alloc, notes, at, &home, name),
         Meaning::Any | Meaning::Type | Meaning::Fixed(_) => Ok(Meaning::Any),
         Meaning::Variable(is_any) | Meaning::Function(is_any) => {
             Ok(attribute_of_value(role.is_base() && is_any))
@@ -139,35 +276,37 @@ fn attributes<N: Notes>(
     alloc: Global,
     notes: &mut N,
     role: Role,
+    at: Position,
     names: &[Text],
     found: Meaning,
 ) -> Result<Meaning, AllocError>
-    ensures { Performs meaning_of (rule.attributes role names.now (meaning_of found)) (N.desk notes.old) result
+    ensures { Performs meaning_of (rule.attributes role at names.now (meaning_of found)) (N.desk notes.old) result
         (N.desk notes.new) }
 {
     let mut found = found;
     for name in names {
-        found = attribute_meaning(alloc, notes, role, name, found)?;
+        found = attribute_meaning(alloc, notes, role, at, name, found)?;
     }
     Ok(found)
 }
 
-/// What names joined by dots mean where they stand in a file.
+/// What names joined by dots mean that begin at a position in a file.
 #[tactic(auto, using(crate::proofs::Steps::performing), unfolding(crate::specs::Annotations::dotted_meaning))]
 pub(crate) fn dotted_meaning<N: Notes>(
     alloc: Global,
     notes: &mut N,
     role: Role,
     file: &SourceFile,
+    at: Position,
     names: &[Text],
 ) -> Result<Meaning, AllocError>
-    ensures { Performs meaning_of (rule.dotted_meaning role (source_in file.now) names.now) (N.desk notes.old) result
-        (N.desk notes.new) }
+    ensures { Performs meaning_of (rule.dotted_meaning role (source_in file.now) at names.now) (N.desk notes.old)
+        result (N.desk notes.new) }
 {
     match names {
         [first, rest @ ..] => {
-            let found = own_name(alloc, notes, file, first)?;
-            let meaning = attributes(alloc, notes, role, rest, found)?;
+            let found = own_name(alloc, notes, file, at, first)?;
+            let meaning = attributes(alloc, notes, role, at, rest, found)?;
             Ok(meaning)
         }
         [] => Ok(Meaning::Nothing),

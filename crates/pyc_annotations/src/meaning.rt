@@ -7,7 +7,7 @@ ghost use Rattle.pyc_annotations.specs.Views.{meaning_of};
 ghost use Rattle.pyc_reading.specs.AnswerView.{answer_in, kind_of};
 ghost use Rattle.pyc_type_forms.specs.TypeView.{ty_of};
 
-use pyc_builtins::{BuiltinName, builtin_name};
+use pyc_builtins::BuiltinName;
 use pyc_class::ClassId;
 use pyc_names::{FixedName, ModuleName};
 use pyc_reading::{Answer, NameKind};
@@ -84,7 +84,7 @@ fn unannotated(is_any: bool) -> Meaning
 }
 
 /// What a thing of this kind and type means.
-fn kind_meaning(kind: NameKind, ty: Ty) -> Meaning
+pub(crate) fn kind_meaning(kind: NameKind, ty: Ty) -> Meaning
     ensures { meaning_of result ≡ spec.kind_meaning (kind_of kind) (ty_of ty) }
 {
     match kind {
@@ -119,7 +119,7 @@ pub(crate) fn fixed_meaning(found: Option<FixedName>) -> Meaning
 }
 
 /// What a builtin means.
-fn builtin_meaning(found: BuiltinName) -> Meaning
+pub(crate) fn builtin_meaning(found: BuiltinName) -> Meaning
     ensures { meaning_of result ≡ spec.builtin_meaning found }
 {
     match found {
@@ -127,26 +127,5 @@ fn builtin_meaning(found: BuiltinName) -> Meaning
         BuiltinName::Function(_) => Meaning::Function(false),
         BuiltinName::RevealType => Meaning::Function(true),
         _ => Meaning::Any,
-    }
-}
-
-/// What a name that the module does not bind means, by what it is among the builtins.
-fn found_builtin(found: Option<BuiltinName>) -> Meaning
-    ensures { meaning_of result ≡ spec.found_builtin found }
-{
-    match found {
-        Some(name) => builtin_meaning(name),
-        None => Meaning::Any,
-    }
-}
-
-/// What a name that the module does not bind means.
-pub(crate) fn unbound(name: &str) -> Meaning
-    ensures { meaning_of result ≡ spec.unbound name.now }
-{
-    if name == "type" {
-        Meaning::Type
-    } else {
-        found_builtin(builtin_name(name))
     }
 }

@@ -3,12 +3,14 @@
 ghost use Rattle.std.specs.Prelude.{◌≡◌, IfOk, string_bytes};
 ghost use Rattle.pyc_annotations.specs.Annotations as spec;
 ghost use Rattle.pyc_annotations.specs.Bases as base_spec;
-ghost use Rattle.pyc_annotations.specs.Views.{annotation_in, base_of};
+ghost use Rattle.pyc_annotations.specs.Meanings as name_spec;
+ghost use Rattle.pyc_annotations.specs.Views.{annotation_in, base_of, meaning_of};
 ghost use Rattle.pyc_reading.specs.Desks.{Performs};
 ghost use Rattle.pyc_report.specs.NameTexts.{joined_names};
 ghost use Rattle.pyc_type_exprs.specs.TypeExprView.{dotted_name_of};
 
 use crate::class_bases::Base;
+use crate::meaning::Meaning;
 use crate::reading::{Annotation, of_type};
 use crate::type_form::TypeForm;
 use pyc_ast::{Position, Text};
@@ -126,4 +128,50 @@ pub(crate) fn invalid_base<N: Notes>(
     let text = invalid_base_text(alloc, shown)?;
     notes.tell(Message::error_at(at, Code::Misc, text))?;
     Ok(Base::Invalid)
+}
+
+/// The text on a name that nothing defines.
+#[tactic(auto, unfolding(crate::specs::Meanings::not_defined_text))]
+fn not_defined_text(alloc: Global, name: &str) -> Result<String, AllocError>
+    ensures { IfOk result (λ text. string_bytes text ≡ name_spec.not_defined_text name.now) }
+{
+    format!(in alloc; "Name \"{name}\" is not defined")
+}
+
+/// Tells that nothing defines a name, which is Any.
+#[tactic(auto, unfolding(crate::specs::Meanings::not_defined))]
+pub(crate) fn not_defined<N: Notes>(
+    alloc: Global,
+    notes: &mut N,
+    at: Position,
+    name: &str,
+) -> Result<Meaning, AllocError>
+    ensures { Performs meaning_of (name_spec.not_defined at name.now) (N.desk notes.old) result (N.desk notes.new) }
+{
+    let text = not_defined_text(alloc, name)?;
+    notes.tell(Message::error_at(at, Code::NameDefined, text))?;
+    Ok(Meaning::Any)
+}
+
+/// The text on an attribute that a module does not have.
+#[tactic(auto, unfolding(crate::specs::Meanings::no_attribute_text))]
+fn no_attribute_text(alloc: Global, name: &str) -> Result<String, AllocError>
+    ensures { IfOk result (λ text. string_bytes text ≡ name_spec.no_attribute_text name.now) }
+{
+    format!(in alloc; "Module has no attribute \"{name}\"")
+}
+
+/// Tells that a module does not have an attribute, which is Any.
+#[tactic(auto, unfolding(crate::specs::Meanings::no_attribute))]
+pub(crate) fn no_attribute<N: Notes>(
+    alloc: Global,
+    notes: &mut N,
+    at: Position,
+    name: &str,
+) -> Result<Meaning, AllocError>
+    ensures { Performs meaning_of (name_spec.no_attribute at name.now) (N.desk notes.old) result (N.desk notes.new) }
+{
+    let text = no_attribute_text(alloc, name)?;
+    notes.tell(Message::error_at(at, Code::AttrDefined, text))?;
+    Ok(Meaning::Any)
 }

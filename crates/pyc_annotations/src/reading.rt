@@ -121,7 +121,7 @@ fn read_name<N: Notes>(
     ensures { Performs annotation_in (spec.name_rule (source_in file.now) at (dotted_name_of name.now))
         (N.desk notes.old) result (N.desk notes.new) }
 {
-    let meaning = dotted_meaning(alloc, notes, Role::Annotation, file, &name.names)?;
+    let meaning = dotted_meaning(alloc, notes, Role::Annotation, file, name.at, &name.names)?;
     let found = named(alloc, notes, at, name, meaning)?;
     Ok(found)
 }
@@ -173,7 +173,7 @@ fn read_subscript<N: Notes>(
         (spec.argument_readings (source_in file.now) (type_arguments (map type_argument_of arguments.now))))
         (N.desk notes.old) result (N.desk notes.new) }
 {
-    let meaning = dotted_meaning(alloc, notes, Role::Annotation, file, &name.names)?;
+    let meaning = dotted_meaning(alloc, notes, Role::Annotation, file, name.at, &name.names)?;
     let subscripted = with_arguments(is_nested, meaning);
     let found = read_subscripted(alloc, notes, file, at, name, arguments, subscripted)?;
     Ok(found)

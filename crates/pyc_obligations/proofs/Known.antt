@@ -39,7 +39,7 @@ with_agrees orders answers c d true same agree = ap (orders_by answers) (same_cl
 with_agrees orders answers c d false same agree = agree
 
 -- what agrees with the answers goes on to agree
-keeps : (cs : List Id) (orders : Orders) (answers : Key → Answer) (d : Id) → orders d ≡ orders_by answers d → after cs orders answers d ≡ orders_by answers d
+pub keeps : (cs : List Id) (orders : Orders) (answers : Key → Answer) (d : Id) → orders d ≡ orders_by answers d → after cs orders answers d ≡ orders_by answers d
 keeps [] orders answers d agree = agree
 keeps (c ∷ cs) orders answers d agree = keeps cs (with_order orders c (orders_by answers c)) answers d (with_agrees orders answers c d (same_class c d) refl agree)
 
@@ -60,11 +60,11 @@ after_agrees (c ∷ cs) orders answers = (
   after_agrees cs (with_order orders c (orders_by answers c)) answers,
 )
 
-agree_left : (o p : Orders) (xs ys : List Id) → AgreeEach o p (xs ++ ys) → AgreeEach o p xs
+pub agree_left : (o p : Orders) (xs ys : List Id) → AgreeEach o p (xs ++ ys) → AgreeEach o p xs
 agree_left o p [] ys h = tt
 agree_left o p (x ∷ xs) ys h = (h.0, agree_left o p xs ys h.1)
 
-agree_right : (o p : Orders) (xs ys : List Id) → AgreeEach o p (xs ++ ys) → AgreeEach o p ys
+pub agree_right : (o p : Orders) (xs ys : List Id) → AgreeEach o p (xs ++ ys) → AgreeEach o p ys
 agree_right o p [] ys h = h
 agree_right o p (x ∷ xs) ys h = agree_right o p xs ys h.1
 

@@ -80,10 +80,10 @@ pub fn judged<N: Judge>(
     Ok(holds)
 }
 
-/// Asks the orders of the classes that are written in a type.
+/// Asks the orders of the classes that are written in a type. The only error is that memory runs out.
 #[cycle(written)]
 #[tactic(auto, using(crate::proofs::Steps::performing))]
-fn ask_written<N: Judge>(alloc: Global, notes: &mut N, ty: &Ty) -> Result<(), AllocError>
+pub fn ask_written<N: Judge>(alloc: Global, notes: &mut N, ty: &Ty) -> Result<(), AllocError>
     ensures { Performs (λ u. u) (classes_asked (spec.written (ty_of ty.now))) (N.desk notes.old) result
         (N.desk notes.new) }
 {

@@ -11,7 +11,7 @@ mod telling;
 mod value;
 
 pub use asking::{asked_member, asked_name, is_unknown_class};
-pub use judging::{Judge, KnownOrders, ask_class, judged, known_orders};
+pub use judging::{Judge, KnownOrders, ask_class, ask_written, judged, known_orders};
 pub use quiet::quieten;
 pub use reader::Reader;
 pub use telling::{tell_error, tell_note};

@@ -7,6 +7,6 @@ use Rattle.pyc_annotations.proofs.lookup.attributes.Goals as goal
 pub loop-name-preserved : goal.loop-name-preserved
 unfolding attributes
 loop-name-preserved g c = record {
-  same = sym (one_turn (λ names. attributes c.args.role names (meaning_of c.loop-name.found)) (λ name. attribute_meaning c.args.role name (meaning_of c.loop-name.found)) (λ found names. attributes c.args.role names found) (λ x xs. refl) c.args.names.now c.loop-name.name-index _ _ _ _ c.loop-name-test.true c.name-item.is c.in_ok-found.ensures.done) ∙ c.loop-name.invariant.same;
+  same = sym (one_turn (λ names. attributes c.args.role c.args.at names (meaning_of c.loop-name.found)) (λ name. attribute_meaning c.args.role c.args.at name (meaning_of c.loop-name.found)) (λ found names. attributes c.args.role c.args.at names found) (λ x xs. refl) c.args.names.now c.loop-name.name-index _ _ _ _ c.loop-name-test.true c.name-item.is c.in_ok-found.ensures.done) ∙ c.loop-name.invariant.same;
   grown = grown_trans c.loop-name.invariant.grown c.attribute_meaning.ensures.grown;
 }

@@ -7,5 +7,5 @@ use Rattle.pyc_annotations.proofs.lookup.attributes.Given as goal
 -- what is left to do comes to the same as all
 abbrev pub invariant-loop-name : goal.invariant-loop-name
 invariant-loop-name g l =
-    Going (attributes l.role (drop l.name-index l.names) (meaning_of l.found)) (g.N.Notes.desk l.notes)
-    (attributes l.role l.names (meaning_of l.fn.found)) (g.N.Notes.desk l.fn.notes)
+    Going (attributes l.role l.at (drop l.name-index l.names) (meaning_of l.found)) (g.N.Notes.desk l.notes)
+    (attributes l.role l.at l.names (meaning_of l.fn.found)) (g.N.Notes.desk l.fn.notes)

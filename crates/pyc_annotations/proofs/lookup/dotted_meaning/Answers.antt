@@ -16,7 +16,7 @@ returns-in_ok-meaning-in-len1-up g c =
     let rest = between 1 (length names) names in
     record {
       done =
-          ap (λ (l : List (List ℕ)). run (dotted_meaning c.args.role file l) (g.N.Notes.desk c.args.notes.now)) (first_and_rest names _ c.in-len1-up.len_at_least c.first-item.is)
-          ∙ after (own_name file c.first-item.result) (attributes c.args.role rest) (g.N.Notes.desk c.args.notes.now) _ _ _ _ c.in_ok-found-in-len1-up.ensures.done c.in_ok-meaning-in-len1-up.ensures.done;
+          ap (λ (l : List (List ℕ)). run (dotted_meaning c.args.role file c.args.at l) (g.N.Notes.desk c.args.notes.now)) (first_and_rest names _ c.in-len1-up.len_at_least c.first-item.is)
+          ∙ after (own_name file c.args.at c.first-item.result) (attributes c.args.role c.args.at rest) (g.N.Notes.desk c.args.notes.now) _ _ _ _ c.in_ok-found-in-len1-up.ensures.done c.in_ok-meaning-in-len1-up.ensures.done;
       grown = grown_trans c.own_name.ensures.grown c.attributes.ensures.grown;
     }

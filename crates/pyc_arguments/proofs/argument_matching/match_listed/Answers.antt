@@ -1,0 +1,12 @@
+use Rattle.std.proofs.Common.{ap, sym, subst, ◌∙◌}
+use Rattle.pyc_arguments.proofs.Parts.{kinds_are}
+use Rattle.pyc_arguments.specs.Matched.{matched_unless}
+use Rattle.pyc_arguments.specs.Views.{args_in, call_in}
+use Rattle.pyc_obligations.proofs.Steps.{performs_same}
+use Rattle.pyc_type_forms.specs.TypeView.{param_row}
+use Rattle.pyc_arguments.proofs.argument_matching.match_listed.Goals as goal
+
+pub returns : goal.returns
+returns g c =
+    let args = args_in (g.R.Reader.reads c.args.reader.now) c.args.arguments.now in
+    performs_same _ _ _ _ _ _ (ap (λ b. matched_unless b (call_in c.args.call.now) (param_row c.args.params.now) args) (kinds_are (g.R.Reader.reads c.args.reader.now) c.args.arguments.now ∙ sym c.has_unpacked.ensures)) c.match_unless.ensures

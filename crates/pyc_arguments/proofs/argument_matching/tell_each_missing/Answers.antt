@@ -1,0 +1,17 @@
+use Rattle.std.proofs.Common.{◌∙◌, map, refl, sym}
+use Rattle.pyc_arguments.specs.Matched.{missing_told}
+use Rattle.pyc_arguments.specs.Views.{call_in}
+use Rattle.pyc_matching.specs.Views.{missing_in}
+use Rattle.pyc_reading.proofs.RunLemmas.{one_turn, grown_trans}
+use Rattle.pyc_reading.specs.Readings.{each}
+use Rattle.pyc_arguments.proofs.argument_matching.tell_each_missing.Goals as goal
+
+pub loop-missing-preserved : goal.loop-missing-preserved
+loop-missing-preserved g c =
+    let told = missing_told (call_in c.args.call.now) in
+    record {
+      same =
+          sym (one_turn (λ l. each told (map missing_in l)) (λ x. told (missing_in x)) (λ u l. each told (map missing_in l)) (λ x xs. refl) c.args.found.now c.loop-missing.missing-index c.missing-item.result _ _ _ c.loop-missing-test.true c.missing-item.is c.in_ok-tell_missing.ensures.done)
+          ∙ c.loop-missing.invariant.same;
+      grown = grown_trans c.loop-missing.invariant.grown c.tell_missing.ensures.grown;
+    }

@@ -1,0 +1,12 @@
+use Rattle.std.proofs.Common.{◌∙◌}
+use Rattle.pyc_arguments.proofs.Turns.{read_turn}
+use Rattle.pyc_reading.proofs.RunLemmas.{grown_trans}
+use Rattle.pyc_arguments.proofs.arguments.read_each.Goals as goal
+
+pub loop-argument-preserved : goal.loop-argument-preserved
+loop-argument-preserved g c = record {
+  same =
+      read_turn (g.R.Reader.reads c.args.reader.now) c.args.arguments.now c.loop-argument.argument-index c.argument-item.result _ _ _ c.loop-argument-test.true c.argument-item.is c.in_ok-read.ensures.done
+      ∙ c.loop-argument.invariant.same;
+  grown = grown_trans c.loop-argument.invariant.grown c.read.ensures.grown;
+}

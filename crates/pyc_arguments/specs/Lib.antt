@@ -1,0 +1,4 @@
+pub mod Telling
+pub mod Arguments
+pub mod Matched
+pub mod Views

@@ -1,0 +1,12 @@
+use Rattle.std.proofs.Common.{sym, ap, ◌∙◌, List, map}
+use Rattle.std.proofs.lemmas.List.{take-map}
+use Rattle.pyc_examiner.specs.ExaminerView.{desk_of}
+use Rattle.pyc_reading.specs.Desks.{Desk}
+use Rattle.pyc_report.specs.Message.{Message, message_in}
+use Rattle.pyc_examiner.proofs.examiner.ExaminerJudge.forget_after.Goals as goal
+
+pub returns : goal.returns
+returns c =
+    let desk = desk_of c.args.self.now in
+    ap (λ (messages : List Message). record { answers = desk.answers; keys = desk.keys; messages = messages })
+    (ap (map message_in) c.truncate.ensures.items ∙ sym (take-map message_in c.args.count c.args.self.now.messages.items))

@@ -1,0 +1,16 @@
+-- The desk at which an examiner performs readings.
+use Rattle.std.specs.Prelude.{map}
+use Rattle.pyc_examiner.specs.declared.examiner.Examiner.{Examiner}
+use Rattle.pyc_iface.specs.Answers.{answer_of}
+use Rattle.pyc_iface.specs.WorldView.{world_in}
+use Rattle.pyc_reading.specs.Desks.{Desk}
+use Rattle.pyc_report.specs.Message.{message_in}
+
+-- the desk of an examiner, over what its world answers
+abbrev pub desk_of : Examiner → Desk
+desk_of examiner =
+    record {
+      answers = answer_of (world_in examiner.world.now);
+      keys = examiner.keys.keys;
+      messages = map message_in examiner.messages.items;
+    }

@@ -1,0 +1,3 @@
+pub mod KeyEquality
+pub mod KeyHash
+pub mod ExaminerView

@@ -1,0 +1,77 @@
+//! Who examines the bodies of files.
+
+ghost use Rattle.std.specs.Prelude.{◌≡◌, [], map, IfOk, is_ok};
+ghost use Rattle.pyc_iface.specs.Answers.{answer_of};
+ghost use Rattle.pyc_iface.specs.WorldView.{world_in};
+ghost use Rattle.pyc_report.specs.Message.{message_in};
+
+use crate::asked_key::AskedKey;
+use indexmap::IndexSet;
+use pyc_class::{ClassId, Lin, Lins};
+use pyc_iface::World;
+use pyc_obligations::Judge;
+use pyc_reading::{Answer, Key, Notes};
+use pyc_report::Message;
+use std::alloc::{AllocError, Global};
+
+/// Who performs the readings of bodies over a world, and keeps the keys that were asked, each once, in the order in
+/// which they were first asked, and the messages that were told.
+#[derive(Drop)]
+pub struct Examiner<'a> {
+    world: &'a World,
+    keys: IndexSet<AskedKey>,
+    messages: Vec<Message>,
+}
+
+impl<'a> Examiner<'a> {
+    ghost use Rattle.pyc_examiner.specs.ExaminerView.{desk_of};
+
+    /// An examiner over a world, at which nothing was asked or told. It takes no memory.
+    pub fn new(alloc: Global, world: &'a World) -> Examiner<'a>
+        ensures { desk_of result ≡ record { answers = answer_of (world_in world.now); keys = []; messages = [] } }
+    {
+        Examiner {
+            world,
+            keys: IndexSet::new(alloc),
+            messages: Vec::new(alloc),
+        }
+    }
+
+    /// What was told.
+    pub fn into_messages(self) -> Vec<Message>
+        ensures { map message_in result.items ≡ (desk_of self.entry).messages }
+    {
+        self.messages
+    }
+}
+
+impl Notes for Examiner<'_> {
+    ghost use Rattle.pyc_examiner.specs.ExaminerView.{desk_of};
+
+    ghost desk = { desk_of };
+
+    fn ask(&mut self, alloc: Global, key: Key) -> Result<Answer, AllocError> {
+        let answer = self.world.ask(alloc, &key)?;
+        self.keys.insert(AskedKey::new(key))?;
+        Ok(answer)
+    }
+
+    fn tell(&mut self, message: Message) -> Result<(), AllocError> {
+        self.messages.push(message)?;
+        Ok(())
+    }
+}
+
+impl Judge for Examiner<'_> {
+    fn lin(&self, class: &ClassId) -> Lin<'_> {
+        self.world.lin(class)
+    }
+
+    fn told_count(&self) -> usize {
+        self.messages.len()
+    }
+
+    fn forget_after(&mut self, count: usize) {
+        self.messages.truncate(count);
+    }
+}

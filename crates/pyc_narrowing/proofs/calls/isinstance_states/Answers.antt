@@ -1,0 +1,20 @@
+use Rattle.pyc_ast.specs.ExprView.{expr_of}
+use Rattle.pyc_narrowing.specs.Splitting.{looked, classes_at, test_by, isinstance_rule}
+use Rattle.pyc_places.specs.StateView.{state_of}
+use Rattle.pyc_reading.proofs.RunLemmas.{after, grown_trans}
+use Rattle.pyc_reading.specs.Readings.{and_then}
+use Rattle.pyc_type_forms.specs.TypeView.{ty_of}
+use Rattle.pyc_narrowing.proofs.calls.isinstance_states.Goals as goal
+
+pub returns : goal.returns
+unfolding isinstance_rule
+returns g c =
+    let look = g.L.Looks.looks c.args.looks.now in
+    let s = state_of c.args.state.now in
+    let classes = classes_at look s (expr_of c.args.classes.now) in
+    record {
+      done =
+          after (looked look s (expr_of c.args.tested.now)) (λ found. and_then classes (test_by s c.args.place.now found.ty)) _ _ _ _ _ c.in_ok-found.ensures.done
+          (after classes (test_by s c.args.place.now (ty_of c.in_ok-found.found.ty)) _ _ _ _ _ c.in_ok-classes.ensures.done c.in_ok-states.ensures.done);
+      grown = grown_trans (grown_trans c.looked.ensures.grown c.classes_at.ensures.grown) c.test_by.ensures.grown;
+    }

@@ -1,0 +1,12 @@
+use Rattle.std.proofs.Common.{◌∙◌, sym, refl}
+use Rattle.pyc_obligations.specs.Judging.{class_asked, classes_asked}
+use Rattle.pyc_reading.proofs.RunLemmas.{one_turn, grown_trans}
+use Rattle.pyc_narrowing.proofs.classes.ask_classes.Goals as goal
+
+pub loop-class-preserved : goal.loop-class-preserved
+loop-class-preserved g c = record {
+  same =
+      sym (one_turn classes_asked class_asked (λ u xs. classes_asked xs) (λ x xs. refl) c.args.classes.now c.loop-class.class-index _ _ _ _ c.loop-class-test.true c.class-item.is c.in_ok-ask_class.ensures.done)
+      ∙ c.loop-class.invariant.same;
+  grown = grown_trans c.loop-class.invariant.grown c.ask_class.ensures.grown;
+}

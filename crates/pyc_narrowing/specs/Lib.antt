@@ -1,0 +1,3 @@
+pub mod SplitStates
+pub mod SplitView
+pub mod Splitting

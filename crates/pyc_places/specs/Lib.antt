@@ -1,0 +1,4 @@
+pub mod Places
+pub mod States
+pub mod StateView
+pub mod TargetPlaces
