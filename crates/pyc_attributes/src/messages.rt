@@ -20,9 +20,9 @@ fn no_attribute_text(alloc: Global, shown: &str, name: &str) -> Result<String, A
     format!(in alloc; "\"{shown}\" has no attribute \"{name}\"")
 }
 
-/// Tells that a type has no such attribute.
+/// Tells that a type has no such attribute, and answers Any. The only error is that memory runs out.
 #[tactic(auto, using(crate::proofs::Steps::performing), unfolding(crate::specs::AttributeValues::no_attribute))]
-pub(crate) fn no_attribute<N: Judge>(
+pub fn no_attribute<N: Judge>(
     alloc: Global,
     notes: &mut N,
     at: Position,
@@ -46,9 +46,9 @@ fn no_module_attribute_text(alloc: Global, name: &str) -> Result<String, AllocEr
     format!(in alloc; "Module has no attribute \"{name}\"")
 }
 
-/// Tells that a module has no such attribute.
+/// Tells that a module has no such attribute, and answers Any. The only error is that memory runs out.
 #[tactic(auto, using(crate::proofs::Steps::performing), unfolding(crate::specs::AttributeValues::no_module_attribute))]
-pub(crate) fn no_module_attribute<N: Judge>(
+pub fn no_module_attribute<N: Judge>(
     alloc: Global,
     notes: &mut N,
     at: Position,
@@ -76,9 +76,9 @@ fn no_item_attribute_text(
     format!(in alloc; "Item \"{item}\" of \"{whole}\" has no attribute \"{name}\"")
 }
 
-/// Tells that an item of a union has no such attribute.
+/// Tells that an item of a union has no such attribute, and answers Any. The only error is that memory runs out.
 #[tactic(auto, using(crate::proofs::Steps::performing), unfolding(crate::specs::AttributeValues::no_item_attribute))]
-pub(crate) fn no_item_attribute<N: Judge>(
+pub fn no_item_attribute<N: Judge>(
     alloc: Global,
     notes: &mut N,
     at: Position,

@@ -79,8 +79,9 @@ fn tuple_with(alloc: Global, places: Vec<Ty>) -> Result<Ty, AllocError>
     Ok(Ty::Tuple(Rc::new(alloc, places)?))
 }
 
-/// A tuple of items of these types: one of any length where some stand after `*`.
-pub(crate) fn tuple_type(alloc: Global, is_starred: bool, types: Vec<Ty>) -> Result<Ty, AllocError>
+/// A tuple of items of these types: one of any length where some stand after `*`. The only error is that memory runs
+/// out.
+pub fn tuple_type(alloc: Global, is_starred: bool, types: Vec<Ty>) -> Result<Ty, AllocError>
     ensures { IfOk result (λ ty. ty_of ty ≡ spec.tuple_type is_starred (map ty_of types.items)) }
 {
     if is_starred {

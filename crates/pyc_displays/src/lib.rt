@@ -11,6 +11,7 @@ mod lists;
 mod messages;
 mod tuples;
 
+pub use built::tuple_type;
 pub use dicts::dict_display;
 pub use joins::{and_type, conditional_type, or_type};
 pub use lists::list_display;

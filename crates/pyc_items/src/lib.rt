@@ -9,4 +9,4 @@ mod owners;
 mod subscripts;
 
 pub use iterating::iterated;
-pub use subscripts::subscript;
+pub use subscripts::{item_of, subscript};

@@ -78,9 +78,10 @@ fn push_item(found: &mut Items, item: Option<Ty>) -> Result<(), AllocError>
     Ok(())
 }
 
-/// The item of a type.
+/// The item that a type, other than a union, has under an index of a type, in an expression that begins at a position,
+/// or None where it cannot be indexed, which is left to tell. The only error is that memory runs out.
 #[tactic(auto, using(crate::proofs::Steps::performing), unfolding(crate::specs::Subscripts::item_of))]
-fn item_of<N: Judge>(
+pub fn item_of<N: Judge>(
     alloc: Global,
     notes: &mut N,
     at: Position,

@@ -1,0 +1,257 @@
+#!/usr/bin/env python3
+"""Tries each must-fail edit: `edits.py [CRATE..]`, over the libraries that `rt ci` left in the crates' folders `out`.
+
+The prover must refuse each edit `crates/NAME/must-fail/*.edit`. `rt must-fail NAME` tries them one by one, each with a load
+of the whole crate. Here several edits of one crate stand in one check, at most one to a function, and the check asks for
+the edited functions alone. A proof reads what other functions promise and not their bodies, so an edit of one body leaves
+the proof of another as it was: an edit counts as refused in such a check only where the prover says of that very function
+that it is not proved. Each other is tried again, at last alone, in a check of the whole crate. An edit with a line
+`refuses: FUNCTION`, for the ones that change what is stated, must be refused at that function.
+
+The last line is `edits: N passed, M failed`."""
+import concurrent.futures
+import os
+import re
+import shutil
+import subprocess
+import sys
+import tempfile
+import time
+from pathlib import Path
+
+ROOT = Path(__file__).resolve().parents[2]
+KIT = Path(shutil.which("rt")).resolve().parents[1]
+PARTS = ("src", "specs", "proofs")
+
+
+class Edit:
+    """An edit: the file, its pairs of an old and a new text, and the lines of the function that must be refused."""
+
+    def __init__(self, path, folder):
+        self.path, self.crate = path, folder.name
+        text = path.read_text(encoding="utf-8")
+        self.file = re.search(r"(?m)^file: (.*)$", text)[1]
+        self.pairs = re.findall(r"(?m)^old: (.*)\nnew: (.*)$", text)
+        named = re.search(r"(?m)^refuses: (.*)$", text)
+        self.refuses = named[1] if named else None
+        old = (folder / self.file).read_text(encoding="utf-8")
+        self.fault = None if self.pairs else "it has no pair of an old and a new text"
+        for was, new in self.pairs:
+            if old.count(was) != 1 or was == new:
+                self.fault = f"{was!r} stands in {self.file} {old.count(was)} times, or is not changed"
+        self.is_body = self.file.startswith("src/")
+        self.place = None
+        if self.fault is None:
+            self.place = self.function(folder, old)
+
+    def function(self, folder, text):
+        """Returns the file, the first line, the last line and the path of the function that the edit changes, or None."""
+        if self.refuses:
+            return declared(folder, self.refuses)
+        if not self.is_body:
+            return None
+        places = {enclosing(self.file, text, text.index(was)) for was, _ in self.pairs}
+        return places.pop() if len(places) == 1 else None
+
+    def applied(self, room):
+        """Changes the file of the crate's copy."""
+        file = room / self.file
+        text = file.read_text(encoding="utf-8")
+        for was, new in self.pairs:
+            text = text.replace(was, new)
+        file.write_text(text, encoding="utf-8")
+
+
+def functions(file, text):
+    """Returns each function of a file of code: its first and last line, both from 1, and its path below the crate."""
+    module = [it for it in Path(file).with_suffix("").parts[1:] if it not in ("lib", "main", "mod")]
+    lines, found, blocks = text.split("\n"), [], []
+    for at, line in enumerate(lines):
+        indent = len(line) - len(line.lstrip())
+        if opened := re.match(r"\s*(?:impl\b|(?:pub )?trait )(.*?)(?: where .*)?\{?$", line):
+            blocks.append((indent, impl_name(opened[1])))
+        if line.rstrip().endswith("{}") and opened:
+            blocks.pop()
+        while blocks and line.rstrip() == " " * blocks[-1][0] + "}":
+            blocks.pop()
+        named = re.match(r"\s*(?:pub(?:\([a-z ]+\))? )?(?:const )?fn (\w+)", line)
+        if not named:
+            continue
+        end = next((it for it in range(at, len(lines)) if lines[it] == " " * indent + "}"), at)
+        if lines[at].rstrip().endswith("}"):
+            end = at
+        begin = at
+        while begin and re.match(r"\s*(#\[|///|requires|ensures|ghost|\})", lines[begin - 1]):
+            begin -= 1
+        inside = [name for depth, name in blocks if depth < indent]
+        # (a method is named by its type's module, so the end of its name tells it)
+        found.append((begin + 1, end + 1, "::".join([*(inside or module), named[1]])))
+    return found
+
+
+def without_parameters(head):
+    """Returns the head of a block without the list of type parameters that it begins with."""
+    depth = 0
+    for at, it in enumerate(head):
+        depth += (it == "<") - (it == ">")
+        if depth == 0:
+            return head[at + 1 :].strip() if head.startswith("<") else head
+    return head
+
+
+def impl_name(head):
+    """Returns the segment that a path has for a block of methods: the type's name and then, of a trait's, the trait's with its types."""
+    head = without_parameters(head.replace("->", "").strip())
+    *trait, kind = head.split(" for ")
+    named = lambda it: "".join(re.split("::", word)[-1] for word in re.findall(r"(?<!')\b[\w:]+", it))
+    while (plain := re.sub(r"<[^<>]*>", "", kind)) != kind:
+        kind = plain
+    return named(kind) + "".join(named(it) for it in trait)
+
+
+def enclosing(file, text, at):
+    """Returns the file, lines and path of the function around a place of a text, or None."""
+    line = text.count("\n", 0, at) + 1
+    around = [it for it in functions(file, text) if it[0] <= line <= it[1]]
+    return (file, *around[-1]) if around else None
+
+
+def declared(folder, name):
+    """Returns the file, lines and path of the function with that path below the crate, or None."""
+    for path in sorted(folder.glob("src/**/*.rt")):
+        file = str(path.relative_to(folder))
+        for begin, end, found in functions(file, path.read_text(encoding="utf-8")):
+            if found == name:
+                return file, begin, end, found
+    return None
+
+
+def libraries():
+    """Returns the libraries that each crate stands on, by crates.txt."""
+    lines = [it.partition("#")[0].partition(":") for it in (ROOT / "crates.txt").read_text(encoding="utf-8").splitlines()]
+    return {name.strip(): uses.split() for name, _, uses in lines if name.strip()}
+
+
+def below(known, name):
+    """Returns the repository's crates below a crate."""
+    found = []
+    for it in [it for it in known[name] if it in known]:
+        found += [one for one in [*below(known, it), it] if one not in found]
+    return found
+
+
+def words(known, name):
+    """Returns the command that checks a crate over the libraries that were built."""
+    folder = ROOT / "crates" / name
+    found = ["--crate-name", name, "src/main.rt" if (folder / "src/main.rt").is_file() else "src/lib.rt"]
+    kit = ["std", *[it for it in known[name] if it not in known]]
+    for it in kit:
+        found += ["--extern", f"{it}={KIT}/rlibs/{it}.rlib"]
+    found += ["-L", f"dependency={KIT}/rlibs"]
+    for it in [it for it in known[name] if it in known]:
+        found += ["--extern", f"{it}={ROOT}/crates/{it}/out/rlib/{it}.rlib"]
+    for it in below(known, name):
+        found += ["-L", f"dependency={ROOT}/crates/{it}/out/rlib"]
+    found += ["--antt-project", f"{KIT}/rattle/logic/antt-project.json", "--logic-built", f"{KIT}/logic_built"]
+    return [str(KIT / "bin/rattle"), "check", *found, "--links", f"{name}=", "--jobs", "1"]
+
+
+class Trial:
+    """The trial of one crate's edits, with the folder where its checks keep what they proved."""
+
+    def __init__(self, known, name, edits, room):
+        self.words, self.name, self.edits, self.kept = words(known, name), name, edits, f"{room}/kept"
+        self.folder, self.room, self.checks = ROOT / "crates" / name, room, 0
+
+    def check(self, edits, only):
+        """Checks a copy of the crate with these edits, and returns the status and what the prover said."""
+        self.checks += 1
+        begun = time.monotonic()
+        copy = Path(tempfile.mkdtemp(dir=self.room))
+        for part in PARTS:
+            if (self.folder / part).is_dir():
+                shutil.copytree(self.folder / part, copy / part)
+        for it in edits:
+            it.applied(copy)
+        asked = [word for it in sorted(only) for word in ("--only", it)]
+        command = [*self.words, "--incremental", self.kept, *asked]
+        how = {"stdin": subprocess.DEVNULL, "stdout": subprocess.PIPE, "stderr": subprocess.STDOUT, "errors": "replace"}
+        ran = subprocess.run(command, cwd=copy, **how)
+        print(f"{self.name}: {len(edits)} of {len(self.edits)}: {time.monotonic() - begun:.0f} s: {ran.stdout.splitlines()[-1]}", flush=True)
+        shutil.rmtree(copy)
+        return ran.returncode, ran.stdout
+
+    def together(self, edits):
+        """Tries edits of bodies in one check, and returns those that were refused, each with what was said."""
+        status, said = self.check(edits, {it.place[3] for it in edits})
+        refused = {}
+        for file, line, why in re.findall(r"(?m)^(?:note: )?(\S+?):(\d+):\d+: (.*)$", said):
+            for it in edits:
+                where, begin, end, _ = it.place
+                if file == where and begin <= int(line) <= end and "not proved" in why and status == 1:
+                    refused.setdefault(it, f"{file}:{line}: {why}")
+        return refused
+
+    def alone(self, edit):
+        """Tries one edit in a check of the whole crate, and returns what was said of it where it is refused, or None."""
+        status, said = self.check([edit], set())
+        lines = said.rstrip("\n").split("\n")
+        if status != 1 or not lines[-1].startswith("logic=not-proved"):
+            return None
+        proofs = r"(note: )?(\./)?proofs/.*(has no field|is not in scope|has no `|was not admitted)"
+        told = [it for it in lines if re.match(r"(note: )?\S+:\d+:\d+:", it) and not re.match(proofs, it)]
+        return told[0] if told else None
+
+    def run(self):
+        """Tries all, and returns how many were refused and how many were not."""
+        begun, said, left = time.monotonic(), [], [it for it in self.edits if it.fault is None]
+        said += [f"{self.name}/{it.path.name}: BAD EDIT: {it.fault}" for it in self.edits if it.fault]
+        failed = len(said)
+        while batch := one_a_function(left):
+            refused = self.together(batch)
+            said += [f"{self.name}/{it.path.name}: refused: {why[:160]}" for it, why in refused.items()]
+            left = [it for it in left if it not in refused]
+            if not refused:
+                break
+        for it in left:
+            why = self.alone(it)
+            failed += why is None
+            said.append(f"{self.name}/{it.path.name}: {'NOT REFUSED' if why is None else 'refused alone: ' + why[:160]}")
+        print("\n".join(said), flush=True)
+        took = time.monotonic() - begun
+        print(f"edits: {self.name}: {len(self.edits)} in {self.checks} checks, {took:.0f} s, {len(left)} alone", flush=True)
+        return len(self.edits) - failed, failed
+
+
+def one_a_function(edits):
+    """Returns edits of different functions, of bodies or of what one function's refusal shows; one that changes a definition stands alone."""
+    found, taken = [], set()
+    for it in edits:
+        if it.place is None or it.place[3] in taken:
+            continue
+        if not it.is_body:
+            if found:
+                continue
+            return [it]
+        found.append(it)
+        taken.add(it.place[3])
+    return found
+
+
+def main():
+    known = libraries()
+    names = sys.argv[1:] or list(known)
+    edits = {it: [Edit(path, ROOT / "crates" / it) for path in sorted((ROOT / "crates" / it / "must-fail").glob("*.edit"))] for it in names}
+    passed = failed = 0
+    with tempfile.TemporaryDirectory(prefix="edits-") as room:
+        trials = [Trial(known, it, found, tempfile.mkdtemp(dir=room)) for it, found in edits.items() if found]
+        trials.sort(key=lambda it: -len(it.edits) * len(below(known, it.name)))
+        with concurrent.futures.ThreadPoolExecutor(int(os.environ.get("RT_JOBS", "4"))) as pool:
+            for good, bad in pool.map(Trial.run, trials):
+                passed, failed = passed + good, failed + bad
+    print(f"edits: {passed} passed, {failed} failed")
+    return 1 if failed else 0
+
+
+if __name__ == "__main__":
+    sys.exit(main())
