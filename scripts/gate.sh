@@ -1,12 +1,16 @@
 #!/usr/bin/env bash
-# The gate: proves, builds and tests every crate by `rt ci`, looks at the layout and at the names in the documents, then
-# runs the built program by the other scripts.
+# The gate: proves, builds and tests every crate by `rt ci`, tries the must-fail edits, looks at the layout and at the names in
+# the documents, then runs the built program by the other scripts.
+# The crates are proved and built in a copy without the edits: `rt ci` would try these one by one, each with a load of its
+# crate, after it had proved each crate a second time; scripts/gate/edits.py tries several in one check.
 # Its last line is `gate: N passed, M failed`, the sum of all, and its status is 1 if anything failed.
 set -u
 cd "$(dirname "${BASH_SOURCE[0]}")/.." || exit 1
 
 log=$(mktemp) || exit 1
-trap 'rm -f "$log"' EXIT
+tree=$(mktemp -d) && chmod 755 "$tree" || exit 1
+trap 'rm -rf "$log" "$tree"' EXIT
+tar -c --exclude=./.git --exclude='./crates/*/out' --exclude='./crates/*/must-fail' . | tar -x -C "$tree" || exit 1
 passed=0
 failed=0
 
@@ -38,13 +42,15 @@ run() {
 
 # Four checks side by side, each with one job: `rt ci` alone reckons with twice the memory that these crates take, and lets
 # half of the processors wait for it.
-run env RT_JOBS="${RT_JOBS:-4}" rt ci
+export RT_JOBS="${RT_JOBS:-4}"
 run python3 scripts/gate/check_layout.py
 run python3 scripts/gate/check_names.py
-run python3 scripts/gate/readme.py
-run python3 scripts/gate/rows.py
-run python3 scripts/gate/refused_growths.py
-run python3 scripts/gate/real_files.py
+run env -C "$tree" rt ci
+run python3 "$tree/scripts/gate/readme.py"
+run python3 "$tree/scripts/gate/rows.py"
+run python3 "$tree/scripts/gate/refused_growths.py"
+run python3 "$tree/scripts/gate/real_files.py"
+run python3 scripts/gate/edits.py --libraries "$tree/crates"
 
 echo "gate: $passed passed, $failed failed"
 [[ $failed -eq 0 ]]

@@ -1,14 +1,16 @@
 #!/usr/bin/env python3
-"""Tries each must-fail edit: `edits.py [CRATE..]`, over the libraries that `rt ci` left in the crates' folders `out`.
+"""Tries each must-fail edit: `edits.py [--libraries FOLDER] [CRATE..]`.
 
-The prover must refuse each edit `crates/NAME/must-fail/*.edit`. `rt must-fail NAME` tries them one by one, each with a load
-of the whole crate. Here several edits of one crate stand in one check, at most one to a function, and the check asks for
-the edited functions alone. A proof reads what other functions promise and not their bodies, so an edit of one body leaves
+The libraries that the crates stand on are those that `rt ci` left in FOLDER/NAME/out; FOLDER is `crates` where it is not
+named. The prover must refuse each edit `crates/NAME/must-fail/*.edit`. `rt must-fail NAME` tries them one by one, each with
+a load of the whole crate. Here several edits of one crate stand in one check, at most one to a function, and the check asks
+for the edited functions alone. A proof reads what other functions promise and not their bodies, so an edit of one body leaves
 the proof of another as it was: an edit counts as refused in such a check only where the prover says of that very function
-that it is not proved. Each other is tried again, at last alone, in a check of the whole crate. An edit with a line
-`refuses: FUNCTION`, for the ones that change what is stated, must be refused at that function.
+that it is not proved. Each other is tried again, at last alone, in a check of the whole crate. An edit of what is stated, or of
+what several functions read, has a line `refuses: FUNCTION`: it is tried alone, in a check of that function.
 
-The last line is `edits: N passed, M failed`."""
+`RT_JOBS` says how many crates are tried side by side, 4 where it is not set. The last line is `edits: N passed, M failed`."""
+
 import concurrent.futures
 import os
 import re
@@ -21,6 +23,9 @@ from pathlib import Path
 
 ROOT = Path(__file__).resolve().parents[2]
 KIT = Path(shutil.which("rt")).resolve().parents[1]
+# What a proof says that names what an edit took away, and what a text says that cannot be read: neither speaks of a contract.
+NOT_OF_THE_CONTRACT = r"(note: )?(\./)?proofs/.*(has no field|is not in scope|has no `|was not admitted)"
+UNREAD = r"(?m)^(?:\./)?(src|specs)/\S+: error: .*(is not in scope|has no field|is no name|operand is missing|expected the end|cannot continue)"
 PARTS = ("src", "specs", "proofs")
 
 
@@ -39,7 +44,7 @@ class Edit:
         for was, new in self.pairs:
             if old.count(was) != 1 or was == new:
                 self.fault = f"{was!r} stands in {self.file} {old.count(was)} times, or is not changed"
-        self.is_body = self.file.startswith("src/")
+        self.is_body = self.file.startswith("src/") and not self.refuses
         self.place = None
         if self.fault is None:
             self.place = self.function(folder, old)
@@ -140,8 +145,8 @@ def below(known, name):
     return found
 
 
-def words(known, name):
-    """Returns the command that checks a crate over the libraries that were built."""
+def words(known, name, built):
+    """Returns the command that checks a crate over the libraries that were built in a folder."""
     folder = ROOT / "crates" / name
     found = ["--crate-name", name, "src/main.rt" if (folder / "src/main.rt").is_file() else "src/lib.rt"]
     kit = ["std", *[it for it in known[name] if it not in known]]
@@ -149,9 +154,9 @@ def words(known, name):
         found += ["--extern", f"{it}={KIT}/rlibs/{it}.rlib"]
     found += ["-L", f"dependency={KIT}/rlibs"]
     for it in [it for it in known[name] if it in known]:
-        found += ["--extern", f"{it}={ROOT}/crates/{it}/out/rlib/{it}.rlib"]
+        found += ["--extern", f"{it}={built}/{it}/out/rlib/{it}.rlib"]
     for it in below(known, name):
-        found += ["-L", f"dependency={ROOT}/crates/{it}/out/rlib"]
+        found += ["-L", f"dependency={built}/{it}/out/rlib"]
     found += ["--antt-project", f"{KIT}/rattle/logic/antt-project.json", "--logic-built", f"{KIT}/logic_built"]
     return [str(KIT / "bin/rattle"), "check", *found, "--links", f"{name}=", "--jobs", "1"]
 
@@ -159,14 +164,13 @@ def words(known, name):
 class Trial:
     """The trial of one crate's edits, with the folder where its checks keep what they proved."""
 
-    def __init__(self, known, name, edits, room):
-        self.words, self.name, self.edits, self.kept = words(known, name), name, edits, f"{room}/kept"
+    def __init__(self, command, name, edits, room):
+        self.words, self.name, self.edits, self.kept = command, name, edits, f"{room}/kept"
         self.folder, self.room, self.checks = ROOT / "crates" / name, room, 0
 
     def check(self, edits, only):
         """Checks a copy of the crate with these edits, and returns the status and what the prover said."""
         self.checks += 1
-        begun = time.monotonic()
         copy = Path(tempfile.mkdtemp(dir=self.room))
         for part in PARTS:
             if (self.folder / part).is_dir():
@@ -177,12 +181,16 @@ class Trial:
         command = [*self.words, "--incremental", self.kept, *asked]
         how = {"stdin": subprocess.DEVNULL, "stdout": subprocess.PIPE, "stderr": subprocess.STDOUT, "errors": "replace"}
         ran = subprocess.run(command, cwd=copy, **how)
-        print(f"{self.name}: {len(edits)} of {len(self.edits)}: {time.monotonic() - begun:.0f} s: {ran.stdout.splitlines()[-1]}", flush=True)
+        if ran.returncode < 0:
+            # (killed, most likely for memory)
+            ran = subprocess.run(command, cwd=copy, **how)
         shutil.rmtree(copy)
         return ran.returncode, ran.stdout
 
     def together(self, edits):
         """Tries edits of bodies in one check, and returns those that were refused, each with what was said."""
+        if not edits:
+            return {}
         status, said = self.check(edits, {it.place[3] for it in edits})
         refused = {}
         for file, line, why in re.findall(r"(?m)^(?:note: )?(\S+?):(\d+):\d+: (.*)$", said):
@@ -192,65 +200,72 @@ class Trial:
                     refused.setdefault(it, f"{file}:{line}: {why}")
         return refused
 
-    def alone(self, edit):
-        """Tries one edit in a check of the whole crate, and returns what was said of it where it is refused, or None."""
-        status, said = self.check([edit], set())
+    def alone(self, edit, only=()):
+        """Tries one edit in a check of the whole crate, or of a function, and returns why it is refused, or None."""
+        status, said = self.check([edit], only)
         lines = said.rstrip("\n").split("\n")
-        if status != 1 or not lines[-1].startswith("logic=not-proved"):
+        if status != 1 or not re.match(r"logic=not-proved|only=1 proved=0", lines[-1]) or re.search(UNREAD, said):
             return None
-        proofs = r"(note: )?(\./)?proofs/.*(has no field|is not in scope|has no `|was not admitted)"
-        told = [it for it in lines if re.match(r"(note: )?\S+:\d+:\d+:", it) and not re.match(proofs, it)]
+        told = [it for it in lines if re.match(r"(note: )?\S+:\d+:\d+:", it) and not re.match(NOT_OF_THE_CONTRACT, it)]
         return told[0] if told else None
+
+    def judge(self, edit, why):
+        """Keeps what came of an edit, None where it was not refused."""
+        self.left.remove(edit)
+        self.failed += why is None
+        self.said.append(f"{self.name}/{edit.path.name}: {'NOT REFUSED' if why is None else 'refused: ' + why[:160]}")
 
     def run(self):
         """Tries all, and returns how many were refused and how many were not."""
-        begun, said, left = time.monotonic(), [], [it for it in self.edits if it.fault is None]
-        said += [f"{self.name}/{it.path.name}: BAD EDIT: {it.fault}" for it in self.edits if it.fault]
-        failed = len(said)
-        while batch := one_a_function(left):
-            refused = self.together(batch)
-            said += [f"{self.name}/{it.path.name}: refused: {why[:160]}" for it, why in refused.items()]
-            left = [it for it in left if it not in refused]
-            if not refused:
-                break
-        for it in left:
-            why = self.alone(it)
-            failed += why is None
-            said.append(f"{self.name}/{it.path.name}: {'NOT REFUSED' if why is None else 'refused alone: ' + why[:160]}")
-        print("\n".join(said), flush=True)
+        begun, self.left, self.said, self.failed = time.monotonic(), [*self.edits], [], 0
+        for it in [it for it in self.left if it.fault]:
+            self.judge(it, None)
+            self.said.append(f"{self.name}/{it.path.name}: BAD EDIT: {it.fault}")
+        for it in [it for it in self.left if it.refuses and it.place]:
+            self.judge(it, self.alone(it, {it.place[3]}))
+        while refused := self.together(one_a_function(self.left)):
+            for it, why in refused.items():
+                self.judge(it, why)
+        for it in [*self.left]:
+            self.judge(it, self.alone(it))
         took = time.monotonic() - begun
-        print(f"edits: {self.name}: {len(self.edits)} in {self.checks} checks, {took:.0f} s, {len(left)} alone", flush=True)
-        return len(self.edits) - failed, failed
+        print("\n".join(self.said), flush=True)
+        print(f"edits: {self.name}: {len(self.edits)} in {self.checks} checks, {took:.0f} s", flush=True)
+        return len(self.edits) - self.failed, self.failed
 
 
 def one_a_function(edits):
-    """Returns edits of different functions, of bodies or of what one function's refusal shows; one that changes a definition stands alone."""
-    found, taken = [], set()
+    """Returns edits of bodies, at most one to a function."""
+    found = {}
     for it in edits:
-        if it.place is None or it.place[3] in taken:
-            continue
-        if not it.is_body:
-            if found:
-                continue
-            return [it]
-        found.append(it)
-        taken.add(it.place[3])
-    return found
+        if it.is_body and it.place:
+            found.setdefault(it.place[3], it)
+    return [*found.values()]
 
 
 def main():
+    words_given = sys.argv[1:]
+    built = ROOT / "crates"
+    if words_given[:1] == ["--libraries"]:
+        built, words_given = Path(words_given[1]).resolve(), words_given[2:]
     known = libraries()
-    names = sys.argv[1:] or list(known)
-    edits = {it: [Edit(path, ROOT / "crates" / it) for path in sorted((ROOT / "crates" / it / "must-fail").glob("*.edit"))] for it in names}
+    edits = {it: edits_of(it) for it in words_given or known}
     passed = failed = 0
     with tempfile.TemporaryDirectory(prefix="edits-") as room:
-        trials = [Trial(known, it, found, tempfile.mkdtemp(dir=room)) for it, found in edits.items() if found]
-        trials.sort(key=lambda it: -len(it.edits) * len(below(known, it.name)))
+        trials = [Trial(words(known, it, built), it, found, tempfile.mkdtemp(dir=room)) for it, found in edits.items() if found]
+        # (those with the most to do begin first)
+        trials.sort(key=lambda it: -len(it.edits) * (8 + len(below(known, it.name))))
         with concurrent.futures.ThreadPoolExecutor(int(os.environ.get("RT_JOBS", "4"))) as pool:
             for good, bad in pool.map(Trial.run, trials):
                 passed, failed = passed + good, failed + bad
     print(f"edits: {passed} passed, {failed} failed")
     return 1 if failed else 0
+
+
+def edits_of(name):
+    """Returns a crate's edits."""
+    folder = ROOT / "crates" / name
+    return [Edit(path, folder) for path in sorted((folder / "must-fail").glob("*.edit"))]
 
 
 if __name__ == "__main__":
