@@ -192,6 +192,8 @@ class Trial:
         if not edits:
             return {}
         status, said = self.check(edits, {it.place[3] for it in edits})
+        if status == 2:
+            print(f"edits: {self.name}: {said.rstrip().splitlines()[-1]}", flush=True)
         refused = {}
         for file, line, why in re.findall(r"(?m)^(?:note: )?(\S+?):(\d+):\d+: (.*)$", said):
             for it in edits:
@@ -222,7 +224,8 @@ class Trial:
             self.judge(it, None)
             self.said.append(f"{self.name}/{it.path.name}: BAD EDIT: {it.fault}")
         for it in [it for it in self.left if it.refuses and it.place]:
-            self.judge(it, self.alone(it, {it.place[3]}))
+            if why := self.alone(it, {it.place[3]}):
+                self.judge(it, why)
         while refused := self.together(one_a_function(self.left)):
             for it, why in refused.items():
                 self.judge(it, why)
