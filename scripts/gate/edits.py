@@ -23,8 +23,9 @@ from pathlib import Path
 
 ROOT = Path(__file__).resolve().parents[2]
 KIT = Path(shutil.which("rt")).resolve().parents[1]
-# What a proof says that names what an edit took away, and what a text says that cannot be read: neither speaks of a contract.
+# What a proof says that names what an edit took away, which speaks of no contract, and what a text says that cannot be read.
 NOT_OF_THE_CONTRACT = r"(note: )?(\./)?proofs/.*(has no field|is not in scope|has no `|was not admitted)"
+TOLD = r"(?m)^(?:note: )?\S+:\d+:\d+: .*$"
 UNREAD = r"(?m)^(?:\./)?(src|specs)/\S+: error: .*(is not in scope|has no field|is no name|operand is missing|expected the end|cannot continue)"
 PARTS = ("src", "specs", "proofs")
 
@@ -194,22 +195,23 @@ class Trial:
         status, said = self.check(edits, {it.place[3] for it in edits})
         if status == 2:
             print(f"edits: {self.name}: {said.rstrip().splitlines()[-1]}", flush=True)
-        refused = {}
-        for file, line, why in re.findall(r"(?m)^(?:note: )?(\S+?):(\d+):\d+: (.*)$", said):
-            for it in edits:
-                where, begin, end, _ = it.place
-                if file == where and begin <= int(line) <= end and "not proved" in why and status == 1:
-                    refused.setdefault(it, f"{file}:{line}: {why}")
-        return refused
+        return {it: why for it in edits if status == 1 and (why := refusal(it, said))}
 
-    def alone(self, edit, only=()):
-        """Tries one edit in a check of the whole crate, or of a function, and returns why it is refused, or None."""
-        status, said = self.check([edit], only)
-        lines = said.rstrip("\n").split("\n")
-        if status != 1 or not re.match(r"logic=not-proved|only=1 proved=0", lines[-1]) or re.search(UNREAD, said):
+    def alone(self, edit):
+        """Tries one edit, in a check of the function that it names or of the whole crate, and returns why it is refused, or None."""
+        if edit.refuses and edit.place:
+            status, said = self.check([edit], {edit.place[3]})
+            if status == 1 and not re.search(UNREAD, said) and (why := refusal(edit, said)):
+                return why
+        status, said = self.check([edit], set())
+        if status != 1 or not said.rstrip("\n").split("\n")[-1].startswith("logic=not-proved") or re.search(UNREAD, said):
             return None
-        told = [it for it in lines if re.match(r"(note: )?\S+:\d+:\d+:", it) and not re.match(NOT_OF_THE_CONTRACT, it)]
-        return told[0] if told else None
+        told = re.findall(TOLD, said)
+        if not told:
+            return None
+        of_the_contract = [it for it in told if not re.match(NOT_OF_THE_CONTRACT, it)]
+        little = f"only since a proof names what the edit took away, which says little of the contract: {told[0]}"
+        return of_the_contract[0] if of_the_contract else little
 
     def judge(self, edit, why):
         """Keeps what came of an edit, None where it was not refused."""
@@ -223,9 +225,6 @@ class Trial:
         for it in [it for it in self.left if it.fault]:
             self.judge(it, None)
             self.said.append(f"{self.name}/{it.path.name}: BAD EDIT: {it.fault}")
-        for it in [it for it in self.left if it.refuses and it.place]:
-            if why := self.alone(it, {it.place[3]}):
-                self.judge(it, why)
         while refused := self.together(one_a_function(self.left)):
             for it, why in refused.items():
                 self.judge(it, why)
@@ -235,6 +234,19 @@ class Trial:
         print("\n".join(self.said), flush=True)
         print(f"edits: {self.name}: {len(self.edits)} in {self.checks} checks, {took:.0f} s", flush=True)
         return len(self.edits) - self.failed, self.failed
+
+
+def refusal(edit, said):
+    """Returns what the prover says of an edited function that is not proved, or None where it says nothing of its contract."""
+    file, begin, end, name = edit.place
+    if not re.search(rf"(?m)^fn \S*\b{re.escape(name)}: not proved$", said):
+        return None
+    for it in re.findall(TOLD, said):
+        where, line = re.match(r"(?:note: )?(?:\./)?(\S+?):(\d+):", it).groups()
+        is_own = where == file and begin <= int(line) <= end or f"/{name.split('::')[-1]}/" in where or edit.refuses
+        if is_own and not re.match(NOT_OF_THE_CONTRACT, it):
+            return it
+    return None
 
 
 def one_a_function(edits):
