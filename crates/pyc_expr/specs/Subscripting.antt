@@ -35,16 +35,16 @@ abbrev mutual
   pub index_form_type : Parts → State → IndexForm → Step Ty
   index_form_type parts s (item x) = type_in parts s x None
   index_form_type parts s (slice lower upper step) = slice_type parts s lower upper step
-  index_form_type parts s (indices items) = tuple_of_indices parts s items
-
-  pub tuple_of_indices : Parts → State → Indices → Step Ty
-  tuple_of_indices parts s items = and_then (index_types parts s [] items) indices_given
+  index_form_type parts s (indices items) = and_then (index_types parts s [] items) indices_given
 
   -- these types, and then those of indices, in turn
   pub index_types : Parts → State → List Ty → Indices → Step (List Ty)
   index_types parts s types no_index = Done types
   index_types parts s types (another_index x xs) =
       and_then (index_type parts s x) (λ ty. index_types parts s (types ++ (ty ∷ [])) xs)
+
+abbrev pub tuple_of_indices : Parts → State → Indices → Step Ty
+tuple_of_indices parts s items = and_then (index_types parts s [] items) indices_given
 
 -- a subscript of a value of a type that was read
 unfoldable pub subscript_of : Parts → State → Position → Index → Ty → Step Ty
