@@ -269,29 +269,29 @@ choice_form_same n p q same s want (form.yield_from x) low = then_same _ _ _ _ (
 
 operation_same : (n : ℕ) (p q : Parts) → Agree n p q → (context : Context) (s : State) (at : Position) (want : Option Ty) (found : Form) → parts_height found ≤ n
     → operation_by_form context p s at want found ≡ operation_by_form context q s at want found
-operation_same n p q same context s at want (form.name x) low = choice_form_same n p q same s want _ low
-operation_same n p q same context s at want (form.constant x) low = choice_form_same n p q same s want _ low
-operation_same n p q same context s at want (form.quoted x) low = choice_form_same n p q same s want _ low
-operation_same n p q same context s at want (form.tuple x) low = choice_form_same n p q same s want _ low
-operation_same n p q same context s at want (form.list x) low = choice_form_same n p q same s want _ low
-operation_same n p q same context s at want (form.set x) low = choice_form_same n p q same s want _ low
-operation_same n p q same context s at want (form.dict x) low = choice_form_same n p q same s want _ low
-operation_same n p q same context s at want (form.opaque x) low = choice_form_same n p q same s want _ low
-operation_same n p q same context s at want (form.attribute x n1) low = choice_form_same n p q same s want _ low
+operation_same n p q same context s at want (form.name x) low = choice_form_same n p q same s want (form.name x) low
+operation_same n p q same context s at want (form.constant x) low = choice_form_same n p q same s want (form.constant x) low
+operation_same n p q same context s at want (form.quoted x) low = choice_form_same n p q same s want (form.quoted x) low
+operation_same n p q same context s at want (form.tuple x) low = choice_form_same n p q same s want (form.tuple x) low
+operation_same n p q same context s at want (form.list x) low = choice_form_same n p q same s want (form.list x) low
+operation_same n p q same context s at want (form.set x) low = choice_form_same n p q same s want (form.set x) low
+operation_same n p q same context s at want (form.dict x) low = choice_form_same n p q same s want (form.dict x) low
+operation_same n p q same context s at want (form.opaque x) low = choice_form_same n p q same s want (form.opaque x) low
+operation_same n p q same context s at want (form.attribute x n1) low = choice_form_same n p q same s want (form.attribute x n1) low
 operation_same n p q same context s at want (form.call x y) low = call_same n p q same context s at y x (omega (arith, low)) (omega (arith, low))
 operation_same n p q same context s at want (form.subscript x y) low = subscript_same n p q same s at x y (omega (arith, low)) (omega (arith, low))
 operation_same n p q same context s at want (form.unary o x) low = unary_same n p q same s at o x low
 operation_same n p q same context s at want (form.binary o x y) low = binary_same n p q same s at o x y (omega (arith, low)) (omega (arith, low))
-operation_same n p q same context s at want (form.boolean o x y) low = choice_form_same n p q same s want _ low
+operation_same n p q same context s at want (form.boolean o x y) low = choice_form_same n p q same s want (form.boolean o x y) low
 operation_same n p q same context s at want (form.compare x y) low = compare_same n p q same s at x y (omega (arith, low)) (omega (arith, low))
-operation_same n p q same context s at want (form.conditional t x y) low = choice_form_same n p q same s want _ low
-operation_same n p q same context s at want (form.await x) low = choice_form_same n p q same s want _ low
-operation_same n p q same context s at want (form.yield x) low = choice_form_same n p q same s want _ low
-operation_same n p q same context s at want (form.yield_from x) low = choice_form_same n p q same s want _ low
+operation_same n p q same context s at want (form.conditional t x y) low = choice_form_same n p q same s want (form.conditional t x y) low
+operation_same n p q same context s at want (form.await x) low = choice_form_same n p q same s want (form.await x) low
+operation_same n p q same context s at want (form.yield x) low = choice_form_same n p q same s want (form.yield x) low
+operation_same n p q same context s at want (form.yield_from x) low = choice_form_same n p q same s want (form.yield_from x) low
 
 type_form_same : (n : ℕ) (p q : Parts) → Agree n p q → (context : Context) (s : State) (at : Position) (want : Option Ty) (found : Form) → parts_height found ≤ n
     → type_by_form context p s at want found ≡ type_by_form context q s at want found
-type_form_same n p q same context s at want (form.name x) low = operation_same n p q same context s at want _ low
+type_form_same n p q same context s at want (form.name x) low = operation_same n p q same context s at want (form.name x) low
 type_form_same n p q same context s at want (form.constant x) low = refl
 type_form_same n p q same context s at want (form.quoted x) low = refl
 type_form_same n p q same context s at want (form.tuple x) low = tuple_same n p q same s x want low
@@ -299,17 +299,17 @@ type_form_same n p q same context s at want (form.list x) low = list_same n p q 
 type_form_same n p q same context s at want (form.set x) low = set_same n p q same s x want low
 type_form_same n p q same context s at want (form.dict x) low = dict_same n p q same s x want low
 type_form_same n p q same context s at want (form.opaque x) low = refl
-type_form_same n p q same context s at want (form.attribute x n1) low = operation_same n p q same context s at want _ low
-type_form_same n p q same context s at want (form.call x y) low = operation_same n p q same context s at want _ low
-type_form_same n p q same context s at want (form.subscript x y) low = operation_same n p q same context s at want _ low
-type_form_same n p q same context s at want (form.unary o x) low = operation_same n p q same context s at want _ low
-type_form_same n p q same context s at want (form.binary o x y) low = operation_same n p q same context s at want _ low
-type_form_same n p q same context s at want (form.boolean o x y) low = operation_same n p q same context s at want _ low
-type_form_same n p q same context s at want (form.compare x y) low = operation_same n p q same context s at want _ low
-type_form_same n p q same context s at want (form.conditional t x y) low = operation_same n p q same context s at want _ low
-type_form_same n p q same context s at want (form.await x) low = operation_same n p q same context s at want _ low
-type_form_same n p q same context s at want (form.yield x) low = operation_same n p q same context s at want _ low
-type_form_same n p q same context s at want (form.yield_from x) low = operation_same n p q same context s at want _ low
+type_form_same n p q same context s at want (form.attribute x n1) low = operation_same n p q same context s at want (form.attribute x n1) low
+type_form_same n p q same context s at want (form.call x y) low = operation_same n p q same context s at want (form.call x y) low
+type_form_same n p q same context s at want (form.subscript x y) low = operation_same n p q same context s at want (form.subscript x y) low
+type_form_same n p q same context s at want (form.unary o x) low = operation_same n p q same context s at want (form.unary o x) low
+type_form_same n p q same context s at want (form.binary o x y) low = operation_same n p q same context s at want (form.binary o x y) low
+type_form_same n p q same context s at want (form.boolean o x y) low = operation_same n p q same context s at want (form.boolean o x y) low
+type_form_same n p q same context s at want (form.compare x y) low = operation_same n p q same context s at want (form.compare x y) low
+type_form_same n p q same context s at want (form.conditional t x y) low = operation_same n p q same context s at want (form.conditional t x y) low
+type_form_same n p q same context s at want (form.await x) low = operation_same n p q same context s at want (form.await x) low
+type_form_same n p q same context s at want (form.yield x) low = operation_same n p q same context s at want (form.yield x) low
+type_form_same n p q same context s at want (form.yield_from x) low = operation_same n p q same context s at want (form.yield_from x) low
 
 plain_same : (n : ℕ) (p q : Parts) → Agree n p q → (context : Context) (s : State) (at : Position) (want : Option Ty) (found : Form) → parts_height found ≤ n
     → plainly (type_by_form context p s at want found) ≡ plainly (type_by_form context q s at want found)
@@ -323,24 +323,24 @@ attribute_same n p q same s whole at x name low = then_same _ _ _ _ (same s x No
 form_same : (n : ℕ) (p q : Parts) → Agree n p q → (context : Context) (s : State) (whole : Expr) (at : Position) (want : Option Ty) (found : Form) → parts_height found ≤ n
     → by_form context p s whole at want found ≡ by_form context q s whole at want found
 form_same n p q same context s whole at want (form.name x) low = refl
-form_same n p q same context s whole at want (form.constant x) low = plain_same n p q same context s at want _ low
-form_same n p q same context s whole at want (form.quoted x) low = plain_same n p q same context s at want _ low
-form_same n p q same context s whole at want (form.tuple x) low = plain_same n p q same context s at want _ low
-form_same n p q same context s whole at want (form.list x) low = plain_same n p q same context s at want _ low
-form_same n p q same context s whole at want (form.set x) low = plain_same n p q same context s at want _ low
-form_same n p q same context s whole at want (form.dict x) low = plain_same n p q same context s at want _ low
-form_same n p q same context s whole at want (form.opaque x) low = plain_same n p q same context s at want _ low
+form_same n p q same context s whole at want (form.constant x) low = plain_same n p q same context s at want (form.constant x) low
+form_same n p q same context s whole at want (form.quoted x) low = plain_same n p q same context s at want (form.quoted x) low
+form_same n p q same context s whole at want (form.tuple x) low = plain_same n p q same context s at want (form.tuple x) low
+form_same n p q same context s whole at want (form.list x) low = plain_same n p q same context s at want (form.list x) low
+form_same n p q same context s whole at want (form.set x) low = plain_same n p q same context s at want (form.set x) low
+form_same n p q same context s whole at want (form.dict x) low = plain_same n p q same context s at want (form.dict x) low
+form_same n p q same context s whole at want (form.opaque x) low = plain_same n p q same context s at want (form.opaque x) low
 form_same n p q same context s whole at want (form.attribute x n1) low = attribute_same n p q same s whole at x n1 low
-form_same n p q same context s whole at want (form.call x y) low = plain_same n p q same context s at want _ low
-form_same n p q same context s whole at want (form.subscript x y) low = plain_same n p q same context s at want _ low
-form_same n p q same context s whole at want (form.unary o x) low = plain_same n p q same context s at want _ low
-form_same n p q same context s whole at want (form.binary o x y) low = plain_same n p q same context s at want _ low
-form_same n p q same context s whole at want (form.boolean o x y) low = plain_same n p q same context s at want _ low
-form_same n p q same context s whole at want (form.compare x y) low = plain_same n p q same context s at want _ low
-form_same n p q same context s whole at want (form.conditional t x y) low = plain_same n p q same context s at want _ low
-form_same n p q same context s whole at want (form.await x) low = plain_same n p q same context s at want _ low
-form_same n p q same context s whole at want (form.yield x) low = plain_same n p q same context s at want _ low
-form_same n p q same context s whole at want (form.yield_from x) low = plain_same n p q same context s at want _ low
+form_same n p q same context s whole at want (form.call x y) low = plain_same n p q same context s at want (form.call x y) low
+form_same n p q same context s whole at want (form.subscript x y) low = plain_same n p q same context s at want (form.subscript x y) low
+form_same n p q same context s whole at want (form.unary o x) low = plain_same n p q same context s at want (form.unary o x) low
+form_same n p q same context s whole at want (form.binary o x y) low = plain_same n p q same context s at want (form.binary o x y) low
+form_same n p q same context s whole at want (form.boolean o x y) low = plain_same n p q same context s at want (form.boolean o x y) low
+form_same n p q same context s whole at want (form.compare x y) low = plain_same n p q same context s at want (form.compare x y) low
+form_same n p q same context s whole at want (form.conditional t x y) low = plain_same n p q same context s at want (form.conditional t x y) low
+form_same n p q same context s whole at want (form.await x) low = plain_same n p q same context s at want (form.await x) low
+form_same n p q same context s whole at want (form.yield x) low = plain_same n p q same context s at want (form.yield x) low
+form_same n p q same context s whole at want (form.yield_from x) low = plain_same n p q same context s at want (form.yield_from x) low
 
 -- two readings that agree on the parts of an expression give the same for it
 parts_same : (n : ℕ) (p q : Parts) → Agree n p q → (context : Context) (s : State) (x : Expr) (want : Option Ty) → height x ≤ suc n
