@@ -1,7 +1,6 @@
 -- An expression that is read at least as deep as its parts lie is what it is.
-use Rattle.std.proofs.Common.{◌≡◌, ◌≤◌, ◌+◌, ◌∷◌, [], ◌++◌, ℕ, zero, suc, min, Bool, true, false, if◌then◌else◌, ◌&&◌, List, map, Option, None, Some, refl, sym, ap, ◌∙◌, arith}
-use mathlib.Core.Path.{fun_ext}
-use Rattle.pyc_arguments.specs.Arguments.{Arg, unread}
+use Rattle.std.proofs.Common.{◌≡◌, ◌≤◌, ◌∷◌, [], ◌++◌, ℕ, zero, suc, min, ◌&&◌, List, Option, None, refl, ap, arith}
+use Rattle.pyc_arguments.specs.Arguments.{Arg}
 use Rattle.pyc_arguments.specs.Telling.{Shown, shown_name, shown_nameless}
 use Rattle.pyc_ast.specs.declared.operator.BooleanOperator.{BooleanOperator}
 use Rattle.pyc_ast.specs.declared.operator.BooleanOperator.TheVariants as joins
@@ -14,25 +13,23 @@ use Rattle.pyc_ast.specs.Exprs.{Comparison, comparison, Comparisons, no_comparis
 use Rattle.pyc_calls.specs.Called.{call, called}
 use Rattle.pyc_expr.proofs.Same.{Agree, then_same, if_same, type_same, read_same, list_same, tuple_same, set_same, dict_same, arguments_same}
 use Rattle.pyc_expr.proofs.SameSplit.{split_same}
-use Rattle.pyc_expr.specs.CallValues.{revealed, one_revealed, revealed_by, cast_to, two_cast, cast_by, by_thing, called_value, member_called, attribute_called, plainly_called, callee_by_form, call_type}
+use Rattle.pyc_expr.specs.CallValues.{revealed, one_revealed, revealed_by, cast_to, two_cast, cast_by, by_thing, called_value, member_called, attribute_called, plainly_called, call_type}
 use Rattle.pyc_expr.specs.CallValues.{shown_attribute}
 use Rattle.pyc_expr.specs.Choices.{reached_type, type_where, and_right, or_right, right_type, boolean_rest, boolean_type, orelse_type, arms_type, choice_type}
-use Rattle.pyc_expr.specs.Contexts.{Context, Parts, type_in, looked_by, only_read, plainly}
+use Rattle.pyc_expr.specs.Contexts.{Context, Parts, type_in, looked_by, plainly}
 use Rattle.pyc_expr.specs.Heights.{height, parts_height, optional_height, index_height, index_form_height, indices_height, comparisons_height, comparison_height, arguments_height, argument_height}
 use Rattle.pyc_expr.specs.Laws.{value_of_expr}
-use Rattle.pyc_expr.specs.Names.{attribute_of, attribute_value}
+use Rattle.pyc_expr.specs.Names.{attribute_value}
 use Rattle.pyc_expr.specs.Operations.{unary_type, with_right, binary_type, compared_with, all_compared, chain_type, compare_type}
 use Rattle.pyc_expr.specs.Parts.{argument_list}
-use Rattle.pyc_expr.specs.Subscripting.{optional_read, slice_type, indices_given, index_type, index_form_type, index_types, subscript_of, subscript_type}
-use Rattle.pyc_expr.specs.Values.{any_after, choice_by_form, operation_by_form, type_by_form, by_form, by_parts, value_at_depth, infer, most_depth}
-use Rattle.pyc_names.specs.declared.fixed.FixedName.{FixedName}
+use Rattle.pyc_expr.specs.Subscripting.{optional_read, slice_type, index_type, index_form_type, index_types, subscript_of, subscript_type}
+use Rattle.pyc_expr.specs.Values.{any_after, choice_by_form, operation_by_form, type_by_form, by_form, by_parts, value_at_depth, infer, infer_index, split_by, most_depth}
 use Rattle.pyc_names.specs.declared.fixed.FixedName.TheVariants as fixed
-use Rattle.pyc_narrowing.specs.Splitting.{is_positional}
+use Rattle.pyc_narrowing.specs.Splitting.{is_positional, split}
 use Rattle.pyc_narrowing.specs.SplitStates.{States}
 use Rattle.pyc_obligations.specs.Values.{Thing, Value, plain_thing, module_thing, fixed_thing, reveal_type_thing, isinstance_thing}
 use Rattle.pyc_places.specs.States.{State, unreachable, reachable}
 use Rattle.pyc_reading.specs.Desks.{Step}
-use Rattle.pyc_reading.specs.Readings.{Done, and_then}
 use Rattle.pyc_type_forms.specs.Types.{Ty}
 
 -- ---- operations
@@ -86,7 +83,7 @@ slice_same n p q same s x y z least low high =
     then_same _ _ _ _ (optional_same n p q same s x least) (λ u. then_same _ _ _ _ (optional_same n p q same s y low) (λ v. then_same _ _ _ _ (optional_same n p q same s z high) (λ w. refl)))
 
 mutual
-  index_same : (n : ℕ) (p q : Parts) → Agree n p q → (s : State) (i : Index) → index_height i ≤ n → index_type p s i ≡ index_type q s i
+  pub index_same : (n : ℕ) (p q : Parts) → Agree n p q → (s : State) (i : Index) → index_height i ≤ n → index_type p s i ≡ index_type q s i
   index_same n p q same s (index at found) low = index_form_same n p q same s found low
 
   index_form_same : (n : ℕ) (p q : Parts) → Agree n p q → (s : State) (i : IndexForm) → index_form_height i ≤ n → index_form_type p s i ≡ index_form_type q s i
@@ -374,3 +371,12 @@ pub inferred : (context : Context) (s : State) (x : Expr) (want : Option Ty) →
     → infer context s x want ≡ value_of_expr context s x want
 unfolding infer
 inferred context s x want low = deep_enough most_depth context s x want low
+
+agrees : (context : Context) → Agree most_depth (infer context) (value_of_expr context)
+agrees context t y w low = inferred context t y w low
+
+pub splits : (context : Context) (s : State) (x : Expr) → height x ≤ most_depth → split_by context s x ≡ split (looked_by (value_of_expr context)) s x
+splits context s x low = split_same most_depth (infer context) (value_of_expr context) (agrees context) s x low
+
+pub indexes : (context : Context) (s : State) (brackets : Index) → index_height brackets ≤ most_depth → infer_index context s brackets ≡ index_type (value_of_expr context) s brackets
+indexes context s brackets low = index_same most_depth (infer context) (value_of_expr context) (agrees context) s brackets low

@@ -1,25 +1,22 @@
 -- What an expression is depends on its parts alone, none of which is higher than the highest: two readings of parts that
 -- agree on those give the same.
-use Rattle.std.proofs.Common.{◌≡◌, ◌≤◌, ◌+◌, ℕ, Bool, true, false, if◌then◌else◌, List, [], ◌∷◌, ◌++◌, map, Option, None, Some, refl, sym, ap, ◌∙◌, arith}
+use Rattle.std.proofs.Common.{◌≡◌, ◌≤◌, ◌+◌, ℕ, Bool, true, false, if◌then◌else◌, List, [], ◌∷◌, ◌++◌, map, Option, None, Some, refl, ap, ◌∙◌, arith}
 use mathlib.Core.Path.{fun_ext}
-use Rattle.std.specs.List.{slice_get, list_any}
+use Rattle.std.specs.List.{slice_get}
 use Rattle.pyc_arguments.specs.Arguments.{Arg, unread}
-use Rattle.pyc_ast.specs.declared.expr.ArgumentKind.{ArgumentKind}
-use Rattle.pyc_ast.specs.declared.position.Position.{Position}
-use Rattle.pyc_ast.specs.Exprs.{Expr, expr, Form, Elements, no_element, another_element, element, DictItems, no_dict_item, another_dict_item, entry, unpacking}
+use Rattle.pyc_ast.specs.Exprs.{Expr, Elements, no_element, another_element, element, DictItems, no_dict_item, another_dict_item, entry, unpacking}
 use Rattle.pyc_ast.specs.Exprs.{Arguments, no_argument, another_argument, argument}
-use Rattle.pyc_displays.specs.Displays.{Reads, EntryTypes, more_types, items_to, item_to, value_to, only_read as display_read, list_by, list_to, free_list, list_type, is_open_list, with_entry}
-use Rattle.pyc_displays.specs.Displays.{entry_types, entry_owed, pair_to, entry_to, entries_to, free_pair, free_unpacking, free_entry, more_entries, free_dict, dict_to, dict_by, dict_type, is_open_dict}
-use Rattle.pyc_displays.specs.Displays.{tuple_display, set_display, list_display, dict_display, tuple_type, is_starred}
-use Rattle.pyc_displays.specs.Expecting.{Entry, expected_item, expected_entry, expected_places}
-use Rattle.pyc_expr.specs.Contexts.{Context, Parts, type_in, looked_by, only_read, plainly}
-use Rattle.pyc_expr.specs.Heights.{height, parts_height, elements_height, dict_items_height, arguments_height}
+use Rattle.pyc_displays.specs.Displays.{EntryTypes, more_types, items_to, value_to, only_read as display_read, list_by, list_to, free_list, with_entry}
+use Rattle.pyc_displays.specs.Displays.{entry_types, pair_to, entries_to, free_pair, free_unpacking, more_entries, free_dict, dict_to, dict_by}
+use Rattle.pyc_displays.specs.Displays.{tuple_display, set_display, list_display, dict_display}
+use Rattle.pyc_displays.specs.Expecting.{Entry, expected_item, expected_entry}
+use Rattle.pyc_expr.specs.Contexts.{Parts, type_in, only_read}
+use Rattle.pyc_expr.specs.Heights.{height, elements_height, dict_items_height, arguments_height}
 use Rattle.pyc_expr.specs.Parts.{element_list, dict_item_list, argument_list}
 use Rattle.pyc_places.specs.States.{State}
 use Rattle.pyc_reading.specs.Desks.{Step}
 use Rattle.pyc_reading.specs.Readings.{Done, and_then}
-use Rattle.pyc_type_forms.specs.Types.{Ty, any, list, dict}
-use Rattle.pyc_type_forms.specs.Unions.{union_of}
+use Rattle.pyc_type_forms.specs.Types.{Ty}
 
 -- one reading after another, where both are the same
 pub then_same : {A B : Type 0} (r s : Step A) (f g : A → Step B) → r ≡ s → ((a : A) → f a ≡ g a) → and_then r f ≡ and_then s g

@@ -1,6 +1,5 @@
 -- What a condition says depends on its parts alone.
-use Rattle.std.proofs.Common.{◌≡◌, ◌≤◌, ℕ, Bool, true, false, if◌then◌else◌, ◌&&◌, List, [], ◌∷◌, ◌++◌, Option, None, Some, refl, ap, ◌∙◌, arith}
-use Rattle.pyc_ast.specs.declared.expr.ArgumentKind.{ArgumentKind}
+use Rattle.std.proofs.Common.{◌≡◌, ◌≤◌, ℕ, Bool, true, false, ◌&&◌, List, [], ◌∷◌, ◌++◌, Option, None, Some, refl, ap, arith}
 use Rattle.pyc_ast.specs.declared.operator.BooleanOperator.{BooleanOperator}
 use Rattle.pyc_ast.specs.declared.operator.BooleanOperator.TheVariants as joins
 use Rattle.pyc_ast.specs.declared.operator.UnaryOperator.{UnaryOperator}
@@ -12,11 +11,11 @@ use Rattle.pyc_ast.specs.Exprs as form
 use Rattle.pyc_class.specs.Class.{Id}
 use Rattle.pyc_expr.proofs.Same.{Agree, then_same, if_same}
 use Rattle.pyc_expr.specs.Contexts.{Parts, looked_by}
-use Rattle.pyc_expr.specs.Heights.{height, parts_height, elements_height, argument_height, arguments_height, comparisons_height}
-use Rattle.pyc_narrowing.specs.Splitting.{Splits, looked, class_at, item_class, if_class, more_classes, one_class, classes_at, test_by, isinstance_rule, called, callee_rule}
+use Rattle.pyc_expr.specs.Heights.{height, elements_height, argument_height, arguments_height}
+use Rattle.pyc_narrowing.specs.Splitting.{Splits, looked, class_at, if_class, more_classes, one_class, classes_at, isinstance_rule, called, callee_rule}
 use Rattle.pyc_narrowing.specs.Splitting.{pair_rule, is_positional, two_arguments, call_rule, sense_of, is_none_literal, none_rule, sense_rule, compared_with_none, one_comparison}
 use Rattle.pyc_narrowing.specs.Splitting.{comparison_rule, truth_rule, place_rule, not_rule, unary_rule, and_right, or_right, right_rule, boolean_rule, split, form_rule}
-use Rattle.pyc_narrowing.specs.SplitStates.{States, unchanged}
+use Rattle.pyc_narrowing.specs.SplitStates.{States}
 use Rattle.pyc_obligations.specs.Quiet.{quiet}
 use Rattle.pyc_obligations.specs.Values.{Thing, plain_thing, module_thing, fixed_thing, reveal_type_thing, isinstance_thing}
 use Rattle.pyc_places.specs.Places.{Place, place_of}

@@ -3,7 +3,7 @@
 use Rattle.std.specs.Prelude.{ℕ, codes, ◌&&◌, if◌then◌else◌, List, [], ◌∷◌, ◌++◌, Option, None, Some}
 use Rattle.pyc_arguments.specs.Telling.{Shown, shown_name, shown_member, shown_nameless, owner_name}
 use Rattle.pyc_ast.specs.declared.position.Position.{Position}
-use Rattle.pyc_ast.specs.Exprs.{Expr, expr, Form, name, attribute, Argument, argument, inside_of}
+use Rattle.pyc_ast.specs.Exprs.{Expr, expr, Form, name, attribute, Argument, argument}
 use Rattle.pyc_calls.specs.Called.{call}
 use Rattle.pyc_expr.specs.Contexts.{Context, Parts, type_in, only_read}
 use Rattle.pyc_expr.specs.Names.{attribute_of}

@@ -1,9 +1,11 @@
 -- The depth to which expressions are read is no part of what they are.
 use Rattle.std.specs.Prelude.{◌≡◌, ◌≤◌, ℕ, Option}
-use Rattle.pyc_ast.specs.Exprs.{Expr}
-use Rattle.pyc_expr.specs.Contexts.{Context, Parts}
-use Rattle.pyc_expr.specs.Heights.{height}
-use Rattle.pyc_expr.specs.Values.{by_parts, value_at_depth, infer, most_depth}
+use Rattle.pyc_ast.specs.Exprs.{Expr, Index}
+use Rattle.pyc_expr.specs.Contexts.{Context, Parts, looked_by}
+use Rattle.pyc_expr.specs.Heights.{height, index_height}
+use Rattle.pyc_expr.specs.Subscripting.{index_type}
+use Rattle.pyc_expr.specs.Values.{by_parts, value_at_depth, infer, infer_index, split_by, most_depth}
+use Rattle.pyc_narrowing.specs.Splitting.{split}
 use Rattle.pyc_places.specs.States.{State}
 use Rattle.pyc_type_forms.specs.Types.{Ty}
 
@@ -28,3 +30,15 @@ abbrev pub IsInferred : Type 0
 IsInferred =
     (context : Context) (s : State) (x : Expr) (want : Option Ty) → height x ≤ most_depth
     → infer context s x want ≡ value_of_expr context s x want
+
+-- what a condition of at most this height says goes by what expressions are
+abbrev pub IsSplit : Type 0
+IsSplit =
+    (context : Context) (s : State) (x : Expr) → height x ≤ most_depth
+    → split_by context s x ≡ split (looked_by (value_of_expr context)) s x
+
+-- the type of what stands between the brackets of a subscript, of at most this height, goes by what expressions are
+abbrev pub IsIndex : Type 0
+IsIndex =
+    (context : Context) (s : State) (brackets : Index) → index_height brackets ≤ most_depth
+    → infer_index context s brackets ≡ index_type (value_of_expr context) s brackets

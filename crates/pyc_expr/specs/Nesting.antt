@@ -1,6 +1,5 @@
 -- A function value that reads expressions to a depth.
 use Rattle.std.specs.Prelude.{ℕ, Option, option_map}
-use Rattle.std.specs.Global.{Vec}
 use Rattle.std.specs.declared.alloc.AllocError.{AllocError}
 use Rattle.std.specs.declared.alloc.Global.{Global}
 use Rattle.std.specs.declared.result.Result.{Result}

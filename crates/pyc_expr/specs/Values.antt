@@ -1,6 +1,6 @@
 -- What an expression is: its value, what is asked for it and what is told of it, in a state and by what is expected of
 -- it (Python reference 3.13, "Expressions"; typing specification, "Type system concepts").
-use Rattle.std.specs.Prelude.{ℕ, zero, suc, Option, None}
+use Rattle.std.specs.Prelude.{ℕ, zero, suc, Option}
 use Rattle.pyc_ast.specs.declared.position.Position.{Position}
 use Rattle.pyc_ast.specs.Exprs as form
 use Rattle.pyc_ast.specs.Exprs.{Expr, expr, Form}
@@ -86,9 +86,17 @@ infer context = value_at_depth most_depth context
 abbrev pub infer_type : Context → State → Expr → Option Ty → Step Ty
 infer_type context s x want = type_in (infer context) s x want
 
+-- to read it, whatever it is
+abbrev pub read_by : Context → State → Expr → Step (Unit {0})
+read_by context s x = only_read (infer context) s x
+
 -- the states after a condition that is true, and after one that is not
 abbrev pub split_by : Context → State → Expr → Step States
 split_by context s x = split (looked_by (infer context)) s x
+
+-- to read a condition, and the states after it
+unfoldable pub condition : Context → State → Expr → Step States
+condition context s x = and_then (read_by context s x) (λ u. split_by context s x)
 
 -- the type of what stands between the brackets of a subscript
 abbrev pub infer_index : Context → State → form.Index → Step Ty

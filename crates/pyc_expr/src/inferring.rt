@@ -11,7 +11,7 @@ ghost use Rattle.pyc_reading.specs.Desks.{Performs};
 ghost use Rattle.pyc_type_forms.specs.TypeView.{ty_of};
 
 use crate::context::Context;
-use crate::parts::{Looking, Parts};
+use crate::parts::{Looking, Parts, only_read};
 use crate::subscripting::index_type;
 use crate::types::by_parts;
 use pyc_ast::{Expr, Index};
@@ -36,8 +36,7 @@ impl<
     N: Judge,
     C: Context<N>,
     F: Fn(Global, &mut N, &C, &State, &Expr, Option<&Ty>, usize) -> Result<Value, AllocError>,
-> Parts<N> for ToDepth<'_, C, F>
-{
+> Parts<N> for ToDepth<'_, C, F> {
     ghost ready = { λ reader. Nests N.desk C.context reader.depth (F.pre reader.function) (F.post reader.function) };
 
     ghost parts = { λ reader. spec.value_at_depth reader.depth (C.context reader.context.now) };
@@ -137,6 +136,41 @@ pub fn infer_type<N: Judge, C: Context<N>>(
 {
     let value = infer(alloc, notes, context, state, e, want)?;
     Ok(value.ty)
+}
+
+/// Reads an expression of which nothing is expected, whatever it is. What its obligations do not hold is told. The only
+/// error is that memory runs out.
+pub fn read<N: Judge, C: Context<N>>(
+    alloc: Global,
+    notes: &mut N,
+    context: &C,
+    state: &State,
+    e: &Expr,
+) -> Result<(), AllocError>
+    ensures { Performs (λ u. u)
+        (spec.read_by (C.context context.now) (state_of state.now) (expr_of e.now)) (N.desk notes.old) result
+        (N.desk notes.new) }
+{
+    only_read(alloc, notes, &Inferred { context }, state, e)
+}
+
+/// Reads a condition: the states after one that is true, and after one that is not, from the state before it. What its
+/// obligations do not hold is told. The only error is that memory runs out.
+#[tactic(auto, using(pyc_obligations::proofs::Steps::performing), unfolding(crate::specs::Values::condition))]
+pub fn condition<N: Judge, C: Context<N>>(
+    alloc: Global,
+    notes: &mut N,
+    context: &C,
+    state: &State,
+    e: &Expr,
+) -> Result<States, AllocError>
+    ensures { Performs states_of
+        (spec.condition (C.context context.now) (state_of state.now) (expr_of e.now)) (N.desk notes.old) result
+        (N.desk notes.new) }
+{
+    read(alloc, notes, context, state, e)?;
+    let states = split(alloc, notes, context, state, e)?;
+    Ok(states)
 }
 
 /// The states after a condition that is true, and after one that is not, from the state before it. Nothing is told. The

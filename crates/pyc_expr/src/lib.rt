@@ -16,5 +16,8 @@ mod subscripting;
 mod types;
 
 pub use context::Context;
-pub use inferring::{Inferred, infer, infer_index, infer_type, split, value_at_depth};
+pub use inferring::{
+    Inferred, condition, infer, infer_index, infer_type, read, split, value_at_depth,
+};
 pub use method_caller::MethodCaller;
+pub use parts::{InState, Looking, Parts};

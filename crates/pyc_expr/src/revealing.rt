@@ -44,12 +44,7 @@ pub(crate) fn revealed<N: Judge, P: Parts<N>>(
 
 /// Tells a type.
 #[tactic(auto, using(pyc_obligations::proofs::Steps::performing))]
-fn type_told<N: Judge>(
-    alloc: Global,
-    notes: &mut N,
-    at: Position,
-    ty: Ty,
-) -> Result<Ty, AllocError>
+fn type_told<N: Judge>(alloc: Global, notes: &mut N, at: Position, ty: Ty) -> Result<Ty, AllocError>
     ensures { Performs ty_of (spec.type_told at (ty_of ty)) (N.desk notes.old) result (N.desk notes.new) }
 {
     let text = type_text(alloc, &ty)?;

@@ -195,9 +195,7 @@ fn operation_by_form<N: Judge, C: Context<N>, P: Parts<N>>(
             left,
             right,
         } => binary_type(alloc, notes, parts, state, at, *operator, left, right),
-        Form::Compare { left, rest } => {
-            compare_type(alloc, notes, parts, state, at, left, rest)
-        }
+        Form::Compare { left, rest } => { compare_type(alloc, notes, parts, state, at, left, rest) }
         _ => choice_by_form(alloc, notes, parts, state, want, e),
     }
 }
@@ -221,9 +219,7 @@ fn choice_by_form<N: Judge, P: Parts<N>>(
             operator,
             left,
             right,
-        } => boolean_type(
-            alloc, notes, parts, state, want, *operator, left, right,
-        ),
+        } => boolean_type(alloc, notes, parts, state, want, *operator, left, right),
         Form::Conditional { test, body, orelse } => {
             choice_type(alloc, notes, parts, state, want, test, body, orelse)
         }

@@ -7,7 +7,6 @@ use Rattle.pyc_obligations.specs.ValueView.{value_of}
 use Rattle.pyc_places.specs.StateView.{state_of}
 use Rattle.pyc_reading.proofs.RunLemmas.{after, grown_trans}
 use Rattle.pyc_reading.specs.Desks.{run}
-use Rattle.pyc_type_forms.specs.TypeView.{ty_of}
 use Rattle.pyc_expr.proofs.call_values.member_called.Goals as goal
 
 pub returns : goal.returns
