@@ -1,13 +1,15 @@
 #!/usr/bin/env python3
-"""Tries each must-fail edit: `edits.py [--libraries FOLDER] [CRATE..]`.
+"""Tries must-fail edits: `edits.py [--libraries FOLDER] [--once] [CRATE..]`.
 
 The libraries that the crates stand on are those that `rt ci` left in FOLDER/NAME/out; FOLDER is `crates` where it is not
 named. The prover must refuse each edit `crates/NAME/must-fail/*.edit`. `rt must-fail NAME` tries them one by one, each with
 a load of the whole crate. Here several edits of one crate stand in one check, at most one to a function, and the check asks
 for the edited functions alone. A proof reads what other functions promise and not their bodies, so an edit of one body leaves
 the proof of another as it was: an edit counts as refused in such a check only where the prover says of that very function
-that it is not proved. Each other is tried again, at last alone, in a check of the whole crate. An edit of what is stated, or of
-what several functions read, has a line `refuses: FUNCTION`: it is tried alone, in a check of that function.
+that it is not proved. One whose function is still proved is tried alone, in a check of the whole crate. One of whose function
+the prover says nothing, since it calls another edited one, is tried in the next check, at last alone; with `--once`, as the gate
+calls this, it is passed over, and counts for nothing. An edit of what is stated, or of what several functions read, has a line
+`refuses: FUNCTION`: it is tried alone, in a check of that function.
 
 `RT_JOBS` says how many crates are tried side by side, 4 where it is not set. The last line is `edits: N passed, M failed`."""
 
@@ -26,7 +28,10 @@ KIT = Path(shutil.which("rt")).resolve().parents[1]
 # What a proof says that names what an edit took away, which speaks of no contract, and what a text says that cannot be read.
 NOT_OF_THE_CONTRACT = r"(note: )?(\./)?proofs/.*(has no field|is not in scope|has no `|was not admitted)"
 TOLD = r"(?m)^(?:note: )?\S+:\d+:\d+: .*$"
-UNREAD = r"(?m)^(?:\./)?(src|specs)/\S+: error: .*(is not in scope|has no field|is no name|operand is missing|expected the end|cannot continue)"
+UNREAD = (
+    r"(?m)^(?:\./)?(src|specs)/\S+: error: "
+    r".*(is not in scope|has no field|is no name|operand is missing|expected the end|cannot continue)"
+)
 PARTS = ("src", "specs", "proofs")
 
 
@@ -106,7 +111,7 @@ def without_parameters(head):
 
 
 def impl_name(head):
-    """Returns the segment that a path has for a block of methods: the type's name and then, of a trait's, the trait's with its types."""
+    """Returns the segment of a path for a block of methods: the type's name and then, of a trait's, the trait's with its types."""
     head = without_parameters(head.replace("->", "").strip())
     *trait, kind = head.split(" for ")
     named = lambda it: "".join(re.split("::", word)[-1] for word in re.findall(r"(?<!')\b[\w:]+", it))
@@ -195,10 +200,13 @@ class Trial:
         status, said = self.check(edits, {it.place[3] for it in edits})
         if status == 2:
             print(f"edits: {self.name}: {said.rstrip().splitlines()[-1]}", flush=True)
+        tried = [it for it in edits if is_tried(it, status, said)]
+        # (where the check said nothing of any of them, each is tried alone)
+        self.passed_over = [it for it in self.left if tried and it not in tried and it.place and not it.refuses]
         return {it: why for it in edits if status == 1 and (why := refusal(it, said))}
 
     def alone(self, edit):
-        """Tries one edit, in a check of the function that it names or of the whole crate, and returns why it is refused, or None."""
+        """Tries one edit, on the function that it names or on the whole crate, and returns why it is refused, or None."""
         if edit.refuses and edit.place:
             status, said = self.check([edit], {edit.place[3]})
             if status == 1 and not re.search(UNREAD, said) and (why := refusal(edit, said)):
@@ -219,21 +227,29 @@ class Trial:
         self.failed += why is None
         self.said.append(f"{self.name}/{edit.path.name}: {'NOT REFUSED' if why is None else 'refused: ' + why[:160]}")
 
-    def run(self):
-        """Tries all, and returns how many were refused and how many were not."""
-        begun, self.left, self.said, self.failed = time.monotonic(), [*self.edits], [], 0
+    def run(self, once):
+        """Tries all, or those that stand in one check, and returns how many were refused and how many were not."""
+        begun, self.left, self.said, self.failed, self.passed_over = time.monotonic(), [*self.edits], [], 0, []
         for it in [it for it in self.left if it.fault]:
             self.judge(it, None)
             self.said.append(f"{self.name}/{it.path.name}: BAD EDIT: {it.fault}")
         while refused := self.together(one_a_function(self.left)):
             for it, why in refused.items():
                 self.judge(it, why)
-        for it in [*self.left]:
+            if once:
+                break
+        for it in [it for it in self.left if not (once and it in self.passed_over)]:
             self.judge(it, self.alone(it))
         took = time.monotonic() - begun
         print("\n".join(self.said), flush=True)
-        print(f"edits: {self.name}: {len(self.edits)} in {self.checks} checks, {took:.0f} s", flush=True)
-        return len(self.edits) - self.failed, self.failed
+        tried = len(self.edits) - len(self.left)
+        print(f"edits: {self.name}: {tried} of {len(self.edits)} in {self.checks} checks, {took:.0f} s", flush=True)
+        return tried - self.failed, self.failed
+
+
+def is_tried(edit, status, said):
+    """Returns whether a check that ended well says of an edit's function that it is proved, or that it is not."""
+    return status in (0, 1) and bool(re.search(rf"(?m)^fn \S*\b{re.escape(edit.place[3])}: (not )?proved$", said))
 
 
 def refusal(edit, said):
@@ -263,6 +279,8 @@ def main():
     built = ROOT / "crates"
     if words_given[:1] == ["--libraries"]:
         built, words_given = Path(words_given[1]).resolve(), words_given[2:]
+    once = words_given[:1] == ["--once"]
+    words_given = words_given[once:]
     known = libraries()
     edits = {it: edits_of(it) for it in words_given or known}
     passed = failed = 0
@@ -271,7 +289,7 @@ def main():
         # (those with the most to do begin first)
         trials.sort(key=lambda it: -len(it.edits) * (8 + len(below(known, it.name))))
         with concurrent.futures.ThreadPoolExecutor(int(os.environ.get("RT_JOBS", "4"))) as pool:
-            for good, bad in pool.map(Trial.run, trials):
+            for good, bad in pool.map(lambda it: it.run(once), trials):
                 passed, failed = passed + good, failed + bad
     print(f"edits: {passed} passed, {failed} failed")
     return 1 if failed else 0
