@@ -1,0 +1,9 @@
+pub mod Reads
+pub mod NameTargets
+pub mod Slots
+pub mod AttributeTargets
+pub mod ItemTargets
+pub mod Unpacking
+pub mod Storing
+pub mod Assignments
+pub mod Views
