@@ -1,8 +1,5 @@
 pub mod Reads
-pub mod NameTargets
-pub mod Slots
-pub mod AttributeTargets
-pub mod ItemTargets
+pub mod Singles
 pub mod Unpacking
 pub mod Storing
 pub mod Assignments

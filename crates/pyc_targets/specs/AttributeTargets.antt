@@ -130,17 +130,17 @@ unfoldable pub no_module_want : Position → List ℕ → Step (Option Ty)
 no_module_want at n = and_then (no_module_attribute at n) (λ found. Done (Some found.ty))
 
 -- a name of a module, by its kind: a function, a class or a module takes anything
-abbrev pub answered_want : Position → List ℕ → Ty → NameKind → Step (Option Ty)
-answered_want at n ty no_name = no_module_want at n
-answered_want at n ty function_name = Done None
-answered_want at n ty class_name = Done None
-answered_want at n ty (module_name m) = Done None
-answered_want at n ty _ = Done (Some ty)
+abbrev pub answered_want : Position → List ℕ → NameAnswer → NameKind → Step (Option Ty)
+answered_want at n found no_name = no_module_want at n
+answered_want at n found function_name = Done None
+answered_want at n found class_name = Done None
+answered_want at n found (module_name m) = Done None
+answered_want at n found _ = Done (Some found.ty)
 
 abbrev pub asked_want : Position → List (List ℕ) → List ℕ → Option FixedModule → Step (Option Ty)
 asked_want at m n (Some found) = Done (Some any)
 asked_want at m n None =
-    and_then (asked_name (record { home = m; name = n })) (λ found. answered_want at n found.ty found.kind)
+    and_then (asked_name (record { home = m; name = n })) (λ found. answered_want at n found found.kind)
 
 -- Any where two underscores stand at both ends
 unfoldable pub module_want : Position → List (List ℕ) → List ℕ → Step (Option Ty)

@@ -82,7 +82,7 @@ fn answered_want<N: Judge>(
     found: NameAnswer,
 ) -> Result<Option<Ty>, AllocError>
     ensures { Performs (option_map ty_of)
-        (spec.answered_want at name.now (ty_of found.ty) (kind_of found.kind)) (N.desk notes.old) result
+        (spec.answered_want at name.now (name_answer_of found) (kind_of found.kind)) (N.desk notes.old) result
         (N.desk notes.new) }
 {
     match &found.kind {
