@@ -10,7 +10,7 @@ use Rattle.pyc_builtins.specs.declared.members.Member.TheVariants as member
 use Rattle.pyc_builtins.specs.Members.{builtin_member, is_dunder}
 use Rattle.pyc_class.specs.declared.builtin_class.BuiltinClass.{BuiltinClass}
 use Rattle.pyc_class.specs.declared.builtin_class.BuiltinClass.TheVariants as class
-use Rattle.pyc_class.specs.Class.{Id, builtin, builtin_of, name_of}
+use Rattle.pyc_class.specs.Class.{Id, builtin_of, name_of}
 use Rattle.pyc_names.specs.declared.fixed.FixedModule.{FixedModule}
 use Rattle.pyc_names.specs.FixedModules.{fixed_module}
 use Rattle.pyc_obligations.specs.Asking.{asked_name}

@@ -1,5 +1,5 @@
 -- What an assignment to a target meets.
-use Rattle.std.specs.Prelude.{Bool, true, false, Option, None, Some}
+use Rattle.std.specs.Prelude.{Bool, true, false, Option, Some}
 use Rattle.pyc_type_forms.specs.Types.{Ty}
 
 -- the type that a target takes, none where nothing is owed to it, and whether the target is an item of a subscript
