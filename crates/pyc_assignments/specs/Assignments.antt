@@ -57,28 +57,29 @@ abbrev pub first_slot : Reads → State → Option Target → Step Slot
 first_slot read s (Some to) = slot read s to
 first_slot read s None = Done (plain_slot None)
 
--- a target of a number, where what the one of the first number meets was read before
-abbrev pub target_assigned : Reads → Position → Slot → ℕ → Ty → ℕ → Target → State → Step State
-target_assigned read at found first ty index to s =
-    if nat_eq index first then stored at to found ty s else assigned read at to ty s
+-- a target, by whether what it meets was read before
+abbrev pub target_assigned : Reads → Position → Slot → Bool → Ty → Target → State → Step State
+target_assigned read at found is_first ty to s =
+    if is_first then stored at to found ty s else assigned read at to ty s
 
--- targets in turn: the first of these has this number
-unfoldable pub targets_assigned : Reads → Position → Slot → ℕ → Ty → ℕ → List Target → State → Step State
+-- targets in turn, of which what the one of a number meets was read before: the first of these has this number
+unfoldable pub targets_assigned : Reads → Position → Slot → (first : ℕ) → Ty → ℕ → List Target → State → Step State
 targets_assigned read at found first ty index [] s = Done s
 targets_assigned read at found first ty index (to ∷ rest) s =
-    and_then (target_assigned read at found first ty index to s)
+    and_then (target_assigned read at found (nat_eq index first) ty to s)
     (λ t. targets_assigned read at found first ty (index + 1) rest t)
 
--- a value is assigned to targets, where this is what the first single one meets
-unfoldable pub assignment_by : Reads → List Target → Expr → State → Slot → Step State
-assignment_by read targets value s found =
+-- a value is assigned to targets, where this is what the one of a number meets
+unfoldable pub assignment_by : Reads → (first : ℕ) → List Target → Expr → State → Slot → Step State
+assignment_by read first targets value s found =
     and_then (type_read read s value found.want)
-    (λ ty. targets_assigned read (at_of value) found (first_single targets) ty 0 targets s)
+    (λ ty. targets_assigned read (at_of value) found first ty 0 targets s)
 
 -- an assignment to targets from left to right: the value is read with what the first single target takes
 unfoldable pub assignment : Reads → List Target → Expr → State → Step State
 assignment read targets value s =
-    and_then (first_slot read s (slice_get targets (first_single targets))) (assignment_by read targets value s)
+    and_then (first_slot read s (slice_get targets (first_single targets)))
+    (assignment_by read (first_single targets) targets value s)
 
 -- ---- annotated assignments
 
