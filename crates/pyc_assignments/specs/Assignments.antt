@@ -5,7 +5,7 @@ use Rattle.std.specs.List.{slice_get}
 use Rattle.pyc_assignments.specs.Reads.{Reads, type_read}
 use Rattle.pyc_assignments.specs.Singles.{slot, is_unpacking}
 use Rattle.pyc_assignments.specs.Storing.{assignment_owed, renarrowed, stored}
-use Rattle.pyc_assignments.specs.Unpacking.{Shares, has_starred, target_count, shares, share_at}
+use Rattle.pyc_assignments.specs.Unpacking.{Shares, has_starred, target_count, shares_of, share_at}
 use Rattle.pyc_ast.specs.declared.position.Position.{Position}
 use Rattle.pyc_ast.specs.Exprs.{Expr, at_of}
 use Rattle.pyc_ast.specs.Statements.{AnnotatedAssignment}
@@ -28,15 +28,12 @@ abbrev mutual
   pub assigned : Reads → Position → Target → Ty → State → Step State
   assigned read at (target out inside form) ty s = form_assigned read at (target out inside form) form ty s
 
+  -- the same by the target's form: a value is unpacked to a tuple or a list of targets
   pub form_assigned : Reads → Position → Target → TargetForm → Ty → State → Step State
-  form_assigned read at whole (unpacking elements) ty s = unpacked read at elements ty s
-  form_assigned read at whole form ty s = single_assigned read at whole ty s
-
-  -- a value is unpacked
-  pub unpacked : Reads → Position → TargetElements → Ty → State → Step State
-  unpacked read at elements ty s =
-      and_then (shares at (has_starred elements) (target_count elements) ty)
+  form_assigned read at whole (unpacking elements) ty s =
+      and_then (shares_of at (has_starred elements) (target_count elements) ty)
       (λ found. each_assigned read at found 0 elements s)
+  form_assigned read at whole form ty s = single_assigned read at whole ty s
 
   -- targets get their shares, in turn: the first has this number
   pub each_assigned : Reads → Position → Shares → ℕ → TargetElements → State → Step State
@@ -44,6 +41,12 @@ abbrev mutual
   each_assigned read at found index (another_target (target_element starred to) rest) s =
       and_then (assigned read at to (share_at found index) s)
       (λ t. each_assigned read at found (index + 1) rest t)
+
+-- the state after a value is unpacked to targets
+abbrev pub unpacked : Reads → Position → TargetElements → Ty → State → Step State
+unpacked read at elements ty s =
+    and_then (shares_of at (has_starred elements) (target_count elements) ty)
+    (λ found. each_assigned read at found 0 elements s)
 
 -- ---- assignments
 

@@ -79,9 +79,9 @@ shares_by_type at expected (tuple items) = tuple_shares at (row_length items) ex
 shares_by_type at expected ty = iterated_shares at ty
 
 -- what so many targets get of a value of a type that begins at a position: Any where one stands after `*`
-abbrev pub shares : Position → Bool → ℕ → Ty → Step Shares
-shares at true expected ty = Done (each_gets any)
-shares at false expected ty = shares_by_type at expected ty
+abbrev pub shares_of : Position → Bool → ℕ → Ty → Step Shares
+shares_of at true expected ty = Done (each_gets any)
+shares_of at false expected ty = shares_by_type at expected ty
 
 -- ---- the share of a target
 

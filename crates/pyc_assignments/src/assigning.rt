@@ -12,7 +12,7 @@ ghost use Rattle.pyc_type_forms.specs.TypeView.{ty_of};
 use crate::reading::AssignmentReader;
 use crate::singles::slot;
 use crate::storing::stored;
-use crate::unpacking::{Shares, has_starred, share_at, shares, target_count};
+use crate::unpacking::{Shares, has_starred, share_at, shares_of, target_count};
 use pyc_ast::{Position, Target, TargetElement, TargetForm};
 use pyc_obligations::Judge;
 use pyc_places::State;
@@ -83,7 +83,7 @@ fn unpacked<N: Judge, R: AssignmentReader<N>>(
         (state_of state.now)) (N.desk notes.old) result (N.desk notes.new) }
 {
     let is_starred = has_starred(elements);
-    let found = shares(alloc, notes, at, is_starred, target_count(elements), ty)?;
+    let found = shares_of(alloc, notes, at, is_starred, target_count(elements), ty)?;
     let state = each_assigned(alloc, notes, reader, at, &found, elements, state)?;
     Ok(state)
 }

@@ -45,7 +45,7 @@ pub(crate) fn target_count(elements: &[TargetElement]) -> usize
 }
 
 /// What so many targets get of a value of a type that begins at a position: Any where one stands after `*`.
-pub(crate) fn shares<N: Judge>(
+pub(crate) fn shares_of<N: Judge>(
     alloc: Global,
     notes: &mut N,
     at: Position,
@@ -53,7 +53,7 @@ pub(crate) fn shares<N: Judge>(
     expected: usize,
     ty: &Ty,
 ) -> Result<Shares, AllocError>
-    ensures { Performs shares_in (spec.shares at is_starred expected (ty_of ty.now)) (N.desk notes.old) result
+    ensures { Performs shares_in (spec.shares_of at is_starred expected (ty_of ty.now)) (N.desk notes.old) result
         (N.desk notes.new) }
 {
     if is_starred {
