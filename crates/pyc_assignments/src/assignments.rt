@@ -47,8 +47,8 @@ pub fn assignment<N: Judge, R: AssignmentReader<N>>(
 fn first_single(targets: &[Target]) -> usize
     ensures { result ≡ spec.first_single (map target_of targets.now) }
 {
-    for (index, target) in targets.iter().enumerate() {
-        if !is_unpacking(target) {
+    for index in 0..targets.len() {
+        if !is_unpacking(&targets[index]) {
             return index;
         }
     }
