@@ -1,5 +1,5 @@
 -- What targets of the code are, by their own parts.
-use Rattle.std.proofs.Common.{◌≡◌, ℕ, suc, ◌+◌, ◌<◌, Bool, true, false, List, [], ◌∷◌, length, map, drop, get_or, add-one, drop-cons, refl, ap, sym, ◌∙◌, rules, if◌then◌else◌}
+use Rattle.std.proofs.Common.{◌≡◌, ℕ, suc, ◌+◌, ◌<◌, Bool, true, false, List, [], ◌∷◌, length, map, drop, get_or, add-one, drop-cons, refl, ap, sym, ◌∙◌, rules, if◌then◌else◌, Bor, Option, None, Some, option_map}
 use Rattle.pyc_assignments.specs.Assignments.{first_single}
 use Rattle.pyc_assignments.specs.Singles.{is_unpacking}
 use Rattle.pyc_assignments.specs.Unpacking.{has_starred, target_count}
@@ -47,3 +47,8 @@ pub first_later : (xs : List Target) (i : ℕ) (x : Target) → i < length xs �
 first_later xs i x within is unpacks =
     ap (λ l. first_single (map target_of l)) (from_item xs i x within is)
     ∙ ap (λ (b : Bool). if b then suc (first_single (map target_of (drop (i + 1) xs))) else 0) unpacks
+
+-- what is lent out of an option is what stands in it
+pub lent : {X A : Type 0} (f : X → A) (r : Option (Bor X)) (o : Option X) → option_map (λ (x : Bor X). x.now) r ≡ o → option_map (λ (x : Bor X). f x.now) r ≡ option_map f o
+lent f None o is = ap (option_map f) is
+lent f (Some x) o is = ap (option_map f) is
