@@ -1,5 +1,9 @@
 -- What targets of the code are, by their own parts.
-use Rattle.std.proofs.Common.{◌≡◌, ℕ, suc, ◌+◌, ◌<◌, Bool, true, false, List, [], ◌∷◌, length, map, drop, get_or, add-one, drop-cons, refl, ap, sym, ◌∙◌, rules, if◌then◌else◌, Bor, Option, None, Some, option_map}
+use Rattle.std.proofs.Common.{◌≡◌, ℕ, suc, ◌+◌, ◌<◌, Bool, true, false, List, [], ◌∷◌, length, map, drop, get_or, add-one, drop-cons, refl, ap, sym, ◌∙◌, arith, rules, if◌then◌else◌, Bor, Option, None, Some, option_map}
+use Rattle.std.proofs.lemmas.List.{length-map}
+use Rattle.std.proofs.lemmas.Option.{slice_get-map, slice_get_past, slice_get_read}
+use Rattle.std.specs.List.{slice_get}
+use Rattle.std.specs.Slice.{IsItemAt}
 use Rattle.pyc_assignments.specs.Assignments.{first_single}
 use Rattle.pyc_assignments.specs.Singles.{is_unpacking}
 use Rattle.pyc_assignments.specs.Unpacking.{has_starred, target_count}
@@ -52,3 +56,8 @@ first_later xs i x within is unpacks =
 pub lent : {X A : Type 0} (f : X → A) (r : Option (Bor X)) (o : Option X) → option_map (λ (x : Bor X). x.now) r ≡ o → option_map (λ (x : Bor X). f x.now) r ≡ option_map f o
 lent f None o is = ap (option_map f) is
 lent f (Some x) o is = ap (option_map f) is
+
+-- what is lent out of a list is what stands at its place
+pub lent_at : {X A : Type 0} (f : X → A) (xs : List X) (i : ℕ) (r : Option (Bor X)) → IsItemAt xs i r → slice_get (map f xs) i ≡ option_map (λ (x : Bor X). f x.now) r
+lent_at f xs i None h = slice_get_past (map f xs) i (omega (arith, length-map xs f, h.3))
+lent_at f xs i (Some x) h = slice_get-map f xs i ∙ ap (option_map f) (slice_get_read xs (length xs) i x.now refl h.3.0 h.1)
