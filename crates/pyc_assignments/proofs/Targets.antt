@@ -6,7 +6,7 @@ use Rattle.std.specs.List.{slice_get}
 use Rattle.std.specs.Slice.{IsItemAt}
 use Rattle.pyc_assignments.specs.Assignments.{first_single}
 use Rattle.pyc_assignments.specs.Singles.{is_unpacking}
-use Rattle.pyc_assignments.specs.Unpacking.{has_starred, target_count}
+use Rattle.pyc_assignments.specs.Unpacking.{target_count}
 use Rattle.pyc_ast.specs.declared.expr.Expr.{Expr}
 use Rattle.pyc_ast.specs.declared.expr.DictItem.TheFolds.{the_lemmas as expr_lemmas}
 use Rattle.pyc_ast.specs.declared.target.Target.{Target}

@@ -1,5 +1,5 @@
 -- One turn of the loops that assign to targets in turn.
-use Rattle.std.proofs.Common.{◌≡◌, ℕ, ◌+◌, ◌<◌, nat_eq, List, [], ◌∷◌, length, map, drop, get_or, refl, ap, sym, ◌∙◌}
+use Rattle.std.proofs.Common.{◌≡◌, ℕ, ◌+◌, ◌<◌, nat_eq, List, ◌∷◌, length, map, drop, get_or, refl, ap, sym, ◌∙◌}
 use Rattle.pyc_assignments.proofs.Targets.{view_element}
 use Rattle.pyc_assignments.specs.Assignments.{assigned, each_assigned, target_assigned, targets_assigned}
 use Rattle.pyc_assignments.specs.Reads.{Reads}

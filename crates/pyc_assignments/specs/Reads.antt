@@ -1,5 +1,5 @@
 -- By what an assignment is read.
-use Rattle.std.specs.Prelude.{ℕ, List, Option, None}
+use Rattle.std.specs.Prelude.{ℕ, List, Option}
 use Rattle.pyc_ast.specs.Exprs.{Expr, Index}
 use Rattle.pyc_obligations.specs.Values.{Value}
 use Rattle.pyc_places.specs.States.{State}

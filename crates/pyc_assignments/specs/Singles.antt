@@ -1,5 +1,5 @@
 -- What an assignment to one target meets (Python reference 3.13, "Assignment statements").
-use Rattle.std.specs.Prelude.{ℕ, Bool, true, false, List, Option, None, Some}
+use Rattle.std.specs.Prelude.{ℕ, Bool, true, false, List, None}
 use Rattle.pyc_assignments.specs.Reads.{Reads, type_read}
 use Rattle.pyc_ast.specs.declared.position.Position.{Position}
 use Rattle.pyc_ast.specs.Exprs.{Expr, Index}

@@ -11,7 +11,7 @@ use Rattle.pyc_reading.specs.Desks.{Step}
 use Rattle.pyc_reading.specs.Readings.{Done, Tell, and_then}
 use Rattle.pyc_report.specs.declared.message.Code.TheVariants.{Misc}
 use Rattle.pyc_report.specs.Message.{error_at}
-use Rattle.pyc_type_forms.specs.Types.{Ty, Tys, any, tuple}
+use Rattle.pyc_type_forms.specs.Types.{Ty, any, tuple}
 
 -- what targets get
 pub data Shares : Type 0 where

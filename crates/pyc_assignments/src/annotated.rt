@@ -90,8 +90,9 @@ fn with_value<N: Judge, R: AssignmentReader<N>>(
         (state_of state.now)) (N.desk notes.old) result (N.desk notes.new) }
 {
     let early = early_want(alloc, notes, reader, state, target)?;
-    let state =
-        value_assigned(alloc, notes, reader, declares, target, want, value, state, early)?;
+    let state = value_assigned(
+        alloc, notes, reader, declares, target, want, value, state, early,
+    )?;
     Ok(state)
 }
 
@@ -152,8 +153,9 @@ fn value_assigned<N: Judge, R: AssignmentReader<N>>(
         (N.desk notes.new) }
 {
     let got = type_read(alloc, notes, reader, state, value, Some(want))?;
-    let state =
-        value_stored(alloc, notes, reader, declares, target, want, early, value.at, &got, state)?;
+    let state = value_stored(
+        alloc, notes, reader, declares, target, want, early, value.at, &got, state,
+    )?;
     Ok(state)
 }
 

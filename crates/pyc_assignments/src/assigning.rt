@@ -109,7 +109,15 @@ fn each_assigned<N: Judge, R: AssignmentReader<N>>(
     let mut after = state.clone()?;
     for index in 0..elements.len() {
         let ty = share_at(found, index)?;
-        after = assigned(alloc, notes, reader, at, &elements[index].target, &ty, &after)?;
+        after = assigned(
+            alloc,
+            notes,
+            reader,
+            at,
+            &elements[index].target,
+            &ty,
+            &after,
+        )?;
     }
     Ok(after)
 }

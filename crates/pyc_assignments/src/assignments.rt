@@ -92,8 +92,9 @@ fn assignment_by<N: Judge, R: AssignmentReader<N>>(
         (state_of state.now) (slot_of found.now)) (N.desk notes.old) result (N.desk notes.new) }
 {
     let ty = type_read(alloc, notes, reader, state, value, found.want.as_ref())?;
-    let state =
-        targets_assigned(alloc, notes, reader, value.at, found, first, &ty, targets, state)?;
+    let state = targets_assigned(
+        alloc, notes, reader, value.at, found, first, &ty, targets, state,
+    )?;
     Ok(state)
 }
 
@@ -118,8 +119,17 @@ fn targets_assigned<N: Judge, R: AssignmentReader<N>>(
     let mut after = state.clone()?;
     for index in 0..targets.len() {
         let is_first = index == first;
-        after =
-            target_assigned(alloc, notes, reader, at, found, is_first, ty, &targets[index], &after)?;
+        after = target_assigned(
+            alloc,
+            notes,
+            reader,
+            at,
+            found,
+            is_first,
+            ty,
+            &targets[index],
+            &after,
+        )?;
     }
     Ok(after)
 }

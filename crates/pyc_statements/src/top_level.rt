@@ -45,7 +45,12 @@ impl<N: Judge> AssignmentReader<N> for InScope<'_> {
         infer_index(alloc, notes, &self.scope, state, index)
     }
 
-    fn declared(&self, alloc: Global, notes: &mut N, name: &Text) -> Result<Option<Ty>, AllocError> {
+    fn declared(
+        &self,
+        alloc: Global,
+        notes: &mut N,
+        name: &Text,
+    ) -> Result<Option<Ty>, AllocError> {
         declared_type(alloc, notes, self.scope.file, name)
     }
 

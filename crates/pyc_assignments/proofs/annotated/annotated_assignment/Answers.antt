@@ -1,4 +1,4 @@
-use Rattle.std.proofs.Common.{◌≡◌, ◌∙◌, Option, option_map, rules, ap, sym}
+use Rattle.std.proofs.Common.{◌∙◌, Option, option_map, ap, sym}
 use Rattle.pyc_assignments.proofs.Targets.{lent}
 use Rattle.pyc_assignments.specs.Assignments.{annotated_assignment, if_value}
 use Rattle.pyc_ast.specs.ExprView.{expr_of}
