@@ -1,0 +1,206 @@
+//! What expressions are, what conditions say of places, and the types of indices.
+
+ghost use Rattle.std.specs.Prelude.{option_map};
+ghost use Rattle.pyc_ast.specs.ExprView.{expr_of, index_of};
+ghost use Rattle.pyc_expr.specs.Nesting.{Nests};
+ghost use Rattle.pyc_expr.specs.Values as spec;
+ghost use Rattle.pyc_narrowing.specs.SplitView.{states_of};
+ghost use Rattle.pyc_obligations.specs.ValueView.{value_of};
+ghost use Rattle.pyc_places.specs.StateView.{state_of};
+ghost use Rattle.pyc_reading.specs.Desks.{Performs};
+ghost use Rattle.pyc_type_forms.specs.TypeView.{ty_of};
+
+use crate::context::Context;
+use crate::parts::{Looking, Parts, only_read};
+use crate::subscripting::index_type;
+use crate::types::by_parts;
+use pyc_ast::{Expr, Index};
+use pyc_narrowing::{States, split as split_by};
+use pyc_obligations::{Judge, Value};
+use pyc_places::State;
+use pyc_type_forms::Ty;
+use std::alloc::{AllocError, Global};
+
+/// How deep the parts of expressions lie at most.
+const MOST_DEPTH: usize = 1000;
+
+/// Who says what the parts of expressions are, by a function that reads expressions to a depth.
+#[derive(Clone, Copy)]
+struct ToDepth<'a, C, F> {
+    context: &'a C,
+    depth: usize,
+    function: F,
+}
+
+impl<
+    N: Judge,
+    C: Context<N>,
+    F: Fn(Global, &mut N, &C, &State, &Expr, Option<&Ty>, usize) -> Result<Value, AllocError>,
+> Parts<N> for ToDepth<'_, C, F> {
+    ghost ready = { λ reader. Nests N.desk C.context reader.depth (F.pre reader.function) (F.post reader.function) };
+
+    ghost parts = { λ reader. spec.value_at_depth reader.depth (C.context reader.context.now) };
+
+    fn part(
+        &self,
+        alloc: Global,
+        notes: &mut N,
+        state: &State,
+        part: &Expr,
+        want: Option<&Ty>,
+    ) -> Result<Value, AllocError> {
+        (self.function)(alloc, notes, self.context, state, part, want, self.depth)
+    }
+}
+
+/// What an expression is in a state and by what is expected of it, if its parts lie at most so deep: deeper ones are
+/// Any. The only error is that memory runs out.
+pub fn value_at_depth<N: Judge, C: Context<N>>(
+    alloc: Global,
+    notes: &mut N,
+    context: &C,
+    state: &State,
+    e: &Expr,
+    want: Option<&Ty>,
+    depth: usize,
+) -> Result<Value, AllocError>
+    ensures { Performs value_of
+        (spec.value_at_depth depth (C.context context.now) (state_of state.now) (expr_of e.now)
+        (option_map (λ ty. ty_of ty.now) want.entry)) (N.desk notes.old) result (N.desk notes.new) }
+{
+    if depth == 0 {
+        return Ok(Value::plain(Ty::Any));
+    }
+    let parts = ToDepth {
+        context,
+        depth: depth - 1,
+        function: value_at_depth,
+    };
+    by_parts(alloc, notes, context, &parts, state, e, want)
+}
+
+/// Who says what whole expressions are where one stands.
+#[derive(Clone, Copy, Drop)]
+pub struct Inferred<'a, C> {
+    pub context: &'a C,
+}
+
+impl<N: Judge, C: Context<N>> Parts<N> for Inferred<'_, C> {
+    ghost ready = { λ inferred. Unit };
+
+    ghost parts = { λ inferred. spec.infer (C.context inferred.context.now) };
+
+    fn part(
+        &self,
+        alloc: Global,
+        notes: &mut N,
+        state: &State,
+        part: &Expr,
+        want: Option<&Ty>,
+    ) -> Result<Value, AllocError> {
+        infer(alloc, notes, self.context, state, part, want)
+    }
+}
+
+/// What an expression is in a state and by what is expected of it. What its obligations do not hold is told. The only
+/// error is that memory runs out.
+#[tactic(auto, unfolding(crate::specs::Values::infer, crate::specs::Values::most_depth))]
+pub fn infer<N: Judge, C: Context<N>>(
+    alloc: Global,
+    notes: &mut N,
+    context: &C,
+    state: &State,
+    e: &Expr,
+    want: Option<&Ty>,
+) -> Result<Value, AllocError>
+    ensures { Performs value_of
+        (spec.infer (C.context context.now) (state_of state.now) (expr_of e.now)
+        (option_map (λ ty. ty_of ty.now) want.entry)) (N.desk notes.old) result (N.desk notes.new) }
+{
+    value_at_depth(alloc, notes, context, state, e, want, MOST_DEPTH)
+}
+
+/// The type of an expression in a state and by what is expected of it. The only error is that memory runs out.
+#[tactic(auto, using(pyc_obligations::proofs::Steps::performing), unfolding(crate::specs::Contexts::type_in))]
+pub fn infer_type<N: Judge, C: Context<N>>(
+    alloc: Global,
+    notes: &mut N,
+    context: &C,
+    state: &State,
+    e: &Expr,
+    want: Option<&Ty>,
+) -> Result<Ty, AllocError>
+    ensures { Performs ty_of
+        (spec.infer_type (C.context context.now) (state_of state.now) (expr_of e.now)
+        (option_map (λ ty. ty_of ty.now) want.entry)) (N.desk notes.old) result (N.desk notes.new) }
+{
+    let value = infer(alloc, notes, context, state, e, want)?;
+    Ok(value.ty)
+}
+
+/// Reads an expression of which nothing is expected, whatever it is. What its obligations do not hold is told. The only
+/// error is that memory runs out.
+pub fn read<N: Judge, C: Context<N>>(
+    alloc: Global,
+    notes: &mut N,
+    context: &C,
+    state: &State,
+    e: &Expr,
+) -> Result<(), AllocError>
+    ensures { Performs (λ u. u)
+        (spec.read_by (C.context context.now) (state_of state.now) (expr_of e.now)) (N.desk notes.old) result
+        (N.desk notes.new) }
+{
+    only_read(alloc, notes, &Inferred { context }, state, e)
+}
+
+/// Reads a condition: the states after one that is true, and after one that is not, from the state before it. What its
+/// obligations do not hold is told. The only error is that memory runs out.
+#[tactic(auto, using(pyc_obligations::proofs::Steps::performing), unfolding(crate::specs::Values::condition))]
+pub fn condition<N: Judge, C: Context<N>>(
+    alloc: Global,
+    notes: &mut N,
+    context: &C,
+    state: &State,
+    e: &Expr,
+) -> Result<States, AllocError>
+    ensures { Performs states_of
+        (spec.condition (C.context context.now) (state_of state.now) (expr_of e.now)) (N.desk notes.old) result
+        (N.desk notes.new) }
+{
+    read(alloc, notes, context, state, e)?;
+    let states = split(alloc, notes, context, state, e)?;
+    Ok(states)
+}
+
+/// The states after a condition that is true, and after one that is not, from the state before it. Nothing is told. The
+/// only error is that memory runs out.
+pub fn split<N: Judge, C: Context<N>>(
+    alloc: Global,
+    notes: &mut N,
+    context: &C,
+    state: &State,
+    condition: &Expr,
+) -> Result<States, AllocError>
+    ensures { Performs states_of
+        (spec.split_by (C.context context.now) (state_of state.now) (expr_of condition.now)) (N.desk notes.old) result
+        (N.desk notes.new) }
+{
+    let parts = Inferred { context };
+    split_by(alloc, notes, &Looking { parts: &parts }, state, condition)
+}
+
+/// The type of what stands between the brackets of a subscript. The only error is that memory runs out.
+pub fn infer_index<N: Judge, C: Context<N>>(
+    alloc: Global,
+    notes: &mut N,
+    context: &C,
+    state: &State,
+    index: &Index,
+) -> Result<Ty, AllocError>
+    ensures { Performs ty_of
+        (spec.infer_index (C.context context.now) (state_of state.now) (index_of index.now)) (N.desk notes.old) result
+        (N.desk notes.new) }
+{
+    index_type(alloc, notes, &Inferred { context }, state, index)
+}
