@@ -1,0 +1,29 @@
+use Rattle.std.proofs.Common.{◌∙◌, Option, option_map, false, ap, sym}
+use Rattle.pyc_assignments.proofs.Targets.{lent}
+use Rattle.pyc_assignments.specs.Assignments.{value_stored, late_want}
+use Rattle.pyc_assignments.specs.Storing.{assignment_owed, renarrowed}
+use Rattle.pyc_ast.specs.TargetView.{target_of}
+use Rattle.pyc_places.specs.StateView.{state_of}
+use Rattle.pyc_reading.proofs.RunLemmas.{after, grown_trans}
+use Rattle.pyc_reading.specs.Desks.{run}
+use Rattle.pyc_reading.specs.Readings.{and_then}
+use Rattle.pyc_type_forms.specs.Types.{Ty}
+use Rattle.pyc_type_forms.specs.TypeView.{ty_of}
+use Rattle.pyc_assignments.proofs.annotated.value_stored.Goals as goal
+
+pub returns : goal.returns
+unfolding value_stored
+returns g c =
+    let read = g.R.AssignmentReader.reads c.args.reader.now in
+    let s = state_of c.args.state.now in
+    let to = target_of c.args.target.now in
+    let got = ty_of c.args.got.now in
+    let want = ty_of c.args.want.now in
+    let at = c.args.at in
+    record {
+      done =
+          after (late_want read c.args.declares want (option_map ty_of c.args.early) to) (λ declared. and_then (assignment_owed at false got want) (λ u. renarrowed to declared got s)) (g.N.Notes.desk c.args.notes.now) _ _ _ _ c.in_ok-declared.ensures.done
+          (after (assignment_owed at false got want) (λ u. renarrowed to (option_map ty_of c.in_ok-declared.declared) got s) (g.N.Notes.desk c.late_want.new.notes) _ _ _ _ c.in_ok-assignment_owed.ensures.done
+          (ap (λ (d : Option Ty). run (renarrowed to d got s) (g.N.Notes.desk c.assignment_owed.new.notes)) (sym (lent ty_of c.as_ref.result _ c.as_ref.ensures.value)) ∙ c.in_ok-state.ensures.done));
+      grown = grown_trans (grown_trans c.late_want.ensures.grown c.assignment_owed.ensures.grown) c.renarrowed.ensures.grown;
+    }

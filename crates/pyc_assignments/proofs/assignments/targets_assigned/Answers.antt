@@ -1,0 +1,15 @@
+use Rattle.std.proofs.Common.{◌∙◌}
+use Rattle.pyc_assignments.proofs.Turns.{target_turn}
+use Rattle.pyc_places.specs.StateView.{state_of}
+use Rattle.pyc_reading.proofs.RunLemmas.{grown_trans}
+use Rattle.pyc_targets.specs.Views.{slot_of}
+use Rattle.pyc_type_forms.specs.TypeView.{ty_of}
+use Rattle.pyc_assignments.proofs.assignments.targets_assigned.Goals as goal
+
+pub loop-index-preserved : goal.loop-index-preserved
+loop-index-preserved g c = record {
+  same =
+      target_turn (g.R.AssignmentReader.reads c.args.reader.now) c.args.at (slot_of c.args.found.now) c.args.first (ty_of c.args.ty.now) c.args.targets.now c.loop-index.index c.index-targets-index.result (state_of c.loop-index.after) _ _ _ c.loop-index-test.true c.index-targets-index.is c.in_ok-after-2.ensures.done
+      ∙ c.loop-index.invariant.same;
+  grown = grown_trans c.loop-index.invariant.grown c.target_assigned.ensures.grown;
+}

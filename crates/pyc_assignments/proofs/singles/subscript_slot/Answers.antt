@@ -1,0 +1,25 @@
+use Rattle.std.proofs.Common.{None}
+use Rattle.pyc_assignments.specs.Reads.{type_read}
+use Rattle.pyc_assignments.specs.Singles.{subscript_slot}
+use Rattle.pyc_ast.specs.ExprView.{expr_of, index_of}
+use Rattle.pyc_places.specs.StateView.{state_of}
+use Rattle.pyc_reading.proofs.RunLemmas.{after, grown_trans}
+use Rattle.pyc_reading.specs.Readings.{and_then}
+use Rattle.pyc_targets.specs.ItemTargets.{item_target}
+use Rattle.pyc_type_forms.specs.TypeView.{ty_of}
+use Rattle.pyc_assignments.proofs.singles.subscript_slot.Goals as goal
+
+pub returns : goal.returns
+unfolding subscript_slot
+returns g c =
+    let read = g.R.AssignmentReader.reads c.args.reader.now in
+    let s = state_of c.args.state.now in
+    let at = c.args.at in
+    let inside = c.args.inside in
+    let brackets = index_of c.args.index.now in
+    record {
+      done =
+          after (type_read read s (expr_of c.args.part.now) None) (λ ty. and_then (read.index s brackets) (λ got. item_target at inside brackets got ty)) (g.N.Notes.desk c.args.notes.now) _ _ _ _ c.in_ok-ty.ensures.done
+          (after (read.index s brackets) (λ got. item_target at inside brackets got (ty_of c.in_ok-ty.ty)) (g.N.Notes.desk c.type_read.new.notes) _ _ _ _ c.in_ok-got.ensures.done c.in_ok-slot.ensures.done);
+      grown = grown_trans (grown_trans c.type_read.ensures.grown c.index.ensures.grown) c.item_target.ensures.grown;
+    }

@@ -1,0 +1,9 @@
+-- The plain shares that those of the code are.
+use Rattle.pyc_assignments.specs.declared.unpacking.Shares.{Shares as SharesOf}
+use Rattle.pyc_assignments.specs.declared.unpacking.Shares.TheVariants as s
+use Rattle.pyc_assignments.specs.Unpacking.{Shares, each_gets, places_of}
+use Rattle.pyc_type_forms.specs.TypeView.{ty_of}
+
+abbrev pub shares_in : SharesOf → Shares
+shares_in (s.Each ty) = each_gets (ty_of ty)
+shares_in (s.Places ty) = places_of (ty_of ty)

@@ -1,0 +1,155 @@
+//! What is told of assignments.
+
+ghost use Rattle.std.specs.Prelude.{◌≡◌, IfOk, string_bytes};
+ghost use Rattle.pyc_assignments.specs.Storing as spec;
+ghost use Rattle.pyc_assignments.specs.Unpacking as unpacking;
+ghost use Rattle.pyc_assignments.specs.Views.{shares_in};
+ghost use Rattle.pyc_obligations.specs.Telling.{told_unless};
+ghost use Rattle.pyc_reading.specs.Desks.{Performs, telling};
+ghost use Rattle.pyc_type_forms.specs.TypeView.{ty_of};
+
+use crate::unpacking::Shares;
+use pyc_ast::Position;
+use pyc_obligations::{Judge, tell_error};
+use pyc_report::Code;
+use pyc_type_forms::{Ty, show};
+use std::alloc::{AllocError, Global};
+
+/// The text on a value of another type than its variable takes.
+#[tactic(auto, unfolding(crate::specs::Storing::variable_text))]
+fn variable_text(alloc: Global, got: &str, want: &str) -> Result<String, AllocError>
+    ensures { IfOk result (λ text. string_bytes text ≡ spec.variable_text got.now want.now) }
+{
+    format!(in alloc;
+        "Incompatible types in assignment (expression has type \"{got}\", variable has type \"{want}\")"
+    )
+}
+
+/// The text on a value of another type than an item of a subscript takes.
+#[tactic(auto, unfolding(crate::specs::Storing::item_text))]
+fn item_text(alloc: Global, got: &str, want: &str) -> Result<String, AllocError>
+    ensures { IfOk result (λ text. string_bytes text ≡ spec.item_text got.now want.now) }
+{
+    format!(in alloc;
+        "Incompatible types in assignment (expression has type \"{got}\", target has type \"{want}\")"
+    )
+}
+
+/// The text on a value of another type than its target takes.
+fn assignment_text(
+    alloc: Global,
+    is_item: bool,
+    got: &str,
+    want: &str,
+) -> Result<String, AllocError>
+    ensures { IfOk result (λ text. string_bytes text ≡ spec.assignment_text is_item got.now want.now) }
+{
+    if is_item {
+        item_text(alloc, got, want)
+    } else {
+        variable_text(alloc, got, want)
+    }
+}
+
+/// Tells that a value is of another type than its target takes.
+#[tactic(auto, unfolding(crate::specs::Storing::assignment_message))]
+fn tell_assignment<N: Judge>(
+    alloc: Global,
+    notes: &mut N,
+    at: Position,
+    is_item: bool,
+    got: &Ty,
+    want: &Ty,
+) -> Result<(), AllocError>
+    ensures { Performs (λ u. u) (telling (spec.assignment_message at is_item (ty_of got.now) (ty_of want.now)))
+        (N.desk notes.old) result (N.desk notes.new) }
+{
+    let got = show(alloc, got)?;
+    let want = show(alloc, want)?;
+    let text = assignment_text(alloc, is_item, got.as_str(), want.as_str())?;
+    tell_error(notes, at, Code::Assignment, text)?;
+    Ok(())
+}
+
+/// Tells that a value is of another type than its target takes, unless it holds that it is not.
+pub(crate) fn tell_assignment_unless<N: Judge>(
+    alloc: Global,
+    notes: &mut N,
+    holds: bool,
+    at: Position,
+    is_item: bool,
+    got: &Ty,
+    want: &Ty,
+) -> Result<(), AllocError>
+    ensures { Performs (λ u. u)
+        (told_unless holds (spec.assignment_message at is_item (ty_of got.now) (ty_of want.now))) (N.desk notes.old)
+        result (N.desk notes.new) }
+{
+    if holds {
+        Ok(())
+    } else {
+        tell_assignment(alloc, notes, at, is_item, got, want)
+    }
+}
+
+/// How many values, in words.
+fn values_word(count: usize) -> &'static str
+    ensures { result.now ≡ unpacking.values_word count }
+{
+    if count == 1 { "value" } else { "values" }
+}
+
+/// The text on a tuple with fewer places than there are targets.
+#[tactic(auto, unfolding(crate::specs::Unpacking::too_few_text))]
+fn too_few_text(
+    alloc: Global,
+    provided: usize,
+    word: &str,
+    expected: usize,
+) -> Result<String, AllocError>
+    ensures { IfOk result (λ text. string_bytes text ≡ unpacking.too_few_text provided word.now expected) }
+{
+    format!(in alloc; "Need more than {provided} {word} to unpack ({expected} expected)")
+}
+
+/// Tells that a tuple has fewer places than there are targets.
+#[tactic(auto, using(pyc_obligations::proofs::Steps::performing), unfolding(crate::specs::Unpacking::too_few))]
+pub(crate) fn too_few<N: Judge>(
+    alloc: Global,
+    notes: &mut N,
+    at: Position,
+    provided: usize,
+    expected: usize,
+) -> Result<Shares, AllocError>
+    ensures { Performs shares_in (unpacking.too_few at provided expected) (N.desk notes.old) result
+        (N.desk notes.new) }
+{
+    let text = too_few_text(alloc, provided, values_word(provided), expected)?;
+    tell_error(notes, at, Code::Misc, text)?;
+    Ok(Shares::Each(Ty::Any))
+}
+
+/// The text on a tuple with more places than there are targets.
+#[tactic(auto, unfolding(crate::specs::Unpacking::too_many_text))]
+fn too_many_text(alloc: Global, provided: usize, expected: usize) -> Result<String, AllocError>
+    ensures { IfOk result (λ text. string_bytes text ≡ unpacking.too_many_text provided expected) }
+{
+    format!(in alloc; "Too many values to unpack ({expected} expected, {provided} provided)")
+}
+
+/// Tells that a tuple has more places than there are targets.
+#[tactic(auto, using(pyc_obligations::proofs::Steps::performing), unfolding(crate::specs::Unpacking::too_many))]
+pub(crate) fn too_many<N: Judge>(
+    alloc: Global,
+    notes: &mut N,
+    at: Position,
+    provided: usize,
+    expected: usize,
+) -> Result<Shares, AllocError>
+    ensures { Performs shares_in (unpacking.too_many at provided expected) (N.desk notes.old) result
+        (N.desk notes.new) }
+{
+    let text = too_many_text(alloc, provided, expected)?;
+    tell_error(notes, at, Code::Misc, text)?;
+    Ok(Shares::Each(Ty::Any))
+}

@@ -1,0 +1,220 @@
+//! What is owed to targets, and what is known of them after assignments.
+
+ghost use Rattle.std.specs.Prelude.{◌≡◌, IfOk, option_map};
+ghost use Rattle.pyc_assignments.specs.Storing as spec;
+ghost use Rattle.pyc_ast.specs.TargetView.{target_of};
+ghost use Rattle.pyc_places.specs.States as states;
+ghost use Rattle.pyc_places.specs.StateView.{state_of};
+ghost use Rattle.pyc_reading.specs.Desks.{Performs};
+ghost use Rattle.pyc_targets.specs.Views.{slot_of};
+ghost use Rattle.pyc_type_forms.specs.TypeView.{ty_of};
+
+use crate::messages::tell_assignment_unless;
+use pyc_ast::{Position, Target};
+use pyc_obligations::{Judge, judged};
+use pyc_places::{Place, State, target_place};
+use pyc_targets::Slot;
+use pyc_type_forms::Ty;
+use std::alloc::{AllocError, Global};
+
+/// Assigns a value of a type that begins at a position to a target that meets this; the state after it.
+#[tactic(auto, using(pyc_obligations::proofs::Steps::performing), unfolding(crate::specs::Storing::stored))]
+pub(crate) fn stored<N: Judge>(
+    alloc: Global,
+    notes: &mut N,
+    at: Position,
+    target: &Target,
+    slot: &Slot,
+    got: &Ty,
+    state: &State,
+) -> Result<State, AllocError>
+    ensures { Performs state_of
+        (spec.stored at (target_of target.now) (slot_of slot.now) (ty_of got.now) (state_of state.now))
+        (N.desk notes.old) result (N.desk notes.new) }
+{
+    want_owed(alloc, notes, at, slot.is_item, got, slot.want.as_ref())?;
+    let state = renarrowed(alloc, notes, target, slot.want.as_ref(), got, state)?;
+    Ok(state)
+}
+
+/// A value must be of the type that its target takes, where something is owed.
+fn want_owed<N: Judge>(
+    alloc: Global,
+    notes: &mut N,
+    at: Position,
+    is_item: bool,
+    got: &Ty,
+    want: Option<&Ty>,
+) -> Result<(), AllocError>
+    ensures { Performs (λ u. u)
+        (spec.want_owed at is_item (ty_of got.now) (option_map (λ ty. ty_of ty.now) want.entry)) (N.desk notes.old)
+        result (N.desk notes.new) }
+{
+    match want {
+        Some(want) => assignment_owed(alloc, notes, at, is_item, got, want),
+        None => Ok(()),
+    }
+}
+
+/// A value that begins at a position must be of the type that its target takes.
+#[tactic(auto, using(pyc_obligations::proofs::Steps::performing), unfolding(crate::specs::Storing::assignment_owed))]
+pub(crate) fn assignment_owed<N: Judge>(
+    alloc: Global,
+    notes: &mut N,
+    at: Position,
+    is_item: bool,
+    got: &Ty,
+    want: &Ty,
+) -> Result<(), AllocError>
+    ensures { Performs (λ u. u) (spec.assignment_owed at is_item (ty_of got.now) (ty_of want.now)) (N.desk notes.old)
+        result (N.desk notes.new) }
+{
+    let holds = judged(alloc, notes, got, want)?;
+    let told = tell_assignment_unless(alloc, notes, holds, at, is_item, got, want)?;
+    Ok(told)
+}
+
+/// What is known after a target that takes a type was assigned a value of a type.
+pub(crate) fn renarrowed<N: Judge>(
+    alloc: Global,
+    notes: &mut N,
+    target: &Target,
+    want: Option<&Ty>,
+    got: &Ty,
+    state: &State,
+) -> Result<State, AllocError>
+    ensures { Performs state_of
+        (spec.renarrowed (target_of target.now) (option_map (λ ty. ty_of ty.now) want.entry) (ty_of got.now)
+        (state_of state.now)) (N.desk notes.old) result (N.desk notes.new) }
+{
+    let place = target_place(alloc, target)?;
+    let state = place_assigned(alloc, notes, place, want, got, state)?;
+    Ok(state)
+}
+
+/// The same of a target that is a place, if it is one.
+fn place_assigned<N: Judge>(
+    alloc: Global,
+    notes: &mut N,
+    place: Option<Place>,
+    want: Option<&Ty>,
+    got: &Ty,
+    state: &State,
+) -> Result<State, AllocError>
+    ensures { Performs state_of
+        (spec.place_assigned place (option_map (λ ty. ty_of ty.now) want.entry) (ty_of got.now) (state_of state.now))
+        (N.desk notes.old) result (N.desk notes.new) }
+{
+    match place {
+        Some(place) => dropped_narrowed(alloc, notes, &place, want, got, state),
+        None => Ok(state.clone()?),
+    }
+}
+
+/// The same of a place: what was known of it and of all below it is dropped.
+fn dropped_narrowed<N: Judge>(
+    alloc: Global,
+    notes: &mut N,
+    place: &Place,
+    want: Option<&Ty>,
+    got: &Ty,
+    state: &State,
+) -> Result<State, AllocError>
+    ensures { Performs state_of
+        (spec.narrowed place.now (option_map (λ ty. ty_of ty.now) want.entry) (ty_of got.now)
+        (states.dropped_at place.now (state_of state.now))) (N.desk notes.old) result (N.desk notes.new) }
+{
+    let dropped = state.dropped_at(alloc, place)?;
+    let state = narrowed(alloc, notes, place, want, got, &dropped)?;
+    Ok(state)
+}
+
+/// A place that takes a type is narrowed to that of a value.
+fn narrowed<N: Judge>(
+    alloc: Global,
+    notes: &mut N,
+    place: &Place,
+    want: Option<&Ty>,
+    got: &Ty,
+    state: &State,
+) -> Result<State, AllocError>
+    ensures { Performs state_of
+        (spec.narrowed place.now (option_map (λ ty. ty_of ty.now) want.entry) (ty_of got.now) (state_of state.now))
+        (N.desk notes.old) result (N.desk notes.new) }
+{
+    match want {
+        Some(want) => narrowed_to(alloc, notes, place, want, got, state),
+        None => Ok(state.clone()?),
+    }
+}
+
+/// Only a place that is declared as a union is narrowed, and not to Any.
+fn narrowed_to<N: Judge>(
+    alloc: Global,
+    notes: &mut N,
+    place: &Place,
+    want: &Ty,
+    got: &Ty,
+    state: &State,
+) -> Result<State, AllocError>
+    ensures { Performs state_of
+        (spec.narrowed_to place.now (ty_of want.now) (ty_of got.now) (state_of state.now)) (N.desk notes.old) result
+        (N.desk notes.new) }
+{
+    if is_union(want) && !is_any(got) {
+        narrowed_by(alloc, notes, place, want, got, state)
+    } else {
+        Ok(state.clone()?)
+    }
+}
+
+/// Whether a type is a union.
+fn is_union(ty: &Ty) -> bool
+    ensures { result ≡ spec.is_union (ty_of ty.now) }
+{
+    matches!(ty, Ty::Union(_))
+}
+
+/// Whether a type is Any.
+fn is_any(ty: &Ty) -> bool
+    ensures { result ≡ spec.is_any (ty_of ty.now) }
+{
+    matches!(ty, Ty::Any)
+}
+
+/// A place is narrowed to the type of a value where that is assignable to what the place takes.
+#[tactic(auto, using(pyc_obligations::proofs::Steps::performing), unfolding(crate::specs::Storing::narrowed_by))]
+fn narrowed_by<N: Judge>(
+    alloc: Global,
+    notes: &mut N,
+    place: &Place,
+    want: &Ty,
+    got: &Ty,
+    state: &State,
+) -> Result<State, AllocError>
+    ensures { Performs state_of
+        (spec.narrowed_by place.now (ty_of want.now) (ty_of got.now) (state_of state.now)) (N.desk notes.old) result
+        (N.desk notes.new) }
+{
+    let goes = judged(alloc, notes, got, want)?;
+    let state = narrowed_if(alloc, goes, place, got, state)?;
+    Ok(state)
+}
+
+/// A state in which a place has a type, if it goes.
+fn narrowed_if(
+    alloc: Global,
+    goes: bool,
+    place: &Place,
+    ty: &Ty,
+    state: &State,
+) -> Result<State, AllocError>
+    ensures { IfOk result (λ after. state_of after
+        ≡ spec.narrowed_if goes place.now (ty_of ty.now) (state_of state.now)) }
+{
+    if goes {
+        state.with_place(alloc, place.clone()?, ty.clone()?)
+    } else {
+        Ok(state.clone()?)
+    }
+}

@@ -1,0 +1,108 @@
+-- What an item of a subscript takes when it is assigned to (Python reference 3.13, "Assignment statements"; "Emulating
+-- container types", `__setitem__`): what a `__setitem__` takes is not looked at.
+use Rattle.std.specs.Prelude.{ℕ, Bool, true, false, codes, if◌then◌else◌, List, [], ◌∷◌, ◌++◌, Option, None, Some}
+use Rattle.pyc_ast.specs.declared.position.Position.{Position}
+use Rattle.pyc_ast.specs.Exprs.{Index}
+use Rattle.pyc_class.specs.Class.{Id, builtin, user}
+use Rattle.pyc_items.specs.Subscripts.{item_of}
+use Rattle.pyc_obligations.specs.Asking.{asked_member, is_unknown_class}
+use Rattle.pyc_reading.specs.Answers.{MemberAnswer}
+use Rattle.pyc_reading.specs.Desks.{Step}
+use Rattle.pyc_reading.specs.Readings.{Done, Tell, and_then}
+use Rattle.pyc_report.specs.declared.message.Code.TheVariants as code
+use Rattle.pyc_report.specs.Message.{error_at}
+use Rattle.pyc_targets.specs.Slots.{Slot, plain_slot, item_slot}
+use Rattle.pyc_type_forms.specs.Text.{text_of}
+use Rattle.pyc_type_forms.specs.Types.{Ty, any, instance, class_object, list, dict}
+use Rattle.pyc_type_forms.specs.Unions.{items_of, union_of}
+
+-- what an item of a value is as a target
+pub data ItemTarget : Type 0 where
+  -- it cannot be assigned to
+  unsupported : ItemTarget
+  -- it takes anything
+  free : ItemTarget
+  -- it takes a value of this type
+  takes : Ty → ItemTarget
+
+-- ---- what is told
+
+unfoldable pub unsupported_text : List ℕ → List ℕ
+unsupported_text shown = codes "Unsupported target for indexed assignment (\"" ++ (shown ++ codes "\")")
+
+-- a value whose items cannot be assigned to: Any is assigned
+unfoldable pub unsupported_told : Position → Ty → Step Slot
+unsupported_told at ty = Tell (error_at at code.Index (unsupported_text (text_of ty))) (Done (plain_slot (Some any)))
+
+-- ---- one type
+
+abbrev pub by_setitem : Option MemberAnswer → ItemTarget
+by_setitem (Some found) = free
+by_setitem None = unsupported
+
+unfoldable pub asked_target : Id → Step ItemTarget
+asked_target c = and_then (asked_member c (codes "__setitem__")) (λ found. Done (by_setitem found))
+
+-- an instance of a class of a source, by whether the order of the class is not known
+abbrev pub user_target : Id → Bool → Step ItemTarget
+user_target c true = Done (takes any)
+user_target c false = asked_target c
+
+unfoldable pub source_target : Id → Step ItemTarget
+source_target c = and_then (is_unknown_class c) (user_target c)
+
+abbrev pub instance_target : Id → Step ItemTarget
+instance_target (builtin c) = Done unsupported
+instance_target (user m x) = source_target (user m x)
+
+abbrev pub taken : Option Ty → ItemTarget
+taken (Some ty) = takes ty
+taken None = unsupported
+
+-- an item of a list or a dictionary, whose index is read as in a subscript
+unfoldable pub indexed_target : Position → Index → Ty → Ty → Step ItemTarget
+indexed_target at brackets got ty = and_then (item_of at brackets got ty) (λ found. Done (taken found))
+
+-- an item of a value of a type that is no union, by an index of a type
+abbrev pub target_of_type : Position → Index → Ty → Ty → Step ItemTarget
+target_of_type at brackets got any = Done (takes any)
+target_of_type at brackets got (class_object c) = Done (takes any)
+target_of_type at brackets got (instance c) = instance_target c
+target_of_type at brackets got (list item) = indexed_target at brackets got (list item)
+target_of_type at brackets got (dict key value) = indexed_target at brackets got (dict key value)
+target_of_type at brackets got _ = Done unsupported
+
+-- ---- the whole
+
+-- the types that items take, whether one takes anything, and whether one cannot be assigned to
+pub record ItemTargets : Type 0 where
+  pub types : List Ty
+  pub is_free : Bool
+  pub is_unsupported : Bool
+
+abbrev pub no_targets : ItemTargets
+no_targets = record { types = []; is_free = false; is_unsupported = false }
+
+abbrev pub with_target : ItemTargets → ItemTarget → ItemTargets
+with_target found unsupported = record { types = found.types; is_free = found.is_free; is_unsupported = true }
+with_target found free = record { types = found.types; is_free = true; is_unsupported = found.is_unsupported }
+with_target found (takes ty) =
+    record { types = found.types ++ (ty ∷ []); is_free = found.is_free; is_unsupported = found.is_unsupported }
+
+-- these, and then those of types, in turn
+unfoldable pub more_targets : Position → Index → Ty → ItemTargets → List Ty → Step ItemTargets
+more_targets at brackets got found [] = Done found
+more_targets at brackets got found (ty ∷ rest) =
+    and_then (target_of_type at brackets got ty) (λ item. more_targets at brackets got (with_target found item) rest)
+
+abbrev pub supported_slot : ItemTargets → Slot
+supported_slot found = if found.is_free then plain_slot None else item_slot (union_of found.types)
+
+abbrev pub ended : Position → Ty → ItemTargets → Step Slot
+ended at ty found = if found.is_unsupported then unsupported_told at ty else Done (supported_slot found)
+
+-- what an item of a value of a type takes, by an index of a type; the target begins at the first position, its
+-- parentheses included
+unfoldable pub item_target : (at inside : Position) → Index → Ty → Ty → Step Slot
+item_target at inside brackets got ty =
+    and_then (more_targets inside brackets got no_targets (items_of ty)) (ended at ty)

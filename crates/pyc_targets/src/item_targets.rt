@@ -1,0 +1,261 @@
+//! What items of subscripts take.
+
+ghost use Rattle.std.specs.Prelude.{◌≡◌, IfOk, OnOk, codes, map, option_map};
+ghost use Rattle.pyc_ast.specs.ExprView.{index_of};
+ghost use Rattle.pyc_obligations.specs.Asking as asking;
+ghost use Rattle.pyc_reading.specs.AnswerView.{member_answer_of};
+ghost use Rattle.pyc_reading.specs.Desks.{Performs};
+ghost use Rattle.pyc_targets.specs.ItemTargets as spec;
+ghost use Rattle.pyc_targets.specs.Views.{item_target_of, item_targets_in, slot_of};
+ghost use Rattle.pyc_type_forms.specs.TypeView.{ty_of};
+
+use crate::messages::unsupported;
+use crate::slot::Slot;
+use pyc_ast::{Index, Position};
+use pyc_class::ClassId;
+use pyc_items::item_of;
+use pyc_obligations::{Judge, asked_member, is_unknown_class};
+use pyc_reading::MemberAnswer;
+use pyc_type_forms::{Ty, items_of, union_of};
+use std::alloc::{AllocError, Global};
+
+/// What an item of a value is as a target.
+#[derive(Debug, Drop)]
+pub(crate) enum ItemTarget {
+    /// It cannot be assigned to.
+    Unsupported,
+    /// It takes anything.
+    Free,
+    /// It takes a value of this type.
+    Takes(Ty),
+}
+
+/// The types that items take, whether one takes anything, and whether one cannot be assigned to.
+#[derive(Debug, Drop)]
+pub(crate) struct ItemTargets {
+    pub(crate) types: Vec<Ty>,
+    pub(crate) is_free: bool,
+    pub(crate) is_unsupported: bool,
+}
+
+/// What an item of a value of a type takes, by an index of a type. The target begins at `at`, and at `inside` within its
+/// parentheses. An index of another type than is wanted, and a value whose items cannot be assigned to, is told. The only
+/// error is that memory runs out.
+#[tactic(auto, using(pyc_obligations::proofs::Steps::performing), unfolding(crate::specs::ItemTargets::item_target))]
+pub fn item_target<N: Judge>(
+    alloc: Global,
+    notes: &mut N,
+    at: Position,
+    inside: Position,
+    index: &Index,
+    got: &Ty,
+    ty: &Ty,
+) -> Result<Slot, AllocError>
+    ensures { Performs slot_of (spec.item_target at inside (index_of index.now) (ty_of got.now) (ty_of ty.now))
+        (N.desk notes.old) result (N.desk notes.new) }
+{
+    let types = items_of(alloc, ty)?;
+    let found = all_targets(alloc, notes, inside, index, got, &types)?;
+    let slot = ended(alloc, notes, at, ty, &found)?;
+    Ok(slot)
+}
+
+/// What the items of types take, in turn.
+#[tactic(auto, using(pyc_obligations::proofs::Steps::performing), unfolding(crate::specs::ItemTargets::more_targets))]
+fn all_targets<N: Judge>(
+    alloc: Global,
+    notes: &mut N,
+    at: Position,
+    index: &Index,
+    got: &Ty,
+    types: &[Ty],
+) -> Result<ItemTargets, AllocError>
+    ensures { Performs item_targets_in
+        (spec.more_targets at (index_of index.now) (ty_of got.now) spec.no_targets (map ty_of types.now))
+        (N.desk notes.old) result (N.desk notes.new) }
+{
+    let mut found = ItemTargets {
+        types: Vec::with_capacity(alloc, types.len())?,
+        is_free: false,
+        is_unsupported: false,
+    };
+    for ty in types {
+        let item = target_of_type(alloc, notes, at, index, got, ty)?;
+        push_target(&mut found, item)?;
+    }
+    Ok(found)
+}
+
+/// Adds what an item takes.
+fn push_target(found: &mut ItemTargets, item: ItemTarget) -> Result<(), AllocError>
+    ensures { OnOk result (item_targets_in found.new
+        ≡ spec.with_target (item_targets_in found.old) (item_target_of item)) }
+{
+    match item {
+        ItemTarget::Unsupported => found.is_unsupported = true,
+        ItemTarget::Free => found.is_free = true,
+        ItemTarget::Takes(ty) => found.types.push(ty)?,
+    }
+    Ok(())
+}
+
+/// What items take together.
+fn ended<N: Judge>(
+    alloc: Global,
+    notes: &mut N,
+    at: Position,
+    ty: &Ty,
+    found: &ItemTargets,
+) -> Result<Slot, AllocError>
+    ensures { Performs slot_of (spec.ended at (ty_of ty.now) (item_targets_in found.now)) (N.desk notes.old) result
+        (N.desk notes.new) }
+{
+    if found.is_unsupported {
+        unsupported(alloc, notes, at, ty)
+    } else {
+        Ok(supported_slot(alloc, found)?)
+    }
+}
+
+/// What items take together that can be assigned to.
+fn supported_slot(alloc: Global, found: &ItemTargets) -> Result<Slot, AllocError>
+    ensures { IfOk result (λ slot. slot_of slot ≡ spec.supported_slot (item_targets_in found.now)) }
+{
+    if found.is_free {
+        Ok(Slot::plain(None))
+    } else {
+        Ok(Slot::item(union_of(alloc, &found.types)?))
+    }
+}
+
+/// What an item of a value of a type that is no union takes.
+fn target_of_type<N: Judge>(
+    alloc: Global,
+    notes: &mut N,
+    at: Position,
+    index: &Index,
+    got: &Ty,
+    ty: &Ty,
+) -> Result<ItemTarget, AllocError>
+    ensures { Performs item_target_of
+        (spec.target_of_type at (index_of index.now) (ty_of got.now) (ty_of ty.now)) (N.desk notes.old) result
+        (N.desk notes.new) }
+{
+    match ty {
+        Ty::Any => Ok(ItemTarget::Takes(Ty::Any)),
+        Ty::Class(_) => Ok(ItemTarget::Takes(Ty::Any)),
+        Ty::Instance(class) => instance_target(alloc, notes, class),
+        Ty::List(_) => indexed_target(alloc, notes, at, index, got, ty),
+        Ty::Dict(_) => indexed_target(alloc, notes, at, index, got, ty),
+        _ => Ok(ItemTarget::Unsupported),
+    }
+}
+
+/// What an item of a list or a dictionary takes.
+#[tactic(auto, using(pyc_obligations::proofs::Steps::performing), unfolding(crate::specs::ItemTargets::indexed_target))]
+fn indexed_target<N: Judge>(
+    alloc: Global,
+    notes: &mut N,
+    at: Position,
+    index: &Index,
+    got: &Ty,
+    ty: &Ty,
+) -> Result<ItemTarget, AllocError>
+    ensures { Performs item_target_of
+        (spec.indexed_target at (index_of index.now) (ty_of got.now) (ty_of ty.now)) (N.desk notes.old) result
+        (N.desk notes.new) }
+{
+    let found = item_of(alloc, notes, at, index, got, ty)?;
+    Ok(taken(found))
+}
+
+/// What an item takes that a subscript gives.
+fn taken(found: Option<Ty>) -> ItemTarget
+    ensures { item_target_of result ≡ spec.taken (option_map ty_of found) }
+{
+    match found {
+        Some(ty) => ItemTarget::Takes(ty),
+        None => ItemTarget::Unsupported,
+    }
+}
+
+/// What an item of an instance of a class takes.
+fn instance_target<N: Judge>(
+    alloc: Global,
+    notes: &mut N,
+    class: &ClassId,
+) -> Result<ItemTarget, AllocError>
+    ensures { Performs item_target_of (spec.instance_target class.now) (N.desk notes.old) result
+        (N.desk notes.new) }
+{
+    match class.as_builtin() {
+        Some(_) => Ok(ItemTarget::Unsupported),
+        None => source_target(alloc, notes, class),
+    }
+}
+
+/// The same of a class of a source.
+#[tactic(auto, using(pyc_obligations::proofs::Steps::performing), unfolding(crate::specs::ItemTargets::source_target))]
+fn source_target<N: Judge>(
+    alloc: Global,
+    notes: &mut N,
+    class: &ClassId,
+) -> Result<ItemTarget, AllocError>
+    ensures { Performs item_target_of (spec.source_target class.now) (N.desk notes.old) result (N.desk notes.new) }
+{
+    let is_unknown = is_unknown_class(alloc, notes, class)?;
+    let item = user_target(alloc, notes, class, is_unknown)?;
+    Ok(item)
+}
+
+/// The same, by whether the order of the class is not known.
+fn user_target<N: Judge>(
+    alloc: Global,
+    notes: &mut N,
+    class: &ClassId,
+    is_unknown: bool,
+) -> Result<ItemTarget, AllocError>
+    ensures { Performs item_target_of (spec.user_target class.now is_unknown) (N.desk notes.old) result
+        (N.desk notes.new) }
+{
+    if is_unknown {
+        Ok(ItemTarget::Takes(Ty::Any))
+    } else {
+        asked_target(alloc, notes, class)
+    }
+}
+
+/// The same, by its `__setitem__`.
+#[tactic(auto, using(pyc_obligations::proofs::Steps::performing), unfolding(crate::specs::ItemTargets::asked_target))]
+fn asked_target<N: Judge>(
+    alloc: Global,
+    notes: &mut N,
+    class: &ClassId,
+) -> Result<ItemTarget, AllocError>
+    ensures { Performs item_target_of (spec.asked_target class.now) (N.desk notes.old) result (N.desk notes.new) }
+{
+    let found = setitem_member(alloc, notes, class)?;
+    Ok(by_setitem(found))
+}
+
+/// The `__setitem__` of a class.
+fn setitem_member<N: Judge>(
+    alloc: Global,
+    notes: &mut N,
+    class: &ClassId,
+) -> Result<Option<MemberAnswer>, AllocError>
+    ensures { Performs (option_map member_answer_of) (asking.asked_member class.now (codes "__setitem__"))
+        (N.desk notes.old) result (N.desk notes.new) }
+{
+    asked_member(alloc, notes, class, "__setitem__")
+}
+
+/// What an item takes, where this is the `__setitem__`.
+fn by_setitem(found: Option<MemberAnswer>) -> ItemTarget
+    ensures { item_target_of result ≡ spec.by_setitem (option_map member_answer_of found) }
+{
+    match found {
+        Some(_) => ItemTarget::Free,
+        None => ItemTarget::Unsupported,
+    }
+}

@@ -1,0 +1,15 @@
+//! What targets of assignments take: names of a module, attributes and items of subscripts.
+#![tactic(auto)]
+
+mod attribute_targets;
+mod item_targets;
+mod members;
+mod messages;
+mod module_targets;
+mod name_targets;
+mod slot;
+
+pub use attribute_targets::attribute_want;
+pub use item_targets::item_target;
+pub use name_targets::{declared_type, declares_at};
+pub use slot::Slot;

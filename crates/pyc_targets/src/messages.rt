@@ -1,0 +1,66 @@
+//! What is told of targets.
+
+ghost use Rattle.std.specs.Prelude.{◌≡◌, IfOk, option_map, string_bytes};
+ghost use Rattle.pyc_reading.specs.Desks.{Performs};
+ghost use Rattle.pyc_targets.specs.AttributeTargets as spec;
+ghost use Rattle.pyc_targets.specs.ItemTargets as items;
+ghost use Rattle.pyc_targets.specs.Views.{slot_of};
+ghost use Rattle.pyc_type_forms.specs.TypeView.{ty_of};
+
+use crate::slot::Slot;
+use pyc_ast::Position;
+use pyc_class::ClassId;
+use pyc_obligations::{Judge, tell_error};
+use pyc_report::Code;
+use pyc_type_forms::{Ty, show};
+use std::alloc::{AllocError, Global};
+
+/// The text on a property that cannot be set.
+#[tactic(auto, unfolding(crate::specs::AttributeTargets::read_only_text))]
+fn read_only_text(alloc: Global, name: &str, shown: &str) -> Result<String, AllocError>
+    ensures { IfOk result (λ text. string_bytes text ≡ spec.read_only_text name.now shown.now) }
+{
+    format!(in alloc; "Property \"{name}\" defined in \"{shown}\" is read-only")
+}
+
+/// Tells that a property of a class cannot be set.
+#[tactic(auto, using(pyc_obligations::proofs::Steps::performing), unfolding(crate::specs::AttributeTargets::read_only))]
+pub(crate) fn read_only<N: Judge>(
+    alloc: Global,
+    notes: &mut N,
+    at: Position,
+    name: &str,
+    class: &ClassId,
+) -> Result<Option<Ty>, AllocError>
+    ensures { Performs (option_map ty_of) (spec.read_only at name.now class.now) (N.desk notes.old) result
+        (N.desk notes.new) }
+{
+    let text = read_only_text(alloc, name, class.name())?;
+    tell_error(notes, at, Code::Misc, text)?;
+    Ok(None)
+}
+
+/// The text on a value whose items cannot be assigned to.
+#[tactic(auto, unfolding(crate::specs::ItemTargets::unsupported_text))]
+fn unsupported_text(alloc: Global, shown: &str) -> Result<String, AllocError>
+    ensures { IfOk result (λ text. string_bytes text ≡ items.unsupported_text shown.now) }
+{
+    format!(in alloc; "Unsupported target for indexed assignment (\"{shown}\")")
+}
+
+/// Tells that the items of a value cannot be assigned to.
+#[tactic(auto, using(pyc_obligations::proofs::Steps::performing), unfolding(crate::specs::ItemTargets::unsupported_told))]
+pub(crate) fn unsupported<N: Judge>(
+    alloc: Global,
+    notes: &mut N,
+    at: Position,
+    ty: &Ty,
+) -> Result<Slot, AllocError>
+    ensures { Performs slot_of (items.unsupported_told at (ty_of ty.now)) (N.desk notes.old) result
+        (N.desk notes.new) }
+{
+    let shown = show(alloc, ty)?;
+    let text = unsupported_text(alloc, shown.as_str())?;
+    tell_error(notes, at, Code::Index, text)?;
+    Ok(Slot::plain(Some(Ty::Any)))
+}
