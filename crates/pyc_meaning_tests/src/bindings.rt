@@ -61,62 +61,71 @@ fn bindings_of(alloc: Global, source: &str) -> Result<String, Fail> {
     Ok(shown)
 }
 
+/// Imports, with what they bind.
+const IMPORTS: &[(&str, &str)] = &[
+    ("import a.b, c\n", "a 1 a; c 1 c; "),
+    ("import a.b as c\n", "c 1 a.b; "),
+    ("from a.b import c as d, e\n", "d 1 0a.b:c; e 1 0a.b:e; "),
+    ("from .. import m\n", "m 1 2:m; "),
+    ("from .x import m\n", "m 1 1x:m; "),
+];
+
 #[test]
 fn imports_bind(rt: HostRuntime) -> Result<(), Fail> {
-    for (source, want) in &[
-        ("import a.b, c\n", "a 1 a; c 1 c; "),
-        ("import a.b as c\n", "c 1 a.b; "),
-        ("from a.b import c as d, e\n", "d 1 0a.b:c; e 1 0a.b:e; "),
-        ("from .. import m\n", "m 1 2:m; "),
-        ("from .x import m\n", "m 1 1x:m; "),
-    ] {
+    for (source, want) in IMPORTS {
         assert_eq!(rt; bindings_of(rt.alloc(), source)?.as_str(), *want);
     }
     Ok(())
 }
+
+/// Assignments and deletions, with what they bind.
+const ASSIGNMENTS: &[(&str, &str)] = &[
+    ("x = (y) = 1\n", "x 1 assigned; y 1 assigned; "),
+    (
+        "a, (b, *c) = d = 1\n",
+        "a 1 other; b 1 other; c 1 other; d 1 assigned; ",
+    ),
+    ("x: int\n(y): int = 1\n", "x 1 annotated; y 2 annotated; "),
+    ("x.y = 1\nx[0] = 2\nx.y: int = 3\n", ""),
+    ("x += 1\ndel y, (z)\n", "x 1 other; y 2 other; z 2 other; "),
+    ("x\npass\nglobal g\n", ""),
+];
 
 #[test]
 fn assignments_bind(rt: HostRuntime) -> Result<(), Fail> {
-    for (source, want) in &[
-        ("x = (y) = 1\n", "x 1 assigned; y 1 assigned; "),
-        (
-            "a, (b, *c) = d = 1\n",
-            "a 1 other; b 1 other; c 1 other; d 1 assigned; ",
-        ),
-        ("x: int\n(y): int = 1\n", "x 1 annotated; y 2 annotated; "),
-        ("x.y = 1\nx[0] = 2\nx.y: int = 3\n", ""),
-        ("x += 1\ndel y, (z)\n", "x 1 other; y 2 other; z 2 other; "),
-        ("x\npass\nglobal g\n", ""),
-    ] {
+    for (source, want) in ASSIGNMENTS {
         assert_eq!(rt; bindings_of(rt.alloc(), source)?.as_str(), *want);
     }
     Ok(())
 }
 
+/// Definitions and compound statements, with what they bind.
+const BLOCKS: &[(&str, &str)] = &[
+    (
+        "@x\ndef f(a):\n    b = 1\nclass C(D):\n    e = 1\n",
+        "f 2 function; C 4 class; ",
+    ),
+    (
+        "for i, j in x:\n    k = 1\nelse:\n    l = 2\n",
+        "i 1 other; j 1 other; k 2 assigned; l 4 assigned; ",
+    ),
+    (
+        "with x as a, y as (b, c):\n    d = 1\n",
+        "a 1 other; b 1 other; c 1 other; d 2 assigned; ",
+    ),
+    (
+        "try:\n    a = 1\nexcept E as e:\n    b = 1\nelse: c = 1\nfinally: d = 1\n",
+        "a 2? assigned; e 3? other; b 4? assigned; c 5? assigned; d 6? assigned; ",
+    ),
+    (
+        "while x:\n    a = 1\nif x: b = 1\nelif y:\n    while y: c = 1\nelse: d = 1\n",
+        "a 2 assigned; b 3? assigned; c 5? assigned; d 6? assigned; ",
+    ),
+];
+
 #[test]
 fn definitions_and_blocks_bind(rt: HostRuntime) -> Result<(), Fail> {
-    for (source, want) in &[
-        (
-            "@x\ndef f(a):\n    b = 1\nclass C(D):\n    e = 1\n",
-            "f 2 function; C 4 class; ",
-        ),
-        (
-            "for i, j in x:\n    k = 1\nelse:\n    l = 2\n",
-            "i 1 other; j 1 other; k 2 assigned; l 4 assigned; ",
-        ),
-        (
-            "with x as a, y as (b, c):\n    d = 1\n",
-            "a 1 other; b 1 other; c 1 other; d 2 assigned; ",
-        ),
-        (
-            "try:\n    a = 1\nexcept E as e:\n    b = 1\nelse: c = 1\nfinally: d = 1\n",
-            "a 2? assigned; e 3? other; b 4? assigned; c 5? assigned; d 6? assigned; ",
-        ),
-        (
-            "while x:\n    a = 1\nif x: b = 1\nelif y:\n    while y: c = 1\nelse: d = 1\n",
-            "a 2 assigned; b 3? assigned; c 5? assigned; d 6? assigned; ",
-        ),
-    ] {
+    for (source, want) in BLOCKS {
         assert_eq!(rt; bindings_of(rt.alloc(), source)?.as_str(), *want);
     }
     Ok(())

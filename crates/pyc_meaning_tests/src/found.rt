@@ -57,77 +57,83 @@ fn lines_told(alloc: Global, source: &[u8]) -> Result<String, Fail> {
     Ok(lines)
 }
 
+/// Sources with annotated values, with what is found in them.
+const ANNOTATED: &[(&[u8], &str)] = &[
+    (
+        b"x: int = \"a\"\n",
+        "1:10 assignment: Incompatible types in assignment (expression has type \"str\", variable has type \"int\");",
+    ),
+    (
+        b"x: int = True\ny: float = 1\nz: None = None\ns: str = 's'\n",
+        "",
+    ),
+    (
+        b"y: float = 1.5\n\nx: int = 1.5",
+        "3:10 assignment: Incompatible types in assignment (expression has type \"float\", variable has type \"int\");",
+    ),
+    (
+        b"a: None = False\nb: bool = None # two\n",
+        "1:11 assignment: Incompatible types in assignment (expression has type \"bool\", variable has type \"None\");\
+         2:11 assignment: Incompatible types in assignment (expression has type \"None\", variable has type \"bool\");",
+    ),
+    (
+        b"if a:\n    x: int = \\\n      b'a' b\"\"\n",
+        "3:7 assignment: Incompatible types in assignment (expression has type \"bytes\", variable has type \"int\");",
+    ),
+    (
+        b"def f():\n    x: int = ''\nclass C:\n    x: int = ''\nx: int = ('')\nw: C = ''\nx.y: int = ''\nv: str = 1j\n",
+        "",
+    ),
+];
+
 #[test]
 fn reports_what_is_not_assignable(rt: HostRuntime) -> Result<(), Fail> {
-    let cases: [(&[u8], &str); 6] = [
-        (
-            b"x: int = \"a\"\n",
-            "1:10 assignment: Incompatible types in assignment (expression has type \"str\", variable has type \"int\");",
-        ),
-        (
-            b"x: int = True\ny: float = 1\nz: None = None\ns: str = 's'\n",
-            "",
-        ),
-        (
-            b"y: float = 1.5\n\nx: int = 1.5",
-            "3:10 assignment: Incompatible types in assignment (expression has type \"float\", variable has type \"int\");",
-        ),
-        (
-            b"a: None = False\nb: bool = None # two\n",
-            "1:11 assignment: Incompatible types in assignment (expression has type \"bool\", variable has type \"None\");\
-             2:11 assignment: Incompatible types in assignment (expression has type \"None\", variable has type \"bool\");",
-        ),
-        (
-            b"if a:\n    x: int = \\\n      b'a' b\"\"\n",
-            "3:7 assignment: Incompatible types in assignment (expression has type \"bytes\", variable has type \"int\");",
-        ),
-        (
-            b"def f():\n    x: int = ''\nclass C:\n    x: int = ''\nx: int = ('')\nw: C = ''\nx.y: int = ''\nv: str = 1j\n",
-            "",
-        ),
-    ];
-    for (source, want) in &cases {
+    for (source, want) in ANNOTATED {
         assert_eq!(rt; found_in(rt.alloc(), source)?.as_str(), *want);
     }
     Ok(())
 }
+
+/// Sources that have no tree, with what is found in them.
+const FAULTY: &[(&[u8], &str)] = &[
+    (b" x: int = 1\n", "1:1 syntax: Unexpected or missing block;"),
+    (b"if: int = 1\n", "1:1 syntax: Invalid syntax;"),
+    (
+        b"x: int = ''\nx: int = 1 1\n",
+        "2:1 syntax: Invalid syntax;",
+    ),
+    (b"x = = 1\n\n$", "3:1 syntax: Invalid character;"),
+    (b"x := 1\n", "1:1 syntax: Outside the profile;"),
+    (b"x: int = 1\ny = (1 +\n", "2:1 syntax: Unmatched bracket;"),
+];
 
 #[test]
 fn reports_the_first_fault(rt: HostRuntime) -> Result<(), Fail> {
-    let cases: [(&[u8], &str); 6] = [
-        (b" x: int = 1\n", "1:1 syntax: Unexpected or missing block;"),
-        (b"if: int = 1\n", "1:1 syntax: Invalid syntax;"),
-        (
-            b"x: int = ''\nx: int = 1 1\n",
-            "2:1 syntax: Invalid syntax;",
-        ),
-        (b"x = = 1\n\n$", "3:1 syntax: Invalid character;"),
-        (b"x := 1\n", "1:1 syntax: Outside the profile;"),
-        (b"x: int = 1\ny = (1 +\n", "2:1 syntax: Unmatched bracket;"),
-    ];
-    for (source, want) in &cases {
+    for (source, want) in FAULTY {
         assert_eq!(rt; found_in(rt.alloc(), source)?.as_str(), *want);
     }
     Ok(())
 }
 
+/// Sources with ignore comments, with the lines that are told.
+const IGNORED: &[(&[u8], &str)] = &[
+    (
+        b"x: int = ''\ny: int = '' # type: ignore\nz: int = ''\n",
+        "1 3 ",
+    ),
+    (b"x: int = '' # type: ignore[assignment]\n", ""),
+    (b"x: int = '' # type: ignore[return, assignment]\n", ""),
+    (b"x: int = '' # type: ignore[return]\n", "1 "),
+    (b"x: int = '' # type: ignore[assignmen]\n", "1 "),
+    (b"x: int = \\\n  '' # type: ignore\n", ""),
+    (b"# type: ignore\nx: int = ''\ny: int = ''\n", ""),
+    (b"# type: ignore[assignment]\nx: int = ''\n", "2 "),
+    (b"# type: ignore\nx = = 1 # type: ignore[syntax]\n", "2 "),
+];
+
 #[test]
 fn ignores_silence(rt: HostRuntime) -> Result<(), Fail> {
-    let cases: [(&[u8], &str); 9] = [
-        (
-            b"x: int = ''\ny: int = '' # type: ignore\nz: int = ''\n",
-            "1 3 ",
-        ),
-        (b"x: int = '' # type: ignore[assignment]\n", ""),
-        (b"x: int = '' # type: ignore[return, assignment]\n", ""),
-        (b"x: int = '' # type: ignore[return]\n", "1 "),
-        (b"x: int = '' # type: ignore[assignmen]\n", "1 "),
-        (b"x: int = \\\n  '' # type: ignore\n", ""),
-        (b"# type: ignore\nx: int = ''\ny: int = ''\n", ""),
-        (b"# type: ignore[assignment]\nx: int = ''\n", "2 "),
-        (b"# type: ignore\nx = = 1 # type: ignore[syntax]\n", "2 "),
-    ];
-    for (source, want) in &cases {
+    for (source, want) in IGNORED {
         assert_eq!(rt; lines_told(rt.alloc(), source)?.as_str(), *want);
     }
     Ok(())

@@ -25,44 +25,50 @@ fn forms_of(alloc: Global, source: &str) -> Result<String, Fail> {
     Ok(shown)
 }
 
+/// Sources with annotated literals.
+const LITERALS: &[(&str, &str)] = &[
+    ("x: int = 1\n", "1:10 Int Int;"),
+    ("x: float = 1.5\n", "1:12 Float Float;"),
+    (
+        "x: bool = True; y: None = None\n",
+        "1:11 Bool Bool;1:27 None None;",
+    ),
+    ("x: str = 'a' 'b'\n", "1:10 Str Str;"),
+    ("x: str = f'a'\n", "1:10 Str Str;"),
+    ("x: str = b'a' b'b'\n", "1:10 Str Bytes;"),
+    ("x: int = Rb'a'\n", "1:10 Int Bytes;"),
+    ("x: \u{ff49}\u{ff4e}\u{ff54} = 1\n", "1:10 Int Int;"),
+    ("x: int = \\\n  1\n", "2:3 Int Int;"),
+];
+
 #[test]
 fn finds_annotated_literals(rt: HostRuntime) -> Result<(), Fail> {
-    for (source, want) in &[
-        ("x: int = 1\n", "1:10 Int Int;"),
-        ("x: float = 1.5\n", "1:12 Float Float;"),
-        (
-            "x: bool = True; y: None = None\n",
-            "1:11 Bool Bool;1:27 None None;",
-        ),
-        ("x: str = 'a' 'b'\n", "1:10 Str Str;"),
-        ("x: str = f'a'\n", "1:10 Str Str;"),
-        ("x: str = b'a' b'b'\n", "1:10 Str Bytes;"),
-        ("x: int = Rb'a'\n", "1:10 Int Bytes;"),
-        ("x: \u{ff49}\u{ff4e}\u{ff54} = 1\n", "1:10 Int Int;"),
-        ("x: int = \\\n  1\n", "2:3 Int Int;"),
-    ] {
+    for (source, want) in LITERALS {
         assert_eq!(rt; forms_of(rt.alloc(), source)?.as_str(), *want);
     }
     Ok(())
 }
 
+/// Sources without an annotated literal.
+const OTHERS: &[&str] = &[
+    "x = 1\n",
+    "x: int\n",
+    "(x): int = 1\n",
+    "x.y: int = 1\n",
+    "x: (int) = 1\n",
+    "x: object = 1\n",
+    "x: True = 1\n",
+    "x: 'int' = 1\n",
+    "x: int = (1)\n",
+    "x: int = -1\n",
+    "x: int = 1j\n",
+    "x: int = ...\n",
+    "x: int = y\n",
+];
+
 #[test]
 fn passes_other_statements_over(rt: HostRuntime) -> Result<(), Fail> {
-    for source in &[
-        "x = 1\n",
-        "x: int\n",
-        "(x): int = 1\n",
-        "x.y: int = 1\n",
-        "x: (int) = 1\n",
-        "x: object = 1\n",
-        "x: True = 1\n",
-        "x: 'int' = 1\n",
-        "x: int = (1)\n",
-        "x: int = -1\n",
-        "x: int = 1j\n",
-        "x: int = ...\n",
-        "x: int = y\n",
-    ] {
+    for source in OTHERS {
         assert_eq!(rt; forms_of(rt.alloc(), source)?.as_str(), "");
     }
     Ok(())
@@ -79,18 +85,21 @@ fn looks_into_blocks_and_no_definitions(rt: HostRuntime) -> Result<(), Fail> {
     Ok(())
 }
 
+/// Sources that bind the names of builtin classes, with their annotated literals.
+const BOUND: &[(&str, &str)] = &[
+    (
+        "class int: ...\nx: int = 'a'\ny: str = 1\n",
+        "3:10 Str Int;",
+    ),
+    ("x: int = 'a'\nfrom m import int\n", ""),
+    ("if x:\n    import float\ny: float = ''\n", ""),
+    ("def f():\n    int = 1\nx: int = 'a'\n", "3:10 Int Str;"),
+];
+
 /// A name that the file binds is the file's own, wherever it is bound.
 #[test]
 fn passes_bound_names_over(rt: HostRuntime) -> Result<(), Fail> {
-    for (source, want) in &[
-        (
-            "class int: ...\nx: int = 'a'\ny: str = 1\n",
-            "3:10 Str Int;",
-        ),
-        ("x: int = 'a'\nfrom m import int\n", ""),
-        ("if x:\n    import float\ny: float = ''\n", ""),
-        ("def f():\n    int = 1\nx: int = 'a'\n", "3:10 Int Str;"),
-    ] {
+    for (source, want) in BOUND {
         assert_eq!(rt; forms_of(rt.alloc(), source)?.as_str(), *want);
     }
     Ok(())

@@ -41,18 +41,21 @@ const RING: [(&str, &str); 5] = [
     ("e.py", "from f import x\n"),
 ];
 
+/// Names of their modules: whether they are on a ring, and what they stand for.
+const RING_NAMES: &[(&str, &str, bool, &str)] = &[
+    ("a", "x", true, "cycle"),
+    ("b", "x", true, "cycle"),
+    ("c", "y", true, "cycle"),
+    ("d", "x", false, "cycle"),
+    ("e", "x", false, "no module"),
+    ("c", "x", false, "no name"),
+];
+
 #[test]
 fn rings_are_cycles(rt: HostRuntime) -> Result<(), Fail> {
     let a = rt.alloc();
     let table = Table::build(a, &files_of(a, &RING)?)?;
-    for (home, name, is_on_ring, found) in &[
-        ("a", "x", true, "cycle"),
-        ("b", "x", true, "cycle"),
-        ("c", "y", true, "cycle"),
-        ("d", "x", false, "cycle"),
-        ("e", "x", false, "no module"),
-        ("c", "x", false, "no name"),
-    ] {
+    for (home, name, is_on_ring, found) in RING_NAMES {
         let q = name_of(a, home, name)?;
         assert_eq!(rt; table.is_on_ring(a, &q)?, *is_on_ring, "{home}:{name}");
         assert_eq!(rt;
@@ -76,20 +79,23 @@ const CHAINS: [(&str, &str); 5] = [
     ("above.py", "from ..z import k\n"),
 ];
 
+/// Names of their modules, with what they stand for.
+const CHAIN_NAMES: &[(&str, &str, &str)] = &[
+    ("a", "v", "declared a:v"),
+    ("a", "x", "declared c:x"),
+    ("a", "z", "no name"),
+    ("a", "w", "no module"),
+    ("a", "q", "opaque"),
+    ("broken", "q", "opaque"),
+    ("gone", "w", "no module"),
+    ("above", "k", "no module"),
+];
+
 #[test]
 fn chains_end(rt: HostRuntime) -> Result<(), Fail> {
     let a = rt.alloc();
     let table = Table::build(a, &files_of(a, &CHAINS)?)?;
-    for (home, name, found) in &[
-        ("a", "v", "declared a:v"),
-        ("a", "x", "declared c:x"),
-        ("a", "z", "no name"),
-        ("a", "w", "no module"),
-        ("a", "q", "opaque"),
-        ("broken", "q", "opaque"),
-        ("gone", "w", "no module"),
-        ("above", "k", "no module"),
-    ] {
+    for (home, name, found) in CHAIN_NAMES {
         assert_eq!(rt;
             followed(&table, a, home, name)?.as_str(),
             *found,
@@ -107,19 +113,22 @@ const MODULES: [(&str, &str); 4] = [
     ("gone.py", "import gone.x as r\nimport lost\n"),
 ];
 
+/// Names of the files that import modules, with what they stand for.
+const MODULE_NAMES: &[(&str, &str, &str)] = &[
+    ("first", "p", "module p"),
+    ("first", "q", "no name"),
+    ("last", "r", "module p.q"),
+    ("last", "p", "no name"),
+    ("p", "q", "module p.q"),
+    ("gone", "r", "no module"),
+    ("gone", "lost", "no module"),
+];
+
 #[test]
 fn imports_of_modules(rt: HostRuntime) -> Result<(), Fail> {
     let a = rt.alloc();
     let table = Table::build(a, &files_of(a, &MODULES)?)?;
-    for (home, name, found) in &[
-        ("first", "p", "module p"),
-        ("first", "q", "no name"),
-        ("last", "r", "module p.q"),
-        ("last", "p", "no name"),
-        ("p", "q", "module p.q"),
-        ("gone", "r", "no module"),
-        ("gone", "lost", "no module"),
-    ] {
+    for (home, name, found) in MODULE_NAMES {
         assert_eq!(rt;
             followed(&table, a, home, name)?.as_str(),
             *found,
@@ -138,19 +147,22 @@ const PACKAGES: [(&str, &str); 5] = [
     ("a.py", "from pkg import m, n\nfrom space import o\n"),
 ];
 
+/// Names of packages and of who imports them, with what they stand for.
+const PACKAGE_NAMES: &[(&str, &str, &str)] = &[
+    ("pkg", "m", "module pkg.m"),
+    ("pkg", "n", "declared pkg:n"),
+    ("space", "o", "module space.o"),
+    ("space.o", "o", "module space.o"),
+    ("a", "m", "module pkg.m"),
+    ("a", "n", "declared pkg:n"),
+    ("a", "o", "module space.o"),
+];
+
 #[test]
 fn submodules_of_packages(rt: HostRuntime) -> Result<(), Fail> {
     let a = rt.alloc();
     let table = Table::build(a, &files_of(a, &PACKAGES)?)?;
-    for (home, name, found) in &[
-        ("pkg", "m", "module pkg.m"),
-        ("pkg", "n", "declared pkg:n"),
-        ("space", "o", "module space.o"),
-        ("space.o", "o", "module space.o"),
-        ("a", "m", "module pkg.m"),
-        ("a", "n", "declared pkg:n"),
-        ("a", "o", "module space.o"),
-    ] {
+    for (home, name, found) in PACKAGE_NAMES {
         assert_eq!(rt;
             followed(&table, a, home, name)?.as_str(),
             *found,
@@ -172,18 +184,21 @@ const FIXED: [(&str, &str); 2] = [
     ),
 ];
 
+/// Names of a fixed module and of who imports it, with what they stand for.
+const FIXED_NAMES: &[(&str, &str, &str)] = &[
+    ("typing", "own", "fixed Any"),
+    ("a", "own", "fixed Any"),
+    ("a", "Any", "declared typing:Any"),
+    ("a", "O", "declared typing:Optional"),
+    ("a", "OrderedDict", "fixed Any"),
+    ("a", "abc", "module collections.abc"),
+];
+
 #[test]
 fn fixed_modules_stand_first(rt: HostRuntime) -> Result<(), Fail> {
     let a = rt.alloc();
     let table = Table::build(a, &files_of(a, &FIXED)?)?;
-    for (home, name, found) in &[
-        ("typing", "own", "fixed Any"),
-        ("a", "own", "fixed Any"),
-        ("a", "Any", "declared typing:Any"),
-        ("a", "O", "declared typing:Optional"),
-        ("a", "OrderedDict", "fixed Any"),
-        ("a", "abc", "module collections.abc"),
-    ] {
+    for (home, name, found) in FIXED_NAMES {
         assert_eq!(rt;
             followed(&table, a, home, name)?.as_str(),
             *found,
@@ -194,6 +209,17 @@ fn fixed_modules_stand_first(rt: HostRuntime) -> Result<(), Fail> {
 }
 
 /// Modules, whether they are there, and the paths of their files.
+const THERE: &[(&str, bool, &str)] = &[
+    ("", true, ""),
+    ("p", true, ""),
+    ("p.q.r", true, "p/q/r.py"),
+    ("p.q.r.s", false, ""),
+    ("pkg", true, "pkg/__init__.py"),
+    ("b", true, "b.py"),
+    ("typing", true, ""),
+    ("gone", false, ""),
+];
+
 #[test]
 fn modules_and_their_files(rt: HostRuntime) -> Result<(), Fail> {
     let a = rt.alloc();
@@ -203,16 +229,7 @@ fn modules_and_their_files(rt: HostRuntime) -> Result<(), Fail> {
     )?;
     let table = Table::build(a, &files)?;
     assert_eq!(rt; table.files().len(), 3);
-    for (name, is_there, path) in &[
-        ("", true, ""),
-        ("p", true, ""),
-        ("p.q.r", true, "p/q/r.py"),
-        ("p.q.r.s", false, ""),
-        ("pkg", true, "pkg/__init__.py"),
-        ("b", true, "b.py"),
-        ("typing", true, ""),
-        ("gone", false, ""),
-    ] {
+    for (name, is_there, path) in THERE {
         let parts = dotted(a, name)?;
         let found = table.file(&parts).map_or("", |file| file.path());
         assert_eq!(rt; table.has_module(&parts), *is_there, "{name}");
@@ -249,15 +266,18 @@ fn names_are_told_apart(rt: HostRuntime) -> Result<(), Fail> {
     Ok(())
 }
 
+/// Dotted names, with the one that both make.
+const JOINED: &[(&str, &str, &str)] = &[
+    ("p.q", "r.s", "p.q.r.s"),
+    ("p", "", "p"),
+    ("", "r", "r"),
+    ("", "", ""),
+];
+
 #[test]
 fn names_are_joined(rt: HostRuntime) -> Result<(), Fail> {
     let a = rt.alloc();
-    for (base, path, whole) in &[
-        ("p.q", "r.s", "p.q.r.s"),
-        ("p", "", "p"),
-        ("", "r", "r"),
-        ("", "", ""),
-    ] {
+    for (base, path, whole) in JOINED {
         let name = joined(a, &dotted(a, base)?, &dotted(a, path)?)?;
         assert!(rt; name == module_of(a, whole)?, "{base} and {path}");
     }

@@ -22,22 +22,25 @@ fn decorators(statements: &[Stmt]) -> &[Expr] {
     }
 }
 
+/// Decorators, with what they are.
+const DECORATORS: &[(&str, Decorator)] = &[
+    ("property", Decorator::Property),
+    ("x.setter", Decorator::Setter),
+    ("staticmethod", Decorator::StaticMethod),
+    ("classmethod", Decorator::ClassMethod),
+    ("abstractmethod", Decorator::AbstractMethod),
+    ("abc.abstractmethod", Decorator::AbstractMethod),
+    ("x.abstractmethod", Decorator::Other),
+    ("x.y.setter", Decorator::Other),
+    ("setter", Decorator::Other),
+    ("overload", Decorator::Other),
+    ("property()", Decorator::Other),
+];
+
 /// A decorator by itself, with what it is, whether it is an unknown one, and whether it makes a setter.
 #[test]
 fn decorators_by_their_spelling(rt: HostRuntime) -> Result<(), Fail> {
-    for (spelled, want) in &[
-        ("property", Decorator::Property),
-        ("x.setter", Decorator::Setter),
-        ("staticmethod", Decorator::StaticMethod),
-        ("classmethod", Decorator::ClassMethod),
-        ("abstractmethod", Decorator::AbstractMethod),
-        ("abc.abstractmethod", Decorator::AbstractMethod),
-        ("x.abstractmethod", Decorator::Other),
-        ("x.y.setter", Decorator::Other),
-        ("setter", Decorator::Other),
-        ("overload", Decorator::Other),
-        ("property()", Decorator::Other),
-    ] {
+    for (spelled, want) in DECORATORS {
         let source = format!(in rt.alloc(); "@{spelled}\ndef f(): ...\n")?;
         let file = file_of(rt.alloc(), "a.py", source.as_bytes())?;
         let Outcome::Tree(module) = file.outcome() else {
@@ -52,15 +55,18 @@ fn decorators_by_their_spelling(rt: HostRuntime) -> Result<(), Fail> {
     Ok(())
 }
 
+/// Functions: whether one of their decorators is an unknown one, and whether one makes a setter.
+const DECORATED: &[(&str, bool, bool)] = &[
+    ("def f(): ...\n", false, false),
+    ("@property\n@abstractmethod\ndef f(): ...\n", false, false),
+    ("@x.setter\n@abstractmethod\ndef f(): ...\n", false, true),
+    ("@property\n@known\ndef f(): ...\n", true, false),
+    ("@known\n@x.setter\ndef f(): ...\n", true, true),
+];
+
 #[test]
 fn one_decorator_of_several(rt: HostRuntime) -> Result<(), Fail> {
-    for (source, other, setter) in &[
-        ("def f(): ...\n", false, false),
-        ("@property\n@abstractmethod\ndef f(): ...\n", false, false),
-        ("@x.setter\n@abstractmethod\ndef f(): ...\n", false, true),
-        ("@property\n@known\ndef f(): ...\n", true, false),
-        ("@known\n@x.setter\ndef f(): ...\n", true, true),
-    ] {
+    for (source, other, setter) in DECORATED {
         let file = file_of(rt.alloc(), "a.py", source.as_bytes())?;
         let Outcome::Tree(module) = file.outcome() else {
             return Err("no tree".into());
@@ -72,18 +78,21 @@ fn one_decorator_of_several(rt: HostRuntime) -> Result<(), Fail> {
     Ok(())
 }
 
+/// Names, each with the line of its declaration, 0 where there is none, and whether it stands under an unknown decorator.
+const DECLARED: &[(&str, u32, bool)] = &[
+    ("x", 2, false),
+    ("f", 5, true),
+    ("g", 6, false),
+    ("y", 0, false),
+    ("m", 0, false),
+];
+
 /// The line of a name's declaration, and whether it stands under an unknown decorator.
 #[test]
 fn first_bindings_declare(rt: HostRuntime) -> Result<(), Fail> {
     let source = b"if y:\n    x = 1\nx: int = 2\n@known\ndef f(): ...\nfrom m import f as g\n";
     let file = file_of(rt.alloc(), "a.py", source)?;
-    for (name, line, decorated) in &[
-        ("x", 2, false),
-        ("f", 5, true),
-        ("g", 6, false),
-        ("y", 0, false),
-        ("m", 0, false),
-    ] {
+    for (name, line, decorated) in DECLARED {
         let name = Text::new(rt.alloc(), name)?;
         let found = declaration(file.bindings(), &name);
         let at = found.map_or(0, |b| b.place.at.line);
@@ -106,16 +115,19 @@ fn defined_again(alloc: Global, source: &str) -> Result<String, Fail> {
     Ok(shown)
 }
 
+/// Sources, with the names that they define again.
+const DEFINED_AGAIN: &[(&str, &str)] = &[
+    ("x: int = 1\nx: int = 2\n", "2 x 1; "),
+    ("x = 1\nx: int = 2\nx: int = 3\n", "2 x 1; 3 x 1; "),
+    ("def f(): ...\ndef f(): ...\n", "2 f 1; "),
+    ("import f\nclass f: ...\n", "2 f 1; "),
+    ("for i in x:\n    i: int = 1\n", "2 i 1; "),
+    ("if y:\n    x = 1\nx: int = 2\n", "3 x 2; "),
+];
+
 #[test]
 fn names_defined_again(rt: HostRuntime) -> Result<(), Fail> {
-    for (source, want) in &[
-        ("x: int = 1\nx: int = 2\n", "2 x 1; "),
-        ("x = 1\nx: int = 2\nx: int = 3\n", "2 x 1; 3 x 1; "),
-        ("def f(): ...\ndef f(): ...\n", "2 f 1; "),
-        ("import f\nclass f: ...\n", "2 f 1; "),
-        ("for i in x:\n    i: int = 1\n", "2 i 1; "),
-        ("if y:\n    x = 1\nx: int = 2\n", "3 x 2; "),
-    ] {
+    for (source, want) in DEFINED_AGAIN {
         assert_eq!(rt;
             defined_again(rt.alloc(), source)?.as_str(),
             *want,
@@ -125,18 +137,21 @@ fn names_defined_again(rt: HostRuntime) -> Result<(), Fail> {
     Ok(())
 }
 
+/// Sources that define no name again.
+const NOT_DEFINED_AGAIN: &[&str] = &[
+    "x: int = 1\nx = 2\nx += 1\nimport x\nfrom m import x\ndel x\n",
+    "x: int = 1\nif y:\n    x: int = 2\nelse:\n    def x(): ...\n",
+    "x: int = 1\ntry:\n    class x: ...\nfinally:\n    x: str = 2\n",
+    "@overload\ndef f(): ...\ndef f(): ...\n",
+    "def f(): ...\n@known\ndef f(): ...\n",
+    "@known\nclass C: ...\nclass C: ...\n",
+    "@property\ndef f(): ...\n@f.setter\ndef f(x): ...\n",
+    "x: int\ndef f():\n    x: int = 1\nclass C:\n    x: int = 1\n",
+];
+
 #[test]
 fn names_not_defined_again(rt: HostRuntime) -> Result<(), Fail> {
-    for source in &[
-        "x: int = 1\nx = 2\nx += 1\nimport x\nfrom m import x\ndel x\n",
-        "x: int = 1\nif y:\n    x: int = 2\nelse:\n    def x(): ...\n",
-        "x: int = 1\ntry:\n    class x: ...\nfinally:\n    x: str = 2\n",
-        "@overload\ndef f(): ...\ndef f(): ...\n",
-        "def f(): ...\n@known\ndef f(): ...\n",
-        "@known\nclass C: ...\nclass C: ...\n",
-        "@property\ndef f(): ...\n@f.setter\ndef f(x): ...\n",
-        "x: int\ndef f():\n    x: int = 1\nclass C:\n    x: int = 1\n",
-    ] {
+    for source in NOT_DEFINED_AGAIN {
         assert_eq!(rt; defined_again(rt.alloc(), source)?.as_str(), "", "{source}");
     }
     Ok(())

@@ -52,56 +52,62 @@ fn units_of(alloc: Global, source: &str) -> Result<String, Fail> {
     Ok(shown)
 }
 
+/// Sources, with their parts.
+const PARTS: &[(&str, &str)] = &[
+    ("a\nb; c\n", "1 2 2 "),
+    (
+        "if x:\n    a\nelif x: b; c\nelse:\n    d\ne\n",
+        "2? 3? 3? 5? 6 ",
+    ),
+    (
+        "for x in y:\n    while x:\n        a\n    else: b\nelse:\n    c\n",
+        "t1 3 4 6 ",
+    ),
+    (
+        "try:\n    a\nexcept x:\n    b\nexcept: c\nelse:\n    d\nfinally:\n    e\n",
+        "2? 4? 5? 7? 9? ",
+    ),
+    ("with x:\n    a\nasync with x: b\n", "2 3 "),
+    ("with x as a, y, z as b:\n    c\n", "t1 t1 2 "),
+    (
+        "try:\n    a\nexcept x as e:\n    while x: b\n",
+        "2? n3? 4? ",
+    ),
+    (
+        "@x\ndef f():\n    a\nb\nclass C:\n    c\nif x:\n    async def g(): d\n",
+        "d2 4 d5 d8? ",
+    ),
+];
+
 #[test]
 fn opens_blocks_and_no_definitions(rt: HostRuntime) -> Result<(), Fail> {
-    for (source, want) in &[
-        ("a\nb; c\n", "1 2 2 "),
-        (
-            "if x:\n    a\nelif x: b; c\nelse:\n    d\ne\n",
-            "2? 3? 3? 5? 6 ",
-        ),
-        (
-            "for x in y:\n    while x:\n        a\n    else: b\nelse:\n    c\n",
-            "t1 3 4 6 ",
-        ),
-        (
-            "try:\n    a\nexcept x:\n    b\nexcept: c\nelse:\n    d\nfinally:\n    e\n",
-            "2? 4? 5? 7? 9? ",
-        ),
-        ("with x:\n    a\nasync with x: b\n", "2 3 "),
-        ("with x as a, y, z as b:\n    c\n", "t1 t1 2 "),
-        (
-            "try:\n    a\nexcept x as e:\n    while x: b\n",
-            "2? n3? 4? ",
-        ),
-        (
-            "@x\ndef f():\n    a\nb\nclass C:\n    c\nif x:\n    async def g(): d\n",
-            "d2 4 d5 d8? ",
-        ),
-    ] {
+    for (source, want) in PARTS {
         assert_eq!(rt; parts_of(rt.alloc(), source)?.as_str(), *want);
     }
     Ok(())
 }
 
+/// Sources, with the lines of their definitions and methods.
+const UNITS: &[(&str, &str)] = &[
+    ("a\nb\n", ""),
+    ("def f():\n    def g(): a\n", "1 "),
+    (
+        "class C:\n    a\n    def f(x): a\n    if x:\n        @x\n        def g(x): a\n    else:\n        async def h(x): a\n",
+        "1 3 6 8 ",
+    ),
+    (
+        "class C:\n    class D:\n        def f(x): a\n    def g(x): a\n",
+        "1 4 ",
+    ),
+    (
+        "if x:\n    class C: a\nelse:\n    def f(): a\ndef g(): a\n",
+        "2 4 5 ",
+    ),
+];
+
 #[test]
 fn finds_definitions_and_methods(rt: HostRuntime) -> Result<(), Fail> {
-    for (source, want) in &[
-        ("a\nb\n", ""),
-        ("def f():\n    def g(): a\n", "1 "),
-        (
-            "class C:\n    a\n    def f(x): a\n    if x:\n        @x\n        def g(x): a\n    else:\n        async def h(x): a\n",
-            "1 3 6 8 ",
-        ),
-        (
-            "class C:\n    class D:\n        def f(x): a\n    def g(x): a\n",
-            "1 4 ",
-        ),
-        (
-            "if x:\n    class C: a\nelse:\n    def f(): a\ndef g(): a\n",
-            "2 4 5 ",
-        ),
-    ] {
+    for (source, want) in UNITS {
         assert_eq!(rt; units_of(rt.alloc(), source)?.as_str(), *want);
     }
     Ok(())

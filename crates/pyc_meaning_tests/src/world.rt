@@ -66,45 +66,51 @@ const FILES: [(&str, &str); 5] = [
     ("c.py", "from a import y\n"),
 ];
 
+/// Modules, with whether they are there.
+const MODULES: &[(&str, Presence)] = &[
+    ("a", Presence::There),
+    ("p", Presence::There),
+    ("p.q", Presence::There),
+    ("p.q.x", Presence::NoModule),
+    ("broken", Presence::Opaque),
+    ("gone", Presence::NoModule),
+    ("typing", Presence::There),
+];
+
 #[test]
 fn modules_are_asked_for(rt: HostRuntime) -> Result<(), Fail> {
     let a = rt.alloc();
     let world = World::build(a, &files_of(a, &FILES)?)?;
     assert_eq!(rt; world.files().len(), 5);
-    for (name, want) in &[
-        ("a", Presence::There),
-        ("p", Presence::There),
-        ("p.q", Presence::There),
-        ("p.q.x", Presence::NoModule),
-        ("broken", Presence::Opaque),
-        ("gone", Presence::NoModule),
-        ("typing", Presence::There),
-    ] {
+    for (name, want) in MODULES {
         let key = Key::HasModule(module_of(a, name)?);
         assert_eq!(rt; presence(&world, a, &key)?, *want, "{name}");
     }
     Ok(())
 }
 
+/// Names of modules, with whether they are there.
+const NAMES: &[(&str, &str, Presence)] = &[
+    ("p.q", "x", Presence::There),
+    ("p.q", "z", Presence::NoName),
+    ("p", "q", Presence::There),
+    ("p", "r", Presence::NoName),
+    ("a", "x", Presence::There),
+    ("a", "z", Presence::There),
+    ("a", "gone", Presence::There),
+    ("a", "y", Presence::Cycle),
+    ("b", "y", Presence::Cycle),
+    ("c", "y", Presence::There),
+    ("broken", "z", Presence::Opaque),
+    ("gone", "x", Presence::NoModule),
+    ("typing", "anything", Presence::There),
+];
+
 #[test]
 fn names_are_asked_for(rt: HostRuntime) -> Result<(), Fail> {
     let a = rt.alloc();
     let world = World::build(a, &files_of(a, &FILES)?)?;
-    for (home, name, want) in &[
-        ("p.q", "x", Presence::There),
-        ("p.q", "z", Presence::NoName),
-        ("p", "q", Presence::There),
-        ("p", "r", Presence::NoName),
-        ("a", "x", Presence::There),
-        ("a", "z", Presence::There),
-        ("a", "gone", Presence::There),
-        ("a", "y", Presence::Cycle),
-        ("b", "y", Presence::Cycle),
-        ("c", "y", Presence::There),
-        ("broken", "z", Presence::Opaque),
-        ("gone", "x", Presence::NoModule),
-        ("typing", "anything", Presence::There),
-    ] {
+    for (home, name, want) in NAMES {
         let key = Key::HasName(name_of(a, home, name)?);
         assert_eq!(rt; presence(&world, a, &key)?, *want, "{home}:{name}");
     }
@@ -121,30 +127,33 @@ const DECLARED: (&str, &str) = (
      o: type[C]\nb: f\n",
 );
 
+/// Declared names, with what they are.
+const DECLARED_NAMES: &[(&str, &str)] = &[
+    ("i", "annotated: int"),
+    ("l", "annotated: list[Any]"),
+    ("s", "variable: str"),
+    ("n", "variable: Any"),
+    ("t", "variable: Any"),
+    ("f", "function: Callable[[], Any]"),
+    ("C", "class: type[C]"),
+    ("h", "function: Callable[[int, C], C | None]"),
+    ("k", "function: Callable[..., Any]"),
+    ("w", "function: Any"),
+    ("A", "alias: Any"),
+    ("v", "annotated: Any"),
+    ("c", "annotated: Callable[[C], dict[str, C]]"),
+    ("o", "annotated: type[C]"),
+    ("b", "annotated: Any"),
+    ("g", "unknown: Any"),
+    ("D", "unknown: Any"),
+    ("gone", "no name: Any"),
+];
+
 #[test]
 fn names_are_declared(rt: HostRuntime) -> Result<(), Fail> {
     let a = rt.alloc();
     let world = World::build(a, &files_of(a, &[DECLARED])?)?;
-    for (name, want) in &[
-        ("i", "annotated: int"),
-        ("l", "annotated: list[Any]"),
-        ("s", "variable: str"),
-        ("n", "variable: Any"),
-        ("t", "variable: Any"),
-        ("f", "function: Callable[[], Any]"),
-        ("C", "class: type[C]"),
-        ("h", "function: Callable[[int, C], C | None]"),
-        ("k", "function: Callable[..., Any]"),
-        ("w", "function: Any"),
-        ("A", "alias: Any"),
-        ("v", "annotated: Any"),
-        ("c", "annotated: Callable[[C], dict[str, C]]"),
-        ("o", "annotated: type[C]"),
-        ("b", "annotated: Any"),
-        ("g", "unknown: Any"),
-        ("D", "unknown: Any"),
-        ("gone", "no name: Any"),
-    ] {
+    for (name, want) in DECLARED_NAMES {
         assert_eq!(rt; name_shown(&world, a, "d", name)?.as_str(), *want, "{name}");
     }
     Ok(())
@@ -165,22 +174,25 @@ const IMPORTS: [(&str, &str); 5] = [
     ("broken.py", "z: int = 1\ndef (\n"),
 ];
 
+/// Names of modules, with what they are.
+const IMPORTED_NAMES: &[(&str, &str, &str)] = &[
+    ("a", "i", "annotated: int"),
+    ("b", "i", "annotated: int"),
+    ("a", "j", "no target: Any"),
+    ("a", "d", "module p.d: Module"),
+    ("a", "p", "module p: Module"),
+    ("b", "O", "fixed Optional: Any"),
+    ("b", "o", "unknown: Any"),
+    ("c", "x", "no module: Any"),
+    ("c", "y", "cycle: Any"),
+    ("c", "z", "unknown: Any"),
+];
+
 #[test]
 fn imported_names(rt: HostRuntime) -> Result<(), Fail> {
     let a = rt.alloc();
     let world = World::build(a, &files_of(a, &IMPORTS)?)?;
-    for (home, name, want) in &[
-        ("a", "i", "annotated: int"),
-        ("b", "i", "annotated: int"),
-        ("a", "j", "no target: Any"),
-        ("a", "d", "module p.d: Module"),
-        ("a", "p", "module p: Module"),
-        ("b", "O", "fixed Optional: Any"),
-        ("b", "o", "unknown: Any"),
-        ("c", "x", "no module: Any"),
-        ("c", "y", "cycle: Any"),
-        ("c", "z", "unknown: Any"),
-    ] {
+    for (home, name, want) in IMPORTED_NAMES {
         assert_eq!(rt;
             name_shown(&world, a, home, name)?.as_str(),
             *want,
@@ -224,24 +236,27 @@ fn types_of(alloc: Global, source: &str) -> Result<(Option<Builtin>, Option<Buil
     ))
 }
 
+/// Annotated names: the types of the annotation and of the value, where they have one.
+const TYPES: &[(&str, Option<Builtin>, Option<Builtin>)] = &[
+    ("x: int = 1\n", Some(Builtin::Int), Some(Builtin::Int)),
+    ("x: str = 'a'\n", Some(Builtin::Str), Some(Builtin::Str)),
+    ("x: bool = True\n", Some(Builtin::Bool), Some(Builtin::Bool)),
+    (
+        "x: float = 1.5\n",
+        Some(Builtin::Float),
+        Some(Builtin::Float),
+    ),
+    ("x: None = None\n", Some(Builtin::None), Some(Builtin::None)),
+    ("x: bytes = b''\n", None, Some(Builtin::Bytes)),
+    ("x: 'int' = f''\n", None, Some(Builtin::Str)),
+    ("x: list = 1j\n", None, None),
+    ("x: int = ...\nclass int: ...\n", None, None),
+    ("x: m.int = y\n", None, None),
+];
+
 #[test]
 fn types_of_annotations_and_literals(rt: HostRuntime) -> Result<(), Fail> {
-    for (source, annotation, value) in &[
-        ("x: int = 1\n", Some(Builtin::Int), Some(Builtin::Int)),
-        ("x: str = 'a'\n", Some(Builtin::Str), Some(Builtin::Str)),
-        ("x: bool = True\n", Some(Builtin::Bool), Some(Builtin::Bool)),
-        (
-            "x: float = 1.5\n",
-            Some(Builtin::Float),
-            Some(Builtin::Float),
-        ),
-        ("x: None = None\n", Some(Builtin::None), Some(Builtin::None)),
-        ("x: bytes = b''\n", None, Some(Builtin::Bytes)),
-        ("x: 'int' = f''\n", None, Some(Builtin::Str)),
-        ("x: list = 1j\n", None, None),
-        ("x: int = ...\nclass int: ...\n", None, None),
-        ("x: m.int = y\n", None, None),
-    ] {
+    for (source, annotation, value) in TYPES {
         let found = types_of(rt.alloc(), source)?;
         assert!(rt; found == (*annotation, *value), "{source}");
     }
