@@ -233,7 +233,8 @@ class Trial:
         for it in [it for it in self.left if it.fault]:
             self.judge(it, None)
             self.said.append(f"{self.name}/{it.path.name}: BAD EDIT: {it.fault}")
-        while refused := self.together(one_a_function(self.left)):
+        reach = reached(self.folder)
+        while refused := self.together(one_a_function(self.left, reach)):
             for it, why in refused.items():
                 self.judge(it, why)
             if once:
@@ -265,13 +266,43 @@ def refusal(edit, said):
     return None
 
 
-def one_a_function(edits):
-    """Returns edits of bodies, at most one to a function."""
+def reached(folder):
+    """Returns for each function of a crate those that it seems to call, by their names, and those that these call, and so on."""
+    bodies = {}
+    for path in sorted(folder.glob("src/**/*.rt")):
+        text = path.read_text(encoding="utf-8")
+        for begin, end, name in functions(str(path.relative_to(folder)), text):
+            bodies[name] = "\n".join(text.split("\n")[begin - 1 : end])
+    named = {}
+    for name in bodies:
+        named.setdefault(name.split("::")[-1], []).append(name)
+    calls = {}
+    for name, body in bodies.items():
+        words = {*re.findall(r"\b(\w+)\b(?=\s*[(,;)?])", body), *(["eq"] if re.search(r"[=!]= ", body) else [])}
+        calls[name] = {it for word in words for it in named.get(word, []) if it != name}
     found = {}
+    for name in bodies:
+        seen, left = set(), [name]
+        while left:
+            new = calls[left.pop()] - seen
+            seen |= new
+            left += new
+        found[name] = seen
+    return found
+
+
+def one_a_function(edits, reach):
+    """Returns edits of bodies, at most one to a function, none of them of a function that another one's function seems to call."""
+    first = {}
     for it in edits:
         if it.is_body and it.place:
-            found.setdefault(it.place[3], it)
-    return [*found.values()]
+            first.setdefault(it.place[3], it)
+    apart = lambda one, other: other not in reach.get(one, ()) and one not in reach.get(other, ())
+    chosen = []
+    for name in sorted(first, key=lambda one: sum(not apart(one, it) for it in first)):
+        if all(apart(name, it) for it in chosen):
+            chosen.append(name)
+    return [first[it] for it in chosen]
 
 
 def main():
