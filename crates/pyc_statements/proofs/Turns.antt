@@ -1,5 +1,5 @@
 -- One turn of the loop that reads statements in turn.
-use Rattle.std.proofs.Common.{◌≡◌, ℕ, ◌+◌, ◌<◌, List, [], ◌∷◌, length, map, drop, get_or, refl, sym}
+use Rattle.std.proofs.Common.{◌≡◌, ℕ, ◌+◌, ◌<◌, List, ◌∷◌, length, map, drop, get_or, refl, sym}
 use Rattle.pyc_ast.specs.declared.stmt.Stmt.{Stmt}
 use Rattle.pyc_ast.specs.Statements.{stmts}
 use Rattle.pyc_ast.specs.StatementView.{stmt_of}

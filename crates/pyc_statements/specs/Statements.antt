@@ -1,18 +1,17 @@
 -- What is asked for the statements of a file's top level and told of them, outside blocks (Python reference 3.13,
 -- "Expression statements", "Assignment statements" and "Annotated assignment statements"): each in a state in which no
 -- place is narrowed. Of other statements nothing is read.
-use Rattle.std.specs.Prelude.{ℕ, Bool, false, List}
+use Rattle.std.specs.Prelude.{Bool, false, List}
 use Rattle.pyc_assignments.specs.Assignments.{assignment, annotated_assignment}
 use Rattle.pyc_ast.specs.declared.position.Position.{Position}
 use Rattle.pyc_ast.specs.Exprs.{Expr}
-use Rattle.pyc_ast.specs.Modules.{Outcome, tree, fault}
 use Rattle.pyc_ast.specs.Statements.{AnnotatedAssignment, Stmt, stmt, StmtForm, Stmts, no_stmt, another_stmt}
 use Rattle.pyc_ast.specs.Statements as plain
 use Rattle.pyc_ast.specs.Targets.{Target, target, TargetForm, name}
 use Rattle.pyc_expr.specs.Contexts.{scope_context}
 use Rattle.pyc_expr.specs.Values.{read_by}
 use Rattle.pyc_names.specs.SourceFiles.{SourceFile}
-use Rattle.pyc_places.specs.States.{State, nothing_narrowed}
+use Rattle.pyc_places.specs.States.{nothing_narrowed}
 use Rattle.pyc_reading.specs.Desks.{Step}
 use Rattle.pyc_reading.specs.Readings.{Done, and_then}
 use Rattle.pyc_scopes.specs.Scopes.{Scope}

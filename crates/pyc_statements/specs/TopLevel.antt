@@ -1,8 +1,8 @@
 -- By what the statements of a file's top level are read (Python reference 3.13, "Resolution of names" and "File
 -- input").
-use Rattle.std.specs.Prelude.{ℕ, List, []}
+use Rattle.std.specs.Prelude.{[]}
 use Rattle.pyc_assignments.specs.Reads.{Reads}
-use Rattle.pyc_expr.specs.Contexts.{Context, scope_context}
+use Rattle.pyc_expr.specs.Contexts.{scope_context}
 use Rattle.pyc_expr.specs.Values.{infer, infer_index}
 use Rattle.pyc_names.specs.SourceFiles.{SourceFile}
 use Rattle.pyc_scopes.specs.Scopes.{Scope}

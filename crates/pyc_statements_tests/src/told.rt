@@ -1,0 +1,120 @@
+//! What is told of statements of a file.
+
+use pyc_ast::{Module, Outcome};
+use pyc_examiner::Examiner;
+use pyc_iface::World;
+use pyc_lower::read as read_source;
+use pyc_names::{ModuleName, SourceFile};
+use pyc_report::Message;
+use pyc_statements::read_top_level;
+use std::alloc::Global;
+use std::fmt::Write;
+use std::rc::Rc;
+use std::test::Fail;
+
+/// What stands before the statement.
+const START: &str = "from typing import Optional\n\
+    import base\n\
+    from base import B, C, E, any, b, c, d, e, f, ll, ls, n, oc, s, t, tn, u, uc\n\
+    i: int = 1\n\
+    k: str = \"\"\n\
+    g: float = 1\n\
+    x: Optional[C] = None\n\
+    y: Optional[C] = None\n\
+    lf: list[float] = []\n";
+
+/// The file that it imports from.
+const BASE: &str = "from typing import Any, Optional, Union\n\
+    \n\
+    \n\
+    class C:\n\
+    \x20   x: int = 1\n\
+    \x20   o: Optional[str] = None\n\
+    \n\
+    \x20   @property\n\
+    \x20   def p(self) -> int:\n\
+    \x20       return 1\n\
+    \n\
+    \x20   @property\n\
+    \x20   def q(self) -> int:\n\
+    \x20       return 1\n\
+    \n\
+    \x20   @q.setter\n\
+    \x20   def q(self, q: int) -> None:\n\
+    \x20       pass\n\
+    \n\
+    \x20   def m(self, a: int) -> str:\n\
+    \x20       return \"\"\n\
+    \n\
+    \n\
+    class E(C):\n\
+    \x20   def __setitem__(self, i: int, v: int) -> None:\n\
+    \x20       pass\n\
+    \n\
+    \n\
+    class B(Gone):\n\
+    \x20   pass\n\
+    \n\
+    \n\
+    def f(a: int) -> bytes:\n\
+    \x20   return b\"\"\n\
+    \n\
+    \n\
+    n: int = 1\n\
+    s: str = \"\"\n\
+    u: Union[int, str] = 1\n\
+    c: C = C()\n\
+    e: E = E()\n\
+    b: B = B()\n\
+    oc: Optional[C] = None\n\
+    uc: Union[C, E] = C()\n\
+    any: Any = 1\n\
+    ls: list[int] = []\n\
+    ll: Union[list[int], list[str]] = [1]\n\
+    d: dict[str, int] = {}\n\
+    t: tuple[int, str] = (1, \"\")\n\
+    tn: tuple[float, ...] = ()\n";
+
+/// A file of this path and source, as names see it, shared.
+fn file_of(alloc: Global, path: &str, source: &str) -> Result<Rc<SourceFile>, Fail> {
+    let name = ModuleName::of_path(alloc, path)?;
+    let outcome = read_source(alloc, source.as_bytes())?;
+    Ok(Rc::new(alloc, SourceFile::new(alloc, path, name, outcome)?)?)
+}
+
+/// These messages, each as its code and text, and ended by a `;`.
+fn shown(alloc: Global, messages: &[Message]) -> Result<String, Fail> {
+    let mut shown = String::new(alloc);
+    for message in messages {
+        let code = message.kind.code();
+        let code = if code.is_empty() { "note" } else { code };
+        let text = message.text.as_str();
+        write!(shown, "{code}: {text};")?;
+    }
+    Ok(shown)
+}
+
+/// What is told of the last statement of a module that stands in a file of a world.
+fn told_in(
+    alloc: Global,
+    world: &World,
+    file: &SourceFile,
+    module: &Module,
+) -> Result<String, Fail> {
+    let mut examiner = Examiner::new(alloc, world);
+    let last = module.statements.len() - 1;
+    read_top_level(alloc, &mut examiner, file, &module.statements[last..])?;
+    shown(alloc, &examiner.into_messages())
+}
+
+/// What is told of a statement in a file.
+pub(crate) fn all_told(alloc: Global, statement: &str) -> Result<String, Fail> {
+    let source = format!(in alloc; "{START}{statement}\n")?;
+    let file = file_of(alloc, "a.py", source.as_str())?;
+    let files = vec![in alloc; file.clone()?, file_of(alloc, "base.py", BASE)?]?;
+    let world = World::build(alloc, &files)?;
+    match file.outcome() {
+        Outcome::Tree(module) => told_in(alloc, &world, &file, module),
+        Outcome::Fault(_) => Err("a fault".into()),
+    }
+}
