@@ -111,7 +111,7 @@ def without_parameters(head):
 
 
 def impl_name(head):
-    """Returns the segment of a path for a block of methods: the type's name and then, of a trait's, the trait's with its types."""
+    """Returns the segment of a path for a block of methods: the type's name, then of a trait's the trait's with its types."""
     head = without_parameters(head.replace("->", "").strip())
     *trait, kind = head.split(" for ")
     named = lambda it: "".join(re.split("::", word)[-1] for word in re.findall(r"(?<!')\b[\w:]+", it))
@@ -200,7 +200,7 @@ class Trial:
         status, said = self.check(edits, {it.place[3] for it in edits})
         if status == 2:
             print(f"edits: {self.name}: {said.rstrip().splitlines()[-1]}", flush=True)
-        tried = [it for it in edits if is_tried(it, status, said)]
+        tried = [it for it in edits if status in (0, 1) and verdict(it, said)]
         # (where the check said nothing of any of them, each is tried alone)
         self.passed_over = [it for it in self.left if tried and it not in tried and it.place and not it.refuses]
         return {it: why for it in edits if status == 1 and (why := refusal(it, said))}
@@ -233,8 +233,7 @@ class Trial:
         for it in [it for it in self.left if it.fault]:
             self.judge(it, None)
             self.said.append(f"{self.name}/{it.path.name}: BAD EDIT: {it.fault}")
-        reach = reached(self.folder)
-        while refused := self.together(one_a_function(self.left, reach)):
+        while refused := self.together(one_a_function(self.left)):
             for it, why in refused.items():
                 self.judge(it, why)
             if once:
@@ -248,15 +247,17 @@ class Trial:
         return tried - self.failed, self.failed
 
 
-def is_tried(edit, status, said):
-    """Returns whether a check that ended well says of an edit's function that it is proved, or that it is not."""
-    return status in (0, 1) and bool(re.search(rf"(?m)^fn \S*\b{re.escape(edit.place[3])}: (not )?proved$", said))
+def verdict(edit, said):
+    """Returns what a check says of an edit's function, or "" where it says nothing or passes it over for one that it calls."""
+    found = re.search(rf"(?m)^fn \S*\b{re.escape(edit.place[3])}: (.*)$", said)
+    is_passed_over = found and "it calls" in found[1] and "did not prove" not in found[1]
+    return found[1] if found and not is_passed_over else ""
 
 
 def refusal(edit, said):
     """Returns what the prover says of an edited function that is not proved, or None where it says nothing of its contract."""
     file, begin, end, name = edit.place
-    if not re.search(rf"(?m)^fn \S*\b{re.escape(name)}: not proved$", said):
+    if not verdict(edit, said).startswith(("not proved", "no proof")):
         return None
     for it in re.findall(TOLD, said):
         where, line = re.match(r"(?:note: )?(?:\./)?(\S+?):(\d+):", it).groups()
@@ -266,43 +267,13 @@ def refusal(edit, said):
     return None
 
 
-def reached(folder):
-    """Returns for each function of a crate those that it seems to call, by their names, and those that these call, and so on."""
-    bodies = {}
-    for path in sorted(folder.glob("src/**/*.rt")):
-        text = path.read_text(encoding="utf-8")
-        for begin, end, name in functions(str(path.relative_to(folder)), text):
-            bodies[name] = "\n".join(text.split("\n")[begin - 1 : end])
-    named = {}
-    for name in bodies:
-        named.setdefault(name.split("::")[-1], []).append(name)
-    calls = {}
-    for name, body in bodies.items():
-        words = {*re.findall(r"\b(\w+)\b(?=\s*[(,;)?])", body), *(["eq"] if re.search(r"[=!]= ", body) else [])}
-        calls[name] = {it for word in words for it in named.get(word, []) if it != name}
+def one_a_function(edits):
+    """Returns edits of bodies, at most one to a function."""
     found = {}
-    for name in bodies:
-        seen, left = set(), [name]
-        while left:
-            new = calls[left.pop()] - seen
-            seen |= new
-            left += new
-        found[name] = seen
-    return found
-
-
-def one_a_function(edits, reach):
-    """Returns edits of bodies, at most one to a function, none of them of a function that another one's function seems to call."""
-    first = {}
     for it in edits:
         if it.is_body and it.place:
-            first.setdefault(it.place[3], it)
-    apart = lambda one, other: other not in reach.get(one, ()) and one not in reach.get(other, ())
-    chosen = []
-    for name in sorted(first, key=lambda one: sum(not apart(one, it) for it in first)):
-        if all(apart(name, it) for it in chosen):
-            chosen.append(name)
-    return [first[it] for it in chosen]
+            found.setdefault(it.place[3], it)
+    return [*found.values()]
 
 
 def main():

@@ -111,7 +111,8 @@ abbrev pub late_want : Reads → Bool → Ty → Option Ty → Target → Step (
 late_want read declares want early (target at inside form) = late_form_want read declares want early form
 
 -- the value of an annotation of this type, once it was read: what is known afterwards goes by what the target takes
-unfoldable pub value_stored : Reads → Bool → Target → (want : Ty) → Option Ty → Position → (got : Ty) → State → Step State
+unfoldable pub value_stored : Reads → Bool → Target → (want : Ty) → Option Ty → Position → (got : Ty) → State
+    → Step State
 value_stored read declares to want early at got s =
     and_then (late_want read declares want early to) (λ declared.
     and_then (assignment_owed at false got want) (λ u. renarrowed to declared got s))

@@ -34,7 +34,8 @@ assignment_text true got want = item_text got want
 assignment_text false got want = variable_text got want
 
 unfoldable pub assignment_message : Position → Bool → (got want : Ty) → Message
-assignment_message at is_item got want = error_at at code.Assignment (assignment_text is_item (text_of got) (text_of want))
+assignment_message at is_item got want =
+    error_at at code.Assignment (assignment_text is_item (text_of got) (text_of want))
 
 -- ---- obligations
 

@@ -78,7 +78,8 @@ fn one_decorator_of_several(rt: HostRuntime) -> Result<(), Fail> {
     Ok(())
 }
 
-/// Names, each with the line of its declaration, 0 where there is none, and whether it stands under an unknown decorator.
+/// Names, each with the line of its declaration, 0 where there is none, and whether it stands under an unknown
+/// decorator.
 const DECLARED: &[(&str, u32, bool)] = &[
     ("x", 2, false),
     ("f", 5, true),

@@ -38,7 +38,8 @@ target_declared file at (target out inside form) = form_declared file at form
 -- an annotated assignment that begins at a position
 unfoldable pub annotated_read : Scope → Position → AnnotatedAssignment → Step (Unit {0})
 annotated_read scope at found =
-    and_then (annotated_assignment (scope_reads scope) (target_declared scope.file at found.target) found nothing_narrowed)
+    and_then
+    (annotated_assignment (scope_reads scope) (target_declared scope.file at found.target) found nothing_narrowed)
     (λ s. Done tt)
 
 -- a statement that begins at a position, by its form

@@ -22,7 +22,8 @@ use pyc_targets::declares_at;
 use std::alloc::{AllocError, Global};
 
 /// Reads the statements of a file's top level, outside blocks: expressions, assignments and annotated assignments, in
-/// turn, each in a state in which no place is narrowed. Of other statements nothing is read. What does not hold is told.
+/// turn, each in a state in which no place is narrowed. Of other statements nothing is read. What does not hold is
+/// told.
 /// The only error is that memory runs out.
 #[tactic(auto, unfolding(crate::specs::Statements::top_level_read))]
 pub fn read_top_level<N: Judge>(

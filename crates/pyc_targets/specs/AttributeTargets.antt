@@ -1,6 +1,7 @@
 -- What an attribute takes when it is assigned to (Python reference 3.13, "Assignment statements" and "Attribute
 -- references"; the library reference, `property`): methods, functions, classes and modules take whatever is assigned.
-use Rattle.std.specs.Prelude.{ℕ, Bool, true, false, not, ◌&&◌, codes, if◌then◌else◌, List, [], ◌∷◌, ◌++◌, Option, None, Some}
+use Rattle.std.specs.Prelude.{ℕ, Bool, true, false, not, ◌&&◌, codes, if◌then◌else◌}
+use Rattle.std.specs.Prelude.{List, [], ◌∷◌, ◌++◌, Option, None, Some}
 use Rattle.pyc_ast.specs.declared.position.Position.{Position}
 use Rattle.pyc_attributes.specs.AttributeValues.{no_attribute, no_item_attribute, no_module_attribute}
 use Rattle.pyc_attributes.specs.FoundAttributes.{Found, absent, known, member_of, item_attribute}

@@ -67,4 +67,5 @@ is_annotated_at at None = false
 -- whether the annotated assignment that begins at a position declares a name of a file: in a fixed module's file none
 -- does
 unfoldable pub declares_at : SourceFile → Position → List ℕ → Bool
-declares_at file at x = if is_some (fixed_module file.name) then false else is_annotated_at at (declaration file.bindings x)
+declares_at file at x =
+    if is_some (fixed_module file.name) then false else is_annotated_at at (declaration file.bindings x)

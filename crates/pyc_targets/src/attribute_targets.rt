@@ -23,9 +23,9 @@ pub(crate) struct Wants {
     pub(crate) is_free: bool,
 }
 
-/// The type that an attribute of a value takes, None where it takes anything. The target begins at `at`, and at `inside`
-/// within its parentheses. An attribute that is not there, and a property that cannot be set, is told. The only error is
-/// that memory runs out.
+/// The type that an attribute of a value takes, None where it takes anything. The target begins at `at`, and at
+/// `inside` within its parentheses. An attribute that is not there, and a property that cannot be set, is told. The
+/// only error is that memory runs out.
 pub fn attribute_want<N: Judge>(
     alloc: Global,
     notes: &mut N,

@@ -38,9 +38,9 @@ pub(crate) struct ItemTargets {
     pub(crate) is_unsupported: bool,
 }
 
-/// What an item of a value of a type takes, by an index of a type. The target begins at `at`, and at `inside` within its
-/// parentheses. An index of another type than is wanted, and a value whose items cannot be assigned to, is told. The only
-/// error is that memory runs out.
+/// What an item of a value of a type takes, by an index of a type. The target begins at `at`, and at `inside` within
+/// its parentheses. An index of another type than is wanted, and a value whose items cannot be assigned to, is told.
+/// The only error is that memory runs out.
 #[tactic(auto, using(pyc_obligations::proofs::Steps::performing), unfolding(crate::specs::ItemTargets::item_target))]
 pub fn item_target<N: Judge>(
     alloc: Global,
