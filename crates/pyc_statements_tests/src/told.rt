@@ -102,7 +102,7 @@ fn told_in(
     module: &Module,
 ) -> Result<String, Fail> {
     let mut examiner = Examiner::new(alloc, world);
-    let last = module.statements.len() - 1;
+    let last = module.statements.len().saturating_sub(1);
     read_top_level(alloc, &mut examiner, file, &module.statements[last..])?;
     shown(alloc, &examiner.into_messages())
 }
