@@ -67,6 +67,35 @@ INVALID = "Invalid syntax  [syntax]"
 LISTS = "list[" * 60 + "int" + "]" * 60
 CALLS = "f(" * 60 + "1" + ")" * 60
 CALLED = "Union[Callable[[int], int], Callable[[float], int]]"
+EMPTY = '""'
+DICT, ENTRY = "x: dict[int, int]", '1: ""'
+CALLEE = "def g(*a: int): ...\n"
+DECLARED = f"from typing import Callable, Union\nf: {CALLED}\n"
+NO_SUM = 'Unsupported operand types for + ("int" and "str")  [operator]'
+NO_ITEM = 'List item 19999 has incompatible type "str"; expected "int"  [list-item]'
+NO_ENTRY = 'Dict entry 19999 has incompatible type "int": "str"; expected "int": "int"  [dict-item]'
+NO_ARGUMENT = 'Argument 20000 to "g" has incompatible type "str"; expected "int"  [arg-type]'
+
+
+def no_str(shown):
+    """The message on a value that is assigned to a `str`, with what its type is shown as."""
+    return f'Incompatible types in assignment (expression has type "{shown}", variable has type "str")  [assignment]'
+
+
+def row(count, part, last=None):
+    """So many parts with commas between them, of which the last may be another."""
+    return ", ".join([part] * (count - 1) + [last or part])
+
+
+def total(count, last="1"):
+    """A sum of so many terms, with this last one."""
+    return " + ".join(["1"] * (count - 1) + [last])
+
+
+def assigned(text, shown=None):
+    """A session that assigns a value to a `str`, told with what its type is shown as, or not told."""
+    return checked("e.py", f"x: str = {text}\n", [(1, no_str(shown))] if shown else [])
+
 
 LIMITS = [
     ("limits/largest_file", add("a.py", "\n" * MOST_BYTES) + b"check\n", OK + clean(1)),
@@ -95,4 +124,20 @@ LIMITS = [
         "limits/calls_in_calls",
         *checked("u.py", f"from typing import Callable, Union\ndef g(f: {CALLED}) -> int:\n    return {CALLS}\n"),
     ),
+    ("limits/calls_of_a_union_in_calls", *checked("u.py", f"{DECLARED}x: str = {CALLS}\n", [(3, no_str("int"))])),
+    ("limits/long_sum", *assigned(total(900), "int")),
+    ("limits/long_sum_with_a_wrong_end", *checked("e.py", f"{total(900, EMPTY)}\n", [(1, NO_SUM)])),
+    ("limits/longest_sum", *checked("e.py", f"{total(998, EMPTY)}\n", [(1, NO_SUM)])),
+    ("limits/sum_one_term_too_long", *checked("e.py", f"{total(999, EMPTY)}\n", [(1, INVALID)])),
+    ("limits/long_list", *assigned(f"[{row(20_000, '1')}]", "list[int]")),
+    ("limits/list_with_a_wrong_end", *checked("e.py", f"x: list[int] = [{row(20_000, '1', EMPTY)}]\n", [(1, NO_ITEM)])),
+    ("limits/dict_with_a_wrong_end", *checked("e.py", f"{DICT} = {{{row(20_000, '1: 1', ENTRY)}}}\n", [(1, NO_ENTRY)])),
+    ("limits/call_with_a_wrong_end", *checked("e.py", f"{CALLEE}g({row(20_000, '1', EMPTY)})\n", [(2, NO_ARGUMENT)])),
+    # a tuple of 999 items is a type of 1,000 types; one of more is Any
+    ("limits/largest_type", *assigned(f"({row(999, '1')})", f"tuple[{row(999, 'int')}]")),
+    ("limits/type_that_is_too_large", *assigned(f"({row(1000, '1')})")),
+    ("limits/type_that_is_far_too_large", *assigned(f"({row(20_000, '1')})")),
+    ("limits/largest_sum_of_tuples", *assigned(f"({row(500, '1')}) + ({row(499, '1')})", f"tuple[{row(999, 'int')}]")),
+    ("limits/sum_of_tuples_that_is_too_large", *assigned(f"({row(500, '1')}) + ({row(500, '1')})")),
+    ("limits/list_of_a_tuple_that_is_too_large", *assigned(f"[({row(999, '1')})]")),
 ]
