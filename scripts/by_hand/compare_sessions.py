@@ -2,16 +2,22 @@
 """Compares what `dmypy session` prints with what a reference implementation in Python prints, on many sessions.
 
     scripts/by_hand/compare_sessions.py [--program PROGRAM] [--seed SEED] [--stage STAGE] [--python FOLDER]
-        [--keep FOLDER] REFERENCE [COUNT]
+        [--expressions] [--keep FOLDER] REFERENCE [COUNT]
 
 REFERENCE is the folder that has the reference, a package `oracle` with the module `__main__`; STAGE is the one that it
-is run at. PROGRAM is `dmypy`, built; without it, `rt try` builds and runs it, without proofs, which takes a second for
-each session. The sessions are:
+is run at. PROGRAM is `dmypy`, built; without it, `rt try` builds and runs it, without proofs. The sessions are:
 
 - for each package in the table below, its files in Python's standard library (FOLDER, or that of this Python), added in
   lots of about 300 KB at most, and then `check`, `status` and `stop`, with and without `--ignore-missing-imports`;
 - COUNT sessions made at random from the seed: a few small files, of imports, definitions, assignments and blocks over
-  few names, some of them with a fault, and commands that add, change, remove and check them, with options at random.
+  few names, some of them with a fault, and commands that add, change, remove and check them, with options at random;
+- with `--expressions` only COUNT sessions of other files (typed_files.py), each a workspace of one to three files with
+  classes, functions, variables of many types and some 30 statements a file, expressions and assignments, which is
+  checked once.
+
+At its stage 6 the reference leaves out what it is to tell later and the program tells already: names that nothing
+defines in signatures, in bases and in annotations inside blocks, names that the body of a class defines again, and
+statements of the top level that hold `yield` or `await`. It is led to tell these too.
 
 A session passes where all that is printed and the status are the same. Decorators in parentheses are not among the
 random lines: the reference reads them in another way. With `--keep` the sessions stay in that folder: `NAME` what is
@@ -32,9 +38,13 @@ import sysconfig
 import tempfile
 from pathlib import Path
 
+from typed_files import TypedMaker
+
 PROGRAM = Path(__file__).resolve().parents[2] / "crates" / "dmypy"
 COUNT = 1_000
 STAGE = 4
+# the stage at which the reference is led to tell more, and the one for sessions of expressions
+LED_ON = 6
 LOT = 300_000
 SECONDS = 600
 IGNORE_MISSING, CHECK_UNTYPED = "--ignore-missing-imports", "--check-untyped-defs"
@@ -373,16 +383,45 @@ class Maker:
         return Session(f"random_{number:05}", b"".join(commands), options, files)
 
 
+def expression_session(number, files):
+    """The session that adds these files, each a path with its text, and checks them."""
+    commands = b"".join(added(path, text.encode()) for path, text in files) + b"check\nstatus\nstop\n"
+    return Session(f"expressions_{number:05}", commands, [], len(files))
+
+
 # ---- what the reference prints
+
+
+def lead_on(stages, body):
+    """Leads the reference at its stage 6 to tell what it would leave out there, in its modules of these names."""
+    head, top_level, suspends = stages.StagedBody.class_head, stages.StagedBody.top_level, body.suspends
+
+    def whole_head(self, unit):
+        head(self, unit)
+        if not suspends(unit.node.body):
+            self.check_redefinitions(unit.cls.bindings, unit.cls.decl)
+
+    def whole_top_level(self, stage):
+        body.suspends = lambda statement: False
+        top_level(self, stage)
+        body.suspends = suspends
+
+    stages.LATE = frozenset()
+    stages.StagedBody.class_head, stages.StagedBody.top_level = whole_head, whole_top_level
 
 
 class Reference:
     """The reference implementation at a stage, in this process."""
 
+    led_on = False
+
     def __init__(self, folder, stage):
         sys.path.insert(0, str(folder))
         self.main = importlib.import_module("oracle.__main__")
         self.stage = stage
+        if stage == LED_ON and not Reference.led_on:
+            lead_on(*(importlib.import_module(f"oracle.{name}") for name in ("stages", "body")))
+            Reference.led_on = True
 
     def replies(self, session):
         """What the reference prints, and its status."""
@@ -484,14 +523,20 @@ def main():
     parser = argparse.ArgumentParser(description="Compares replies of sessions with those of a reference.")
     parser.add_argument("--program", type=lambda word: Path(word).absolute(), help="dmypy, built; else rt try runs it")
     parser.add_argument("--seed", type=int, default=1)
-    parser.add_argument("--stage", type=int, default=STAGE)
+    parser.add_argument("--expressions", action="store_true", help="only sessions of files with many expressions")
+    parser.add_argument("--stage", type=int, help=f"{STAGE} if none is given, with --expressions {LED_ON}")
     parser.add_argument("--python", type=Path, default=Path(sysconfig.get_path("stdlib")))
     parser.add_argument("--keep", type=Path, help="the folder for the sessions; without it they go")
     parser.add_argument("reference", type=Path)
     parser.add_argument("count", nargs="?", type=int, default=COUNT)
     words = parser.parse_args()
-    maker = Maker(words.seed)
-    sessions = [*package_sessions(words.python), *(maker.session(number) for number in range(words.count))]
+    words.stage = words.stage or (LED_ON if words.expressions else STAGE)
+    if words.expressions:
+        maker = TypedMaker(words.seed)
+        sessions = [expression_session(number, maker.files()) for number in range(words.count)]
+    else:
+        maker = Maker(words.seed)
+        sessions = [*package_sessions(words.python), *(maker.session(number) for number in range(words.count))]
     with tempfile.TemporaryDirectory() as room:
         if words.keep:
             words.keep.mkdir(parents=True, exist_ok=True)
