@@ -72,9 +72,10 @@ class_reading file at head =
 
 -- ---- definitions
 
--- the names that the body of a class defines again
-abbrev pub class_body_reading : Stmts → Step (Unit {0})
-class_body_reading body = each redefinition_reading (redefinitions (bindings_of body))
+-- the names that the body of a class defines again: a body that suspends is skipped
+abbrev pub class_body_reading : Bool → Stmts → Step (Unit {0})
+class_body_reading suspends body =
+    if suspends then Done tt else each redefinition_reading (redefinitions (bindings_of body))
 
 -- a function or a method: its signature
 abbrev pub signature_reading : SourceFile → FunctionDefinition → Step (Unit {0})
@@ -82,7 +83,8 @@ signature_reading file head = and_then (function_type file any head) (λ ty. Don
 
 -- a class: its bases and its order, and the names that its body defines again
 abbrev pub class_statement_reading : SourceFile → Position → ClassDefinition → Stmts → Step (Unit {0})
-class_statement_reading file at head body = and_then (class_reading file at head) (λ u. class_body_reading body)
+class_statement_reading file at head body =
+    and_then (class_reading file at head) (λ u. class_body_reading head.suspends body)
 
 abbrev pub form_reading : SourceFile → Position → StmtForm → Step (Unit {0})
 form_reading file at (plain.function head body) = signature_reading file head

@@ -1,18 +1,21 @@
 -- What is found in the units of a file: in its header, what is told of imports and definitions; in the body of its
--- module, what is told of annotations, and a message for each annotated literal that is not assignable to its
--- annotation; in a function or method what is told of its signature, in a class what is told of its bases, its order
--- and the names that its body defines again.
-use Rattle.std.specs.Prelude.{ℕ, List, [], ◌∷◌, ◌++◌, Option, None, Some, if◌then◌else◌, codes, flat_map}
+-- module, what is told of the annotations in its blocks, a message for each annotated literal there that is not
+-- assignable to its annotation, and what is told of the expressions and assignments outside blocks; in a function or
+-- method what is told of its signature, in a class what is told of its bases, its order and the names that its body
+-- defines again.
+use Rattle.std.specs.Prelude.{ℕ, Bool, true, false, List, [], ◌∷◌, ◌++◌, Option, None, Some, if◌then◌else◌, codes}
+use Rattle.std.specs.Prelude.{flat_map}
 use Rattle.std.specs.List.{filter_map}
 use Rattle.pyc_ast.specs.Modules.{Outcome, tree, fault}
-use Rattle.pyc_ast.specs.Statements.{Stmts}
+use Rattle.pyc_ast.specs.Statements.{Stmt, StmtForm, Stmts, no_stmt, another_stmt}
+use Rattle.pyc_ast.specs.Statements as plain
 use Rattle.pyc_type_forms.specs.Text.{text_of}
 use Rattle.pyc_type_forms.specs.Types.{Ty}
 use Rattle.pyc_builtins.specs.Orders.{builtin_orders}
 use Rattle.pyc_builtins.specs.Builtin.{builtin_type}
 use Rattle.pyc_types.specs.Assignable.{Assignable}
 use Rattle.pyc_types.specs.Ways.{assignable}
-use Rattle.pyc_bindings.specs.Bindings.{Binding}
+use Rattle.pyc_bindings.specs.Bindings.{Binding, form_of}
 use Rattle.pyc_iface.specs.declared.options.Options.{Options}
 use Rattle.pyc_iface.specs.Answers.{answer_of}
 use Rattle.pyc_reading.specs.Readings.{told}
@@ -26,6 +29,7 @@ use Rattle.pyc_report.specs.declared.message.Code.TheVariants.{Assignment}
 use Rattle.pyc_body.specs.LiteralForms.{literal_forms}
 use Rattle.pyc_report.specs.Message.{Message, error_at}
 use Rattle.pyc_report.specs.Silencing.{without_silenced}
+use Rattle.pyc_statements.specs.Statements.{top_level_read}
 
 -- what is told of a value of one type for a variable of another
 unfoldable pub assignment_text : Ty → Ty → List ℕ
@@ -44,14 +48,40 @@ form_message form =
     if assignable builtin_orders (builtin_type form.value) (builtin_type form.annotation) then None
     else Some (assignment_message form)
 
--- what is found in the body of a module: the messages on its annotated literals, in text order
+-- the messages on the annotated literals of these statements, in text order
 abbrev pub module_messages : List Binding → Stmts → List Message
 module_messages bindings statements = filter_map form_message (literal_forms bindings statements)
 
--- what is found in the body of a module: what is told of its annotations, and of its annotated literals
+-- whether a statement of this form has blocks that are opened: those of functions and classes are not
+abbrev pub opens_blocks : StmtForm → Bool
+opens_blocks (plain.if_else branches orelse) = true
+opens_blocks (plain.while test body orelse) = true
+opens_blocks (plain.for head body orelse) = true
+opens_blocks (plain.try body handlers orelse finally) = true
+opens_blocks (plain.with is_async items body) = true
+opens_blocks form = false
+
+-- what is found in blocks: what is told of the annotations in these statements, and of the annotated literals
+abbrev pub block_messages : List SourceFile → SourceFile → Stmts → List Message
+block_messages files file statements =
+    told (answer_of files) (body_reading file statements) ++ module_messages file.bindings statements
+
+-- what is found in the blocks of a statement
+abbrev pub statement_messages : List SourceFile → SourceFile → Stmt → List Message
+statement_messages files file found =
+    if opens_blocks (form_of found) then block_messages files file (another_stmt found no_stmt) else []
+
+-- what is found in the blocks among statements
+unfoldable pub blocks_messages : List SourceFile → SourceFile → Stmts → List Message
+blocks_messages files file no_stmt = []
+blocks_messages files file (another_stmt found rest) =
+    statement_messages files file found ++ blocks_messages files file rest
+
+-- what is found in the body of a module: in its blocks what is told of annotations and of annotated literals, and what
+-- is told of the expressions and assignments outside blocks
 abbrev pub body_messages : List SourceFile → SourceFile → Outcome → List Message
 body_messages files file (tree m) =
-    told (answer_of files) (body_reading file m.statements) ++ module_messages file.bindings m.statements
+    blocks_messages files file m.statements ++ told (answer_of files) (top_level_read file m.statements)
 body_messages files file (fault line text) = []
 
 -- what is found in a unit of a file, over the answers of these files
@@ -88,7 +118,7 @@ pub data Reports : List LiteralForm → List Message → Type 0 where
   refused : {form : LiteralForm} {forms : List LiteralForm} {messages : List Message}
       → ¬ (IsAssignable form) → Reports forms messages → Reports (form ∷ forms) (assignment_message form ∷ messages)
 
--- what is found in the body of a module reports its annotated literals
+-- the messages on annotated literals report them
 abbrev pub ReportsExactly : Type 0
 ReportsExactly =
     (bindings : List Binding) (statements : Stmts)

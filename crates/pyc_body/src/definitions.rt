@@ -105,15 +105,23 @@ fn read_class_statement<N: Notes>(
         (N.desk notes.old) result (N.desk notes.new) }
 {
     read_class(alloc, notes, file, at, head)?;
-    read_class_body(alloc, notes, body)?;
+    read_class_body(alloc, notes, head.suspends, body)?;
     Ok(())
 }
 
-/// Tells the names that the body of a class defines again.
-fn read_class_body<N: Notes>(alloc: Global, notes: &mut N, body: &Block) -> Result<(), AllocError>
-    ensures { Performs (λ u. u) (spec.class_body_reading (block_of body.now)) (N.desk notes.old) result
+/// Tells the names that the body of a class defines again: a body that suspends is skipped.
+fn read_class_body<N: Notes>(
+    alloc: Global,
+    notes: &mut N,
+    suspends: bool,
+    body: &Block,
+) -> Result<(), AllocError>
+    ensures { Performs (λ u. u) (spec.class_body_reading suspends (block_of body.now)) (N.desk notes.old) result
         (N.desk notes.new) }
 {
+    if suspends {
+        return Ok(());
+    }
     let Block::Of(statements) = body;
     let bindings = scope_bindings(alloc, statements)?;
     let again = redefinitions(alloc, &bindings)?;

@@ -3,7 +3,7 @@
 ghost use Rattle.std.specs.Prelude.{◌≡◌, ◌++◌, map, flat_map, IfOk, OnOk, option_map, string_bytes};
 ghost use Rattle.std.specs.List.{filter_map};
 ghost use Rattle.pyc_ast.specs.Statements.{stmts};
-ghost use Rattle.pyc_ast.specs.StatementView.{stmt_of};
+ghost use Rattle.pyc_ast.specs.StatementView.{stmt_of, stmt_form_of};
 ghost use Rattle.pyc_body.specs.AnnotationReadings.{body_reading};
 ghost use Rattle.pyc_body.specs.DefinitionReadings.{definition_reading};
 ghost use Rattle.pyc_body.specs.UnitView.{unit_of};
@@ -14,6 +14,7 @@ ghost use Rattle.pyc_type_forms.specs.TypeView.{ty_of};
 ghost use Rattle.pyc_body.specs.FoundMessages as spec;
 ghost use Rattle.pyc_reading.specs.Readings.{told};
 ghost use Rattle.pyc_report.specs.Message.{message_in};
+ghost use Rattle.pyc_statements.specs.Statements.{top_level_read};
 
 use crate::annotations::read_body;
 use crate::definitions::read_definition;
@@ -21,12 +22,15 @@ use crate::header::HeaderCheck;
 use crate::literals::{LiteralForm, literal_forms};
 use crate::unit::Unit;
 use crate::units::file_units;
-use pyc_ast::{Outcome, Stmt};
+use pyc_ast::{Outcome, Stmt, StmtForm};
+use pyc_examiner::Examiner;
 use pyc_iface::{Options, Recorder, World};
 use pyc_names::SourceFile;
 use pyc_report::{Code, Message, drop_silenced};
+use pyc_statements::read_top_level;
 use pyc_types::{Builtins, Ty, assignable, show};
 use std::alloc::{AllocError, Global};
+use std::slice;
 
 /// The unsilenced messages of a file of a world: what is found in its units, without what its ignore comments silence.
 /// The only error is that memory runs out.
@@ -68,8 +72,9 @@ fn found_in_units(
 }
 
 /// The messages of a unit of a file of a world: of its header, what is told of imports and definitions, or its fault;
-/// of the body of its module, what is told of annotations and of annotated literals; of a function or a method, what is
-/// told of its signature; of a class, what is told of its bases and its order. The only error is that memory runs out.
+/// of the body of its module, what is told of the annotations and the annotated literals in its blocks, and of the
+/// expressions and assignments outside blocks; of a function or a method, what is told of its signature; of a class,
+/// what is told of its bases and its order. The only error is that memory runs out.
 pub fn found(
     alloc: Global,
     builtins: &Builtins,
@@ -130,16 +135,90 @@ fn push_body(
 {
     match file.outcome() {
         Outcome::Tree(module) => {
-            push_body_annotations(alloc, world, file, &module.statements, messages)?;
-            let forms = literal_forms(alloc, file.bindings(), &module.statements)?;
-            push_form_messages(alloc, builtins, &forms, messages)
+            push_blocks(alloc, builtins, world, file, &module.statements, messages)?;
+            push_top_level(alloc, world, file, &module.statements, messages)
         }
         Outcome::Fault(_) => Ok(()),
     }
 }
 
-/// Adds what is told of the annotations of a module that has these statements.
-fn push_body_annotations(
+/// Adds what is told of the statements of a module outside blocks: expressions and assignments.
+fn push_top_level(
+    alloc: Global,
+    world: &World,
+    file: &SourceFile,
+    statements: &[Stmt],
+    messages: &mut Vec<Message>,
+) -> Result<(), AllocError>
+    ensures { OnOk result (map message_in messages.new.items
+        ≡ map message_in messages.old.items
+        ++ told (answer_of (world_in world.now))
+        (top_level_read (source_in file.now) (stmts (map stmt_of statements.now)))) }
+{
+    let mut notes = Examiner::new(alloc, world);
+    read_top_level(alloc, &mut notes, file, statements)?;
+    messages.append(&mut notes.into_messages())?;
+    Ok(())
+}
+
+/// Adds the messages of the blocks among the statements of a module.
+#[tactic(auto, unfolding(crate::specs::FoundMessages::blocks_messages))]
+fn push_blocks(
+    alloc: Global,
+    builtins: &Builtins,
+    world: &World,
+    file: &SourceFile,
+    statements: &[Stmt],
+    messages: &mut Vec<Message>,
+) -> Result<(), AllocError>
+    ensures { OnOk result (map message_in messages.new.items
+        ≡ map message_in messages.old.items
+        ++ spec.blocks_messages (world_in world.now) (source_in file.now) (stmts (map stmt_of statements.now))) }
+{
+    for statement in statements {
+        push_statement_blocks(alloc, builtins, world, file, statement, messages)?;
+    }
+    Ok(())
+}
+
+/// Adds the messages of the blocks of a statement.
+fn push_statement_blocks(
+    alloc: Global,
+    builtins: &Builtins,
+    world: &World,
+    file: &SourceFile,
+    statement: &Stmt,
+    messages: &mut Vec<Message>,
+) -> Result<(), AllocError>
+    ensures { OnOk result (map message_in messages.new.items
+        ≡ map message_in messages.old.items
+        ++ spec.statement_messages (world_in world.now) (source_in file.now) (stmt_of statement.now)) }
+{
+    if !opens_blocks(&statement.form) {
+        return Ok(());
+    }
+    let alone = slice::from_ref(statement);
+    push_block_annotations(alloc, world, file, alone, messages)?;
+    let forms = literal_forms(alloc, file.bindings(), alone)?;
+    push_form_messages(alloc, builtins, &forms, messages)
+}
+
+/// Whether a statement of this form has blocks that are opened: those of functions and classes are not.
+fn opens_blocks(form: &StmtForm) -> bool
+    ensures { result ≡ spec.opens_blocks (stmt_form_of form.now) }
+{
+    matches!(
+        form,
+        StmtForm::If { .. }
+            | StmtForm::While { .. }
+            | StmtForm::For { .. }
+            | StmtForm::Try { .. }
+            | StmtForm::With { .. }
+    )
+}
+
+/// Adds what is told of the annotations in statements and their blocks.
+fn push_block_annotations(
     alloc: Global,
     world: &World,
     file: &SourceFile,

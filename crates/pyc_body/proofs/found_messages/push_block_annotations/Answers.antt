@@ -9,7 +9,7 @@ use Rattle.pyc_names.specs.SourceFiles.{SourceFile}
 use Rattle.pyc_names.specs.SourceFileView.{source_in}
 use Rattle.pyc_reading.specs.Readings.{told}
 use Rattle.pyc_report.specs.Message.{Message, message_in}
-use Rattle.pyc_body.proofs.found_messages.push_body_annotations.Goals as goal
+use Rattle.pyc_body.proofs.found_messages.push_block_annotations.Goals as goal
 
 pub returns : goal.returns
 returns c =
