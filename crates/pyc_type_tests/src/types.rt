@@ -15,35 +15,37 @@ fn either(alloc: Global, first: Ty, second: Ty) -> Result<Ty, AllocError> {
     Ok(Ty::Union(Rc::new(alloc, vec![in alloc; first, second]?)?))
 }
 
+/// Builtin classes: whether instances of the first go to the second.
+const INSTANCES: &[(BuiltinClass, BuiltinClass, bool)] = &[
+    (BuiltinClass::Bool, BuiltinClass::Int, true),
+    (BuiltinClass::Int, BuiltinClass::Bool, false),
+    (BuiltinClass::Bool, BuiltinClass::Float, true),
+    (BuiltinClass::Int, BuiltinClass::Float, true),
+    (BuiltinClass::Float, BuiltinClass::Int, false),
+    (BuiltinClass::Str, BuiltinClass::Bytes, false),
+    (BuiltinClass::Str, BuiltinClass::Object, true),
+    (BuiltinClass::Object, BuiltinClass::Str, false),
+    (BuiltinClass::KeyError, BuiltinClass::Exception, true),
+    (BuiltinClass::Exception, BuiltinClass::KeyError, false),
+    (
+        BuiltinClass::RecursionError,
+        BuiltinClass::RuntimeError,
+        true,
+    ),
+    (
+        BuiltinClass::OverflowError,
+        BuiltinClass::BaseException,
+        true,
+    ),
+    (BuiltinClass::IndexError, BuiltinClass::KeyError, false),
+];
+
 #[test]
 fn instances(rt: HostRuntime) -> Result<(), Fail> {
     let builtins = Builtins::new(rt.alloc())?;
-    let rows = [
-        (BuiltinClass::Bool, BuiltinClass::Int, true),
-        (BuiltinClass::Int, BuiltinClass::Bool, false),
-        (BuiltinClass::Bool, BuiltinClass::Float, true),
-        (BuiltinClass::Int, BuiltinClass::Float, true),
-        (BuiltinClass::Float, BuiltinClass::Int, false),
-        (BuiltinClass::Str, BuiltinClass::Bytes, false),
-        (BuiltinClass::Str, BuiltinClass::Object, true),
-        (BuiltinClass::Object, BuiltinClass::Str, false),
-        (BuiltinClass::KeyError, BuiltinClass::Exception, true),
-        (BuiltinClass::Exception, BuiltinClass::KeyError, false),
-        (
-            BuiltinClass::RecursionError,
-            BuiltinClass::RuntimeError,
-            true,
-        ),
-        (
-            BuiltinClass::OverflowError,
-            BuiltinClass::BaseException,
-            true,
-        ),
-        (BuiltinClass::IndexError, BuiltinClass::KeyError, false),
-    ];
-    for (got, want, expected) in rows {
-        let answer = assignable(&builtins, &of(got), &of(want));
-        assert_eq!(rt; answer, expected, "{got:?} to {want:?}");
+    for (got, want, expected) in INSTANCES {
+        let answer = assignable(&builtins, &of(*got), &of(*want));
+        assert_eq!(rt; answer, *expected, "{got:?} to {want:?}");
     }
     let bool_class = Ty::Class(ClassId::builtin(BuiltinClass::Bool));
     let int_class = Ty::Class(ClassId::builtin(BuiltinClass::Int));
@@ -54,7 +56,8 @@ fn instances(rt: HostRuntime) -> Result<(), Fail> {
     Ok(())
 }
 
-const SINGLE: [&str; 10] = [
+/// One type of each form.
+const SINGLE: &[&str] = &[
     "Any",
     "None",
     "object",
@@ -67,6 +70,20 @@ const SINGLE: [&str; 10] = [
     "int dots",
 ];
 
+/// Each of these types, with `y` for each of them that it goes to.
+const GOES: &[(&str, &str)] = &[
+    ("Any", "y y y y y y y y y y"),
+    ("None", "y y y - - - - - - -"),
+    ("object", "y - y - - - - - - -"),
+    ("int", "y - y y - y - - - -"),
+    ("bool", "y - y y y y - - - -"),
+    ("float", "y - y - - y - - - -"),
+    ("str", "y - y - - - y - - -"),
+    ("bool type", "y - y - - - - y - y"),
+    ("Module", "y - y - - - - - - -"),
+    ("int dots", "y - y - - - - - - y"),
+];
+
 /// Each type against each, got by got: `y` where it goes. Any goes both ways and all go to object; None goes to None;
 /// the order of bool leads to int, and int to float; a class object is a callable that gives its instances; a module
 /// goes nowhere else.
@@ -74,87 +91,78 @@ const SINGLE: [&str; 10] = [
 fn types_against_types(rt: HostRuntime) -> Result<(), Fail> {
     let a = rt.alloc();
     let builtins = Builtins::new(a)?;
-    let rows = [
-        "y y y y y y y y y y",
-        "y y y - - - - - - -",
-        "y - y - - - - - - -",
-        "y - y y - y - - - -",
-        "y - y y y y - - - -",
-        "y - y - - y - - - -",
-        "y - y - - - y - - -",
-        "y - y - - - - y - y",
-        "y - y - - - - - - -",
-        "y - y - - - - - - y",
-    ];
-    for (got, row) in SINGLE.iter().zip(rows) {
+    for (got, row) in GOES {
         let got_type = type_of(a, got)?;
-        for (want, goes) in SINGLE.iter().zip(row.split(' ')) {
+        let mut goes = row.split(' ');
+        for want in SINGLE {
             let want_type = type_of(a, want)?;
             let answer = assignable(&builtins, &got_type, &want_type);
-            assert_eq!(rt; answer, goes == "y", "{got} to {want}");
+            assert_eq!(rt; answer, goes.next() == Some("y"), "{got} to {want}");
         }
     }
     Ok(())
 }
 
 /// Types with parts: whether the first goes to the second.
+const PARTS: &[(&str, &str, bool)] = &[
+    ("int list_of", "int list_of", true),
+    ("Any list_of", "int list_of", true),
+    ("int list_of", "float list_of", false),
+    ("bool list_of", "int list_of", false),
+    ("str Any dict_of", "Any int dict_of", true),
+    ("str bool dict_of", "str int dict_of", false),
+    ("int bool pair", "float tuple_of", true),
+    ("int single", "int int pair", false),
+    ("bool tuple_of", "int tuple_of", true),
+    ("int tuple_of", "int single", false),
+    ("int", "float None or", true),
+    ("int None or", "int", false),
+    ("None int or list_of", "int None or list_of", true),
+    ("int list_of", "int None or list_of", false),
+    ("Module", "object", true),
+    ("Module", "Module", false),
+];
+
 #[test]
 fn parts_decide(rt: HostRuntime) -> Result<(), Fail> {
     let a = rt.alloc();
     let builtins = Builtins::new(a)?;
-    let rows = [
-        ("int list_of", "int list_of", true),
-        ("Any list_of", "int list_of", true),
-        ("int list_of", "float list_of", false),
-        ("bool list_of", "int list_of", false),
-        ("str Any dict_of", "Any int dict_of", true),
-        ("str bool dict_of", "str int dict_of", false),
-        ("int bool pair", "float tuple_of", true),
-        ("int single", "int int pair", false),
-        ("bool tuple_of", "int tuple_of", true),
-        ("int tuple_of", "int single", false),
-        ("int", "float None or", true),
-        ("int None or", "int", false),
-        ("None int or list_of", "int None or list_of", true),
-        ("int list_of", "int None or list_of", false),
-        ("Module", "object", true),
-        ("Module", "Module", false),
-    ];
-    for (got, want, expected) in rows {
+    for (got, want, expected) in PARTS {
         let got_type = type_of(a, got)?;
         let want_type = type_of(a, want)?;
         let answer = assignable(&builtins, &got_type, &want_type);
-        assert_eq!(rt; answer, expected, "{got} to {want}");
+        assert_eq!(rt; answer, *expected, "{got} to {want}");
     }
     Ok(())
 }
 
 /// Functions: whether the first goes to the second.
+const CALLABLES: &[(&str, &str, bool)] = &[
+    ("int dots", "float dots", true),
+    ("float takes", "int takes", true),
+    ("int takes", "float takes", false),
+    ("int takes_each", "int takes", true),
+    ("int takes", "int takes_each", false),
+    ("int takes_n", "int takes_only_n", true),
+    ("int takes_only_n", "int takes", false),
+    ("int takes_words", "bool takes_only_n", true),
+    ("int takes", "int may_take", false),
+    ("int takes", "takes_nothing", false),
+    ("bool type", "float dots", true),
+    ("int type", "str dots", false),
+    ("list type", "None list_of dots", true),
+    ("int", "Any dots", false),
+];
+
 #[test]
 fn callables_decide(rt: HostRuntime) -> Result<(), Fail> {
     let a = rt.alloc();
     let builtins = Builtins::new(a)?;
-    let rows = [
-        ("int dots", "float dots", true),
-        ("float takes", "int takes", true),
-        ("int takes", "float takes", false),
-        ("int takes_each", "int takes", true),
-        ("int takes", "int takes_each", false),
-        ("int takes_n", "int takes_only_n", true),
-        ("int takes_only_n", "int takes", false),
-        ("int takes_words", "bool takes_only_n", true),
-        ("int takes", "int may_take", false),
-        ("int takes", "takes_nothing", false),
-        ("bool type", "float dots", true),
-        ("int type", "str dots", false),
-        ("list type", "None list_of dots", true),
-        ("int", "Any dots", false),
-    ];
-    for (got, want, expected) in rows {
+    for (got, want, expected) in CALLABLES {
         let got_type = type_of(a, got)?;
         let want_type = type_of(a, want)?;
         let answer = assignable(&builtins, &got_type, &want_type);
-        assert_eq!(rt; answer, expected, "{got} to {want}");
+        assert_eq!(rt; answer, *expected, "{got} to {want}");
     }
     Ok(())
 }
@@ -207,49 +215,53 @@ fn deep_unions_are_answered(rt: HostRuntime) -> Result<(), Fail> {
     Ok(())
 }
 
+/// Types, with how they print.
+const PRINTED: &[(&str, &str)] = &[
+    ("int None pair", "tuple[int, None]"),
+    ("str tuple_of", "tuple[str, ...]"),
+    ("str int None or dict_of", "dict[str, int | None]"),
+    ("int may_take", "Callable[[int], None]"),
+    ("int takes_each", "Callable[..., None]"),
+    ("Any list_of dots", "Callable[..., list[Any]]"),
+    ("KeyError type", "type[KeyError]"),
+];
+
 #[test]
 fn types_print(rt: HostRuntime) -> Result<(), Fail> {
     let a = rt.alloc();
     let none = Ty::Tuple(Rc::new(a, Vec::new(a))?);
     assert_eq!(rt; show(a, &none)?.as_str(), "tuple[()]");
-    let rows = [
-        ("int None pair", "tuple[int, None]"),
-        ("str tuple_of", "tuple[str, ...]"),
-        ("str int None or dict_of", "dict[str, int | None]"),
-        ("int may_take", "Callable[[int], None]"),
-        ("int takes_each", "Callable[..., None]"),
-        ("Any list_of dots", "Callable[..., list[Any]]"),
-        ("KeyError type", "type[KeyError]"),
-    ];
-    for (words, expected) in rows {
+    for (words, expected) in PRINTED {
         let ty = type_of(a, words)?;
-        assert_eq!(rt; show(a, &ty)?.as_str(), expected);
+        assert_eq!(rt; show(a, &ty)?.as_str(), *expected);
     }
     Ok(())
 }
 
+/// Names, with what they stand for among the builtins.
+const BUILTIN_NAMES: &[(&str, Option<BuiltinName>)] = &[
+    ("int", Some(BuiltinName::Class(BuiltinClass::Int))),
+    ("len", Some(BuiltinName::Function(FunctionResult::Int))),
+    (
+        "sorted",
+        Some(BuiltinName::Function(FunctionResult::ListOfAny)),
+    ),
+    ("print", Some(BuiltinName::Function(FunctionResult::None))),
+    ("reveal_type", Some(BuiltinName::RevealType)),
+    ("OSError", Some(BuiltinName::Any)),
+    (
+        "ZeroDivisionError",
+        Some(BuiltinName::Class(BuiltinClass::ZeroDivisionError)),
+    ),
+    ("Len", None),
+    ("", None),
+    ("a_name_that_is_longer_than_each_of_them", None),
+];
+
 #[test]
 fn names_of_builtins(rt: HostRuntime) -> Result<(), Fail> {
-    let rows = [
-        ("int", Some(BuiltinName::Class(BuiltinClass::Int))),
-        ("len", Some(BuiltinName::Function(FunctionResult::Int))),
-        (
-            "sorted",
-            Some(BuiltinName::Function(FunctionResult::ListOfAny)),
-        ),
-        ("print", Some(BuiltinName::Function(FunctionResult::None))),
-        ("reveal_type", Some(BuiltinName::RevealType)),
-        ("OSError", Some(BuiltinName::Any)),
-        (
-            "ZeroDivisionError",
-            Some(BuiltinName::Class(BuiltinClass::ZeroDivisionError)),
-        ),
-        ("Len", None),
-        ("", None),
-        ("a_name_that_is_longer_than_each_of_them", None),
-    ];
-    for (name, expected) in rows {
-        assert!(rt; builtin_name(name) == expected, "{name}");
+    for (name, expected) in BUILTIN_NAMES {
+        assert!(rt; builtin_name(name) == *expected, "{name}");
     }
     Ok(())
 }
