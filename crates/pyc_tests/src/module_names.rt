@@ -3,15 +3,18 @@
 use pyc_names::ModuleName;
 use std::test::Fail;
 
+/// Paths, with the parts of the modules that they name, filled up by empty ones.
+const PATHS: &[(&str, [&str; 2])] = &[
+    ("a.py", ["a", ""]),
+    ("a/__init__.py", ["a", ""]),
+    ("a/b.py", ["a", "b"]),
+    ("__init__.py/a.py", ["__init__.py", "a"]),
+    ("\u{fb01}.py", ["fi", ""]),
+];
+
 #[test]
 fn names_modules(rt: HostRuntime) -> Result<(), Fail> {
-    for (path, parts) in &[
-        ("a.py", ["a", ""]),
-        ("a/__init__.py", ["a", ""]),
-        ("a/b.py", ["a", "b"]),
-        ("__init__.py/a.py", ["__init__.py", "a"]),
-        ("\u{fb01}.py", ["fi", ""]),
-    ] {
+    for (path, parts) in PATHS {
         let name = ModuleName::of_path(rt.alloc(), path)?;
         for (i, part) in name.parts().iter().enumerate() {
             let want = parts.get(i).copied().unwrap_or("");

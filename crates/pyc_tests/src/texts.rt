@@ -14,15 +14,18 @@ fn a_text_is_itself(rt: HostRuntime) -> Result<(), Fail> {
     Ok(())
 }
 
+/// Names as they are spelled, with their normal form.
+const NORMAL_FORMS: &[(&str, &str)] = &[
+    ("x", "x"),
+    ("\u{fb01}", "fi"),
+    ("\u{ff58}y", "xy"),
+    ("e\u{301}", "\u{e9}"),
+];
+
 /// Unicode Standard Annex 15: the ligature and the fullwidth letter have compatibility decompositions.
 #[test]
 fn names_in_normal_form(rt: HostRuntime) -> Result<(), Fail> {
-    for (spelled, name) in &[
-        ("x", "x"),
-        ("\u{fb01}", "fi"),
-        ("\u{ff58}y", "xy"),
-        ("e\u{301}", "\u{e9}"),
-    ] {
+    for (spelled, name) in NORMAL_FORMS {
         let text = Text::normalized(rt.alloc(), spelled)?;
         assert_eq!(rt; text.as_str(), *name);
     }
