@@ -150,82 +150,94 @@ fn reads_a_class(rt: HostRuntime) -> Result<(), Fail> {
     Ok(())
 }
 
+/// Sources, with their ignore comments, whether one silences the file, and whether the module suspends.
+const BESIDE: &[(&str, &str, bool, bool)] = &[
+    (SOURCE, "#1 import-untyped misc", false, false),
+    ("# type: ignore\nx = yield\n", "#1", true, true),
+    ("x = await y # type: ignore\n", "#1", false, true),
+    ("x = lambda: (yield)\n", "", false, false),
+    ("", "", false, false),
+];
+
 #[test]
 fn keeps_what_is_beside_the_statements(rt: HostRuntime) -> Result<(), Fail> {
-    let cases = [
-        (SOURCE, "#1 import-untyped misc", false, false),
-        ("# type: ignore\nx = yield\n", "#1", true, true),
-        ("x = await y # type: ignore\n", "#1", false, true),
-        ("x = lambda: (yield)\n", "", false, false),
-        ("", "", false, false),
-    ];
-    for (source, ignores, whole_file, suspends) in cases {
+    for (source, ignores, whole_file, suspends) in BESIDE {
         let module = module_of(rt.alloc(), source)?;
         let shown = ignores_shown(rt.alloc(), &module)?;
-        assert_eq!(rt; shown.as_str(), ignores, "of {source}");
-        assert_eq!(rt; module.whole_file, whole_file, "of {source}");
-        assert_eq!(rt; module.suspends, suspends, "of {source}");
+        assert_eq!(rt; shown.as_str(), *ignores, "of {source}");
+        assert_eq!(rt; module.whole_file, *whole_file, "of {source}");
+        assert_eq!(rt; module.suspends, *suspends, "of {source}");
     }
     Ok(())
 }
 
+/// Annotations that are strings, with what they are read as.
+const STRINGS: &[(&str, &str)] = &[
+    ("x: \"int\"", "1:4 `1:4 int`"),
+    ("x: '''int'''", "1:4 `1:4 int`"),
+    ("x: \"\"\"\nint # why\n\"\"\"", "1:4 `1:4 int`"),
+    // one logical line, whatever its indent
+    ("x: \"\tint\"", "1:4 `1:4 int`"),
+    ("x: \"\"\"\n    int\n\"\"\"", "1:4 `1:4 int`"),
+    ("x: \"a, b\"", "1:4 `1:4 ?`"),
+    ("x: \"(yield a)\"", "1:4 `1:4 ?`"),
+    ("x: \"(*a, b)\"", "1:4 `1:4 ?`"),
+    (
+        "x: \"\"\" '''t[ \"u[ 'a', b ]\" ]''' \"\"\"",
+        "1:4 `1:4 `1:4 1:4 t[1:4 `1:4 1:4 u[1:4 `1:4 a`,1:4 b,]`]``",
+    ),
+    // no expression
+    ("x: \"\"", "1:4 Str"),
+    ("x: \"a b\"", "1:4 Str"),
+    ("x: \"a;\"", "1:4 Str"),
+    ("x: \"a = b\"", "1:4 Str"),
+    ("x: \"yield a\"", "1:4 Str"),
+    ("x: \"yield from a\"", "1:4 Str"),
+    ("x: \"*a, b\"", "1:4 Str"),
+    ("x: \"a, *b\"", "1:4 Str"),
+    ("x: \"if a: b\"", "1:4 Str"),
+    ("x: \"\\tint\"", "1:4 Str"),
+    ("x: \"\u{feff}int\"", "1:4 Str"),
+    ("x: '''a\nb'''", "1:4 Str"),
+    // not one string without prefix
+    ("x: r\"int\"", "1:4 Str"),
+    ("x: \"int\" \"a\"", "1:4 Str"),
+    ("x: b\"int\"", "1:4 Bytes"),
+];
+
 /// `ast.parse(text, mode="eval")` takes the text of each string that is read, without the indent of its line.
 #[test]
 fn reads_strings_that_are_an_expression(rt: HostRuntime) -> Result<(), Fail> {
-    let cases = [
-        ("x: \"int\"", "1:4 `1:4 int`"),
-        ("x: '''int'''", "1:4 `1:4 int`"),
-        ("x: \"\"\"\nint # why\n\"\"\"", "1:4 `1:4 int`"),
-        // one logical line, whatever its indent
-        ("x: \"\tint\"", "1:4 `1:4 int`"),
-        ("x: \"\"\"\n    int\n\"\"\"", "1:4 `1:4 int`"),
-        ("x: \"a, b\"", "1:4 `1:4 ?`"),
-        ("x: \"(yield a)\"", "1:4 `1:4 ?`"),
-        ("x: \"(*a, b)\"", "1:4 `1:4 ?`"),
-        (
-            "x: \"\"\" '''t[ \"u[ 'a', b ]\" ]''' \"\"\"",
-            "1:4 `1:4 `1:4 1:4 t[1:4 `1:4 1:4 u[1:4 `1:4 a`,1:4 b,]`]``",
-        ),
-        // no expression
-        ("x: \"\"", "1:4 Str"),
-        ("x: \"a b\"", "1:4 Str"),
-        ("x: \"a;\"", "1:4 Str"),
-        ("x: \"a = b\"", "1:4 Str"),
-        ("x: \"yield a\"", "1:4 Str"),
-        ("x: \"yield from a\"", "1:4 Str"),
-        ("x: \"*a, b\"", "1:4 Str"),
-        ("x: \"a, *b\"", "1:4 Str"),
-        ("x: \"if a: b\"", "1:4 Str"),
-        ("x: \"\\tint\"", "1:4 Str"),
-        ("x: \"\u{feff}int\"", "1:4 Str"),
-        ("x: '''a\nb'''", "1:4 Str"),
-        // not one string without prefix
-        ("x: r\"int\"", "1:4 Str"),
-        ("x: \"int\" \"a\"", "1:4 Str"),
-        ("x: b\"int\"", "1:4 Bytes"),
-    ];
-    for (source, want) in cases {
+    for (source, want) in STRINGS {
         let module = module_of(rt.alloc(), source)?;
         let [statement] = module.statements.as_slice() else {
             return Err("not one statement")?;
         };
         let shown = annotation_shown(rt.alloc(), statement)?;
-        assert_eq!(rt; shown.as_str(), want, "of {source}");
+        assert_eq!(rt; shown.as_str(), *want, "of {source}");
     }
     Ok(())
 }
 
+/// Sources, with the line and the text of their first fault.
+const FAULTS: &[(&str, usize, &str)] = &[
+    ("x = 1\ny = = 2\n$", 3, "Invalid character"),
+    ("x = 1\ny = = 2\n", 2, "Invalid syntax"),
+    ("x = '", 1, "Unterminated string literal"),
+    ("x\n  y\n", 2, "Unexpected or missing block"),
+];
+
 #[test]
 fn tells_the_first_fault(rt: HostRuntime) -> Result<(), Fail> {
-    let cases = [
-        ("x = 1\ny = = 2\n$", 3, "Invalid character"),
-        ("x = 1\ny = = 2\n", 2, "Invalid syntax"),
-        ("x = '", 1, "Unterminated string literal"),
-        ("x\n  y\n", 2, "Unexpected or missing block"),
-    ];
-    for (source, line, text) in cases {
+    for (source, line, text) in FAULTS {
         match read(rt.alloc(), source.as_bytes())? {
-            Outcome::Fault(fault) => assert_eq!(rt; fault, Fault { line, text }, "of {source}"),
+            Outcome::Fault(fault) => {
+                let want = Fault {
+                    line: *line,
+                    text: *text,
+                };
+                assert_eq!(rt; fault, want, "of {source}");
+            }
             Outcome::Tree(_) => return Err("no fault")?,
         }
     }

@@ -65,37 +65,36 @@ fn enclosed(alloc: Global, levels: usize) -> Result<String, Fail> {
     Ok(source)
 }
 
+/// Sources with a lexical fault.
+const LEXICAL: &[(&str, usize, &str)] = &[
+    ("x = 1\ny = $\n", 2, "Invalid character"),
+    ("x = ?\n", 1, "Invalid character"),
+    ("a\nx = \"a\ny = 1\n", 2, "Unterminated string literal"),
+    ("x = \"\"\"a\"\n", 1, "Unterminated string literal"),
+    (
+        "x = f\"{\", \".join(y)}\"\n",
+        1,
+        "Unterminated string literal",
+    ),
+    ("def (\n", 1, "Unmatched bracket"),
+    ("a\nx = )\n", 2, "Unmatched bracket"),
+    ("x = (\n[\n1)\n", 3, "Unmatched bracket"),
+    ("x = [\n(\n", 2, "Unmatched bracket"),
+    (
+        "if x:\n    y\n  z\n",
+        3,
+        "Unindent does not match any outer indentation level",
+    ),
+    (
+        "if x:\n\ty\n        z\n",
+        3,
+        "Inconsistent use of tabs and spaces in indentation",
+    ),
+];
+
 #[test]
 fn lexical_faults(rt: HostRuntime) -> Result<(), Fail> {
-    assert_faults(
-        &rt,
-        rt.alloc(),
-        &[
-            ("x = 1\ny = $\n", 2, "Invalid character"),
-            ("x = ?\n", 1, "Invalid character"),
-            ("a\nx = \"a\ny = 1\n", 2, "Unterminated string literal"),
-            ("x = \"\"\"a\"\n", 1, "Unterminated string literal"),
-            (
-                "x = f\"{\", \".join(y)}\"\n",
-                1,
-                "Unterminated string literal",
-            ),
-            ("def (\n", 1, "Unmatched bracket"),
-            ("a\nx = )\n", 2, "Unmatched bracket"),
-            ("x = (\n[\n1)\n", 3, "Unmatched bracket"),
-            ("x = [\n(\n", 2, "Unmatched bracket"),
-            (
-                "if x:\n    y\n  z\n",
-                3,
-                "Unindent does not match any outer indentation level",
-            ),
-            (
-                "if x:\n\ty\n        z\n",
-                3,
-                "Inconsistent use of tabs and spaces in indentation",
-            ),
-        ],
-    )
+    assert_faults(&rt, rt.alloc(), LEXICAL)
 }
 
 #[test]
@@ -121,47 +120,45 @@ fn limits_of_depth(rt: HostRuntime) -> Result<(), Fail> {
     Ok(())
 }
 
+/// Sources with a fault of a line or a block.
+const OF_LINES_AND_BLOCKS: &[(&str, usize, &str)] = &[
+    ("x = = 1\n", 1, "Invalid syntax"),
+    ("\n\n  \nx = = 1\n", 4, "Invalid syntax"),
+    ("x\ny = (1 +\n = 2)\n", 2, "Invalid syntax"),
+    (
+        "x = (1 +\n  2)\nif x:\ny = 1\n",
+        3,
+        "Unexpected or missing block",
+    ),
+    ("x\n  y\n", 2, "Unexpected or missing block"),
+    ("@a\nx\n", 1, "Unexpected or missing block"),
+    ("match x:\n    pass\n", 1, "Outside the profile"),
+    ("x\nfrom a import *\n", 2, "Outside the profile"),
+    ("x\n(y := 1)\n", 2, "Outside the profile"),
+    ("def f(a, /): pass\n", 1, "Outside the profile"),
+];
+
 #[test]
 fn faults_of_lines_and_blocks(rt: HostRuntime) -> Result<(), Fail> {
-    assert_faults(
-        &rt,
-        rt.alloc(),
-        &[
-            ("x = = 1\n", 1, "Invalid syntax"),
-            ("\n\n  \nx = = 1\n", 4, "Invalid syntax"),
-            ("x\ny = (1 +\n = 2)\n", 2, "Invalid syntax"),
-            (
-                "x = (1 +\n  2)\nif x:\ny = 1\n",
-                3,
-                "Unexpected or missing block",
-            ),
-            ("x\n  y\n", 2, "Unexpected or missing block"),
-            ("@a\nx\n", 1, "Unexpected or missing block"),
-            ("match x:\n    pass\n", 1, "Outside the profile"),
-            ("x\nfrom a import *\n", 2, "Outside the profile"),
-            ("x\n(y := 1)\n", 2, "Outside the profile"),
-            ("def f(a, /): pass\n", 1, "Outside the profile"),
-        ],
-    )
+    assert_faults(&rt, rt.alloc(), OF_LINES_AND_BLOCKS)
 }
+
+/// Sources with several faults.
+const SEVERAL: &[(&str, usize, &str)] = &[
+    ("x = = 1\ny = $\n", 2, "Invalid character"),
+    ("if x:\ny = $\n", 2, "Invalid character"),
+    ("if x:\ny\nz = = 1\n", 3, "Invalid syntax"),
+    ("else: x\nmatch y:\n", 2, "Outside the profile"),
+    ("x\n)\n$\n", 2, "Unmatched bracket"),
+    ("x = = 1\ny = = 2\n", 1, "Invalid syntax"),
+    ("x = = 1\nmatch y:\n    pass\n", 1, "Invalid syntax"),
+    ("match x:\n    y = = 1\n", 1, "Outside the profile"),
+    ("if x:\ny\nif z:\nw\n", 1, "Unexpected or missing block"),
+];
 
 #[test]
 fn first_fault_of_the_first_kind(rt: HostRuntime) -> Result<(), Fail> {
-    assert_faults(
-        &rt,
-        rt.alloc(),
-        &[
-            ("x = = 1\ny = $\n", 2, "Invalid character"),
-            ("if x:\ny = $\n", 2, "Invalid character"),
-            ("if x:\ny\nz = = 1\n", 3, "Invalid syntax"),
-            ("else: x\nmatch y:\n", 2, "Outside the profile"),
-            ("x\n)\n$\n", 2, "Unmatched bracket"),
-            ("x = = 1\ny = = 2\n", 1, "Invalid syntax"),
-            ("x = = 1\nmatch y:\n    pass\n", 1, "Invalid syntax"),
-            ("match x:\n    y = = 1\n", 1, "Outside the profile"),
-            ("if x:\ny\nif z:\nw\n", 1, "Unexpected or missing block"),
-        ],
-    )
+    assert_faults(&rt, rt.alloc(), SEVERAL)
 }
 
 #[test]

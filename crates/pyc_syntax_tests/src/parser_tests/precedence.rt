@@ -57,110 +57,100 @@ fn assert_nested(
     Ok(())
 }
 
+/// Expressions of which the operator on the right binds tighter.
+const TIGHTER_ON_THE_RIGHT: &[&str] = &[
+    "a if b else c or d",
+    "lambda: a or b",
+    "a or b and c",
+    "a and not b",
+    "not a == b",
+    "a == b | c",
+    "a | b ^ c",
+    "a ^ b & c",
+    "a & b << c",
+    "a << b + c",
+    "a + b * c",
+    "a * -b",
+    "-a ** b",
+    "a ** await b",
+];
+
 #[test]
 fn the_tighter_operator_stands_below_on_the_right(rt: HostRuntime) -> Result<(), Fail> {
-    assert_nested(
-        &rt,
-        rt.alloc(),
-        &[
-            "a if b else c or d",
-            "lambda: a or b",
-            "a or b and c",
-            "a and not b",
-            "not a == b",
-            "a == b | c",
-            "a | b ^ c",
-            "a ^ b & c",
-            "a & b << c",
-            "a << b + c",
-            "a + b * c",
-            "a * -b",
-            "-a ** b",
-            "a ** await b",
-        ],
-        Nested::Right,
-    )
+    assert_nested(&rt, rt.alloc(), TIGHTER_ON_THE_RIGHT, Nested::Right)
 }
+
+/// Expressions of which the operator on the left binds tighter.
+const TIGHTER_ON_THE_LEFT: &[&str] = &[
+    "a or b if c else d",
+    "a and b or c",
+    "not a and b",
+    "a | b == c",
+    "a ^ b | c",
+    "a & b ^ c",
+    "a << b & c",
+    "a + b << c",
+    "a * b + c",
+    "-a * b",
+    "await a ** b",
+];
 
 #[test]
 fn the_tighter_operator_stands_below_on_the_left(rt: HostRuntime) -> Result<(), Fail> {
-    assert_nested(
-        &rt,
-        rt.alloc(),
-        &[
-            "a or b if c else d",
-            "a and b or c",
-            "not a and b",
-            "a | b == c",
-            "a ^ b | c",
-            "a & b ^ c",
-            "a << b & c",
-            "a + b << c",
-            "a * b + c",
-            "-a * b",
-            "await a ** b",
-        ],
-        Nested::Left,
-    )
+    assert_nested(&rt, rt.alloc(), TIGHTER_ON_THE_LEFT, Nested::Left)
 }
+
+/// Expressions with operators of one precedence.
+const OF_ONE_PRECEDENCE: &[&str] = &[
+    "a or b or c",
+    "a and b and c",
+    "a | b | c",
+    "a ^ b ^ c",
+    "a & b & c",
+    "a >> b << c",
+    "a << b >> c",
+    "a - b + c",
+    "a + b - c",
+    "a @ b * c",
+    "a * b @ c",
+    "a / b @ c",
+    "a @ b / c",
+    "a // b / c",
+    "a / b // c",
+    "a % b // c",
+    "a // b % c",
+];
 
 #[test]
 fn operators_of_one_precedence_group_to_the_left(rt: HostRuntime) -> Result<(), Fail> {
-    assert_nested(
-        &rt,
-        rt.alloc(),
-        &[
-            "a or b or c",
-            "a and b and c",
-            "a | b | c",
-            "a ^ b ^ c",
-            "a & b & c",
-            "a >> b << c",
-            "a << b >> c",
-            "a - b + c",
-            "a + b - c",
-            "a @ b * c",
-            "a * b @ c",
-            "a / b @ c",
-            "a @ b / c",
-            "a // b / c",
-            "a / b // c",
-            "a % b // c",
-            "a // b % c",
-        ],
-        Nested::Left,
-    )
+    assert_nested(&rt, rt.alloc(), OF_ONE_PRECEDENCE, Nested::Left)
 }
+
+/// Expressions that group to the right.
+const TO_THE_RIGHT: &[&str] = &[
+    "a ** b ** c",
+    "a ** -b",
+    "a if b else c if d else e",
+    "a if b else lambda: c",
+    "lambda: a if b else c",
+    "not not a",
+    "- -a",
+];
 
 #[test]
 fn powers_and_conditionals_group_to_the_right(rt: HostRuntime) -> Result<(), Fail> {
-    assert_nested(
-        &rt,
-        rt.alloc(),
-        &[
-            "a ** b ** c",
-            "a ** -b",
-            "a if b else c if d else e",
-            "a if b else lambda: c",
-            "lambda: a if b else c",
-            "not not a",
-            "- -a",
-        ],
-        Nested::Right,
-    )
+    assert_nested(&rt, rt.alloc(), TO_THE_RIGHT, Nested::Right)
 }
+
+/// Chains of comparisons.
+const COMPARISONS: &[&str] = &[
+    "a == b < c",
+    "a < b is not c",
+    "a not in b != c",
+    "a in b is c >= d <= e > f",
+];
 
 #[test]
 fn comparisons_are_one_node(rt: HostRuntime) -> Result<(), Fail> {
-    assert_nested(
-        &rt,
-        rt.alloc(),
-        &[
-            "a == b < c",
-            "a < b is not c",
-            "a not in b != c",
-            "a in b is c >= d <= e > f",
-        ],
-        Nested::Neither,
-    )
+    assert_nested(&rt, rt.alloc(), COMPARISONS, Nested::Neither)
 }
