@@ -46,35 +46,38 @@ fn attributes_in_text_order(rt: HostRuntime) -> Result<(), Fail> {
     Ok(())
 }
 
+/// Assignments, with the attributes that they give.
+const TARGETS: &[(&str, &str)] = &[
+    (
+        "self.a = self.b = 1",
+        "a 2:5 assigned f; b 2:14 assigned f; ",
+    ),
+    (
+        "(self.a) = (self).b = 1",
+        "a 2:5 assigned f; b 2:16 assigned f; ",
+    ),
+    (
+        "self.a, [x, *self.b] = y",
+        "a 2:5 other f; b 2:18 other f; ",
+    ),
+    (
+        "(self.a, self.b) = self.c = 1, 2",
+        "a 2:6 other f; b 2:14 other f; c 2:24 assigned f; ",
+    ),
+    (
+        "for self.a, self.b in y: self.c = 1",
+        "a 2:9 other f; b 2:17 other f; c 2:30 assigned f; ",
+    ),
+    (
+        "with x as self.a, y as (self.b): ...",
+        "a 2:15 other f; b 2:28 other f; ",
+    ),
+];
+
 /// An attribute that is a target by itself keeps the value of the assignment, any other does not.
 #[test]
 fn targets_of_each_form(rt: HostRuntime) -> Result<(), Fail> {
-    for (statement, want) in &[
-        (
-            "self.a = self.b = 1",
-            "a 2:5 assigned f; b 2:14 assigned f; ",
-        ),
-        (
-            "(self.a) = (self).b = 1",
-            "a 2:5 assigned f; b 2:16 assigned f; ",
-        ),
-        (
-            "self.a, [x, *self.b] = y",
-            "a 2:5 other f; b 2:18 other f; ",
-        ),
-        (
-            "(self.a, self.b) = self.c = 1, 2",
-            "a 2:6 other f; b 2:14 other f; c 2:24 assigned f; ",
-        ),
-        (
-            "for self.a, self.b in y: self.c = 1",
-            "a 2:9 other f; b 2:17 other f; c 2:30 assigned f; ",
-        ),
-        (
-            "with x as self.a, y as (self.b): ...",
-            "a 2:15 other f; b 2:28 other f; ",
-        ),
-    ] {
+    for (statement, want) in TARGETS {
         let body = format!(in rt.alloc(); "def f(self):\n    {statement}\n")?;
         assert_eq!(rt;
             attributes_of(rt.alloc(), body.as_str())?.as_str(),
@@ -85,22 +88,25 @@ fn targets_of_each_form(rt: HostRuntime) -> Result<(), Fail> {
     Ok(())
 }
 
+/// Statements that give no attribute.
+const NO_ATTRIBUTES: &[&str] = &[
+    "self.a += 1",
+    "del self.a",
+    "self.a",
+    "self = 1",
+    "self.a.b = 1",
+    "self[0] = 1",
+    "self().a = 1",
+    "other.a = 1",
+    "import self.a",
+    "lambda self: self.a",
+    "def g(self): self.a = 1",
+    "class C: self.a = 1",
+];
+
 #[test]
 fn what_gives_no_attribute(rt: HostRuntime) -> Result<(), Fail> {
-    for statement in &[
-        "self.a += 1",
-        "del self.a",
-        "self.a",
-        "self = 1",
-        "self.a.b = 1",
-        "self[0] = 1",
-        "self().a = 1",
-        "other.a = 1",
-        "import self.a",
-        "lambda self: self.a",
-        "def g(self): self.a = 1",
-        "class C: self.a = 1",
-    ] {
+    for statement in NO_ATTRIBUTES {
         let body = format!(in rt.alloc(); "def f(self, other):\n    {statement}\n")?;
         assert_eq!(rt;
             attributes_of(rt.alloc(), body.as_str())?.as_str(),
@@ -111,19 +117,22 @@ fn what_gives_no_attribute(rt: HostRuntime) -> Result<(), Fail> {
     Ok(())
 }
 
+/// Heads of methods that have no instance, and of no methods.
+const NO_INSTANCES: &[&str] = &[
+    "@staticmethod\ndef f(self)",
+    "@classmethod\ndef f(self)",
+    "def f(*self)",
+    "def f(*, self)",
+    "def f()",
+    "def f(other, self)",
+    "class f(self)",
+    "if self",
+];
+
 /// Static methods, class methods and those without a first parameter at a place have no instance.
 #[test]
 fn methods_without_an_instance(rt: HostRuntime) -> Result<(), Fail> {
-    for head in &[
-        "@staticmethod\ndef f(self)",
-        "@classmethod\ndef f(self)",
-        "def f(*self)",
-        "def f(*, self)",
-        "def f()",
-        "def f(other, self)",
-        "class f(self)",
-        "if self",
-    ] {
+    for head in NO_INSTANCES {
         let body = format!(in rt.alloc(); "{head}:\n    self.a = 1\n")?;
         assert_eq!(rt;
             attributes_of(rt.alloc(), body.as_str())?.as_str(),

@@ -48,21 +48,24 @@ x: str
 from m import y
 ";
 
+/// Names, with what decides of each, what of those bound or annotated does, and what of those assigned does.
+const DECIDED: &[(&str, &str, &str, &str)] = &[
+    ("a", "assigned 2", "none", "assigned 2"),
+    ("b", "annotated 4", "annotated 4", "assigned 3"),
+    ("c", "annotated 10", "annotated 10", "assigned 5"),
+    ("x", "bound 12", "bound 12", "none"),
+    ("y", "bound 14", "bound 14", "none"),
+    ("f", "bound 1", "bound 1", "none"),
+    ("self", "none", "none", "none"),
+];
+
 #[test]
 fn what_decides_of_a_name(rt: HostRuntime) -> Result<(), Fail> {
     let a = rt.alloc();
     let body = body_of(a, BODY)?;
     assert_eq!(rt; body.bindings.len(), 5);
     assert_eq!(rt; body.attributes.len(), 9);
-    for (name, own, declared, assigned) in &[
-        ("a", "assigned 2", "none", "assigned 2"),
-        ("b", "annotated 4", "annotated 4", "assigned 3"),
-        ("c", "annotated 10", "annotated 10", "assigned 5"),
-        ("x", "bound 12", "bound 12", "none"),
-        ("y", "bound 14", "bound 14", "none"),
-        ("f", "bound 1", "bound 1", "none"),
-        ("self", "none", "none", "none"),
-    ] {
+    for (name, own, declared, assigned) in DECIDED {
         let text = Text::new(a, name)?;
         let found = shown(a, body.own_member(&text))?;
         assert_eq!(rt; found.as_str(), *own, "{name}");
@@ -74,41 +77,44 @@ fn what_decides_of_a_name(rt: HostRuntime) -> Result<(), Fail> {
     Ok(())
 }
 
+/// Bodies, with whether `p` is a settable property in them.
+const PROPERTIES: &[(&str, bool)] = &[
+    (
+        "@property\ndef p(self): ...\n@p.setter\ndef p(self, v): ...\n",
+        true,
+    ),
+    (
+        "@property\ndef p(self): ...\n@q.setter\ndef p(self, v): ...\n",
+        true,
+    ),
+    (
+        "@property\ndef p(self): ...\nif p:\n    @p.setter\n    def p(self, v): ...\n",
+        true,
+    ),
+    ("@p.setter\ndef p(self, v): ...\n", true),
+    ("@property\ndef p(self): ...\n", false),
+    (
+        "@property\ndef p(self): ...\n@p.setter\ndef q(self, v): ...\n",
+        false,
+    ),
+    (
+        "@property\ndef p(self): ...\n@p.deleter\ndef p(self): ...\n",
+        false,
+    ),
+    (
+        "@property\ndef p(self): ...\n@p.setter\nclass p: ...\n",
+        false,
+    ),
+    (
+        "@property\ndef p(self):\n    @p.setter\n    def p(self, v): ...\n",
+        false,
+    ),
+];
+
 /// A property is settable where a setter is bound to its name, whatever stands before `.setter`.
 #[test]
 fn settable_properties(rt: HostRuntime) -> Result<(), Fail> {
-    for (body, want) in &[
-        (
-            "@property\ndef p(self): ...\n@p.setter\ndef p(self, v): ...\n",
-            true,
-        ),
-        (
-            "@property\ndef p(self): ...\n@q.setter\ndef p(self, v): ...\n",
-            true,
-        ),
-        (
-            "@property\ndef p(self): ...\nif p:\n    @p.setter\n    def p(self, v): ...\n",
-            true,
-        ),
-        ("@p.setter\ndef p(self, v): ...\n", true),
-        ("@property\ndef p(self): ...\n", false),
-        (
-            "@property\ndef p(self): ...\n@p.setter\ndef q(self, v): ...\n",
-            false,
-        ),
-        (
-            "@property\ndef p(self): ...\n@p.deleter\ndef p(self): ...\n",
-            false,
-        ),
-        (
-            "@property\ndef p(self): ...\n@p.setter\nclass p: ...\n",
-            false,
-        ),
-        (
-            "@property\ndef p(self):\n    @p.setter\n    def p(self, v): ...\n",
-            false,
-        ),
-    ] {
+    for (body, want) in PROPERTIES {
         let found = body_of(rt.alloc(), body)?;
         let name = Text::new(rt.alloc(), "p")?;
         assert_eq!(rt; found.is_settable(&name), *want, "{body}");

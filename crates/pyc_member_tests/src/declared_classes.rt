@@ -34,23 +34,26 @@ fn classes_in_text_order(rt: HostRuntime) -> Result<(), Fail> {
     Ok(())
 }
 
+/// Sources, with the classes that they declare.
+const DECLARED: &[(&str, &str)] = &[
+    ("class A: x = 1\nclass A: ...\n", "A 1 1; "),
+    ("A = 1\nclass A: ...\n", ""),
+    ("import A.b\nclass A: ...\n", ""),
+    ("from m import b as A\nclass A: ...\n", ""),
+    ("def A(): ...\nclass A: ...\n", ""),
+    ("for A in x:\n    class A: ...\n", ""),
+    (
+        "if x:\n    class A: ...\nelse:\n    class A: ...\n",
+        "A 2 0; ",
+    ),
+    ("class A: ...\nA = 1\n", "A 1 0; "),
+    ("def f():\n    A = 1\nclass A: ...\n", "A 3 0; "),
+];
+
 /// A class statement declares a class only where it is the first that binds its name.
 #[test]
 fn classes_that_are_no_declarations(rt: HostRuntime) -> Result<(), Fail> {
-    for (source, want) in &[
-        ("class A: x = 1\nclass A: ...\n", "A 1 1; "),
-        ("A = 1\nclass A: ...\n", ""),
-        ("import A.b\nclass A: ...\n", ""),
-        ("from m import b as A\nclass A: ...\n", ""),
-        ("def A(): ...\nclass A: ...\n", ""),
-        ("for A in x:\n    class A: ...\n", ""),
-        (
-            "if x:\n    class A: ...\nelse:\n    class A: ...\n",
-            "A 2 0; ",
-        ),
-        ("class A: ...\nA = 1\n", "A 1 0; "),
-        ("def f():\n    A = 1\nclass A: ...\n", "A 3 0; "),
-    ] {
+    for (source, want) in DECLARED {
         assert_eq!(rt; classes_of(rt.alloc(), source)?.as_str(), *want, "{source}");
     }
     Ok(())

@@ -21,61 +21,67 @@ fn methods_of(alloc: Global, body: &str) -> Result<String, Fail> {
     Ok(shown)
 }
 
+/// Functions with decorators, with the methods that they are.
+const KINDS: &[(&str, &str)] = &[
+    ("def f(self): ...\n", "f 1 Plain self; "),
+    ("@property\ndef f(self): ...\n", "f 2 Property self; "),
+    ("@x.setter\ndef f(self, v): ...\n", "f 2 Property self; "),
+    ("@staticmethod\ndef f(a): ...\n", "f 2 Static -; "),
+    ("@classmethod\ndef f(cls): ...\n", "f 2 Class -; "),
+    ("@abstractmethod\ndef f(self): ...\n", "f 2 Plain self; "),
+    (
+        "@abc.abstractmethod\ndef f(self): ...\n",
+        "f 2 Plain self; ",
+    ),
+    ("@known\ndef f(self): ...\n", "f 2 Plain self; "),
+    (
+        "@known(1)\n@staticmethod\ndef f(a): ...\n",
+        "f 3 Static -; ",
+    ),
+    ("@builtins.property\ndef f(self): ...\n", "f 2 Plain self; "),
+    ("def __new__(cls): ...\n", "__new__ 1 Plain cls; "),
+    (
+        "@classmethod\n@property\ndef f(me): ...\n",
+        "f 3 Property me; ",
+    ),
+    (
+        "@staticmethod\n@x.setter\ndef f(me): ...\n",
+        "f 3 Property me; ",
+    ),
+    (
+        "@classmethod\n@staticmethod\ndef f(me): ...\n",
+        "f 3 Static -; ",
+    ),
+    (
+        "@abstractmethod\n@classmethod\ndef f(me): ...\n",
+        "f 3 Class -; ",
+    ),
+];
+
 /// Of several decorators property decides before static, and static before class.
 #[test]
 fn kinds_by_the_spelling_of_decorators(rt: HostRuntime) -> Result<(), Fail> {
-    for (body, want) in &[
-        ("def f(self): ...\n", "f 1 Plain self; "),
-        ("@property\ndef f(self): ...\n", "f 2 Property self; "),
-        ("@x.setter\ndef f(self, v): ...\n", "f 2 Property self; "),
-        ("@staticmethod\ndef f(a): ...\n", "f 2 Static -; "),
-        ("@classmethod\ndef f(cls): ...\n", "f 2 Class -; "),
-        ("@abstractmethod\ndef f(self): ...\n", "f 2 Plain self; "),
-        (
-            "@abc.abstractmethod\ndef f(self): ...\n",
-            "f 2 Plain self; ",
-        ),
-        ("@known\ndef f(self): ...\n", "f 2 Plain self; "),
-        (
-            "@known(1)\n@staticmethod\ndef f(a): ...\n",
-            "f 3 Static -; ",
-        ),
-        ("@builtins.property\ndef f(self): ...\n", "f 2 Plain self; "),
-        ("def __new__(cls): ...\n", "__new__ 1 Plain cls; "),
-        (
-            "@classmethod\n@property\ndef f(me): ...\n",
-            "f 3 Property me; ",
-        ),
-        (
-            "@staticmethod\n@x.setter\ndef f(me): ...\n",
-            "f 3 Property me; ",
-        ),
-        (
-            "@classmethod\n@staticmethod\ndef f(me): ...\n",
-            "f 3 Static -; ",
-        ),
-        (
-            "@abstractmethod\n@classmethod\ndef f(me): ...\n",
-            "f 3 Class -; ",
-        ),
-    ] {
+    for (body, want) in KINDS {
         assert_eq!(rt; methods_of(rt.alloc(), body)?.as_str(), *want, "{body}");
     }
     Ok(())
 }
 
+/// Functions with parameters of each kind, with the methods that they are.
+const FIRST_PARAMETERS: &[(&str, &str)] = &[
+    ("def f(this, that): ...\n", "f 1 Plain this; "),
+    ("def f(this: int = 1): ...\n", "f 1 Plain this; "),
+    ("async def f(this): ...\n", "f 1 Plain this; "),
+    ("def f(): ...\n", "f 1 Plain -; "),
+    ("def f(*this): ...\n", "f 1 Plain -; "),
+    ("def f(*, this): ...\n", "f 1 Plain -; "),
+    ("def f(**this): ...\n", "f 1 Plain -; "),
+];
+
 /// The first parameter is the instance only where an argument at its place fills it.
 #[test]
 fn first_parameters_are_instances(rt: HostRuntime) -> Result<(), Fail> {
-    for (body, want) in &[
-        ("def f(this, that): ...\n", "f 1 Plain this; "),
-        ("def f(this: int = 1): ...\n", "f 1 Plain this; "),
-        ("async def f(this): ...\n", "f 1 Plain this; "),
-        ("def f(): ...\n", "f 1 Plain -; "),
-        ("def f(*this): ...\n", "f 1 Plain -; "),
-        ("def f(*, this): ...\n", "f 1 Plain -; "),
-        ("def f(**this): ...\n", "f 1 Plain -; "),
-    ] {
+    for (body, want) in FIRST_PARAMETERS {
         assert_eq!(rt; methods_of(rt.alloc(), body)?.as_str(), *want, "{body}");
     }
     Ok(())

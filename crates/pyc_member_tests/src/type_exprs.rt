@@ -99,19 +99,22 @@ fn written(alloc: Global, annotation: &str) -> Result<String, Fail> {
     Ok(shown)
 }
 
+/// Annotations that are names and unions, with what they are written as.
+const NAMES_AND_UNIONS: &[(&str, &str)] = &[
+    ("int", "int"),
+    ("((a))", "a"),
+    ("a.b.c", "a.b.c"),
+    ("\u{fb01}.b", "fi.b"),
+    ("None", "None"),
+    ("a | None", "a | None"),
+    ("a.b | (c | d)", "a.b | |"),
+    ("a | b[c] | d", "| | d"),
+    ("list[a] | 1", "list[] | ?14"),
+];
+
 #[test]
 fn names_and_unions(rt: HostRuntime) -> Result<(), Fail> {
-    for (annotation, want) in &[
-        ("int", "int"),
-        ("((a))", "a"),
-        ("a.b.c", "a.b.c"),
-        ("\u{fb01}.b", "fi.b"),
-        ("None", "None"),
-        ("a | None", "a | None"),
-        ("a.b | (c | d)", "a.b | |"),
-        ("a | b[c] | d", "| | d"),
-        ("list[a] | 1", "list[] | ?14"),
-    ] {
+    for (annotation, want) in NAMES_AND_UNIONS {
         assert_eq!(rt;
             written(rt.alloc(), annotation)?.as_str(),
             *want,
@@ -121,38 +124,41 @@ fn names_and_unions(rt: HostRuntime) -> Result<(), Fail> {
     Ok(())
 }
 
+/// Annotations that mean no type, whatever their names mean.
+const WRONG: &[&str] = &[
+    "1",
+    "...",
+    "True",
+    "1.5",
+    "a()",
+    "a().b",
+    "a() | b if c else d",
+    "a + b",
+    "-a",
+    "not a",
+    "a or b",
+    "a < b",
+    "(a, b)",
+    "[a]",
+    "{a}",
+    "{a: b}",
+    "()",
+    "lambda: a",
+    "await a",
+    "(a)()[b]",
+    "[a][b]",
+    "b''",
+    "f'a'",
+    "r'a'",
+    "'a' 'b'",
+    "'a b'",
+    "'\\x61'",
+    "''",
+];
+
 #[test]
 fn other_expressions_are_wrong(rt: HostRuntime) -> Result<(), Fail> {
-    for annotation in &[
-        "1",
-        "...",
-        "True",
-        "1.5",
-        "a()",
-        "a().b",
-        "a() | b if c else d",
-        "a + b",
-        "-a",
-        "not a",
-        "a or b",
-        "a < b",
-        "(a, b)",
-        "[a]",
-        "{a}",
-        "{a: b}",
-        "()",
-        "lambda: a",
-        "await a",
-        "(a)()[b]",
-        "[a][b]",
-        "b''",
-        "f'a'",
-        "r'a'",
-        "'a' 'b'",
-        "'a b'",
-        "'\\x61'",
-        "''",
-    ] {
+    for annotation in WRONG {
         assert_eq!(rt;
             written(rt.alloc(), annotation)?.as_str(),
             "?4",
@@ -162,31 +168,34 @@ fn other_expressions_are_wrong(rt: HostRuntime) -> Result<(), Fail> {
     Ok(())
 }
 
+/// Annotations with arguments, with what they are written as.
+const SUBSCRIPTS: &[(&str, &str)] = &[
+    ("list[int]", "list[int;]"),
+    ("(a.b)[c | d]", "a.b[|;]"),
+    ("dict[str, a.b]", "dict[str;a.b;]"),
+    ("dict[(str, int)]", "dict[str;int;]"),
+    ("dict[((str, int),)]", "dict[?10;]"),
+    ("tuple[()]", "tuple[]"),
+    ("tuple[int, ...]", "tuple[int;...;]"),
+    ("tuple[None]", "tuple[None;]"),
+    ("a[b[c], 1]", "a[b[];?12;]"),
+    ("a[b:c]", "a[?6;]"),
+    ("a[b, c:d]", "a[b;?9;]"),
+    ("Callable[..., a]", "Callable[...;a;]"),
+    (
+        "Callable[[a, b.c, None], d]",
+        "Callable[list a b.c None;d;]",
+    ),
+    ("Callable[[], [1]]", "Callable[list;list ?18;]"),
+    ("Callable[([a]), (...)]", "Callable[list a;...;]"),
+    ("a[b][c, d]", "a2[c;d;]"),
+    ("(a.b[c])[d]", "a.b2[d;]"),
+];
+
 /// The items of a tuple are the arguments, also in parentheses.
 #[test]
 fn arguments_in_brackets(rt: HostRuntime) -> Result<(), Fail> {
-    for (annotation, want) in &[
-        ("list[int]", "list[int;]"),
-        ("(a.b)[c | d]", "a.b[|;]"),
-        ("dict[str, a.b]", "dict[str;a.b;]"),
-        ("dict[(str, int)]", "dict[str;int;]"),
-        ("dict[((str, int),)]", "dict[?10;]"),
-        ("tuple[()]", "tuple[]"),
-        ("tuple[int, ...]", "tuple[int;...;]"),
-        ("tuple[None]", "tuple[None;]"),
-        ("a[b[c], 1]", "a[b[];?12;]"),
-        ("a[b:c]", "a[?6;]"),
-        ("a[b, c:d]", "a[b;?9;]"),
-        ("Callable[..., a]", "Callable[...;a;]"),
-        (
-            "Callable[[a, b.c, None], d]",
-            "Callable[list a b.c None;d;]",
-        ),
-        ("Callable[[], [1]]", "Callable[list;list ?18;]"),
-        ("Callable[([a]), (...)]", "Callable[list a;...;]"),
-        ("a[b][c, d]", "a2[c;d;]"),
-        ("(a.b[c])[d]", "a.b2[d;]"),
-    ] {
+    for (annotation, want) in SUBSCRIPTS {
         assert_eq!(rt;
             written(rt.alloc(), annotation)?.as_str(),
             *want,
@@ -196,23 +205,26 @@ fn arguments_in_brackets(rt: HostRuntime) -> Result<(), Fail> {
     Ok(())
 }
 
+/// Annotations with strings, with what they are written as.
+const STRINGS: &[(&str, &str)] = &[
+    ("'a'", "a"),
+    ("\" a.b \"", "a.b"),
+    ("'''a | None'''", "a | None"),
+    ("'a' | 'b[c]'", "a | b[]"),
+    ("'a[b, 1, ...]'", "a[b;?4;...;]"),
+    ("a['b', 'c d']", "a[b;?11;]"),
+    ("'\"a\"'", "a"),
+    ("'1'", "?4"),
+    ("a['...']", "a[?6;]"),
+    ("Callable['[a]', b]", "Callable[?13;b;]"),
+    ("dict['a, b']", "dict[?9;]"),
+];
+
 /// A string without prefix and backslash is read as the expression that its text spells, each part of which stands at
 /// the string.
 #[test]
 fn strings_are_read(rt: HostRuntime) -> Result<(), Fail> {
-    for (annotation, want) in &[
-        ("'a'", "a"),
-        ("\" a.b \"", "a.b"),
-        ("'''a | None'''", "a | None"),
-        ("'a' | 'b[c]'", "a | b[]"),
-        ("'a[b, 1, ...]'", "a[b;?4;...;]"),
-        ("a['b', 'c d']", "a[b;?11;]"),
-        ("'\"a\"'", "a"),
-        ("'1'", "?4"),
-        ("a['...']", "a[?6;]"),
-        ("Callable['[a]', b]", "Callable[?13;b;]"),
-        ("dict['a, b']", "dict[?9;]"),
-    ] {
+    for (annotation, want) in STRINGS {
         assert_eq!(rt;
             written(rt.alloc(), annotation)?.as_str(),
             *want,
@@ -231,16 +243,19 @@ fn columns(form: &TypeExpr) -> (u32, u32) {
     }
 }
 
+/// Annotations, with the columns of their names.
+const PLACES: &[(&str, u32, u32)] = &[
+    ("a.b", 4, 4),
+    ("((a.b))", 4, 6),
+    ("'(a)'", 4, 4),
+    ("a[b]", 4, 4),
+    ("((a)[b])", 4, 6),
+];
+
 /// Where a name begins, with its parentheses and without.
 #[test]
 fn names_have_their_places(rt: HostRuntime) -> Result<(), Fail> {
-    for (annotation, outside, inside) in &[
-        ("a.b", 4, 4),
-        ("((a.b))", 4, 6),
-        ("'(a)'", 4, 4),
-        ("a[b]", 4, 4),
-        ("((a)[b])", 4, 6),
-    ] {
+    for (annotation, outside, inside) in PLACES {
         let found = annotated(rt.alloc(), annotation)?;
         let form = type_expr(rt.alloc(), &found.annotation)?;
         assert!(rt; columns(&form) == (*outside, *inside), "{annotation}");
@@ -248,20 +263,23 @@ fn names_have_their_places(rt: HostRuntime) -> Result<(), Fail> {
     Ok(())
 }
 
+/// Annotations, each with its dotted names, and with those of what is subscripted in it.
+const DOTTED: &[(&str, &str, &str)] = &[
+    ("a", "a", "a"),
+    ("a.b.c", "a.b.c", "a.b.c"),
+    ("((a).b)", "a.b", "a.b"),
+    ("a.b[c]", "-", "a.b"),
+    ("(a[b])[c][d]", "-", "a"),
+    ("a[b].c", "-", "-"),
+    ("a()", "-", "-"),
+    ("a()[b]", "-", "-"),
+    ("None", "-", "-"),
+    ("'a'", "-", "-"),
+];
+
 #[test]
 fn dotted_names_and_what_is_subscripted(rt: HostRuntime) -> Result<(), Fail> {
-    for (annotation, names, under) in &[
-        ("a", "a", "a"),
-        ("a.b.c", "a.b.c", "a.b.c"),
-        ("((a).b)", "a.b", "a.b"),
-        ("a.b[c]", "-", "a.b"),
-        ("(a[b])[c][d]", "-", "a"),
-        ("a[b].c", "-", "-"),
-        ("a()", "-", "-"),
-        ("a()[b]", "-", "-"),
-        ("None", "-", "-"),
-        ("'a'", "-", "-"),
-    ] {
+    for (annotation, names, under) in DOTTED {
         let found = annotated(rt.alloc(), annotation)?;
         let own = names_shown(rt.alloc(), dotted_names(rt.alloc(), &found.annotation)?)?;
         assert_eq!(rt; own.as_str(), *names, "{annotation}");
