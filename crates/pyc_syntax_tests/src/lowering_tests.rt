@@ -4,6 +4,7 @@ use pyc_ast::{Block, Codes, Expr, Fault, Form, Index, IndexForm, Module, Outcome
 use pyc_lower::read;
 use std::alloc::Global;
 use std::fmt::Write;
+use std::process::Abort;
 use std::test::Fail;
 
 /// An expression, each part after its position: `3:1 x`. A string's expression stands between backquotes, what is not
@@ -95,14 +96,8 @@ class Box(Base):
     side: \" int | None \"
 ";
 
-#[test]
-fn reads_a_function(rt: HostRuntime) -> Result<(), Fail> {
-    let module = module_of(rt.alloc(), SOURCE)?;
-    assert_eq!(rt; module.statements.len(), 3);
-    assert!(rt; !module.suspends);
-    let [_, statement, _] = module.statements.as_slice() else {
-        return Err("not three statements")?;
-    };
+/// Asserts what the function of that source is.
+fn assert_function(rt: &impl Abort, statement: &Stmt) -> Result<(), Fail> {
     assert_eq!(rt; (statement.at.line, statement.at.column), (2, 1));
     let StmtForm::Function { head, .. } = &statement.form else {
         return Err("no function")?;
@@ -114,12 +109,47 @@ fn reads_a_function(rt: HostRuntime) -> Result<(), Fail> {
     };
     assert_eq!(rt; (width.at.line, width.at.column), (2, 10));
     assert_eq!(rt; (height.at.line, height.at.column), (2, 32));
-    let Some(annotation) = &width.annotation else {
+    Ok(())
+}
+
+/// The annotation of the first parameter of a function, as `write_expr` shows it.
+fn parameter_shown(alloc: Global, statement: &Stmt) -> Result<String, Fail> {
+    let StmtForm::Function { head, .. } = &statement.form else {
+        return Err("no function")?;
+    };
+    let first = head.parameters.first().ok_or("no parameter")?;
+    let Some(annotation) = &first.annotation else {
         return Err("no annotation")?;
     };
-    let mut shown = String::new(rt.alloc());
+    let mut shown = String::new(alloc);
     write_expr(annotation, &mut shown)?;
+    Ok(shown)
+}
+
+#[test]
+fn reads_a_function(rt: HostRuntime) -> Result<(), Fail> {
+    let module = module_of(rt.alloc(), SOURCE)?;
+    assert_eq!(rt; module.statements.len(), 3);
+    assert!(rt; !module.suspends);
+    let [_, statement, _] = module.statements.as_slice() else {
+        return Err("not three statements")?;
+    };
+    assert_function(&rt, statement)?;
+    let shown = parameter_shown(rt.alloc(), statement)?;
     assert_eq!(rt; shown.as_str(), "2:17 `2:17 2:17 list[2:17 `2:17 int`]`");
+    Ok(())
+}
+
+/// Asserts what the annotations in the class of that source are.
+fn assert_annotations(rt: &impl Abort, alloc: Global, body: &[Stmt]) -> Result<(), Fail> {
+    let [size, side] = body else {
+        return Err("not two annotations")?;
+    };
+    assert_eq!(rt; (size.at.line, size.at.column), (5, 5));
+    let size = annotation_shown(alloc, size)?;
+    assert_eq!(rt; size.as_str(), "5:11 `5:11 5:11 list[5:11 `5:11 int`]`");
+    let side = annotation_shown(alloc, side)?;
+    assert_eq!(rt; side.as_str(), "6:11 `6:11 6:11 int BitOr 6:11 None`");
     Ok(())
 }
 
@@ -139,15 +169,18 @@ fn reads_a_class(rt: HostRuntime) -> Result<(), Fail> {
     };
     assert_eq!(rt; (base.at.line, base.at.column), (4, 11));
     let Block::Of(body) = body;
-    let [size, side] = body.as_slice() else {
-        return Err("not two annotations")?;
-    };
-    assert_eq!(rt; (size.at.line, size.at.column), (5, 5));
-    let size = annotation_shown(rt.alloc(), size)?;
-    assert_eq!(rt; size.as_str(), "5:11 `5:11 5:11 list[5:11 `5:11 int`]`");
-    let side = annotation_shown(rt.alloc(), side)?;
-    assert_eq!(rt; side.as_str(), "6:11 `6:11 6:11 int BitOr 6:11 None`");
-    Ok(())
+    assert_annotations(&rt, rt.alloc(), body)
+}
+
+/// The ignore comments of a source.
+fn ignores_of(alloc: Global, source: &str) -> Result<String, Fail> {
+    ignores_shown(alloc, &module_of(alloc, source)?)
+}
+
+/// Whether an ignore comment silences the file of a source, and whether its module suspends.
+fn marks_of(alloc: Global, source: &str) -> Result<(bool, bool), Fail> {
+    let module = module_of(alloc, source)?;
+    Ok((module.whole_file, module.suspends))
 }
 
 /// Sources, with their ignore comments, whether one silences the file, and whether the module suspends.
@@ -162,11 +195,11 @@ const BESIDE: &[(&str, &str, bool, bool)] = &[
 #[test]
 fn keeps_what_is_beside_the_statements(rt: HostRuntime) -> Result<(), Fail> {
     for (source, ignores, whole_file, suspends) in BESIDE {
-        let module = module_of(rt.alloc(), source)?;
-        let shown = ignores_shown(rt.alloc(), &module)?;
+        let shown = ignores_of(rt.alloc(), source)?;
         assert_eq!(rt; shown.as_str(), *ignores, "of {source}");
-        assert_eq!(rt; module.whole_file, *whole_file, "of {source}");
-        assert_eq!(rt; module.suspends, *suspends, "of {source}");
+        let (is_silenced, is_suspended) = marks_of(rt.alloc(), source)?;
+        assert_eq!(rt; is_silenced, *whole_file, "of {source}");
+        assert_eq!(rt; is_suspended, *suspends, "of {source}");
     }
     Ok(())
 }
@@ -205,18 +238,31 @@ const STRINGS: &[(&str, &str)] = &[
     ("x: b\"int\"", "1:4 Bytes"),
 ];
 
+/// The annotation of a source that is one annotated assignment.
+fn annotation_of(alloc: Global, source: &str) -> Result<String, Fail> {
+    let module = module_of(alloc, source)?;
+    let [statement] = module.statements.as_slice() else {
+        return Err("not one statement")?;
+    };
+    annotation_shown(alloc, statement)
+}
+
 /// `ast.parse(text, mode="eval")` takes the text of each string that is read, without the indent of its line.
 #[test]
 fn reads_strings_that_are_an_expression(rt: HostRuntime) -> Result<(), Fail> {
     for (source, want) in STRINGS {
-        let module = module_of(rt.alloc(), source)?;
-        let [statement] = module.statements.as_slice() else {
-            return Err("not one statement")?;
-        };
-        let shown = annotation_shown(rt.alloc(), statement)?;
+        let shown = annotation_of(rt.alloc(), source)?;
         assert_eq!(rt; shown.as_str(), *want, "of {source}");
     }
     Ok(())
+}
+
+/// The first fault of a source.
+fn fault_of(alloc: Global, source: &str) -> Result<Fault, Fail> {
+    match read(alloc, source.as_bytes())? {
+        Outcome::Fault(fault) => Ok(fault),
+        Outcome::Tree(_) => Err("no fault")?,
+    }
 }
 
 /// Sources, with the line and the text of their first fault.
@@ -230,16 +276,11 @@ const FAULTS: &[(&str, usize, &str)] = &[
 #[test]
 fn tells_the_first_fault(rt: HostRuntime) -> Result<(), Fail> {
     for (source, line, text) in FAULTS {
-        match read(rt.alloc(), source.as_bytes())? {
-            Outcome::Fault(fault) => {
-                let want = Fault {
-                    line: *line,
-                    text: *text,
-                };
-                assert_eq!(rt; fault, want, "of {source}");
-            }
-            Outcome::Tree(_) => return Err("no fault")?,
-        }
+        let want = Fault {
+            line: *line,
+            text: *text,
+        };
+        assert_eq!(rt; fault_of(rt.alloc(), source)?, want, "of {source}");
     }
     Ok(())
 }

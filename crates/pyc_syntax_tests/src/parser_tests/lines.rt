@@ -2,6 +2,7 @@
 
 use super::{assert_refusals, refusal};
 use pyc_parse::What;
+use std::alloc::Global;
 use std::test::Fail;
 
 /// Simple statements.
@@ -124,14 +125,15 @@ fn expressions_have_trees(rt: HostRuntime) -> Result<(), Fail> {
     assert_refusals(&rt, rt.alloc(), EXPRESSIONS, None)
 }
 
-/// So many of a text, then another.
-fn repeated(rt: &HostRuntime, text: &str, count: usize, last: &str) -> Result<String, Fail> {
-    let mut repeated = String::new(rt.alloc());
+/// What is wrong with an assignment of so many of a text and a number, or nothing.
+fn refusal_of(alloc: Global, text: &str, count: usize) -> Result<Option<What>, Fail> {
+    let mut source = String::new(alloc);
+    source.push_str("x = ")?;
     for _turn in 0..count {
-        repeated.push_str(text)?;
+        source.push_str(text)?;
     }
-    repeated.push_str(last)?;
-    Ok(repeated)
+    source.push_str("1")?;
+    refusal(alloc, source.as_str())
 }
 
 /// Texts that make a tree one node higher.
@@ -150,10 +152,7 @@ fn trees_are_at_most_1000_nodes_high(rt: HostRuntime) -> Result<(), Fail> {
     // the line, the assignment and the last operand are one node each
     for unit in UNITS {
         for (count, want) in HEIGHTS {
-            let mut source = String::new(rt.alloc());
-            source.push_str("x = ")?;
-            source.push_str(repeated(&rt, unit, *count, "1")?.as_str())?;
-            assert_eq!(rt; refusal(rt.alloc(), source.as_str())?, *want);
+            assert_eq!(rt; refusal_of(rt.alloc(), unit, *count)?, *want);
         }
     }
     Ok(())

@@ -104,19 +104,27 @@ fn bytes_that_are_no_text(rt: HostRuntime) -> Result<(), Fail> {
     Ok(())
 }
 
+/// How many headers stand in one another, with the first fault.
+const NESTED: &[(usize, Option<(usize, &str)>)] = &[
+    (64, None),
+    (65, Some((66, "Too deeply nested"))),
+];
+
+/// How many parentheses stand in one another, with the first fault.
+const ENCLOSED: &[(usize, Option<(usize, &str)>)] = &[
+    (64, None),
+    (65, Some((1, "Too deeply nested"))),
+];
+
 #[test]
 fn limits_of_depth(rt: HostRuntime) -> Result<(), Fail> {
     let alloc = rt.alloc();
-    assert_eq!(rt; told(alloc, nested(alloc, 64)?.as_bytes())?, None);
-    assert_eq!(rt;
-        told(alloc, nested(alloc, 65)?.as_bytes())?,
-        Some((66, "Too deeply nested"))
-    );
-    assert_eq!(rt; told(alloc, enclosed(alloc, 64)?.as_bytes())?, None);
-    assert_eq!(rt;
-        told(alloc, enclosed(alloc, 65)?.as_bytes())?,
-        Some((1, "Too deeply nested"))
-    );
+    for (levels, want) in NESTED {
+        assert_eq!(rt; told(alloc, nested(alloc, *levels)?.as_bytes())?, *want);
+    }
+    for (levels, want) in ENCLOSED {
+        assert_eq!(rt; told(alloc, enclosed(alloc, *levels)?.as_bytes())?, *want);
+    }
     Ok(())
 }
 
@@ -161,24 +169,50 @@ fn first_fault_of_the_first_kind(rt: HostRuntime) -> Result<(), Fail> {
     assert_faults(&rt, rt.alloc(), SEVERAL)
 }
 
+/// How many statements the tree of a source has, and whether an ignore comment silences the file.
+fn statements_of(alloc: Global, source: &str) -> Result<(usize, bool), Fail> {
+    let found = tree(alloc, source)?;
+    Ok((found.statements.len(), found.whole_file))
+}
+
+/// How many ignore comments the tree of a source has.
+fn ignores_of(alloc: Global, source: &str) -> Result<usize, Fail> {
+    Ok(tree(alloc, source)?.ignores.len())
+}
+
+/// The line of the first ignore comment of a source, and whether it has no codes.
+fn first_ignore(alloc: Global, source: &str) -> Result<(usize, bool), Fail> {
+    let found = tree(alloc, source)?;
+    let ignore = found.ignores.first().ok_or("no ignore")?;
+    Ok((ignore.line, matches!(ignore.codes, Codes::All)))
+}
+
+/// A source with an ignore comment after a statement.
+const ONE: &str = "x: int = \"a\"\ny = 1  # type: ignore\n";
+
+/// Sources, with how many statements they have, and whether an ignore comment silences the file.
+const STATEMENTS: &[(&str, usize, bool)] = &[
+    (ONE, 2, false),
+    ("\u{feff}# type: ignore\nx = 1\n", 1, true),
+    ("", 0, false),
+];
+
+/// Sources, with how many ignore comments they have.
+const IGNORES: &[(&str, usize)] = &[(ONE, 1), ("", 0)];
+
 #[test]
 fn trees_with_ignore_comments(rt: HostRuntime) -> Result<(), Fail> {
     let alloc = rt.alloc();
-    let one = tree(alloc, "x: int = \"a\"\ny = 1  # type: ignore\n")?;
-    assert_eq!(rt; one.statements.len(), 2);
-    assert_eq!(rt; one.ignores.len(), 1);
-    let ignore = one.ignores.first().ok_or("no ignore")?;
-    assert_eq!(rt; ignore.line, 2);
-    assert!(rt; matches!(ignore.codes, Codes::All));
-    assert!(rt; !one.whole_file);
-
-    let whole = tree(alloc, "\u{feff}# type: ignore\nx = 1\n")?;
-    assert_eq!(rt; whole.statements.len(), 1);
-    assert!(rt; whole.whole_file);
-
-    let nothing = tree(alloc, "")?;
-    assert!(rt; nothing.statements.is_empty());
-    assert!(rt; nothing.ignores.is_empty());
-    assert!(rt; !nothing.whole_file);
+    for (source, count, is_silenced) in STATEMENTS {
+        let (found, whole_file) = statements_of(alloc, source)?;
+        assert_eq!(rt; found, *count, "{source}");
+        assert_eq!(rt; whole_file, *is_silenced, "{source}");
+    }
+    for (source, count) in IGNORES {
+        assert_eq!(rt; ignores_of(alloc, source)?, *count, "{source}");
+    }
+    let (line, has_no_codes) = first_ignore(alloc, ONE)?;
+    assert_eq!(rt; line, 2);
+    assert!(rt; has_no_codes);
     Ok(())
 }
