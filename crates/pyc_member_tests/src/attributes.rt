@@ -46,6 +46,12 @@ fn attributes_in_text_order(rt: HostRuntime) -> Result<(), Fail> {
     Ok(())
 }
 
+/// The attributes that a method of these parameters with this statement gives.
+fn attributes_by(alloc: Global, parameters: &str, statement: &str) -> Result<String, Fail> {
+    let body = format!(in alloc; "def f({parameters}):\n    {statement}\n")?;
+    attributes_of(alloc, body.as_str())
+}
+
 /// Assignments, with the attributes that they give.
 const TARGETS: &[(&str, &str)] = &[
     (
@@ -78,9 +84,8 @@ const TARGETS: &[(&str, &str)] = &[
 #[test]
 fn targets_of_each_form(rt: HostRuntime) -> Result<(), Fail> {
     for (statement, want) in TARGETS {
-        let body = format!(in rt.alloc(); "def f(self):\n    {statement}\n")?;
         assert_eq!(rt;
-            attributes_of(rt.alloc(), body.as_str())?.as_str(),
+            attributes_by(rt.alloc(), "self", statement)?.as_str(),
             *want,
             "{statement}"
         );
@@ -107,9 +112,8 @@ const NO_ATTRIBUTES: &[&str] = &[
 #[test]
 fn what_gives_no_attribute(rt: HostRuntime) -> Result<(), Fail> {
     for statement in NO_ATTRIBUTES {
-        let body = format!(in rt.alloc(); "def f(self, other):\n    {statement}\n")?;
         assert_eq!(rt;
-            attributes_of(rt.alloc(), body.as_str())?.as_str(),
+            attributes_by(rt.alloc(), "self, other", statement)?.as_str(),
             "",
             "{statement}"
         );
@@ -129,16 +133,17 @@ const NO_INSTANCES: &[&str] = &[
     "if self",
 ];
 
+/// The attributes that a method or another block with this head gives.
+fn attributes_under(alloc: Global, head: &str) -> Result<String, Fail> {
+    let body = format!(in alloc; "{head}:\n    self.a = 1\n")?;
+    attributes_of(alloc, body.as_str())
+}
+
 /// Static methods, class methods and those without a first parameter at a place have no instance.
 #[test]
 fn methods_without_an_instance(rt: HostRuntime) -> Result<(), Fail> {
     for head in NO_INSTANCES {
-        let body = format!(in rt.alloc(); "{head}:\n    self.a = 1\n")?;
-        assert_eq!(rt;
-            attributes_of(rt.alloc(), body.as_str())?.as_str(),
-            "",
-            "{head}"
-        );
+        assert_eq!(rt; attributes_under(rt.alloc(), head)?.as_str(), "", "{head}");
     }
     Ok(())
 }

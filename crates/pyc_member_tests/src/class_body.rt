@@ -12,6 +12,12 @@ fn body_of(alloc: Global, body: &str) -> Result<ClassBody, Fail> {
     Ok(ClassBody::read(alloc, &module.statements)?)
 }
 
+/// How many names the class statement with this body binds, and how many attributes it gives its instances.
+fn counts(alloc: Global, body: &str) -> Result<(usize, usize), Fail> {
+    let body = body_of(alloc, body)?;
+    Ok((body.bindings.len(), body.attributes.len()))
+}
+
 /// What decides of a name: a word for it, and its line.
 fn shown(alloc: Global, found: Option<OwnMember<'_>>) -> Result<String, Fail> {
     match found {
@@ -29,6 +35,24 @@ fn shown(alloc: Global, found: Option<OwnMember<'_>>) -> Result<String, Fail> {
         }
         None => Ok(String::from_str(alloc, "none")?),
     }
+}
+
+/// What decides of a name in the class statement with this body.
+fn own(alloc: Global, body: &str, name: &str) -> Result<String, Fail> {
+    let body = body_of(alloc, body)?;
+    shown(alloc, body.own_member(&Text::new(alloc, name)?))
+}
+
+/// What decides of a name in this body of what is bound or annotated.
+fn declared(alloc: Global, body: &str, name: &str) -> Result<String, Fail> {
+    let body = body_of(alloc, body)?;
+    shown(alloc, body.in_body_or_annotated(&Text::new(alloc, name)?))
+}
+
+/// What decides of a name in this body of what is assigned through the instance.
+fn assigned(alloc: Global, body: &str, name: &str) -> Result<String, Fail> {
+    let body = body_of(alloc, body)?;
+    shown(alloc, body.assigned_through_self(&Text::new(alloc, name)?))
 }
 
 /// Names that are bound in the body, annotated through the instance, assigned through it, and more than one of these.
@@ -62,17 +86,13 @@ const DECIDED: &[(&str, &str, &str, &str)] = &[
 #[test]
 fn what_decides_of_a_name(rt: HostRuntime) -> Result<(), Fail> {
     let a = rt.alloc();
-    let body = body_of(a, BODY)?;
-    assert_eq!(rt; body.bindings.len(), 5);
-    assert_eq!(rt; body.attributes.len(), 9);
-    for (name, own, declared, assigned) in DECIDED {
-        let text = Text::new(a, name)?;
-        let found = shown(a, body.own_member(&text))?;
-        assert_eq!(rt; found.as_str(), *own, "{name}");
-        let found = shown(a, body.in_body_or_annotated(&text))?;
-        assert_eq!(rt; found.as_str(), *declared, "{name}");
-        let found = shown(a, body.assigned_through_self(&text))?;
-        assert_eq!(rt; found.as_str(), *assigned, "{name}");
+    let (bound, given) = counts(a, BODY)?;
+    assert_eq!(rt; bound, 5);
+    assert_eq!(rt; given, 9);
+    for (name, by_all, by_declared, by_assigned) in DECIDED {
+        assert_eq!(rt; own(a, BODY, name)?.as_str(), *by_all, "{name}");
+        assert_eq!(rt; declared(a, BODY, name)?.as_str(), *by_declared, "{name}");
+        assert_eq!(rt; assigned(a, BODY, name)?.as_str(), *by_assigned, "{name}");
     }
     Ok(())
 }
@@ -111,13 +131,17 @@ const PROPERTIES: &[(&str, bool)] = &[
     ),
 ];
 
+/// Whether `p` is a settable property in the class statement with this body.
+fn is_settable(alloc: Global, body: &str) -> Result<bool, Fail> {
+    let body = body_of(alloc, body)?;
+    Ok(body.is_settable(&Text::new(alloc, "p")?))
+}
+
 /// A property is settable where a setter is bound to its name, whatever stands before `.setter`.
 #[test]
 fn settable_properties(rt: HostRuntime) -> Result<(), Fail> {
     for (body, want) in PROPERTIES {
-        let found = body_of(rt.alloc(), body)?;
-        let name = Text::new(rt.alloc(), "p")?;
-        assert_eq!(rt; found.is_settable(&name), *want, "{body}");
+        assert_eq!(rt; is_settable(rt.alloc(), body)?, *want, "{body}");
     }
     Ok(())
 }

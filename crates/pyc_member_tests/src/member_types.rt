@@ -184,16 +184,21 @@ const ATTRIBUTES: &[(&str, &str)] = &[
     ("self.x += 1", "absent"),
 ];
 
+/// The member `x` that these statements of a method give.
+fn attribute_by(alloc: Global, statements: &str) -> Result<String, Fail> {
+    let body = format!(in alloc;
+        "    def f(self, p: int, q: 'D | None', r, *args: int, k: int):\n        {statements}"
+    )?;
+    member_in(alloc, body.as_str(), "x")
+}
+
 /// An attribute through the instance has the type of its annotation, of a literal, or of the annotated plain parameter
 /// that it is assigned.
 #[test]
 fn attributes_through_the_instance(rt: HostRuntime) -> Result<(), Fail> {
     for (statements, want) in ATTRIBUTES {
-        let body = format!(in rt.alloc();
-            "    def f(self, p: int, q: 'D | None', r, *args: int, k: int):\n        {statements}"
-        )?;
         assert_eq!(rt;
-            member_in(rt.alloc(), body.as_str(), "x")?.as_str(),
+            attribute_by(rt.alloc(), statements)?.as_str(),
             *want,
             "{statements}"
         );

@@ -243,6 +243,12 @@ fn columns(form: &TypeExpr) -> (u32, u32) {
     }
 }
 
+/// The columns at which the name of an annotation begins.
+fn columns_of(alloc: Global, annotation: &str) -> Result<(u32, u32), Fail> {
+    let found = annotated(alloc, annotation)?;
+    Ok(columns(&type_expr(alloc, &found.annotation)?))
+}
+
 /// Annotations, with the columns of their names.
 const PLACES: &[(&str, u32, u32)] = &[
     ("a.b", 4, 4),
@@ -256,11 +262,22 @@ const PLACES: &[(&str, u32, u32)] = &[
 #[test]
 fn names_have_their_places(rt: HostRuntime) -> Result<(), Fail> {
     for (annotation, outside, inside) in PLACES {
-        let found = annotated(rt.alloc(), annotation)?;
-        let form = type_expr(rt.alloc(), &found.annotation)?;
-        assert!(rt; columns(&form) == (*outside, *inside), "{annotation}");
+        let found = columns_of(rt.alloc(), annotation)?;
+        assert!(rt; found == (*outside, *inside), "{annotation}");
     }
     Ok(())
+}
+
+/// The dotted names of an annotation.
+fn own_names(alloc: Global, annotation: &str) -> Result<String, Fail> {
+    let found = annotated(alloc, annotation)?;
+    names_shown(alloc, dotted_names(alloc, &found.annotation)?)
+}
+
+/// The dotted names of what is subscripted in an annotation.
+fn names_below(alloc: Global, annotation: &str) -> Result<String, Fail> {
+    let found = annotated(alloc, annotation)?;
+    names_shown(alloc, dotted_names(alloc, innermost(&found.annotation))?)
 }
 
 /// Annotations, each with its dotted names, and with those of what is subscripted in it.
@@ -280,15 +297,10 @@ const DOTTED: &[(&str, &str, &str)] = &[
 #[test]
 fn dotted_names_and_what_is_subscripted(rt: HostRuntime) -> Result<(), Fail> {
     for (annotation, names, under) in DOTTED {
-        let found = annotated(rt.alloc(), annotation)?;
-        let own = names_shown(rt.alloc(), dotted_names(rt.alloc(), &found.annotation)?)?;
+        let own = own_names(rt.alloc(), annotation)?;
         assert_eq!(rt; own.as_str(), *names, "{annotation}");
-        let below = dotted_names(rt.alloc(), innermost(&found.annotation))?;
-        assert_eq!(rt;
-            names_shown(rt.alloc(), below)?.as_str(),
-            *under,
-            "{annotation}"
-        );
+        let below = names_below(rt.alloc(), annotation)?;
+        assert_eq!(rt; below.as_str(), *under, "{annotation}");
     }
     Ok(())
 }
