@@ -49,20 +49,23 @@ const ERROR: &str =
 
 const UNREADABLE: &str = "dmypy: b.py: refused 10 unreadable\n";
 
+// Names of files, with what is printed, what is told, and the status.
+const TEXTS: &[(&str, &str, &str, u8)] = &[
+    (
+        "b.py",
+        "Success: no issues found in 0 source files\n",
+        UNREADABLE,
+        2,
+    ),
+    ("a.py", ERROR, "", 1),
+    ("a.py a.py", ERROR, "", 1),
+    ("b.py a.py", ERROR, UNREADABLE, 2),
+    ("../a.py a.py", ERROR, "dmypy: ../a.py: refused 2 path\n", 2),
+];
+
 #[test]
 fn texts_and_statuses(rt: HostRuntime) -> Result<(), Fail> {
-    for (line, printed, told, expected) in &[
-        (
-            "b.py",
-            "Success: no issues found in 0 source files\n",
-            UNREADABLE,
-            2,
-        ),
-        ("a.py", ERROR, "", 1),
-        ("a.py a.py", ERROR, "", 1),
-        ("b.py a.py", ERROR, UNREADABLE, 2),
-        ("../a.py a.py", ERROR, "dmypy: ../a.py: refused 2 path\n", 2),
-    ] {
+    for (line, printed, told, expected) in TEXTS {
         let mut out = Vec::new(rt.alloc());
         let mut err = Vec::new(rt.alloc());
         let status = status(rt.alloc(), line, &mut out, &mut err)?;
@@ -73,25 +76,32 @@ fn texts_and_statuses(rt: HostRuntime) -> Result<(), Fail> {
     Ok(())
 }
 
+// The status of a check of a file where nothing can be written.
+fn status_without_room(alloc: Global, file: &str) -> Result<u8, AllocError> {
+    let mut files = Vec::new(alloc);
+    files.push(String::from_str(alloc, file)?)?;
+    let mut sources = source(alloc)?;
+    let mut full: [u8; 0] = [];
+    let mut full_err: [u8; 0] = [];
+    let mut out = Counted::new(&mut full[..]);
+    let mut err = Counted::new(&mut full_err[..]);
+    Ok(check_files(
+        alloc,
+        &mut sources,
+        &mut out,
+        &mut err,
+        &OPTIONS,
+        files.as_slice(),
+    ))
+}
+
+// A file of the source, and one that is not there.
+const FILES: &[&str] = &["a.py", "b.py"];
+
 #[test]
 fn failing_writes(rt: HostRuntime) -> Result<(), Fail> {
-    for line in &["a.py", "b.py"] {
-        let mut files = Vec::new(rt.alloc());
-        files.push(String::from_str(rt.alloc(), line)?)?;
-        let mut sources = source(rt.alloc())?;
-        let mut full: [u8; 0] = [];
-        let mut full_err: [u8; 0] = [];
-        let mut out = Counted::new(&mut full[..]);
-        let mut err = Counted::new(&mut full_err[..]);
-        let status = check_files(
-            rt.alloc(),
-            &mut sources,
-            &mut out,
-            &mut err,
-            &OPTIONS,
-            files.as_slice(),
-        );
-        assert_eq!(rt; status, 2, "at {line}");
+    for file in FILES {
+        assert_eq!(rt; status_without_room(rt.alloc(), file)?, 2, "at {file}");
     }
     Ok(())
 }

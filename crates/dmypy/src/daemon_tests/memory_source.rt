@@ -10,13 +10,25 @@ fn file(alloc: Global, path: &str, bytes: &[u8]) -> Result<(String, Vec<u8>), Al
     Ok((String::from_str(alloc, path)?, copy))
 }
 
+// A source with these files.
+fn source_of(alloc: Global, rows: &[(&str, &[u8])]) -> Result<MemorySource, AllocError> {
+    let mut files = Vec::new(alloc);
+    for (path, bytes) in rows {
+        files.push(file(alloc, path, bytes)?)?;
+    }
+    Ok(MemorySource::new(files))
+}
+
+// Files, of which two have one path.
+const FILES: &[(&str, &[u8])] = &[
+    ("a.py", b"x: int = 1\n"),
+    ("b.py", b""),
+    ("b.py", b"y = 2\n"),
+];
+
 #[test]
 fn first_file_of_a_path_serves(rt: HostRuntime) -> Result<(), Fail> {
-    let mut files = Vec::new(rt.alloc());
-    files.push(file(rt.alloc(), "a.py", b"x: int = 1\n")?)?;
-    files.push(file(rt.alloc(), "b.py", b"")?)?;
-    files.push(file(rt.alloc(), "b.py", b"y = 2\n")?)?;
-    let mut sources = MemorySource::new(files);
+    let mut sources = source_of(rt.alloc(), FILES)?;
     assert_eq!(rt;
         sources.fetch(rt.alloc(), "a.py")?.as_slice(),
         b"x: int = 1\n".as_slice()
@@ -26,11 +38,16 @@ fn first_file_of_a_path_serves(rt: HostRuntime) -> Result<(), Fail> {
     Ok(())
 }
 
+// A file.
+const ONE: &[(&str, &[u8])] = &[("a.py", b"x = 1\n")];
+
+// Paths at which no file is.
+const MISSING: &[&str] = &["z.py", "a.p", "a.py.", ""];
+
 #[test]
 fn missing_files_are_counted(rt: HostRuntime) -> Result<(), Fail> {
-    let files = vec![in rt.alloc(); file(rt.alloc(), "a.py", b"x = 1\n")?]?;
-    let mut sources = MemorySource::new(files);
-    for path in &["z.py", "a.p", "a.py.", ""] {
+    let mut sources = source_of(rt.alloc(), ONE)?;
+    for path in MISSING {
         assert_eq!(rt;
             sources.fetch(rt.alloc(), path).err(),
             Some(FetchFault::Unreadable),

@@ -4,6 +4,7 @@ use pyc_ast::Outcome;
 use pyc_names::ModuleName;
 use pyc_workspace::{File, Workspace};
 use std::alloc::{AllocError, Global};
+use std::process::Abort;
 use std::test::Fail;
 
 fn file_of(alloc: Global, path: &str, text: &str) -> Result<File, AllocError> {
@@ -21,9 +22,12 @@ fn listed(alloc: Global, workspace: &Workspace) -> Result<String, AllocError> {
     Ok(paths)
 }
 
+// The paths of three files, out of order.
+const PATHS: &[&str] = &["b.py", "a.py", "c.py"];
+
 fn three_files(alloc: Global) -> Result<Workspace, AllocError> {
     let mut workspace = Workspace::new(alloc);
-    for path in &["b.py", "a.py", "c.py"] {
+    for path in PATHS {
         workspace.put(file_of(alloc, path, "x: int = 1\n")?)?;
     }
     Ok(workspace)
@@ -33,13 +37,18 @@ fn has_fault(file: &File) -> bool {
     matches!(file.source().outcome(), Outcome::Fault(_))
 }
 
+// Takes a file out, and asserts that it is no longer there.
+fn assert_taken(rt: &impl Abort, workspace: &mut Workspace) {
+    assert!(rt; workspace.take(b"b.py"));
+    assert!(rt; !workspace.take(b"b.py"));
+    assert!(rt; !workspace.contains(b"b.py"));
+}
+
 #[test]
 fn keeps_files_in_order(rt: HostRuntime) -> Result<(), Fail> {
     let mut workspace = three_files(rt.alloc())?;
     assert_eq!(rt; listed(rt.alloc(), &workspace)?.as_str(), "a.py b.py c.py ");
-    assert!(rt; workspace.take(b"b.py"));
-    assert!(rt; !workspace.take(b"b.py"));
-    assert!(rt; !workspace.contains(b"b.py"));
+    assert_taken(&rt, &mut workspace);
     assert_eq!(rt; listed(rt.alloc(), &workspace)?.as_str(), "a.py c.py ");
     workspace.put(file_of(rt.alloc(), "b.py", "")?)?;
     assert!(rt; workspace.contains(b"b.py"));

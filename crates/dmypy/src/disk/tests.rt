@@ -36,10 +36,13 @@ fn what_was_written_is_fetched(rt: HostRuntime) -> Result<(), Fail> {
     Ok(())
 }
 
+// Folders, devices, files that are not there, and what is no path.
+const UNREADABLE: &[&str] = &[".", "/dev/null", "no_such_folder/a.py", "", "a\0.py"];
+
 #[test]
 fn folders_devices_and_missing_files_are_counted(rt: HostRuntime) -> Result<(), Fail> {
     let mut disk = Disk::new(&rt);
-    for path in &[".", "/dev/null", "no_such_folder/a.py", "", "a\0.py"] {
+    for path in UNREADABLE {
         assert_eq!(rt;
             disk.fetch(rt.alloc(), path).err(),
             Some(FetchFault::Unreadable),

@@ -43,15 +43,18 @@ fn ended(alloc: Global, is_faulty: bool, turns: u64, replies: &mut [u8], told: &
     )
 }
 
+// Whether the input fails, and how often it may be read, with the status and what is told.
+const FAULTS: &[(bool, u64, u8, &str)] = &[
+    (false, 9, 0, ""),
+    (true, 9, 2, "dmypy: the input cannot be read\n"),
+    (false, 0, 2, "dmypy: the input does not end\n"),
+];
+
 #[test]
 fn faults_are_told(rt: HostRuntime) -> Result<(), Fail> {
     let mut room = [0_u8; 8];
     let mut none: [u8; 0] = [];
-    for (is_faulty, turns, expected, text) in &[
-        (false, 9, 0, ""),
-        (true, 9, 2, "dmypy: the input cannot be read\n"),
-        (false, 0, 2, "dmypy: the input does not end\n"),
-    ] {
+    for (is_faulty, turns, expected, text) in FAULTS {
         let mut told = Vec::new(rt.alloc());
         let status = ended(rt.alloc(), *is_faulty, *turns, &mut room, &mut told);
         assert_eq!(rt; status, *expected, "at {text:?}");
@@ -67,17 +70,20 @@ fn faults_are_told(rt: HostRuntime) -> Result<(), Fail> {
     Ok(())
 }
 
+// Answers of a session, with their statuses.
+const STATUSES: &[(Result<End, RunFault>, u8)] = &[
+    (Ok(End::Stopped), 0),
+    (Ok(End::EndOfInput), 0),
+    (Ok(End::Broken), 2),
+    (Err(RunFault::Read), 2),
+    (Err(RunFault::Write), 2),
+    (Err(RunFault::TooManyTurns), 2),
+    (Err(RunFault::Memory), 2),
+];
+
 #[test]
 fn statuses(rt: HostRuntime) {
-    for (answer, status) in &[
-        (Ok(End::Stopped), 0),
-        (Ok(End::EndOfInput), 0),
-        (Ok(End::Broken), 2),
-        (Err(RunFault::Read), 2),
-        (Err(RunFault::Write), 2),
-        (Err(RunFault::TooManyTurns), 2),
-        (Err(RunFault::Memory), 2),
-    ] {
+    for (answer, status) in STATUSES {
         assert_eq!(rt; session_status(answer), *status);
     }
 }

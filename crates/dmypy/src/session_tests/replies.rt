@@ -2,6 +2,8 @@
 
 use super::fakes::{NEVER, OPTIONS, ShortReads, Sink, Stop, session};
 use pyc_daemon::{Daemon, End, Refusal, RunFault, Status};
+use std::alloc::Global;
+use std::process::Abort;
 use std::test::Fail;
 
 // One file with an error, and its replies.
@@ -10,17 +12,29 @@ const ONE_ERROR: &str = "add a.py 13\nx: int = \"a\"\ncheck\nstop\n";
 const ONE_ERROR_REPLIES: &str =
     "ok\na.py:1: error: Incompatible types in assignment (expression has type \"str\", variable has type \"int\")  [assignment]\nFound 1 error in 1 file (checked 1 source file)\nstatus 1\nok\n";
 
+// The answer of a session over a reader, with at most so many reads, and what it writes.
+fn replied(alloc: Global, reader: ShortReads<'_>, turns: u64) -> (Result<End, RunFault>, Vec<u8>) {
+    let mut kept = Vec::new(alloc);
+    let answer = session(alloc, reader, Sink::new(&mut kept), turns);
+    (answer, kept)
+}
+
+// Inputs, with the replies to them and how the session ends.
+const ENDS: &[(&str, &str, End)] = &[
+    (ONE_ERROR, ONE_ERROR_REPLIES, End::Stopped),
+    ("", "", End::EndOfInput),
+    ("add a.py 10\nx=1\n", "refused 8 truncated\n", End::Broken),
+];
+
+// The most bytes of a read.
+const MOST: &[usize] = &[NEVER, 1, 2, 3];
+
 #[test]
 fn ends_of_a_session(rt: HostRuntime) -> Result<(), Fail> {
-    for (input, replies, end) in &[
-        (ONE_ERROR, ONE_ERROR_REPLIES, End::Stopped),
-        ("", "", End::EndOfInput),
-        ("add a.py 10\nx=1\n", "refused 8 truncated\n", End::Broken),
-    ] {
-        for most in &[NEVER, 1, 2, 3] {
-            let mut kept = Vec::new(rt.alloc());
+    for (input, replies, end) in ENDS {
+        for most in MOST {
             let reader = ShortReads::new(input.as_bytes(), *most);
-            let answer = session(rt.alloc(), reader, Sink::new(&mut kept), OPTIONS.turns);
+            let (answer, kept) = replied(rt.alloc(), reader, OPTIONS.turns);
             assert_eq!(rt;
                 kept.as_slice(),
                 replies.as_bytes(),
@@ -43,12 +57,11 @@ const CHECK_END: usize = 31;
 #[test]
 fn a_reader_that_fails_at_each_call(rt: HostRuntime) -> Result<(), Fail> {
     for call in 0..12 {
-        let mut kept = Vec::new(rt.alloc());
         let reader = ShortReads {
             faulty: call,
             ..ShortReads::new(ONE_ERROR.as_bytes(), 3)
         };
-        let answer = session(rt.alloc(), reader, Sink::new(&mut kept), 1_000_000);
+        let (answer, kept) = replied(rt.alloc(), reader, 1_000_000);
         let read = 3 * call;
         let written = if read < ADD_END {
             0
@@ -67,23 +80,28 @@ fn a_reader_that_fails_at_each_call(rt: HostRuntime) -> Result<(), Fail> {
     Ok(())
 }
 
+// The answer of that session over a writer that stops after so many bytes, and what it writes.
+fn stopped(alloc: Global, room: usize, stop: Stop) -> (Result<End, RunFault>, Vec<u8>) {
+    let mut kept = Vec::new(alloc);
+    let writer = Sink {
+        kept: &mut kept,
+        most: 1,
+        room,
+        stop,
+    };
+    let reader = ShortReads::new(ONE_ERROR.as_bytes(), NEVER);
+    let answer = session(alloc, reader, writer, 1_000_000);
+    (answer, kept)
+}
+
+// How a writer stops.
+const STOPS: &[Stop] = &[Stop::Fault, Stop::Zero];
+
 #[test]
 fn a_writer_that_stops_at_each_byte(rt: HostRuntime) -> Result<(), Fail> {
     for room in 0..ONE_ERROR_REPLIES.len() {
-        for stop in &[Stop::Fault, Stop::Zero] {
-            let mut kept = Vec::new(rt.alloc());
-            let writer = Sink {
-                kept: &mut kept,
-                most: 1,
-                room,
-                stop: *stop,
-            };
-            let answer = session(
-                rt.alloc(),
-                ShortReads::new(ONE_ERROR.as_bytes(), NEVER),
-                writer,
-                1_000_000,
-            );
+        for stop in STOPS {
+            let (answer, kept) = stopped(rt.alloc(), room, *stop);
             assert!(rt; answer == Err(RunFault::Write), "after {room} bytes");
             assert_eq!(rt;
                 kept.as_slice(),
@@ -95,42 +113,71 @@ fn a_writer_that_stops_at_each_byte(rt: HostRuntime) -> Result<(), Fail> {
     Ok(())
 }
 
+const TWO_CHECKS_REPLIES: &str =
+    "Success: no issues found in 0 source files\nstatus 0\nSuccess: no issues found in 0 source files\nstatus 0\n";
+
+// How many reads there may be, with the answer of a session that has two checks.
+const TURNS: &[(u64, Result<End, RunFault>)] = &[
+    (4, Err(RunFault::TooManyTurns)),
+    (5, Ok(End::EndOfInput)),
+];
+
 #[test]
 fn as_many_reads_as_there_may_be(rt: HostRuntime) -> Result<(), Fail> {
-    let replies =
-        b"Success: no issues found in 0 source files\nstatus 0\nSuccess: no issues found in 0 source files\nstatus 0\n";
-    for (turns, end) in &[(4, Err(RunFault::TooManyTurns)), (5, Ok(End::EndOfInput))] {
-        let mut kept = Vec::new(rt.alloc());
-        let answer = session(
-            rt.alloc(),
-            ShortReads::new(b"check\ncheck\n", 3),
-            Sink::new(&mut kept),
-            *turns,
-        );
+    for (turns, end) in TURNS {
+        let reader = ShortReads::new(b"check\ncheck\n", 3);
+        let (answer, kept) = replied(rt.alloc(), reader, *turns);
         assert!(rt; answer == *end, "{turns} reads");
-        assert_eq!(rt; kept.as_slice(), replies.as_slice(), "{turns} reads");
+        assert_eq!(rt;
+            kept.as_slice(),
+            TWO_CHECKS_REPLIES.as_bytes(),
+            "{turns} reads"
+        );
     }
     Ok(())
 }
 
-#[test]
-fn calls_on_a_daemon(rt: HostRuntime) -> Result<(), Fail> {
-    let mut daemon = Daemon::new(rt.alloc(), OPTIONS);
-    let bytes = Vec::from_slice(rt.alloc(), b"x: int = \"a\"\n")?;
+// Adds a file with one error, and asserts what a daemon answers.
+fn assert_additions(rt: &impl Abort, alloc: Global, daemon: &mut Daemon) -> Result<(), Fail> {
+    let bytes = Vec::from_slice(alloc, b"x: int = \"a\"\n")?;
     assert!(rt; daemon.add(b"a.py", bytes).is_ok());
-    assert!(rt; daemon.add(b"a.py", Vec::new(rt.alloc())) == Err(Refusal::Present));
-    assert!(rt; daemon.add(b"b", Vec::new(rt.alloc())) == Err(Refusal::Path));
+    assert!(rt; daemon.add(b"a.py", Vec::new(alloc)) == Err(Refusal::Present));
+    assert!(rt; daemon.add(b"b", Vec::new(alloc)) == Err(Refusal::Path));
+    Ok(())
+}
+
+// Asserts that the report of a daemon with that file has its error.
+fn assert_one_error(rt: &impl Abort, daemon: &mut Daemon) -> Result<(), Fail> {
     let report = daemon.check()?;
     assert!(rt; !report.clean);
     assert_eq!(rt;
         report.text.as_bytes(),
         &ONE_ERROR_REPLIES.as_bytes()[3..ONE_ERROR_REPLIES.len() - 12]
     );
-    assert!(rt; daemon.change(b"b.py", Vec::new(rt.alloc())) == Err(Refusal::Absent));
-    assert!(rt; daemon.change(b"a.py", Vec::new(rt.alloc())).is_ok());
+    Ok(())
+}
+
+// Empties that file, and asserts what a daemon answers.
+fn assert_changes(rt: &impl Abort, alloc: Global, daemon: &mut Daemon) -> Result<(), Fail> {
+    assert!(rt; daemon.change(b"b.py", Vec::new(alloc)) == Err(Refusal::Absent));
+    assert!(rt; daemon.change(b"a.py", Vec::new(alloc)).is_ok());
     assert!(rt; daemon.check()?.clean);
+    Ok(())
+}
+
+// Removes that file, and asserts what a daemon answers.
+fn assert_removals(rt: &impl Abort, daemon: &mut Daemon) {
     assert!(rt; daemon.remove(b"a.py").is_ok());
     assert!(rt; daemon.remove(b"a.py") == Err(Refusal::Absent));
+}
+
+#[test]
+fn calls_on_a_daemon(rt: HostRuntime) -> Result<(), Fail> {
+    let mut daemon = Daemon::new(rt.alloc(), OPTIONS);
+    assert_additions(&rt, rt.alloc(), &mut daemon)?;
+    assert_one_error(&rt, &mut daemon)?;
+    assert_changes(&rt, rt.alloc(), &mut daemon)?;
+    assert_removals(&rt, &mut daemon);
     let seen = Status {
         files: 1,
         bodies: 2,

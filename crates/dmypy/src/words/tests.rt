@@ -20,18 +20,21 @@ fn is_refused(alloc: Global, line: &str, part: &str) -> Result<bool, AllocError>
     })
 }
 
+// Lines that ask for a session, with its options.
+const SESSIONS: &[(&str, bool, bool)] = &[
+    ("dmypy session", false, false),
+    ("dmypy session --ignore-missing-imports", true, false),
+    ("dmypy session --check-untyped-defs", false, true),
+    (
+        "dmypy session --check-untyped-defs --ignore-missing-imports",
+        true,
+        true,
+    ),
+];
+
 #[test]
 fn sessions_with_their_options(rt: HostRuntime) -> Result<(), Fail> {
-    for (line, ignore_missing, check_untyped) in &[
-        ("dmypy session", false, false),
-        ("dmypy session --ignore-missing-imports", true, false),
-        ("dmypy session --check-untyped-defs", false, true),
-        (
-            "dmypy session --check-untyped-defs --ignore-missing-imports",
-            true,
-            true,
-        ),
-    ] {
+    for (line, ignore_missing, check_untyped) in SESSIONS {
         let options = Options {
             ignore_missing: *ignore_missing,
             check_untyped: *check_untyped,
@@ -43,59 +46,71 @@ fn sessions_with_their_options(rt: HostRuntime) -> Result<(), Fail> {
     Ok(())
 }
 
+// Lines that ask for a check, with whether missing imports are left out and the files.
+const CHECKS: &[(&str, bool, &str)] = &[
+    ("dmypy check a.py", false, "a.py"),
+    ("dmypy check a.py b/c.py a.py", false, "a.py b/c.py a.py"),
+    ("dmypy check --ignore-missing-imports a.py", true, "a.py"),
+    ("dmypy check a.py --ignore-missing-imports", true, "a.py"),
+    ("dmypy check -- -a.py", false, "-a.py"),
+];
+
+// A check of the files whose names this line has.
+fn check_of(alloc: Global, ignore_missing: bool, names: &str) -> Result<Job, AllocError> {
+    let options = Options {
+        ignore_missing,
+        check_untyped: false,
+        turns: 1_000_000_000,
+    };
+    let mut files = Vec::new(alloc);
+    for name in names.split_ascii_whitespace() {
+        files.push(String::from_str(alloc, name)?)?;
+    }
+    Ok(Job::Check(options, files))
+}
+
 #[test]
 fn checks_with_their_files(rt: HostRuntime) -> Result<(), Fail> {
-    for (line, ignore_missing, names) in &[
-        ("dmypy check a.py", false, "a.py"),
-        ("dmypy check a.py b/c.py a.py", false, "a.py b/c.py a.py"),
-        ("dmypy check --ignore-missing-imports a.py", true, "a.py"),
-        ("dmypy check a.py --ignore-missing-imports", true, "a.py"),
-        ("dmypy check -- -a.py", false, "-a.py"),
-    ] {
-        let options = Options {
-            ignore_missing: *ignore_missing,
-            check_untyped: false,
-            turns: 1_000_000_000,
-        };
-        let mut files = Vec::new(rt.alloc());
-        for name in names.split_ascii_whitespace() {
-            files.push(String::from_str(rt.alloc(), name)?)?;
-        }
+    for (line, ignore_missing, names) in CHECKS {
+        let want = check_of(rt.alloc(), *ignore_missing, names)?;
         let job = read_line(rt.alloc(), line)?.expect(&rt, line);
-        assert_eq!(rt; job, Job::Check(options, files), "at {line}");
+        assert_eq!(rt; job, want, "at {line}");
     }
     Ok(())
 }
 
+// Lines that ask for nothing, with a part of what is told of each.
+const NO_JOBS: &[(&str, &str)] = &[
+    ("", "Usage: dmypy <COMMAND>"),
+    ("dmypy", "Usage: dmypy <COMMAND>"),
+    ("dmypy watch", "unrecognized subcommand 'watch'"),
+    ("dmypy session --strict", "unexpected argument '--strict'"),
+    ("dmypy session a.py", "unexpected argument 'a.py'"),
+    ("dmypy check", "<FILE>..."),
+    (
+        "dmypy check --strict a.py",
+        "unexpected argument '--strict'",
+    ),
+    ("dmypy --help", "Usage: dmypy <COMMAND>"),
+    ("dmypy session --help", "--ignore-missing-imports"),
+    ("dmypy --help", "Checks annotated Python files"),
+    ("dmypy --help", "Answers the commands on standard input"),
+    ("dmypy --help", "Checks files once"),
+    ("dmypy session --help", "--check-untyped-defs"),
+    (
+        "dmypy session --help",
+        "Leaves out errors about imports that are not found",
+    ),
+    (
+        "dmypy check --help",
+        "Checks the bodies of functions without annotations",
+    ),
+    ("dmypy check --help", "The paths of the files"),
+];
+
 #[test]
 fn words_that_are_no_job(rt: HostRuntime) -> Result<(), Fail> {
-    for (line, part) in &[
-        ("", "Usage: dmypy <COMMAND>"),
-        ("dmypy", "Usage: dmypy <COMMAND>"),
-        ("dmypy watch", "unrecognized subcommand 'watch'"),
-        ("dmypy session --strict", "unexpected argument '--strict'"),
-        ("dmypy session a.py", "unexpected argument 'a.py'"),
-        ("dmypy check", "<FILE>..."),
-        (
-            "dmypy check --strict a.py",
-            "unexpected argument '--strict'",
-        ),
-        ("dmypy --help", "Usage: dmypy <COMMAND>"),
-        ("dmypy session --help", "--ignore-missing-imports"),
-        ("dmypy --help", "Checks annotated Python files"),
-        ("dmypy --help", "Answers the commands on standard input"),
-        ("dmypy --help", "Checks files once"),
-        ("dmypy session --help", "--check-untyped-defs"),
-        (
-            "dmypy session --help",
-            "Leaves out errors about imports that are not found",
-        ),
-        (
-            "dmypy check --help",
-            "Checks the bodies of functions without annotations",
-        ),
-        ("dmypy check --help", "The paths of the files"),
-    ] {
+    for (line, part) in NO_JOBS {
         assert!(rt; is_refused(rt.alloc(), line, part)?, "at {line}");
     }
     Ok(())
