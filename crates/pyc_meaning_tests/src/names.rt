@@ -27,13 +27,25 @@ fn shown(alloc: Global, found: &Referent) -> Result<String, Fail> {
 }
 
 /// What a name of a module stands for in these files.
-fn followed(table: &Table, alloc: Global, home: &str, name: &str) -> Result<String, Fail> {
+fn followed(
+    alloc: Global,
+    sources: &[(&str, &str)],
+    home: &str,
+    name: &str,
+) -> Result<String, Fail> {
+    let table = Table::build(alloc, &files_of(alloc, sources)?)?;
     let found = table.follow(alloc, &name_of(alloc, home, name)?)?;
     shown(alloc, &found)
 }
 
+/// Whether a name of a module is on a ring in these files.
+fn on_ring(alloc: Global, sources: &[(&str, &str)], home: &str, name: &str) -> Result<bool, Fail> {
+    let table = Table::build(alloc, &files_of(alloc, sources)?)?;
+    Ok(table.is_on_ring(alloc, &name_of(alloc, home, name)?)?)
+}
+
 /// Three files in a ring, one that leads into it, and one that leads away from all.
-const RING: [(&str, &str); 5] = [
+const RING: &[(&str, &str)] = &[
     ("a.py", "from b import x\n"),
     ("b.py", "from c import y as x\n"),
     ("c.py", "from a import x as y\n"),
@@ -54,12 +66,11 @@ const RING_NAMES: &[(&str, &str, bool, &str)] = &[
 #[test]
 fn rings_are_cycles(rt: HostRuntime) -> Result<(), Fail> {
     let a = rt.alloc();
-    let table = Table::build(a, &files_of(a, &RING)?)?;
     for (home, name, is_on_ring, found) in RING_NAMES {
-        let q = name_of(a, home, name)?;
-        assert_eq!(rt; table.is_on_ring(a, &q)?, *is_on_ring, "{home}:{name}");
+        let found_on_ring = on_ring(a, RING, home, name)?;
+        assert_eq!(rt; found_on_ring, *is_on_ring, "{home}:{name}");
         assert_eq!(rt;
-            followed(&table, a, home, name)?.as_str(),
+            followed(a, RING, home, name)?.as_str(),
             *found,
             "{home}:{name}"
         );
@@ -68,7 +79,7 @@ fn rings_are_cycles(rt: HostRuntime) -> Result<(), Fail> {
 }
 
 /// Files in which imports end: at a declaration, at a name and a module that are not there, and at a file with a fault.
-const CHAINS: [(&str, &str); 5] = [
+const CHAINS: &[(&str, &str)] = &[
     ("a.py", "from b import x, y as z, w, q\nv: int = 1\n"),
     (
         "b.py",
@@ -94,10 +105,9 @@ const CHAIN_NAMES: &[(&str, &str, &str)] = &[
 #[test]
 fn chains_end(rt: HostRuntime) -> Result<(), Fail> {
     let a = rt.alloc();
-    let table = Table::build(a, &files_of(a, &CHAINS)?)?;
     for (home, name, found) in CHAIN_NAMES {
         assert_eq!(rt;
-            followed(&table, a, home, name)?.as_str(),
+            followed(a, CHAINS, home, name)?.as_str(),
             *found,
             "{home}:{name}"
         );
@@ -106,7 +116,7 @@ fn chains_end(rt: HostRuntime) -> Result<(), Fail> {
 }
 
 /// Files that import modules: `import p.q` binds `p`, and with `as` it binds the module itself.
-const MODULES: [(&str, &str); 4] = [
+const MODULES: &[(&str, &str)] = &[
     ("p/q.py", ""),
     ("first.py", "import p.q\n"),
     ("last.py", "import p.q as r\n"),
@@ -127,10 +137,9 @@ const MODULE_NAMES: &[(&str, &str, &str)] = &[
 #[test]
 fn imports_of_modules(rt: HostRuntime) -> Result<(), Fail> {
     let a = rt.alloc();
-    let table = Table::build(a, &files_of(a, &MODULES)?)?;
     for (home, name, found) in MODULE_NAMES {
         assert_eq!(rt;
-            followed(&table, a, home, name)?.as_str(),
+            followed(a, MODULES, home, name)?.as_str(),
             *found,
             "{home}:{name}"
         );
@@ -139,7 +148,7 @@ fn imports_of_modules(rt: HostRuntime) -> Result<(), Fail> {
 }
 
 /// Packages, of which `pkg` imports one of its submodules and binds the name of another.
-const PACKAGES: [(&str, &str); 5] = [
+const PACKAGES: &[(&str, &str)] = &[
     ("pkg/__init__.py", "from . import m\nn: int = 1\n"),
     ("pkg/m.py", ""),
     ("pkg/n.py", ""),
@@ -161,21 +170,19 @@ const PACKAGE_NAMES: &[(&str, &str, &str)] = &[
 #[test]
 fn submodules_of_packages(rt: HostRuntime) -> Result<(), Fail> {
     let a = rt.alloc();
-    let table = Table::build(a, &files_of(a, &PACKAGES)?)?;
     for (home, name, found) in PACKAGE_NAMES {
         assert_eq!(rt;
-            followed(&table, a, home, name)?.as_str(),
+            followed(a, PACKAGES, home, name)?.as_str(),
             *found,
             "{home}:{name}"
         );
     }
-    let own = name_of(a, "pkg", "m")?;
-    assert!(rt; !table.is_on_ring(a, &own)?);
+    assert!(rt; !on_ring(a, PACKAGES, "pkg", "m")?);
     Ok(())
 }
 
 /// A file in the place of a fixed module, whose names are not seen.
-const FIXED: [(&str, &str); 2] = [
+const FIXED: &[(&str, &str)] = &[
     ("typing.py", "own: int = 1\nfrom gone import Any\n"),
     (
         "a.py",
@@ -197,10 +204,9 @@ const FIXED_NAMES: &[(&str, &str, &str)] = &[
 #[test]
 fn fixed_modules_stand_first(rt: HostRuntime) -> Result<(), Fail> {
     let a = rt.alloc();
-    let table = Table::build(a, &files_of(a, &FIXED)?)?;
     for (home, name, found) in FIXED_NAMES {
         assert_eq!(rt;
-            followed(&table, a, home, name)?.as_str(),
+            followed(a, FIXED, home, name)?.as_str(),
             *found,
             "{home}:{name}"
         );

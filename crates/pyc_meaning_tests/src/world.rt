@@ -9,12 +9,30 @@ use pyc_types::{Builtin, show};
 use std::alloc::Global;
 use std::test::Fail;
 
-/// What a world answers to a key on presence.
-fn presence(world: &World, alloc: Global, key: &Key) -> Result<Presence, Fail> {
+/// What the world of these files answers to a key on presence.
+fn presence(alloc: Global, sources: &[(&str, &str)], key: &Key) -> Result<Presence, Fail> {
+    let world = World::build(alloc, &files_of(alloc, sources)?)?;
     match world.ask(alloc, key)? {
         Answer::Presence(found) => Ok(found),
         _ => Err("no presence".into()),
     }
+}
+
+/// Whether a module is there in these files.
+fn module_there(alloc: Global, sources: &[(&str, &str)], name: &str) -> Result<Presence, Fail> {
+    let key = Key::HasModule(module_of(alloc, name)?);
+    presence(alloc, sources, &key)
+}
+
+/// Whether a name of a module is there in these files.
+fn name_there(
+    alloc: Global,
+    sources: &[(&str, &str)],
+    home: &str,
+    name: &str,
+) -> Result<Presence, Fail> {
+    let key = Key::HasName(name_of(alloc, home, name)?);
+    presence(alloc, sources, &key)
 }
 
 /// What a world answers to a key on a name.
@@ -47,15 +65,21 @@ fn shown(alloc: Global, found: &NameAnswer) -> Result<String, Fail> {
     }
 }
 
-/// What a name of a module is in a world.
-fn name_shown(world: &World, alloc: Global, home: &str, name: &str) -> Result<String, Fail> {
+/// What a name of a module is in the world of these files.
+fn name_shown(
+    alloc: Global,
+    sources: &[(&str, &str)],
+    home: &str,
+    name: &str,
+) -> Result<String, Fail> {
+    let world = World::build(alloc, &files_of(alloc, sources)?)?;
     let key = Key::Name(name_of(alloc, home, name)?);
-    let found = answer(world, alloc, &key)?;
+    let found = answer(&world, alloc, &key)?;
     shown(alloc, &found)
 }
 
 /// A package without `__init__.py`, a file with a fault, and a ring that a third file leads into.
-const FILES: [(&str, &str); 5] = [
+const FILES: &[(&str, &str)] = &[
     ("p/q.py", "x: int = 1\n"),
     ("broken.py", "x: int = 1\ndef (\n"),
     (
@@ -80,12 +104,11 @@ const MODULES: &[(&str, Presence)] = &[
 #[test]
 fn modules_are_asked_for(rt: HostRuntime) -> Result<(), Fail> {
     let a = rt.alloc();
-    let world = World::build(a, &files_of(a, &FILES)?)?;
-    assert_eq!(rt; world.files().len(), 5);
     for (name, want) in MODULES {
-        let key = Key::HasModule(module_of(a, name)?);
-        assert_eq!(rt; presence(&world, a, &key)?, *want, "{name}");
+        assert_eq!(rt; module_there(a, FILES, name)?, *want, "{name}");
     }
+    let world = World::build(a, &files_of(a, FILES)?)?;
+    assert_eq!(rt; world.files().len(), 5);
     Ok(())
 }
 
@@ -109,23 +132,21 @@ const NAMES: &[(&str, &str, Presence)] = &[
 #[test]
 fn names_are_asked_for(rt: HostRuntime) -> Result<(), Fail> {
     let a = rt.alloc();
-    let world = World::build(a, &files_of(a, &FILES)?)?;
     for (home, name, want) in NAMES {
-        let key = Key::HasName(name_of(a, home, name)?);
-        assert_eq!(rt; presence(&world, a, &key)?, *want, "{home}:{name}");
+        assert_eq!(rt; name_there(a, FILES, home, name)?, *want, "{home}:{name}");
     }
     Ok(())
 }
 
 /// Declarations of each form; of what stands under `@known` nothing is known.
-const DECLARED: (&str, &str) = (
+const DECLARED: &[(&str, &str)] = &[(
     "d.py",
     "i: int = 1\nl: list = []\ns = 's'\nn = None\nt, u = 1, 2\ndef f(): ...\nclass C: ...\n\
      @known\ndef g(): ...\n@known\nclass D: ...\n\
      def h(a: int, b: 'C' = 1) -> C | None: ...\ndef k(*, key: int): ...\nasync def w(a: int): ...\n\
      from typing import Literal, Callable\nA: Literal = 1\nv: A\nc: Callable[[C], dict[str, C]]\n\
      o: type[C]\nb: f\n",
-);
+)];
 
 /// Declared names, with what they are.
 const DECLARED_NAMES: &[(&str, &str)] = &[
@@ -152,15 +173,18 @@ const DECLARED_NAMES: &[(&str, &str)] = &[
 #[test]
 fn names_are_declared(rt: HostRuntime) -> Result<(), Fail> {
     let a = rt.alloc();
-    let world = World::build(a, &files_of(a, &[DECLARED])?)?;
     for (name, want) in DECLARED_NAMES {
-        assert_eq!(rt; name_shown(&world, a, "d", name)?.as_str(), *want, "{name}");
+        assert_eq!(rt;
+            name_shown(a, DECLARED, "d", name)?.as_str(),
+            *want,
+            "{name}"
+        );
     }
     Ok(())
 }
 
 /// Imports of a declaration, a submodule, a name of a fixed module, and of what is not there.
-const IMPORTS: [(&str, &str); 5] = [
+const IMPORTS: &[(&str, &str)] = &[
     ("p/d.py", "i: int = 1\n"),
     ("a.py", "from p.d import i, j\nfrom p import d\nimport p\n"),
     (
@@ -191,10 +215,9 @@ const IMPORTED_NAMES: &[(&str, &str, &str)] = &[
 #[test]
 fn imported_names(rt: HostRuntime) -> Result<(), Fail> {
     let a = rt.alloc();
-    let world = World::build(a, &files_of(a, &IMPORTS)?)?;
     for (home, name, want) in IMPORTED_NAMES {
         assert_eq!(rt;
-            name_shown(&world, a, home, name)?.as_str(),
+            name_shown(a, IMPORTS, home, name)?.as_str(),
             *want,
             "{home}:{name}"
         );
@@ -202,17 +225,19 @@ fn imported_names(rt: HostRuntime) -> Result<(), Fail> {
     Ok(())
 }
 
+/// A file in the place of a fixed module.
+const OF_TYPING: &[(&str, &str)] = &[("typing.py", "def (\n")];
+
 /// A file `typing.py` is never asked.
 #[test]
 fn fixed_modules_are_asked_first(rt: HostRuntime) -> Result<(), Fail> {
     let a = rt.alloc();
-    let world = World::build(a, &files_of(a, &[("typing.py", "def (\n")])?)?;
-    let module_key = Key::HasModule(module_of(a, "typing")?);
-    assert_eq!(rt; presence(&world, a, &module_key)?, Presence::There);
-    let name_key = Key::HasName(name_of(a, "typing", "own")?);
-    assert_eq!(rt; presence(&world, a, &name_key)?, Presence::There);
+    let module = module_there(a, OF_TYPING, "typing")?;
+    assert_eq!(rt; module, Presence::There);
+    let name = name_there(a, OF_TYPING, "typing", "own")?;
+    assert_eq!(rt; name, Presence::There);
     assert_eq!(rt;
-        name_shown(&world, a, "typing", "Union")?.as_str(),
+        name_shown(a, OF_TYPING, "typing", "Union")?.as_str(),
         "fixed Union: Any"
     );
     Ok(())
