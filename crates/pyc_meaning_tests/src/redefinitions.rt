@@ -1,13 +1,22 @@
 //! Decorators, the declarations of names, and names that are defined again.
 
 use crate::sources::file_of;
-use pyc_ast::{Expr, Outcome, Stmt, StmtForm, Text};
+use pyc_ast::{Expr, Module, Outcome, Stmt, StmtForm, Text};
 use pyc_bindings::{
     Decorator, declaration, decorator_of, has_other, has_setter, is_decorated, redefinitions,
 };
-use std::alloc::Global;
+use pyc_lower::read;
+use std::alloc::{AllocError, Global};
 use std::fmt::Write;
 use std::test::Fail;
+
+/// The tree of a source.
+fn module_of(alloc: Global, source: &str) -> Result<Module, Fail> {
+    match read(alloc, source.as_bytes())? {
+        Outcome::Tree(module) => Ok(module),
+        Outcome::Fault(_) => Err("no tree".into()),
+    }
+}
 
 /// The decorators of the first statement, where it is a function.
 fn decorators(statements: &[Stmt]) -> &[Expr] {
@@ -20,6 +29,30 @@ fn decorators(statements: &[Stmt]) -> &[Expr] {
         ) => &head.decorators,
         _ => &[],
     }
+}
+
+/// How many decorators a function has.
+fn count_of(alloc: Global, source: &str) -> Result<usize, Fail> {
+    let module = module_of(alloc, source)?;
+    Ok(decorators(&module.statements).len())
+}
+
+/// What the first decorator of a function is.
+fn first_of(alloc: Global, source: &str) -> Result<Option<Decorator>, Fail> {
+    let module = module_of(alloc, source)?;
+    Ok(decorators(&module.statements).first().map(decorator_of))
+}
+
+/// Whether one decorator of a function is an unknown one, and whether one makes a setter.
+fn marks_of(alloc: Global, source: &str) -> Result<(bool, bool), Fail> {
+    let module = module_of(alloc, source)?;
+    let found = decorators(&module.statements);
+    Ok((has_other(found), has_setter(found)))
+}
+
+/// A function with a decorator.
+fn decorated(alloc: Global, spelled: &str) -> Result<String, AllocError> {
+    format!(in alloc; "@{spelled}\ndef f(): ...\n")
 }
 
 /// Decorators, with what they are.
@@ -41,16 +74,15 @@ const DECORATORS: &[(&str, Decorator)] = &[
 #[test]
 fn decorators_by_their_spelling(rt: HostRuntime) -> Result<(), Fail> {
     for (spelled, want) in DECORATORS {
-        let source = format!(in rt.alloc(); "@{spelled}\ndef f(): ...\n")?;
-        let file = file_of(rt.alloc(), "a.py", source.as_bytes())?;
-        let Outcome::Tree(module) = file.outcome() else {
-            return Err("no tree".into());
-        };
-        let found = decorators(&module.statements);
-        assert_eq!(rt; found.len(), 1, "{spelled}");
-        assert!(rt; found.iter().all(|x| decorator_of(x) == *want), "{spelled}");
-        assert_eq!(rt; has_other(found), *want == Decorator::Other, "{spelled}");
-        assert_eq!(rt; has_setter(found), *want == Decorator::Setter, "{spelled}");
+        let source = decorated(rt.alloc(), spelled)?;
+        assert_eq!(rt; count_of(rt.alloc(), source.as_str())?, 1, "{spelled}");
+        assert!(rt;
+            first_of(rt.alloc(), source.as_str())? == Some(*want),
+            "{spelled}"
+        );
+        let (other, setter) = marks_of(rt.alloc(), source.as_str())?;
+        assert_eq!(rt; other, *want == Decorator::Other, "{spelled}");
+        assert_eq!(rt; setter, *want == Decorator::Setter, "{spelled}");
     }
     Ok(())
 }
@@ -67,15 +99,24 @@ const DECORATED: &[(&str, bool, bool)] = &[
 #[test]
 fn one_decorator_of_several(rt: HostRuntime) -> Result<(), Fail> {
     for (source, other, setter) in DECORATED {
-        let file = file_of(rt.alloc(), "a.py", source.as_bytes())?;
-        let Outcome::Tree(module) = file.outcome() else {
-            return Err("no tree".into());
-        };
-        let found = decorators(&module.statements);
-        assert_eq!(rt; has_other(found), *other, "{source}");
-        assert_eq!(rt; has_setter(found), *setter, "{source}");
+        let (is_other, is_setter) = marks_of(rt.alloc(), source)?;
+        assert_eq!(rt; is_other, *other, "{source}");
+        assert_eq!(rt; is_setter, *setter, "{source}");
     }
     Ok(())
+}
+
+/// A source that declares names.
+const DECLARING: &[u8] =
+    b"if y:\n    x = 1\nx: int = 2\n@known\ndef f(): ...\nfrom m import f as g\n";
+
+/// The line of a name's declaration in that source, and whether it stands under an unknown decorator.
+fn declared(alloc: Global, name: &str) -> Result<(u32, bool), Fail> {
+    let file = file_of(alloc, "a.py", DECLARING)?;
+    let found = declaration(file.bindings(), &Text::new(alloc, name)?);
+    let at = found.map_or(0, |b| b.place.at.line);
+    let under = found.map_or(false, |b| is_decorated(&b.form));
+    Ok((at, under))
 }
 
 /// Names, each with the line of its declaration, 0 where there is none, and whether it stands under an unknown
@@ -91,15 +132,10 @@ const DECLARED: &[(&str, u32, bool)] = &[
 /// The line of a name's declaration, and whether it stands under an unknown decorator.
 #[test]
 fn first_bindings_declare(rt: HostRuntime) -> Result<(), Fail> {
-    let source = b"if y:\n    x = 1\nx: int = 2\n@known\ndef f(): ...\nfrom m import f as g\n";
-    let file = file_of(rt.alloc(), "a.py", source)?;
-    for (name, line, decorated) in DECLARED {
-        let name = Text::new(rt.alloc(), name)?;
-        let found = declaration(file.bindings(), &name);
-        let at = found.map_or(0, |b| b.place.at.line);
-        let under = found.map_or(false, |b| is_decorated(&b.form));
-        assert_eq!(rt; at, *line, "{name:?}");
-        assert_eq!(rt; under, *decorated, "{name:?}");
+    for (name, line, is_under) in DECLARED {
+        let (at, under) = declared(rt.alloc(), name)?;
+        assert_eq!(rt; at, *line, "{name}");
+        assert_eq!(rt; under, *is_under, "{name}");
     }
     Ok(())
 }

@@ -7,13 +7,18 @@ use std::test::Fail;
 const INCOMPATIBLE: &str =
     "Incompatible types in assignment (expression has type \"str\", variable has type \"int\")";
 
+/// A message: its place, its code, which a note has not, and its text. The only error is that memory runs out.
 fn message(
     alloc: Global,
     line: usize,
     column: usize,
-    kind: MessageKind,
+    code: Option<Code>,
     text: &str,
 ) -> Result<Message, AllocError> {
+    let kind = match code {
+        Some(code) => MessageKind::Error(code),
+        None => MessageKind::Note,
+    };
     Ok(Message {
         line,
         column,
@@ -22,27 +27,31 @@ fn message(
     })
 }
 
-fn error(
+/// What was found in a file: messages, each of its line, its column, its code, which a note has not, and its text. The
+/// only error is that memory runs out.
+fn found<'a>(
     alloc: Global,
-    line: usize,
-    column: usize,
-    code: Code,
-    text: &str,
-) -> Result<Message, AllocError> {
-    message(alloc, line, column, MessageKind::Error(code), text)
+    path: &'a str,
+    rows: &[(usize, usize, Option<Code>, &str)],
+) -> Result<Found<'a>, AllocError> {
+    let mut messages = Vec::new(alloc);
+    for (line, column, code, text) in rows {
+        messages.push(message(alloc, *line, *column, *code, text)?)?;
+    }
+    Ok(Found { path, messages })
 }
 
-fn note(alloc: Global, line: usize, column: usize, text: &str) -> Result<Message, AllocError> {
-    message(alloc, line, column, MessageKind::Note, text)
-}
+/// The error of a file with one.
+const ONE_ERROR: &[(usize, usize, Option<Code>, &str)] = &[(
+    1,
+    10,
+    Some(Code::Assignment),
+    INCOMPATIBLE,
+)];
 
 #[test]
 fn one_error_in_one_file(rt: HostRuntime) -> Result<(), Fail> {
-    let incompatible = error(rt.alloc(), 1, 10, Code::Assignment, INCOMPATIBLE)?;
-    let found = Found {
-        path: "a.py",
-        messages: vec![in rt.alloc(); incompatible]?,
-    };
+    let found = found(rt.alloc(), "a.py", ONE_ERROR)?;
     let report = report(rt.alloc(), &[found])?;
     assert_eq!(rt;
         report.text.as_str(),
@@ -65,10 +74,7 @@ fn no_file(rt: HostRuntime) -> Result<(), Fail> {
 
 #[test]
 fn one_clean_file(rt: HostRuntime) -> Result<(), Fail> {
-    let found = Found {
-        path: "a.py",
-        messages: Vec::new(rt.alloc()),
-    };
+    let found = found(rt.alloc(), "a.py", &[])?;
     let report = report(rt.alloc(), &[found])?;
     assert_eq!(rt;
         report.text.as_str(),
@@ -78,26 +84,29 @@ fn one_clean_file(rt: HostRuntime) -> Result<(), Fail> {
     Ok(())
 }
 
+/// The error of the second file by name.
+const OF_THE_LAST: &[(usize, usize, Option<Code>, &str)] = &[(
+    2,
+    4,
+    Some(Code::Syntax),
+    "invalid syntax",
+)];
+
+/// Errors of the first file by name, out of order.
+const OUT_OF_ORDER: &[(usize, usize, Option<Code>, &str)] = &[
+    (3, 9, Some(Code::Assignment), INCOMPATIBLE),
+    (10, 1, Some(Code::Syntax), "invalid syntax"),
+    (3, 5, Some(Code::Assignment), "another text"),
+    (2, 7, Some(Code::Assignment), INCOMPATIBLE),
+    (3, 1, Some(Code::Assignment), INCOMPATIBLE),
+];
+
 // The error of line 3, column 9 is printed as that of column 1 is, and one of column 5 stands between them.
 #[test]
 fn files_and_errors_out_of_order(rt: HostRuntime) -> Result<(), Fail> {
-    let alloc = rt.alloc();
-    let invalid = error(alloc, 2, 4, Code::Syntax, "invalid syntax")?;
-    let last = Found {
-        path: "pkg/b.py",
-        messages: vec![in alloc; invalid]?,
-    };
-    let first = Found {
-        path: "a.py",
-        messages: vec![in alloc;
-            error(alloc, 3, 9, Code::Assignment, INCOMPATIBLE)?,
-            error(alloc, 10, 1, Code::Syntax, "invalid syntax")?,
-            error(alloc, 3, 5, Code::Assignment, "another text")?,
-            error(alloc, 2, 7, Code::Assignment, INCOMPATIBLE)?,
-            error(alloc, 3, 1, Code::Assignment, INCOMPATIBLE)?,
-        ]?,
-    };
-    let report = report(alloc, &[last, first])?;
+    let last = found(rt.alloc(), "pkg/b.py", OF_THE_LAST)?;
+    let first = found(rt.alloc(), "a.py", OUT_OF_ORDER)?;
+    let report = report(rt.alloc(), &[last, first])?;
     assert_eq!(rt;
         report.text.as_str(),
         "a.py:2: error: Incompatible types in assignment (expression has type \"str\", variable has type \"int\")  [assignment]\na.py:3: error: Incompatible types in assignment (expression has type \"str\", variable has type \"int\")  [assignment]\na.py:3: error: another text  [assignment]\na.py:10: error: invalid syntax  [syntax]\npkg/b.py:2: error: invalid syntax  [syntax]\nFound 5 errors in 2 files (checked 2 source files)\n"
@@ -106,14 +115,13 @@ fn files_and_errors_out_of_order(rt: HostRuntime) -> Result<(), Fail> {
     Ok(())
 }
 
+/// A note.
+const NOTE: &[(usize, usize, Option<Code>, &str)] = &[(2, 1, None, "Revealed type is \"int\"")];
+
 // A note counts as no error: the summary is that of a file without one.
 #[test]
 fn a_note_alone(rt: HostRuntime) -> Result<(), Fail> {
-    let revealed = note(rt.alloc(), 2, 1, "Revealed type is \"int\"")?;
-    let found = Found {
-        path: "a.py",
-        messages: vec![in rt.alloc(); revealed]?,
-    };
+    let found = found(rt.alloc(), "a.py", NOTE)?;
     let report = report(rt.alloc(), &[found])?;
     assert_eq!(rt;
         report.text.as_str(),
@@ -123,26 +131,25 @@ fn a_note_alone(rt: HostRuntime) -> Result<(), Fail> {
     Ok(())
 }
 
+/// Notes and errors of the first file by name.
+const NOTES_AND_ERRORS: &[(usize, usize, Option<Code>, &str)] = &[
+    (3, 5, None, "z"),
+    (3, 1, Some(Code::AttrDefined), "b"),
+    (3, 1, Some(Code::Misc), "a"),
+    (3, 1, None, "z"),
+    (2, 1, Some(Code::NoRedef), "c"),
+];
+
+/// The note of the second file by name.
+const ANOTHER_NOTE: &[(usize, usize, Option<Code>, &str)] = &[(1, 1, None, "z")];
+
 // At one place a note comes before an error, whatever their texts. The note of line 3 is told once, and neither it nor
 // the file of notes alone counts in the summary.
 #[test]
 fn notes_and_errors_in_order(rt: HostRuntime) -> Result<(), Fail> {
-    let alloc = rt.alloc();
-    let first = Found {
-        path: "a.py",
-        messages: vec![in alloc;
-            note(alloc, 3, 5, "z")?,
-            error(alloc, 3, 1, Code::AttrDefined, "b")?,
-            error(alloc, 3, 1, Code::Misc, "a")?,
-            note(alloc, 3, 1, "z")?,
-            error(alloc, 2, 1, Code::NoRedef, "c")?,
-        ]?,
-    };
-    let second = Found {
-        path: "b.py",
-        messages: vec![in alloc; note(alloc, 1, 1, "z")?]?,
-    };
-    let report = report(alloc, &[second, first])?;
+    let first = found(rt.alloc(), "a.py", NOTES_AND_ERRORS)?;
+    let second = found(rt.alloc(), "b.py", ANOTHER_NOTE)?;
+    let report = report(rt.alloc(), &[second, first])?;
     assert_eq!(rt;
         report.text.as_str(),
         "a.py:2: error: c  [no-redef]\na.py:3: note: z\na.py:3: error: b  [attr-defined]\na.py:3: error: a  [misc]\nb.py:1: note: z\nFound 3 errors in 1 file (checked 2 source files)\n"
