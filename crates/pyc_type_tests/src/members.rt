@@ -187,12 +187,22 @@ const TYPES: &[(BuiltinClass, &str, &str)] = &[
 
 #[test]
 fn types_of_members(rt: HostRuntime) -> Result<(), Fail> {
-    let a = rt.alloc();
     for (class, name, expected) in TYPES {
-        let text = text_of(a, *class, &of(*class), name)?;
+        let text = text_of(rt.alloc(), *class, &of(*class), name)?;
         assert_eq!(rt; text.as_str(), *expected);
     }
     Ok(())
+}
+
+/// The text of the type of a member of `list[int]`.
+fn of_ints(alloc: Global, name: &str) -> Result<String, AllocError> {
+    text_of(alloc, BuiltinClass::List, &ints(alloc)?, name)
+}
+
+/// The text of the type of a member of a class below a list.
+fn of_derived(alloc: Global, name: &str) -> Result<String, AllocError> {
+    let class = ClassId::user(alloc, Vec::new(alloc), Text::new(alloc, "Stack")?)?;
+    text_of(alloc, BuiltinClass::List, &Ty::Instance(class), name)
 }
 
 /// Names, with the types of those members of `list[int]`, and of a class below a list.
@@ -211,17 +221,16 @@ const LIST_TYPES: &[(&str, &str, &str)] = &[
 
 #[test]
 fn types_with_the_parts_of_a_list(rt: HostRuntime) -> Result<(), Fail> {
-    let a = rt.alloc();
-    let ints = ints(a)?;
-    let derived = ClassId::user(a, Vec::new(a), Text::new(a, "Stack")?)?;
-    let derived = Ty::Instance(derived);
-    for (name, of_ints, of_derived) in LIST_TYPES {
-        let text = text_of(a, BuiltinClass::List, &ints, name)?;
-        assert_eq!(rt; text.as_str(), *of_ints);
-        let text = text_of(a, BuiltinClass::List, &derived, name)?;
-        assert_eq!(rt; text.as_str(), *of_derived);
+    for (name, with_ints, with_any) in LIST_TYPES {
+        assert_eq!(rt; of_ints(rt.alloc(), name)?.as_str(), *with_ints);
+        assert_eq!(rt; of_derived(rt.alloc(), name)?.as_str(), *with_any);
     }
     Ok(())
+}
+
+/// The text of the type of a member of `dict[str, float]`.
+fn of_prices(alloc: Global, name: &str) -> Result<String, AllocError> {
+    text_of(alloc, BuiltinClass::Dict, &prices(alloc)?, name)
 }
 
 /// Names, with the types of those members of `dict[str, float]`.
@@ -236,11 +245,8 @@ const DICT_TYPES: &[(&str, &str)] = &[
 
 #[test]
 fn types_with_the_parts_of_a_dict(rt: HostRuntime) -> Result<(), Fail> {
-    let a = rt.alloc();
-    let prices = prices(a)?;
     for (name, expected) in DICT_TYPES {
-        let text = text_of(a, BuiltinClass::Dict, &prices, name)?;
-        assert_eq!(rt; text.as_str(), *expected);
+        assert_eq!(rt; of_prices(rt.alloc(), name)?.as_str(), *expected);
     }
     Ok(())
 }

@@ -15,6 +15,28 @@ fn either(alloc: Global, first: Ty, second: Ty) -> Result<Ty, AllocError> {
     Ok(Ty::Union(Rc::new(alloc, vec![in alloc; first, second]?)?))
 }
 
+/// Whether one type goes to another, each spelled in words.
+fn goes(alloc: Global, got: &str, want: &str) -> Result<bool, Fail> {
+    let builtins = Builtins::new(alloc)?;
+    let got = type_of(alloc, got)?;
+    let want = type_of(alloc, want)?;
+    Ok(assignable(&builtins, &got, &want))
+}
+
+/// Whether instances of one builtin class go to another.
+fn instance_goes(alloc: Global, got: BuiltinClass, want: BuiltinClass) -> Result<bool, AllocError> {
+    let builtins = Builtins::new(alloc)?;
+    Ok(assignable(&builtins, &of(got), &of(want)))
+}
+
+/// Whether one builtin class goes to another as an object.
+fn class_goes(alloc: Global, got: BuiltinClass, want: BuiltinClass) -> Result<bool, AllocError> {
+    let builtins = Builtins::new(alloc)?;
+    let got = Ty::Class(ClassId::builtin(got));
+    let want = Ty::Class(ClassId::builtin(want));
+    Ok(assignable(&builtins, &got, &want))
+}
+
 /// Builtin classes: whether instances of the first go to the second.
 const INSTANCES: &[(BuiltinClass, BuiltinClass, bool)] = &[
     (BuiltinClass::Bool, BuiltinClass::Int, true),
@@ -40,19 +62,23 @@ const INSTANCES: &[(BuiltinClass, BuiltinClass, bool)] = &[
     (BuiltinClass::IndexError, BuiltinClass::KeyError, false),
 ];
 
+/// Builtin classes: whether the first goes to the second as an object.
+const CLASS_OBJECTS: &[(BuiltinClass, BuiltinClass, bool)] = &[
+    (BuiltinClass::Bool, BuiltinClass::Int, true),
+    (BuiltinClass::Int, BuiltinClass::Bool, false),
+    (BuiltinClass::Int, BuiltinClass::Float, false),
+];
+
 #[test]
 fn instances(rt: HostRuntime) -> Result<(), Fail> {
-    let builtins = Builtins::new(rt.alloc())?;
     for (got, want, expected) in INSTANCES {
-        let answer = assignable(&builtins, &of(*got), &of(*want));
+        let answer = instance_goes(rt.alloc(), *got, *want)?;
         assert_eq!(rt; answer, *expected, "{got:?} to {want:?}");
     }
-    let bool_class = Ty::Class(ClassId::builtin(BuiltinClass::Bool));
-    let int_class = Ty::Class(ClassId::builtin(BuiltinClass::Int));
-    let float_class = Ty::Class(ClassId::builtin(BuiltinClass::Float));
-    assert!(rt; assignable(&builtins, &bool_class, &int_class));
-    assert!(rt; !assignable(&builtins, &int_class, &bool_class));
-    assert!(rt; !assignable(&builtins, &int_class, &float_class));
+    for (got, want, expected) in CLASS_OBJECTS {
+        let answer = class_goes(rt.alloc(), *got, *want)?;
+        assert_eq!(rt; answer, *expected, "{got:?} to {want:?}");
+    }
     Ok(())
 }
 
@@ -89,15 +115,11 @@ const GOES: &[(&str, &str)] = &[
 /// goes nowhere else.
 #[test]
 fn types_against_types(rt: HostRuntime) -> Result<(), Fail> {
-    let a = rt.alloc();
-    let builtins = Builtins::new(a)?;
     for (got, row) in GOES {
-        let got_type = type_of(a, got)?;
-        let mut goes = row.split(' ');
+        let mut marks = row.split(' ');
         for want in SINGLE {
-            let want_type = type_of(a, want)?;
-            let answer = assignable(&builtins, &got_type, &want_type);
-            assert_eq!(rt; answer, goes.next() == Some("y"), "{got} to {want}");
+            let answer = goes(rt.alloc(), got, want)?;
+            assert_eq!(rt; answer, marks.next() == Some("y"), "{got} to {want}");
         }
     }
     Ok(())
@@ -125,12 +147,8 @@ const PARTS: &[(&str, &str, bool)] = &[
 
 #[test]
 fn parts_decide(rt: HostRuntime) -> Result<(), Fail> {
-    let a = rt.alloc();
-    let builtins = Builtins::new(a)?;
     for (got, want, expected) in PARTS {
-        let got_type = type_of(a, got)?;
-        let want_type = type_of(a, want)?;
-        let answer = assignable(&builtins, &got_type, &want_type);
+        let answer = goes(rt.alloc(), got, want)?;
         assert_eq!(rt; answer, *expected, "{got} to {want}");
     }
     Ok(())
@@ -156,12 +174,8 @@ const CALLABLES: &[(&str, &str, bool)] = &[
 
 #[test]
 fn callables_decide(rt: HostRuntime) -> Result<(), Fail> {
-    let a = rt.alloc();
-    let builtins = Builtins::new(a)?;
     for (got, want, expected) in CALLABLES {
-        let got_type = type_of(a, got)?;
-        let want_type = type_of(a, want)?;
-        let answer = assignable(&builtins, &got_type, &want_type);
+        let answer = goes(rt.alloc(), got, want)?;
         assert_eq!(rt; answer, *expected, "{got} to {want}");
     }
     Ok(())
@@ -182,36 +196,77 @@ fn classes_of_a_source_are_not_known(rt: HostRuntime) -> Result<(), Fail> {
     Ok(())
 }
 
+/// A type in 900 lists.
+fn in_lists(alloc: Global, item: Ty) -> Result<Ty, AllocError> {
+    let mut ty = item;
+    for _ in 0..900 {
+        ty = list(alloc, ty)?;
+    }
+    Ok(ty)
+}
+
+/// Whether a builtin class in 900 lists goes to another one in as many.
+fn deep_goes(alloc: Global, got: BuiltinClass, want: BuiltinClass) -> Result<bool, AllocError> {
+    let builtins = Builtins::new(alloc)?;
+    let got = in_lists(alloc, of(got))?;
+    let want = in_lists(alloc, of(want))?;
+    Ok(assignable(&builtins, &got, &want))
+}
+
+/// Whether a builtin class in 900 lists goes to itself.
+fn deep_goes_to_itself(alloc: Global, class: BuiltinClass) -> Result<bool, AllocError> {
+    let builtins = Builtins::new(alloc)?;
+    let ty = in_lists(alloc, of(class))?;
+    Ok(assignable(&builtins, &ty, &ty.clone()?))
+}
+
 #[test]
 fn deep_types_are_answered(rt: HostRuntime) -> Result<(), Fail> {
-    let a = rt.alloc();
-    let builtins = Builtins::new(a)?;
-    let mut got = of(BuiltinClass::Bool);
-    let mut want = of(BuiltinClass::Int);
-    for _ in 0..900 {
-        got = list(a, got)?;
-        want = list(a, want)?;
-    }
-    assert!(rt; assignable(&builtins, &got, &got.clone()?));
-    assert!(rt; !assignable(&builtins, &got, &want));
+    assert!(rt; deep_goes_to_itself(rt.alloc(), BuiltinClass::Bool)?);
+    assert!(rt; !deep_goes(rt.alloc(), BuiltinClass::Bool, BuiltinClass::Int)?);
     Ok(())
+}
+
+/// A type in 480 lists, in each as a union with None after it.
+fn before_none(alloc: Global, item: Ty) -> Result<Ty, AllocError> {
+    let mut ty = item;
+    for _ in 0..480 {
+        ty = list(alloc, either(alloc, ty, Ty::None)?)?;
+    }
+    Ok(ty)
+}
+
+/// A type in 480 lists, in each as a union with None before it.
+fn after_none(alloc: Global, item: Ty) -> Result<Ty, AllocError> {
+    let mut ty = item;
+    for _ in 0..480 {
+        ty = list(alloc, either(alloc, Ty::None, ty)?)?;
+    }
+    Ok(ty)
+}
+
+/// Whether int before None in such unions goes to itself.
+fn deep_union_goes_to_itself(alloc: Global) -> Result<bool, AllocError> {
+    let builtins = Builtins::new(alloc)?;
+    let ty = before_none(alloc, of(BuiltinClass::Int))?;
+    Ok(assignable(&builtins, &ty, &ty.clone()?))
+}
+
+/// Whether int before None in such unions goes to another type.
+fn deep_union_goes(alloc: Global, want: &Ty) -> Result<bool, AllocError> {
+    let builtins = Builtins::new(alloc)?;
+    let got = before_none(alloc, of(BuiltinClass::Int))?;
+    Ok(assignable(&builtins, &got, want))
 }
 
 #[test]
 fn deep_unions_are_answered(rt: HostRuntime) -> Result<(), Fail> {
     let a = rt.alloc();
-    let builtins = Builtins::new(a)?;
-    let mut got = of(BuiltinClass::Int);
-    let mut want = of(BuiltinClass::Int);
-    let mut other = of(BuiltinClass::Bool);
-    for _ in 0..480 {
-        got = list(a, either(a, got, Ty::None)?)?;
-        want = list(a, either(a, Ty::None, want)?)?;
-        other = list(a, either(a, other, Ty::None)?)?;
-    }
-    assert!(rt; assignable(&builtins, &got, &got.clone()?));
-    assert!(rt; assignable(&builtins, &got, &want));
-    assert!(rt; !assignable(&builtins, &got, &other));
+    assert!(rt; deep_union_goes_to_itself(a)?);
+    let want = after_none(a, of(BuiltinClass::Int))?;
+    assert!(rt; deep_union_goes(a, &want)?);
+    let other = before_none(a, of(BuiltinClass::Bool))?;
+    assert!(rt; !deep_union_goes(a, &other)?);
     Ok(())
 }
 
@@ -226,14 +281,21 @@ const PRINTED: &[(&str, &str)] = &[
     ("KeyError type", "type[KeyError]"),
 ];
 
+/// How the type that words spell prints.
+fn printed(alloc: Global, words: &str) -> Result<String, Fail> {
+    Ok(show(alloc, &type_of(alloc, words)?)?)
+}
+
+/// How a tuple without items prints.
+fn empty_tuple(alloc: Global) -> Result<String, AllocError> {
+    show(alloc, &Ty::Tuple(Rc::new(alloc, Vec::new(alloc))?))
+}
+
 #[test]
 fn types_print(rt: HostRuntime) -> Result<(), Fail> {
-    let a = rt.alloc();
-    let none = Ty::Tuple(Rc::new(a, Vec::new(a))?);
-    assert_eq!(rt; show(a, &none)?.as_str(), "tuple[()]");
+    assert_eq!(rt; empty_tuple(rt.alloc())?.as_str(), "tuple[()]");
     for (words, expected) in PRINTED {
-        let ty = type_of(a, words)?;
-        assert_eq!(rt; show(a, &ty)?.as_str(), *expected);
+        assert_eq!(rt; printed(rt.alloc(), words)?.as_str(), *expected);
     }
     Ok(())
 }

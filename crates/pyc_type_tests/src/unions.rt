@@ -35,15 +35,35 @@ fn shown(alloc: Global, left: &Option<Ty>) -> Result<String, AllocError> {
 }
 
 /// How what `isinstance` by `int` leaves of a type is written.
-fn narrowed(alloc: Global, builtins: &Builtins, ty: &Ty) -> Result<String, AllocError> {
+fn narrowed(alloc: Global, ty: &Ty) -> Result<String, AllocError> {
+    let builtins = Builtins::new(alloc)?;
     let int = [ClassId::builtin(BuiltinClass::Int)];
-    shown(alloc, &narrow_to(alloc, builtins, ty, &int)?)
+    shown(alloc, &narrow_to(alloc, &builtins, ty, &int)?)
 }
 
 /// How what `isinstance` by `int` does not take of a type is written.
-fn narrowed_away(alloc: Global, builtins: &Builtins, ty: &Ty) -> Result<String, AllocError> {
+fn narrowed_away(alloc: Global, ty: &Ty) -> Result<String, AllocError> {
+    let builtins = Builtins::new(alloc)?;
     let int = [ClassId::builtin(BuiltinClass::Int)];
-    shown(alloc, &narrow_away(alloc, builtins, ty, &int)?)
+    shown(alloc, &narrow_away(alloc, &builtins, ty, &int)?)
+}
+
+/// How the union of two types that words spell is written.
+fn union_shown(alloc: Global, first: &str, second: &str) -> Result<String, Fail> {
+    let parts = [type_of(alloc, first)?, type_of(alloc, second)?];
+    Ok(show(alloc, &union_of(alloc, &parts)?)?)
+}
+
+/// How the union of an instance of a builtin class alone is written.
+fn alone_shown(alloc: Global, class: BuiltinClass) -> Result<String, AllocError> {
+    show(alloc, &union_of(alloc, &[of(class)])?)
+}
+
+/// Whether two types that words spell are the same.
+fn are_same(alloc: Global, first: &str, second: &str) -> Result<bool, Fail> {
+    let first = type_of(alloc, first)?;
+    let second = type_of(alloc, second)?;
+    Ok(same_type(&first, &second))
 }
 
 /// Pairs of types, with how their union is written.
@@ -60,14 +80,10 @@ const UNIONS: &[(&str, &str, &str)] = &[
 fn unions_form(rt: HostRuntime) -> Result<(), Fail> {
     let a = rt.alloc();
     for (first, second, expected) in UNIONS {
-        let parts = [type_of(a, first)?, type_of(a, second)?];
-        let union = union_of(a, &parts)?;
-        assert_eq!(rt; show(a, &union)?.as_str(), *expected);
+        assert_eq!(rt; union_shown(a, first, second)?.as_str(), *expected);
     }
-    let alone = union_of(a, &[of(BuiltinClass::Bytes)])?;
-    assert_eq!(rt; show(a, &alone)?.as_str(), "bytes");
-    let pair = type_of(a, "int int pair")?;
-    assert!(rt; !same_type(&pair, &type_of(a, "int single")?));
+    assert_eq!(rt; alone_shown(a, BuiltinClass::Bytes)?.as_str(), "bytes");
+    assert!(rt; !are_same(a, "int int pair", "int single")?);
     Ok(())
 }
 
@@ -80,6 +96,16 @@ fn unions_have_a_limit(rt: HostRuntime) -> Result<(), Fail> {
     let larger = union_of(a, &[ints(a, 1000)?])?;
     assert!(rt; same_type(&larger, &Ty::Any));
     Ok(())
+}
+
+/// How what `isinstance` by `int` leaves of the type that words spell is written.
+fn kept_of(alloc: Global, words: &str) -> Result<String, Fail> {
+    Ok(narrowed(alloc, &type_of(alloc, words)?)?)
+}
+
+/// How what `isinstance` by `int` does not take of the type that words spell is written.
+fn left_of(alloc: Global, words: &str) -> Result<String, Fail> {
+    Ok(narrowed_away(alloc, &type_of(alloc, words)?)?)
 }
 
 /// Types: what `isinstance` by `int` leaves of each, and what it does not take.
@@ -102,16 +128,42 @@ const SPLIT: &[(&str, &str, &str)] = &[
 #[test]
 fn isinstance_splits(rt: HostRuntime) -> Result<(), Fail> {
     let a = rt.alloc();
-    let builtins = Builtins::new(a)?;
     for (words, kept, left) in SPLIT {
-        let ty = type_of(a, words)?;
-        assert_eq!(rt; narrowed(a, &builtins, &ty)?.as_str(), *kept);
-        assert_eq!(rt; narrowed_away(a, &builtins, &ty)?.as_str(), *left);
+        assert_eq!(rt; kept_of(a, words)?.as_str(), *kept);
+        assert_eq!(rt; left_of(a, words)?.as_str(), *left);
     }
     let unknown = unknown(a)?;
-    assert_eq!(rt; narrowed(a, &builtins, &unknown)?.as_str(), "C");
-    assert_eq!(rt; narrowed_away(a, &builtins, &unknown)?.as_str(), "C");
+    assert_eq!(rt; narrowed(a, &unknown)?.as_str(), "C");
+    assert_eq!(rt; narrowed_away(a, &unknown)?.as_str(), "C");
     Ok(())
+}
+
+/// How what `isinstance` by `int` and `list` leaves of the type that words spell is written.
+fn kept_by_two(alloc: Global, words: &str) -> Result<String, Fail> {
+    let builtins = Builtins::new(alloc)?;
+    let both = [
+        ClassId::builtin(BuiltinClass::Int),
+        ClassId::builtin(BuiltinClass::List),
+    ];
+    let ty = type_of(alloc, words)?;
+    Ok(shown(alloc, &narrow_to(alloc, &builtins, &ty, &both)?)?)
+}
+
+/// How what `isinstance` by `int` and `list` does not take of the type that words spell is written.
+fn left_by_two(alloc: Global, words: &str) -> Result<String, Fail> {
+    let builtins = Builtins::new(alloc)?;
+    let both = [
+        ClassId::builtin(BuiltinClass::Int),
+        ClassId::builtin(BuiltinClass::List),
+    ];
+    let ty = type_of(alloc, words)?;
+    Ok(shown(alloc, &narrow_away(alloc, &builtins, &ty, &both)?)?)
+}
+
+/// How what `isinstance` by no class leaves of Any is written.
+fn kept_by_none(alloc: Global) -> Result<String, AllocError> {
+    let builtins = Builtins::new(alloc)?;
+    shown(alloc, &narrow_to(alloc, &builtins, &Ty::Any, &[])?)
 }
 
 /// Types: what `isinstance` by `int` and `list` leaves of each, and what it does not take.
@@ -123,21 +175,23 @@ const SPLIT_BY_TWO: &[(&str, &str, &str)] = &[
 #[test]
 fn isinstance_by_two_classes(rt: HostRuntime) -> Result<(), Fail> {
     let a = rt.alloc();
-    let builtins = Builtins::new(a)?;
-    let both = [
-        ClassId::builtin(BuiltinClass::Int),
-        ClassId::builtin(BuiltinClass::List),
-    ];
     for (words, kept, left) in SPLIT_BY_TWO {
-        let ty = type_of(a, words)?;
-        let to = narrow_to(a, &builtins, &ty, &both)?;
-        assert_eq!(rt; shown(a, &to)?.as_str(), *kept);
-        let away = narrow_away(a, &builtins, &ty, &both)?;
-        assert_eq!(rt; shown(a, &away)?.as_str(), *left);
+        assert_eq!(rt; kept_by_two(a, words)?.as_str(), *kept);
+        assert_eq!(rt; left_by_two(a, words)?.as_str(), *left);
     }
-    let nothing = narrow_to(a, &builtins, &Ty::Any, &[])?;
-    assert_eq!(rt; shown(a, &nothing)?.as_str(), "-");
+    assert_eq!(rt; kept_by_none(a)?.as_str(), "-");
     Ok(())
+}
+
+/// How what is left of the type that words spell without None is written.
+fn left_without_none(alloc: Global, words: &str) -> Result<String, Fail> {
+    let ty = type_of(alloc, words)?;
+    Ok(shown(alloc, &without_none(alloc, &ty)?)?)
+}
+
+/// How an instance of a builtin class is written whose parts are not known.
+fn bare_shown(alloc: Global, class: BuiltinClass) -> Result<String, AllocError> {
+    show(alloc, &instance_of(alloc, &ClassId::builtin(class))?)
 }
 
 /// Types, with what is left of each without None.
@@ -147,10 +201,11 @@ const WITHOUT_NONE: &[(&str, &str)] = &[("int None or", "int"), ("None", "-"), (
 fn none_is_taken_away(rt: HostRuntime) -> Result<(), Fail> {
     let a = rt.alloc();
     for (words, expected) in WITHOUT_NONE {
-        let ty = type_of(a, words)?;
-        assert_eq!(rt; shown(a, &without_none(a, &ty)?)?.as_str(), *expected);
+        assert_eq!(rt; left_without_none(a, words)?.as_str(), *expected);
     }
-    let bare = instance_of(a, &ClassId::builtin(BuiltinClass::Dict))?;
-    assert_eq!(rt; show(a, &bare)?.as_str(), "dict[Any, Any]");
+    assert_eq!(rt;
+        bare_shown(a, BuiltinClass::Dict)?.as_str(),
+        "dict[Any, Any]"
+    );
     Ok(())
 }
