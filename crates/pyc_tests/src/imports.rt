@@ -18,6 +18,24 @@ fn dotted(alloc: Global, name: &str) -> Result<Vec<Text>, AllocError> {
     Ok(parts)
 }
 
+/// Whether an import in the file of a path names this module, or none.
+fn names(
+    alloc: Global,
+    path: &str,
+    dots: usize,
+    name: &str,
+    wanted: Option<&str>,
+) -> Result<bool, AllocError> {
+    let own = ModuleName::of_path(alloc, path)?;
+    let is_package = path.ends_with("__init__.py");
+    let found = named_module(alloc, &own, is_package, dots, &dotted(alloc, name)?)?;
+    Ok(match (found, wanted) {
+        (Some(found), Some(wanted)) => found.parts() == dotted(alloc, wanted)?.as_slice(),
+        (None, None) => true,
+        _ => false,
+    })
+}
+
 /// The file's path, the dots and the parts of an import in it, and the module that it names.
 const IMPORTS: &[(&str, usize, &str, Option<&str>)] = &[
     ("a.py", 0, "b.c", Some("b.c")),
@@ -36,21 +54,21 @@ const IMPORTS: &[(&str, usize, &str, Option<&str>)] = &[
 
 #[test]
 fn imports_name_modules(rt: HostRuntime) -> Result<(), Fail> {
-    let a = rt.alloc();
     for (path, dots, name, wanted) in IMPORTS {
-        let own = ModuleName::of_path(a, path)?;
-        let is_package = path.ends_with("__init__.py");
-        let found = named_module(a, &own, is_package, *dots, &dotted(a, name)?)?;
-        match (found, wanted) {
-            (Some(found), Some(wanted)) => {
-                let same = found.parts() == dotted(a, wanted)?.as_slice();
-                assert!(rt; same, "{path} {dots} {name}");
-            }
-            (None, None) => {}
-            _ => assert!(rt; false, "{path} {dots} {name}"),
-        }
+        let is_named = names(rt.alloc(), path, *dots, name, *wanted)?;
+        assert!(rt; is_named, "{path} {dots} {name}");
     }
     Ok(())
+}
+
+/// Whether a module is there where three files are.
+fn is_found(alloc: Global, name: &str) -> Result<bool, AllocError> {
+    let files = vec![in alloc;
+        ModuleName::of_path(alloc, "a.py")?,
+        ModuleName::of_path(alloc, "p/q/r.py")?,
+        ModuleName::of_path(alloc, "pkg/__init__.py")?,
+    ]?;
+    Ok(is_there(&files, &dotted(alloc, name)?))
 }
 
 /// Modules, with whether they are there.
@@ -76,14 +94,8 @@ const THERE: &[(&str, bool)] = &[
 
 #[test]
 fn modules_are_there(rt: HostRuntime) -> Result<(), Fail> {
-    let a = rt.alloc();
-    let files = vec![in a;
-        ModuleName::of_path(a, "a.py")?,
-        ModuleName::of_path(a, "p/q/r.py")?,
-        ModuleName::of_path(a, "pkg/__init__.py")?,
-    ]?;
     for (name, there) in THERE {
-        assert_eq!(rt; is_there(&files, &dotted(a, name)?), *there, "{name}");
+        assert_eq!(rt; is_found(rt.alloc(), name)?, *there, "{name}");
     }
     Ok(())
 }

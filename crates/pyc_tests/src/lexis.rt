@@ -77,6 +77,13 @@ fn shown(alloc: Global, bytes: &[u8], lines: &Scan) -> Result<String, Fail> {
     Ok(shown)
 }
 
+/// The lines and ignore comments of a source without a fault.
+fn lines_of(alloc: Global, source: &str) -> Result<String, Fail> {
+    let bytes = source.as_bytes();
+    let lines = scan(alloc, bytes).ok().ok_or("a fault")?;
+    shown(alloc, bytes, &lines)
+}
+
 /// Sources, with their lines and ignore comments.
 const LINES: &[(&str, &str)] = &[
     (
@@ -122,10 +129,7 @@ const LINES: &[(&str, &str)] = &[
 #[test]
 fn gives_lines_of_tokens(rt: HostRuntime) -> Result<(), Fail> {
     for (source, want) in LINES {
-        let bytes = source.as_bytes();
-        let lines = scan(rt.alloc(), bytes).ok().ok_or("a fault")?;
-        let got = shown(rt.alloc(), bytes, &lines)?;
-        assert_eq!(rt; got.as_str(), *want);
+        assert_eq!(rt; lines_of(rt.alloc(), source)?.as_str(), *want);
     }
     Ok(())
 }

@@ -1,27 +1,33 @@
 //! Paths, with the modules that they name.
 
 use pyc_names::ModuleName;
+use std::alloc::{AllocError, Global};
 use std::test::Fail;
 
-/// Paths, with the parts of the modules that they name, filled up by empty ones.
-const PATHS: &[(&str, [&str; 2])] = &[
-    ("a.py", ["a", ""]),
-    ("a/__init__.py", ["a", ""]),
-    ("a/b.py", ["a", "b"]),
-    ("__init__.py/a.py", ["__init__.py", "a"]),
-    ("\u{fb01}.py", ["fi", ""]),
+/// The parts of the module that a path names, each with a space after it.
+fn parts_of(alloc: Global, path: &str) -> Result<String, AllocError> {
+    let name = ModuleName::of_path(alloc, path)?;
+    let mut shown = String::new(alloc);
+    for part in name.parts() {
+        shown.push_str(part.as_str())?;
+        shown.push_str(" ")?;
+    }
+    Ok(shown)
+}
+
+/// Paths, with the parts of the modules that they name.
+const PATHS: &[(&str, &str)] = &[
+    ("a.py", "a "),
+    ("a/__init__.py", "a "),
+    ("a/b.py", "a b "),
+    ("__init__.py/a.py", "__init__.py a "),
+    ("\u{fb01}.py", "fi "),
 ];
 
 #[test]
 fn names_modules(rt: HostRuntime) -> Result<(), Fail> {
     for (path, parts) in PATHS {
-        let name = ModuleName::of_path(rt.alloc(), path)?;
-        for (i, part) in name.parts().iter().enumerate() {
-            let want = parts.get(i).copied().unwrap_or("");
-            assert_eq!(rt; part.as_str(), want, "at {path}");
-        }
-        let want = parts.iter().filter(|part| !part.is_empty()).count();
-        assert_eq!(rt; name.parts().len(), want, "at {path}");
+        assert_eq!(rt; parts_of(rt.alloc(), path)?.as_str(), *parts, "at {path}");
     }
     Ok(())
 }

@@ -25,47 +25,64 @@ fn nested(alloc: Global, blank: &str, levels: usize) -> Result<String, Fail> {
     Ok(source)
 }
 
+/// Brackets that open and that close, how many of each, and the first fault.
+const BRACKETS: &[(&str, &str, usize, Option<LexFault>)] = &[
+    ("(", ")", 64, None),
+    ("[", "]", 64, None),
+    ("{", "}", 64, None),
+    ("([", "])", 32, None),
+    ("(\n", "\n)", 64, None),
+    ("()", "[]", 65, None),
+    ("(", ")", 65, Some(LexFault::Deep(1))),
+    ("[", "]", 65, Some(LexFault::Deep(1))),
+    ("{", "", 65, Some(LexFault::Deep(1))),
+    ("([", "])", 33, Some(LexFault::Deep(1))),
+    ("(\n", "\n)", 65, Some(LexFault::Deep(65))),
+    ("(", "", 64, Some(LexFault::Bracket(1))),
+    ("(\n", "", 64, Some(LexFault::Bracket(64))),
+];
+
+/// The first fault of so many brackets that open, and as many that close.
+fn bracket_fault(
+    alloc: Global,
+    open: &str,
+    close: &str,
+    count: usize,
+) -> Result<Option<LexFault>, Fail> {
+    let mut source = repeated(alloc, open, count)?;
+    source.push_str(repeated(alloc, close, count)?.as_str())?;
+    Ok(scan(alloc, source.as_bytes()).err())
+}
+
 #[test]
 fn brackets_at_the_limit(rt: HostRuntime) -> Result<(), Fail> {
-    let cases = [
-        ("(", ")", 64, None),
-        ("[", "]", 64, None),
-        ("{", "}", 64, None),
-        ("([", "])", 32, None),
-        ("(\n", "\n)", 64, None),
-        ("()", "[]", 65, None),
-        ("(", ")", 65, Some(LexFault::Deep(1))),
-        ("[", "]", 65, Some(LexFault::Deep(1))),
-        ("{", "", 65, Some(LexFault::Deep(1))),
-        ("([", "])", 33, Some(LexFault::Deep(1))),
-        ("(\n", "\n)", 65, Some(LexFault::Deep(65))),
-        ("(", "", 64, Some(LexFault::Bracket(1))),
-        ("(\n", "", 64, Some(LexFault::Bracket(64))),
-    ];
-    for (open, close, count, want) in cases {
-        let mut source = repeated(rt.alloc(), open, count)?;
-        source.push_str(repeated(rt.alloc(), close, count)?.as_str())?;
-        assert_eq!(rt; scan(rt.alloc(), source.as_bytes()).err(), want);
+    for (open, close, count, want) in BRACKETS {
+        assert_eq!(rt; bracket_fault(rt.alloc(), open, close, *count)?, *want);
     }
     Ok(())
 }
 
+/// Blanks, how many levels they indent, and the indent of the last line or the first fault.
+const INDENTS: &[(&str, usize, Result<usize, LexFault>)] = &[
+    (" ", 64, Ok(64)),
+    ("\t", 64, Ok(64)),
+    (" ", 65, Err(LexFault::Deep(66))),
+    ("\t", 65, Err(LexFault::Deep(66))),
+];
+
+/// The indent of the last line of so many headers with `y` below them, or the first fault.
+fn deepest(alloc: Global, blank: &str, levels: usize) -> Result<Result<usize, LexFault>, Fail> {
+    let source = nested(alloc, blank, levels)?;
+    Ok(match scan(alloc, source.as_bytes()) {
+        Ok(lines) => Ok(lines.lines.last().ok_or("no line")?.indent),
+        Err(fault) => Err(fault),
+    })
+}
+
 #[test]
 fn indents_at_the_limit(rt: HostRuntime) -> Result<(), Fail> {
-    let cases = [
-        (" ", 64, None),
-        ("\t", 64, None),
-        (" ", 65, Some(LexFault::Deep(66))),
-        ("\t", 65, Some(LexFault::Deep(66))),
-    ];
-    for (blank, levels, want) in cases {
-        let source = nested(rt.alloc(), blank, levels)?;
-        let lines = scan(rt.alloc(), source.as_bytes());
-        if let Ok(lines) = &lines {
-            let deepest = lines.lines.last().ok_or("no line")?;
-            assert_eq!(rt; deepest.indent, levels);
-        }
-        assert_eq!(rt; lines.err(), want);
+    for (blank, levels, want) in INDENTS {
+        assert_eq!(rt; deepest(rt.alloc(), blank, *levels)?, *want);
     }
     Ok(())
 }

@@ -9,15 +9,19 @@ use std::alloc::Global;
 use std::process::Abort;
 use std::test::Fail;
 
+/// The lines and ignore comments of a text, or what is told of its fault.
+fn scanned(alloc: Global, source: &str) -> Result<String, Fail> {
+    let bytes = source.as_bytes();
+    match scan(alloc, bytes) {
+        Ok(lines) => shown(alloc, bytes, &lines),
+        Err(fault) => Ok(format!(in alloc; "{fault}")?),
+    }
+}
+
 /// Each text has the lines and ignore comments that stand beside it.
 fn check_lines(rt: &impl Abort, alloc: Global, cases: &[(&str, &str)]) -> Result<(), Fail> {
     for (source, want) in cases {
-        let bytes = source.as_bytes();
-        let got = match scan(alloc, bytes) {
-            Ok(lines) => shown(alloc, bytes, &lines)?,
-            Err(fault) => format!(in alloc; "{fault}")?,
-        };
-        assert_eq!(rt; got.as_str(), *want);
+        assert_eq!(rt; scanned(alloc, source)?.as_str(), *want);
     }
     Ok(())
 }
