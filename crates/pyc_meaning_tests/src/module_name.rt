@@ -1,7 +1,18 @@
 //! Paths, with the modules that they name.
 
 use pyc_names::ModuleName;
+use std::alloc::{AllocError, Global};
 use std::test::Fail;
+
+/// The parts of the module that a path names.
+fn parts_of(alloc: Global, path: &str) -> Result<String, AllocError> {
+    let name = ModuleName::of_path(alloc, path)?;
+    let mut texts = Vec::new(alloc);
+    for part in name.parts() {
+        texts.push(part.as_str())?;
+    }
+    format!(in alloc; "{texts:?}")
+}
 
 /// Paths, with the parts of the modules that they name.
 const PATHS: &[(&str, &str)] = &[
@@ -15,13 +26,7 @@ const PATHS: &[(&str, &str)] = &[
 #[test]
 fn names_modules(rt: HostRuntime) -> Result<(), Fail> {
     for (path, parts) in PATHS {
-        let name = ModuleName::of_path(rt.alloc(), path)?;
-        let mut texts = Vec::new(rt.alloc());
-        for part in name.parts() {
-            texts.push(part.as_str())?;
-        }
-        let shown = format!(in rt.alloc(); "{texts:?}")?;
-        assert_eq!(rt; shown.as_str(), *parts, "at {path}");
+        assert_eq!(rt; parts_of(rt.alloc(), path)?.as_str(), *parts, "at {path}");
     }
     Ok(())
 }
