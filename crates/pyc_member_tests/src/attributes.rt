@@ -1,7 +1,7 @@
 //! Bodies of classes, with the attributes that their methods give instances.
 
 use crate::sources::module_of;
-use pyc_members::{AttributeForm, self_attributes};
+use pyc_members::{AttributeForm, SelfAttribute, self_attributes};
 use std::alloc::Global;
 use std::fmt::Write;
 use std::test::Fail;
@@ -19,8 +19,13 @@ fn word(form: &AttributeForm) -> &'static str {
 /// what gives it its type, and the method.
 fn attributes_of(alloc: Global, body: &str) -> Result<String, Fail> {
     let module = module_of(alloc, body)?;
+    shown(alloc, &self_attributes(alloc, &module.statements)?)
+}
+
+/// These attributes, one after another.
+fn shown(alloc: Global, attributes: &[SelfAttribute]) -> Result<String, Fail> {
     let mut shown = String::new(alloc);
-    for found in &self_attributes(alloc, &module.statements)? {
+    for found in attributes {
         let name = found.name.as_str();
         let line = found.at.line;
         let column = found.at.column;

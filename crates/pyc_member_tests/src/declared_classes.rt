@@ -2,17 +2,26 @@
 
 use crate::sources::module_of;
 use pyc_bindings::scope_bindings;
-use pyc_members::declared_classes;
+use pyc_members::{DeclaredClass, declared_classes};
 use std::alloc::Global;
 use std::fmt::Write;
+use std::rc::Rc;
 use std::test::Fail;
 
 /// The classes that a source declares, each as its name, its line, and how many names its body binds.
 fn classes_of(alloc: Global, source: &str) -> Result<String, Fail> {
     let module = module_of(alloc, source)?;
     let bindings = scope_bindings(alloc, &module.statements)?;
+    shown(
+        alloc,
+        &declared_classes(alloc, &module.statements, &bindings)?,
+    )
+}
+
+/// These classes, one after another.
+fn shown(alloc: Global, classes: &[Rc<DeclaredClass>]) -> Result<String, Fail> {
     let mut shown = String::new(alloc);
-    for class in &declared_classes(alloc, &module.statements, &bindings)? {
+    for class in classes {
         let name = class.name.as_str();
         let line = class.at.line;
         let bound = class.body.bindings.len();

@@ -1,7 +1,7 @@
 //! Bodies of classes, with their methods.
 
 use crate::sources::module_of;
-use pyc_members::{method_kind, methods, self_name};
+use pyc_members::{Method, method_kind, methods, self_name};
 use std::alloc::Global;
 use std::fmt::Write;
 use std::test::Fail;
@@ -10,8 +10,13 @@ use std::test::Fail;
 /// instance, `-` where it has none.
 fn methods_of(alloc: Global, body: &str) -> Result<String, Fail> {
     let module = module_of(alloc, body)?;
+    shown(alloc, &methods(alloc, &module.statements)?)
+}
+
+/// These methods, one after another.
+fn shown(alloc: Global, methods: &[Method<'_>]) -> Result<String, Fail> {
     let mut shown = String::new(alloc);
-    for method in &methods(alloc, &module.statements)? {
+    for method in methods {
         let name = method.head.name.as_str();
         let line = method.at.line;
         let kind = method_kind(&method.head.decorators);
