@@ -49,16 +49,21 @@ fn write_binding(binding: &Binding, shown: &mut String) -> Result<(), Fail> {
     Ok(())
 }
 
-/// The bindings of the top level of a source.
-fn bindings_of(alloc: Global, source: &str) -> Result<String, Fail> {
-    let Outcome::Tree(module_read) = read(alloc, source.as_bytes())? else {
-        return Err("no tree")?;
-    };
+/// These bindings, one after another.
+fn shown(alloc: Global, bindings: &[Binding]) -> Result<String, Fail> {
     let mut shown = String::new(alloc);
-    for binding in &scope_bindings(alloc, &module_read.statements)? {
+    for binding in bindings {
         write_binding(binding, &mut shown)?;
     }
     Ok(shown)
+}
+
+/// The bindings of the top level of a source.
+fn bindings_of(alloc: Global, source: &str) -> Result<String, Fail> {
+    match read(alloc, source.as_bytes())? {
+        Outcome::Tree(module) => shown(alloc, &scope_bindings(alloc, &module.statements)?),
+        Outcome::Fault(_) => Err("no tree".into()),
+    }
 }
 
 /// Imports, with what they bind.

@@ -1,8 +1,9 @@
 //! Sources with the messages that are found in them.
 
 use crate::sources::file_of;
-use pyc_body::{file_units, found, unsilenced};
+use pyc_body::{Unit, file_units, found, unsilenced};
 use pyc_iface::{Options, World};
+use pyc_names::SourceFile;
 use pyc_report::Message;
 use pyc_types::Builtins;
 use std::alloc::Global;
@@ -31,30 +32,64 @@ fn shown(alloc: Global, messages: &[Message]) -> Result<String, Fail> {
     Ok(shown)
 }
 
-/// What is found in the units of a file of this source, the only one there is.
-fn found_in(alloc: Global, source: &[u8]) -> Result<String, Fail> {
+/// What is found in a unit of a file of a world.
+fn found_in_unit(
+    alloc: Global,
+    world: &World,
+    file: &SourceFile,
+    unit: Unit<'_>,
+) -> Result<String, Fail> {
     let builtins = Builtins::new(alloc)?;
-    let file = Rc::new(alloc, file_of(alloc, "a.py", source)?)?;
-    let world = World::build(alloc, slice::from_ref(&file))?;
+    shown(alloc, &found(alloc, &builtins, OPTIONS, world, file, unit)?)
+}
+
+/// What is found in these units of a file of a world.
+fn found_in_units(
+    alloc: Global,
+    world: &World,
+    file: &SourceFile,
+    units: &[Unit<'_>],
+) -> Result<String, Fail> {
     let mut messages = String::new(alloc);
-    for unit in &file_units(alloc, file.outcome())? {
-        let of_unit = found(alloc, &builtins, OPTIONS, &world, &file, *unit)?;
-        messages.push_str(shown(alloc, &of_unit)?.as_str())?;
+    for unit in units {
+        messages.push_str(found_in_unit(alloc, world, file, *unit)?.as_str())?;
     }
     Ok(messages)
 }
 
-/// The lines of what is told of a source, each with a space after it.
-fn lines_told(alloc: Global, source: &[u8]) -> Result<String, Fail> {
-    let builtins = Builtins::new(alloc)?;
+/// What is found in the units of a file of a world.
+fn found_in_file(alloc: Global, world: &World, file: &SourceFile) -> Result<String, Fail> {
+    found_in_units(alloc, world, file, &file_units(alloc, file.outcome())?)
+}
+
+/// What is found in the units of a file of this source, the only one there is.
+fn found_in(alloc: Global, source: &[u8]) -> Result<String, Fail> {
     let file = Rc::new(alloc, file_of(alloc, "a.py", source)?)?;
     let world = World::build(alloc, slice::from_ref(&file))?;
+    found_in_file(alloc, &world, &file)
+}
+
+/// The lines of these messages, each with a space after it.
+fn lines_of(alloc: Global, messages: &[Message]) -> Result<String, Fail> {
     let mut lines = String::new(alloc);
-    for message in &unsilenced(alloc, &builtins, OPTIONS, &world, &file)? {
+    for message in messages {
         let line = message.line;
         write!(lines, "{line} ")?;
     }
     Ok(lines)
+}
+
+/// The lines of what is told of a file of a world.
+fn lines_in(alloc: Global, world: &World, file: &SourceFile) -> Result<String, Fail> {
+    let builtins = Builtins::new(alloc)?;
+    lines_of(alloc, &unsilenced(alloc, &builtins, OPTIONS, world, file)?)
+}
+
+/// The lines of what is told of a source, each with a space after it.
+fn lines_told(alloc: Global, source: &[u8]) -> Result<String, Fail> {
+    let file = Rc::new(alloc, file_of(alloc, "a.py", source)?)?;
+    let world = World::build(alloc, slice::from_ref(&file))?;
+    lines_in(alloc, &world, &file)
 }
 
 /// Sources with annotated values, with what is found in them.

@@ -1,8 +1,8 @@
 //! Modules, with their annotated literals.
 
-use pyc_ast::Outcome;
+use pyc_ast::{Outcome, Stmt};
 use pyc_bindings::scope_bindings;
-use pyc_body::literal_forms;
+use pyc_body::{LiteralForm, literal_forms};
 use pyc_lower::read;
 use std::alloc::Global;
 use std::fmt::Write;
@@ -10,12 +10,22 @@ use std::test::Fail;
 
 /// The annotated literals of a source, each as its line, column, annotation and type, and ended by a `;`.
 fn forms_of(alloc: Global, source: &str) -> Result<String, Fail> {
-    let Outcome::Tree(module) = read(alloc, source.as_bytes())? else {
-        return Err("no tree".into());
-    };
+    match read(alloc, source.as_bytes())? {
+        Outcome::Tree(module) => forms_in(alloc, &module.statements),
+        Outcome::Fault(_) => Err("no tree".into()),
+    }
+}
+
+/// The annotated literals of these statements.
+fn forms_in(alloc: Global, statements: &[Stmt]) -> Result<String, Fail> {
+    let bindings = scope_bindings(alloc, statements)?;
+    shown(alloc, &literal_forms(alloc, &bindings, statements)?)
+}
+
+/// These annotated literals, one after another.
+fn shown(alloc: Global, forms: &[LiteralForm]) -> Result<String, Fail> {
     let mut shown = String::new(alloc);
-    let bindings = scope_bindings(alloc, &module.statements)?;
-    for form in &literal_forms(alloc, &bindings, &module.statements)? {
+    for form in forms {
         let line = form.at.line;
         let column = form.at.column;
         let annotation = form.annotation;

@@ -3,7 +3,8 @@
 use crate::sources::file_of;
 use pyc_ast::{Expr, Module, Outcome, Stmt, StmtForm, Text};
 use pyc_bindings::{
-    Decorator, declaration, decorator_of, has_other, has_setter, is_decorated, redefinitions,
+    Decorator, Redefinition, declaration, decorator_of, has_other, has_setter, is_decorated,
+    redefinitions,
 };
 use pyc_lower::read;
 use std::alloc::{AllocError, Global};
@@ -143,8 +144,13 @@ fn first_bindings_declare(rt: HostRuntime) -> Result<(), Fail> {
 /// The names that a source defines again: each with its line, and the line of its declaration.
 fn defined_again(alloc: Global, source: &str) -> Result<String, Fail> {
     let file = file_of(alloc, "a.py", source.as_bytes())?;
+    shown(alloc, &redefinitions(alloc, file.bindings())?)
+}
+
+/// These names, one after another.
+fn shown(alloc: Global, names: &[Redefinition]) -> Result<String, Fail> {
     let mut shown = String::new(alloc);
-    for found in &redefinitions(alloc, file.bindings())? {
+    for found in names {
         let line = found.at.line;
         let first = found.line;
         write!(shown, "{line} {} {first}; ", found.name.as_str())?;

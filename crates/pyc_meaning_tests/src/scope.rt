@@ -1,7 +1,7 @@
 //! Modules, with the lines of their parts and of their units.
 
-use pyc_ast::{Module, Outcome, StmtForm};
-use pyc_bindings::{PartForm, scope_parts};
+use pyc_ast::{Module, Outcome, Stmt, StmtForm};
+use pyc_bindings::{Part, PartForm, scope_parts};
 use pyc_body::unit_definitions;
 use pyc_lower::read;
 use std::alloc::Global;
@@ -32,8 +32,13 @@ fn mark(form: PartForm<'_>) -> &str {
 /// The lines of the parts of a source with their marks, and `?` after those inside an `if` or a `try`.
 fn parts_of(alloc: Global, source: &str) -> Result<String, Fail> {
     let module = module_of(alloc, source)?;
+    parts_shown(alloc, &scope_parts(alloc, &module.statements)?)
+}
+
+/// The lines of these parts, one after another.
+fn parts_shown(alloc: Global, parts: &[Part<'_>]) -> Result<String, Fail> {
     let mut shown = String::new(alloc);
-    for part in &scope_parts(alloc, &module.statements)? {
+    for part in parts {
         let line = part.place.at.line;
         let guard = if part.place.is_guarded { "?" } else { "" };
         write!(shown, "{}{line}{guard} ", mark(part.form))?;
@@ -44,8 +49,13 @@ fn parts_of(alloc: Global, source: &str) -> Result<String, Fail> {
 /// The lines of the definitions among the units of a source.
 fn units_of(alloc: Global, source: &str) -> Result<String, Fail> {
     let module = module_of(alloc, source)?;
+    lines_of(alloc, &unit_definitions(alloc, &module.statements)?)
+}
+
+/// The lines of these definitions, each with a space after it.
+fn lines_of(alloc: Global, definitions: &[&Stmt]) -> Result<String, Fail> {
     let mut shown = String::new(alloc);
-    for unit in &unit_definitions(alloc, &module.statements)? {
+    for unit in definitions {
         let line = unit.at.line;
         write!(shown, "{line} ")?;
     }
