@@ -15,26 +15,32 @@ fn either(alloc: Global, first: Ty, second: Ty) -> Result<Ty, AllocError> {
     Ok(Ty::Union(Rc::new(alloc, vec![in alloc; first, second]?)?))
 }
 
+/// Whether one type goes to another by the builtin orders.
+fn is_assignable(alloc: Global, got: &Ty, want: &Ty) -> Result<bool, AllocError> {
+    let builtins = Builtins::new(alloc)?;
+    Ok(assignable(&builtins, got, want))
+}
+
 /// Whether one type goes to another, each spelled in words.
 fn goes(alloc: Global, got: &str, want: &str) -> Result<bool, Fail> {
-    let builtins = Builtins::new(alloc)?;
     let got = type_of(alloc, got)?;
     let want = type_of(alloc, want)?;
-    Ok(assignable(&builtins, &got, &want))
+    Ok(is_assignable(alloc, &got, &want)?)
 }
 
 /// Whether instances of one builtin class go to another.
 fn instance_goes(alloc: Global, got: BuiltinClass, want: BuiltinClass) -> Result<bool, AllocError> {
-    let builtins = Builtins::new(alloc)?;
-    Ok(assignable(&builtins, &of(got), &of(want)))
+    is_assignable(alloc, &of(got), &of(want))
+}
+
+/// A builtin class as an object.
+fn object_of(class: BuiltinClass) -> Ty {
+    Ty::Class(ClassId::builtin(class))
 }
 
 /// Whether one builtin class goes to another as an object.
 fn class_goes(alloc: Global, got: BuiltinClass, want: BuiltinClass) -> Result<bool, AllocError> {
-    let builtins = Builtins::new(alloc)?;
-    let got = Ty::Class(ClassId::builtin(got));
-    let want = Ty::Class(ClassId::builtin(want));
-    Ok(assignable(&builtins, &got, &want))
+    is_assignable(alloc, &object_of(got), &object_of(want))
 }
 
 /// Builtin classes: whether instances of the first go to the second.
@@ -207,17 +213,19 @@ fn in_lists(alloc: Global, item: Ty) -> Result<Ty, AllocError> {
 
 /// Whether a builtin class in 900 lists goes to another one in as many.
 fn deep_goes(alloc: Global, got: BuiltinClass, want: BuiltinClass) -> Result<bool, AllocError> {
-    let builtins = Builtins::new(alloc)?;
     let got = in_lists(alloc, of(got))?;
     let want = in_lists(alloc, of(want))?;
-    Ok(assignable(&builtins, &got, &want))
+    is_assignable(alloc, &got, &want)
+}
+
+/// Whether a type goes to itself.
+fn goes_to_itself(alloc: Global, ty: &Ty) -> Result<bool, AllocError> {
+    is_assignable(alloc, ty, &ty.clone()?)
 }
 
 /// Whether a builtin class in 900 lists goes to itself.
 fn deep_goes_to_itself(alloc: Global, class: BuiltinClass) -> Result<bool, AllocError> {
-    let builtins = Builtins::new(alloc)?;
-    let ty = in_lists(alloc, of(class))?;
-    Ok(assignable(&builtins, &ty, &ty.clone()?))
+    goes_to_itself(alloc, &in_lists(alloc, of(class))?)
 }
 
 #[test]
@@ -247,26 +255,20 @@ fn after_none(alloc: Global, item: Ty) -> Result<Ty, AllocError> {
 
 /// Whether int before None in such unions goes to itself.
 fn deep_union_goes_to_itself(alloc: Global) -> Result<bool, AllocError> {
-    let builtins = Builtins::new(alloc)?;
-    let ty = before_none(alloc, of(BuiltinClass::Int))?;
-    Ok(assignable(&builtins, &ty, &ty.clone()?))
+    goes_to_itself(alloc, &before_none(alloc, of(BuiltinClass::Int))?)
 }
 
 /// Whether int before None in such unions goes to another type.
-fn deep_union_goes(alloc: Global, want: &Ty) -> Result<bool, AllocError> {
-    let builtins = Builtins::new(alloc)?;
-    let got = before_none(alloc, of(BuiltinClass::Int))?;
-    Ok(assignable(&builtins, &got, want))
+fn deep_union_goes(alloc: Global, want: Ty) -> Result<bool, AllocError> {
+    is_assignable(alloc, &before_none(alloc, of(BuiltinClass::Int))?, &want)
 }
 
 #[test]
 fn deep_unions_are_answered(rt: HostRuntime) -> Result<(), Fail> {
     let a = rt.alloc();
     assert!(rt; deep_union_goes_to_itself(a)?);
-    let want = after_none(a, of(BuiltinClass::Int))?;
-    assert!(rt; deep_union_goes(a, &want)?);
-    let other = before_none(a, of(BuiltinClass::Bool))?;
-    assert!(rt; !deep_union_goes(a, &other)?);
+    assert!(rt; deep_union_goes(a, after_none(a, of(BuiltinClass::Int))?)?);
+    assert!(rt; !deep_union_goes(a, before_none(a, of(BuiltinClass::Bool))?)?);
     Ok(())
 }
 

@@ -34,18 +34,36 @@ fn shown(alloc: Global, left: &Option<Ty>) -> Result<String, AllocError> {
     }
 }
 
+/// What `isinstance` by these classes leaves of a type.
+fn kept(alloc: Global, ty: &Ty, classes: &[ClassId]) -> Result<Option<Ty>, AllocError> {
+    let builtins = Builtins::new(alloc)?;
+    narrow_to(alloc, &builtins, ty, classes)
+}
+
+/// What `isinstance` by these classes does not take of a type.
+fn left(alloc: Global, ty: &Ty, classes: &[ClassId]) -> Result<Option<Ty>, AllocError> {
+    let builtins = Builtins::new(alloc)?;
+    narrow_away(alloc, &builtins, ty, classes)
+}
+
+/// How what `isinstance` by these classes leaves of a type is written.
+fn kept_shown(alloc: Global, ty: &Ty, classes: &[ClassId]) -> Result<String, AllocError> {
+    shown(alloc, &kept(alloc, ty, classes)?)
+}
+
+/// How what `isinstance` by these classes does not take of a type is written.
+fn left_shown(alloc: Global, ty: &Ty, classes: &[ClassId]) -> Result<String, AllocError> {
+    shown(alloc, &left(alloc, ty, classes)?)
+}
+
 /// How what `isinstance` by `int` leaves of a type is written.
 fn narrowed(alloc: Global, ty: &Ty) -> Result<String, AllocError> {
-    let builtins = Builtins::new(alloc)?;
-    let int = [ClassId::builtin(BuiltinClass::Int)];
-    shown(alloc, &narrow_to(alloc, &builtins, ty, &int)?)
+    kept_shown(alloc, ty, &[ClassId::builtin(BuiltinClass::Int)])
 }
 
 /// How what `isinstance` by `int` does not take of a type is written.
 fn narrowed_away(alloc: Global, ty: &Ty) -> Result<String, AllocError> {
-    let builtins = Builtins::new(alloc)?;
-    let int = [ClassId::builtin(BuiltinClass::Int)];
-    shown(alloc, &narrow_away(alloc, &builtins, ty, &int)?)
+    left_shown(alloc, ty, &[ClassId::builtin(BuiltinClass::Int)])
 }
 
 /// How the union of two types that words spell is written.
@@ -87,14 +105,26 @@ fn unions_form(rt: HostRuntime) -> Result<(), Fail> {
     Ok(())
 }
 
+/// The union of a tuple of so many ints alone.
+fn union_of_ints(alloc: Global, count: usize) -> Result<Ty, AllocError> {
+    union_of(alloc, &[ints(alloc, count)?])
+}
+
+/// Whether the union of a tuple of so many ints alone is that tuple.
+fn is_kept(alloc: Global, count: usize) -> Result<bool, AllocError> {
+    let union = union_of_ints(alloc, count)?;
+    Ok(same_type(&union, &ints(alloc, count)?))
+}
+
+/// Whether the union of a tuple of so many ints alone is Any.
+fn is_any(alloc: Global, count: usize) -> Result<bool, AllocError> {
+    Ok(same_type(&union_of_ints(alloc, count)?, &Ty::Any))
+}
+
 #[test]
 fn unions_have_a_limit(rt: HostRuntime) -> Result<(), Fail> {
-    let a = rt.alloc();
-    let largest = ints(a, 999)?;
-    let kept = union_of(a, &[largest.clone()?])?;
-    assert!(rt; same_type(&kept, &largest));
-    let larger = union_of(a, &[ints(a, 1000)?])?;
-    assert!(rt; same_type(&larger, &Ty::Any));
+    assert!(rt; is_kept(rt.alloc(), 999)?);
+    assert!(rt; is_any(rt.alloc(), 1000)?);
     Ok(())
 }
 
@@ -106,6 +136,16 @@ fn kept_of(alloc: Global, words: &str) -> Result<String, Fail> {
 /// How what `isinstance` by `int` does not take of the type that words spell is written.
 fn left_of(alloc: Global, words: &str) -> Result<String, Fail> {
     Ok(narrowed_away(alloc, &type_of(alloc, words)?)?)
+}
+
+/// How what `isinstance` by `int` leaves of an instance of a class that is not known is written.
+fn kept_of_unknown(alloc: Global) -> Result<String, AllocError> {
+    narrowed(alloc, &unknown(alloc)?)
+}
+
+/// How what `isinstance` by `int` does not take of such an instance is written.
+fn left_of_unknown(alloc: Global) -> Result<String, AllocError> {
+    narrowed_away(alloc, &unknown(alloc)?)
 }
 
 /// Types: what `isinstance` by `int` leaves of each, and what it does not take.
@@ -132,38 +172,42 @@ fn isinstance_splits(rt: HostRuntime) -> Result<(), Fail> {
         assert_eq!(rt; kept_of(a, words)?.as_str(), *kept);
         assert_eq!(rt; left_of(a, words)?.as_str(), *left);
     }
-    let unknown = unknown(a)?;
-    assert_eq!(rt; narrowed(a, &unknown)?.as_str(), "C");
-    assert_eq!(rt; narrowed_away(a, &unknown)?.as_str(), "C");
+    assert_eq!(rt; kept_of_unknown(a)?.as_str(), "C");
+    assert_eq!(rt; left_of_unknown(a)?.as_str(), "C");
     Ok(())
+}
+
+/// How what `isinstance` by `int` and `list` leaves of a type is written.
+fn narrowed_by_two(alloc: Global, ty: &Ty) -> Result<String, AllocError> {
+    let both = [
+        ClassId::builtin(BuiltinClass::Int),
+        ClassId::builtin(BuiltinClass::List),
+    ];
+    kept_shown(alloc, ty, &both)
+}
+
+/// How what `isinstance` by `int` and `list` does not take of a type is written.
+fn narrowed_away_by_two(alloc: Global, ty: &Ty) -> Result<String, AllocError> {
+    let both = [
+        ClassId::builtin(BuiltinClass::Int),
+        ClassId::builtin(BuiltinClass::List),
+    ];
+    left_shown(alloc, ty, &both)
 }
 
 /// How what `isinstance` by `int` and `list` leaves of the type that words spell is written.
 fn kept_by_two(alloc: Global, words: &str) -> Result<String, Fail> {
-    let builtins = Builtins::new(alloc)?;
-    let both = [
-        ClassId::builtin(BuiltinClass::Int),
-        ClassId::builtin(BuiltinClass::List),
-    ];
-    let ty = type_of(alloc, words)?;
-    Ok(shown(alloc, &narrow_to(alloc, &builtins, &ty, &both)?)?)
+    Ok(narrowed_by_two(alloc, &type_of(alloc, words)?)?)
 }
 
 /// How what `isinstance` by `int` and `list` does not take of the type that words spell is written.
 fn left_by_two(alloc: Global, words: &str) -> Result<String, Fail> {
-    let builtins = Builtins::new(alloc)?;
-    let both = [
-        ClassId::builtin(BuiltinClass::Int),
-        ClassId::builtin(BuiltinClass::List),
-    ];
-    let ty = type_of(alloc, words)?;
-    Ok(shown(alloc, &narrow_away(alloc, &builtins, &ty, &both)?)?)
+    Ok(narrowed_away_by_two(alloc, &type_of(alloc, words)?)?)
 }
 
 /// How what `isinstance` by no class leaves of Any is written.
 fn kept_by_none(alloc: Global) -> Result<String, AllocError> {
-    let builtins = Builtins::new(alloc)?;
-    shown(alloc, &narrow_to(alloc, &builtins, &Ty::Any, &[])?)
+    kept_shown(alloc, &Ty::Any, &[])
 }
 
 /// Types: what `isinstance` by `int` and `list` leaves of each, and what it does not take.
