@@ -116,8 +116,20 @@ const ANNOTATED: &[(&[u8], &str)] = &[
         "3:7 assignment: Incompatible types in assignment (expression has type \"bytes\", variable has type \"int\");",
     ),
     (
-        b"def f():\n    x: int = ''\nclass C:\n    x: int = ''\nx: int = ('')\nw: C = ''\nx.y: int = ''\nv: str = 1j\n",
+        b"def f():\n    x: int = ''\nclass C:\n    x: int = ''\nv: str = 1j\n",
         "",
+    ),
+    (
+        b"class C:\n    pass\nx: int = ('')\nw: C = ''\nx.y: int = ''\n",
+        "3:10 assignment: Incompatible types in assignment (expression has type \"str\", variable has type \"int\");\
+         4:8 assignment: Incompatible types in assignment (expression has type \"str\", variable has type \"C\");\
+         5:1 attr-defined: \"int\" has no attribute \"y\";\
+         5:12 assignment: Incompatible types in assignment (expression has type \"str\", variable has type \"int\");",
+    ),
+    (
+        b"x: int = ''\nif x:\n    y: str = 1\n",
+        "3:14 assignment: Incompatible types in assignment (expression has type \"int\", variable has type \"str\");\
+         1:10 assignment: Incompatible types in assignment (expression has type \"str\", variable has type \"int\");",
     ),
 ];
 
