@@ -1,0 +1,10 @@
+pub mod ChoiceLemmas
+pub mod ExpressionLemmas
+pub mod TargetLemmas
+pub mod StatementLemmas
+pub mod HeaderLemmas
+pub mod BlockHeights
+pub mod BlockLemmas
+pub mod LineLemmas
+pub mod PlacedLemmas
+pub mod ModuleLemmas
