@@ -41,7 +41,11 @@ fn count_of(alloc: Global, source: &str) -> Result<usize, Fail> {
 /// What the first decorator of a function is.
 fn first_of(alloc: Global, source: &str) -> Result<Option<Decorator>, Fail> {
     let module = module_of(alloc, source)?;
-    Ok(decorators(&module.statements).first().map(decorator_of))
+    Ok(
+        decorators(&module.statements)
+            .first()
+            .map(|found| decorator_of(found)),
+    )
 }
 
 /// Whether one decorator of a function is an unknown one, and whether one makes a setter.
