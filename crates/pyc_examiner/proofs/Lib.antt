@@ -1,3 +1,0 @@
-mod TypeTokens
-pub mod AnswerSets
-pub mod KeptLemmas

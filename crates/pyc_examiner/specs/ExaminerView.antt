@@ -1,6 +1,5 @@
 -- The desk at which an examiner performs readings.
 use Rattle.std.specs.Prelude.{map}
-use Rattle.indexmap.specs.IndexMap.{keys}
 use Rattle.pyc_examiner.specs.declared.examiner.Examiner.{Examiner}
 use Rattle.pyc_iface.specs.Answers.{answer_of}
 use Rattle.pyc_iface.specs.WorldView.{world_in}
@@ -12,6 +11,6 @@ abbrev pub desk_of : Examiner → Desk
 desk_of examiner =
     record {
       answers = answer_of (world_in examiner.world.now);
-      keys = keys examiner.answers;
+      keys = examiner.keys.keys;
       messages = map message_in examiner.messages.items;
     }

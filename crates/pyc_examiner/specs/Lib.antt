@@ -1,4 +1,3 @@
 pub mod KeyEquality
 pub mod KeyHash
-pub mod KeptAnswers
 pub mod ExaminerView
