@@ -11,6 +11,7 @@ ghost use Rattle.pyc_type_exprs.specs.TypeExprView.{type_expr_of};
 
 use crate::kinds::Kinds;
 use pyc_ast::{Expr, Text};
+use pyc_bindings::declaration;
 use pyc_builtins::is_dunder;
 use pyc_names::{ModuleName, QualifiedName, Referent, SourceFile, fixed_module};
 use pyc_reading::NameKind;
@@ -85,7 +86,7 @@ impl Kinds<'_> {
         ensures { IfOk result (λ found. referent_of found
             ≡ spec.own_referent (kinds_in self.now) (source_in file.now) name.now) }
     {
-        match file.declaration(name) {
+        match declaration(file.bindings(), name) {
             Some(_) => self.follow(alloc, file.name(), name),
             None => Ok(Referent::NoName),
         }
