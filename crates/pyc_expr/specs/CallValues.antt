@@ -1,5 +1,5 @@
--- Calls: what messages show of what is called, and calls of `reveal_type` and `cast` (Python reference 3.13, "Calls"; the
--- library reference, `typing.reveal_type` and `typing.cast`).
+-- Calls: what messages show of what is called, and calls of `reveal_type` and `cast` (Python reference 3.13, "Calls";
+-- the library reference, `typing.reveal_type` and `typing.cast`).
 use Rattle.std.specs.Prelude.{ℕ, codes, ◌&&◌, if◌then◌else◌, List, [], ◌∷◌, ◌++◌, Option, None, Some}
 use Rattle.pyc_arguments.specs.Telling.{Shown, shown_name, shown_member, shown_nameless, owner_name}
 use Rattle.pyc_ast.specs.declared.position.Position.{Position}
