@@ -12,7 +12,6 @@ ghost use Rattle.pyc_reading.specs.Desks.{Performs};
 use crate::meaning::{Meaning, Role, answer_meaning, builtin_meaning, fixed_meaning, kind_meaning};
 use crate::messages::{no_attribute, not_defined};
 use pyc_ast::{Position, Text};
-use pyc_bindings::declaration;
 use pyc_builtins::{BuiltinName, builtin_name, is_dunder};
 use pyc_names::{ModuleName, QualifiedName, SourceFile, fixed_module, fixed_name};
 use pyc_reading::{Answer, Key, NameAnswer, NameKind, Notes};
@@ -126,7 +125,7 @@ fn no_builtin<N: Notes>(
 fn binds(file: &SourceFile, name: &Text) -> bool
     ensures { result ≡ spec.binds (source_in file.now) name.now }
 {
-    declaration(file.bindings(), name).is_some()
+    file.declaration(name).is_some()
 }
 
 /// What a name that stands in a file means: one that nothing defines is told.

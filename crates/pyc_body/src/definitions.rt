@@ -19,7 +19,7 @@ ghost use Rattle.pyc_type_forms.specs.Types.{any};
 use crate::import_texts::redefinition_text;
 use pyc_annotations::{Base, read_bases};
 use pyc_ast::{Block, ClassDefinition, FunctionDefinition, Position, Stmt, StmtForm, Text};
-use pyc_bindings::{Binding, Redefinition, declaration, redefinitions, scope_bindings};
+use pyc_bindings::{Binding, Redefinition, redefinitions, scope_bindings};
 use pyc_class::{ClassId, UnknownOrder};
 use pyc_declarations::own_class;
 use pyc_iface::{Answer, Key, Notes};
@@ -300,7 +300,7 @@ fn no_order_text(alloc: Global, name: &Text) -> Result<String, AllocError>
 fn declares(file: &SourceFile, at: Position, name: &Text) -> bool
     ensures { result ≡ spec.declares (source_in file.now) at name.now }
 {
-    fixed_module(file.name().parts()).is_none() && stands_at(declaration(file.bindings(), name), at)
+    fixed_module(file.name().parts()).is_none() && stands_at(file.declaration(name), at)
 }
 
 /// Whether a binding stands at a position.

@@ -11,7 +11,6 @@ ghost use Rattle.pyc_type_exprs.specs.TypeExprView.{type_expr_of};
 
 use crate::kinds::Kinds;
 use pyc_ast::{Expr, Text};
-use pyc_bindings::declaration;
 use pyc_builtins::is_dunder;
 use pyc_names::{ModuleName, QualifiedName, Referent, SourceFile, fixed_module};
 use pyc_reading::NameKind;
@@ -86,7 +85,7 @@ impl Kinds<'_> {
         ensures { IfOk result (λ found. referent_of found
             ≡ spec.own_referent (kinds_in self.now) (source_in file.now) name.now) }
     {
-        match declaration(file.bindings(), name) {
+        match file.declaration(name) {
             Some(_) => self.follow(alloc, file.name(), name),
             None => Ok(Referent::NoName),
         }

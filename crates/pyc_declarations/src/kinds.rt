@@ -17,7 +17,7 @@ use crate::alias::variable_kind;
 use crate::answers::Answers;
 use crate::declared_types::initialiser_type;
 use pyc_ast::{ClassDefinition, Text};
-use pyc_bindings::{Binding, BindingForm, declaration, is_decorated};
+use pyc_bindings::{Binding, BindingForm, is_decorated};
 use pyc_class::{ClassId, UnknownOrder};
 use pyc_names::{
     FixedName, ModuleName, QualifiedName, Referent, SourceFile, Table, fixed_module, fixed_name,
@@ -157,7 +157,7 @@ fn absent_name(file: Option<&SourceFile>, name: &Text) -> NameKind
 {
     match file {
         Some(file) => {
-            if declaration(file.bindings(), name).is_some() {
+            if file.declaration(name).is_some() {
                 NameKind::NoTarget
             } else {
                 NameKind::NoName
@@ -183,7 +183,7 @@ fn found_in_file<'a>(q: &QualifiedName, file: Option<&'a SourceFile>) -> Found<'
         ≡ spec.found_in_file (qualified_of q.now) (option_map (λ file. source_in file.now) file.entry) }
 {
     match file {
-        Some(file) => found_binding(file, declaration(file.bindings(), &q.name)),
+        Some(file) => found_binding(file, file.declaration(&q.name)),
         None => Found::Answered(of_kind(NameKind::Unknown)),
     }
 }

@@ -9,7 +9,7 @@ ghost use Rattle.pyc_names.specs.SourceFileView.{source_in};
 
 use crate::kinds::Kinds;
 use pyc_ast::Outcome;
-use pyc_bindings::{Binding, declaration};
+use pyc_bindings::Binding;
 use pyc_names::{ModuleName, QualifiedName, SourceFile, fixed_module, joined};
 use pyc_reading::Presence;
 use std::alloc::{AllocError, Global};
@@ -79,11 +79,7 @@ impl Kinds<'_> {
             (source_in file.now) (source_in file.now).outcome) }
     {
         match file.outcome() {
-            Outcome::Tree(_) => self.binding_presence(
-                alloc,
-                q,
-                declaration(file.bindings(), &q.name),
-            ),
+            Outcome::Tree(_) => self.binding_presence(alloc, q, file.declaration(&q.name)),
             Outcome::Fault(_) => Ok(Presence::Opaque),
         }
     }

@@ -1,4 +1,4 @@
--- Places of files by their modules.
+-- Places of files by their modules, and of bindings by their names.
 use Rattle.std.proofs.Common.{◌≡◌, ℕ, zero, suc, ◌+◌, ◌-◌, ◌<◌, ◌≤◌, Bool, true, false, cond, ◌||◌, bytes_eq, is_some, List, [], ◌∷◌, ◌++◌, map, drop, length, get_or, slice_get, Option, None, Some, true≢false, refl, sym, ap, ◌∙◌, arith, append_assoc, length-append, add-one, drop-cons}
 use Rattle.std.specs.declared.alloc.Global.{Global}
 use Rattle.std.specs.declared.rc.Rc.{Rc}
@@ -7,6 +7,10 @@ use Rattle.std.specs.List.{find, position_from, list_any, starts_with}
 use Rattle.std.specs.Map.{lookup}
 use Rattle.std.proofs.lemmas.List.{length-map}
 use Rattle.indexmap.specs.IndexMap.{insert_entry}
+use Rattle.pyc_bindings.specs.Bindings.{Binding}
+use Rattle.pyc_bindings.specs.BindingView.{binding_of}
+use Rattle.pyc_bindings.specs.Redefinitions.{declaration}
+use Rattle.pyc_bindings.specs.declared.binding.Binding.{Binding as BindingOf}
 use Rattle.pyc_names.specs.declared.source_file.SourceFile.{SourceFile as SourceFileOf}
 use Rattle.pyc_names.specs.FixedModules.{fixed_module}
 use Rattle.pyc_names.specs.Following.{has_module}
@@ -142,3 +146,38 @@ there_placed m files h = by (is_root m || is_some (fixed_module m)) ∙ ap (λ b
     by : (b : Bool) → true ≡ (b || true)
     by true = refl
     by false = refl
+
+-- ---- bindings
+
+-- the first binding of each name, one binding more
+pub binding_more : (n : List ℕ) (bindings : List BindingOf) (left : ℕ) (b : BindingOf) (old new : Option ℕ) (key : List ℕ)
+    → 0 < left → left ≤ length bindings → b ≡ get_or bindings (left - 1) b → key ≡ b.name
+    → new ≡ cond (bytes_eq key n) (Some (left - 1)) old
+    → old ≡ position_from (λ (b : Binding). bytes_eq b.name n) left (map binding_of (drop left bindings))
+    → new ≡ position_from (λ (b : Binding). bytes_eq b.name n) (left - 1) (map binding_of (drop (left - 1) bindings))
+binding_more n bindings left b old new key some within is named put before =
+    let t : Binding → Bool = λ b. bytes_eq b.name n in
+    let below : left - 1 < length bindings = omega arith in
+    let next : suc (left - 1) ≡ left = omega arith in
+    let onward : left - 1 + 1 ≡ left = omega arith in
+    let first : drop (left - 1) bindings ≡ b ∷ drop left bindings = drop-cons bindings (left - 1) b below ∙ ap (λ x. x ∷ drop (suc (left - 1)) bindings) (sym is) ∙ ap (λ i. b ∷ drop i bindings) next in
+    put ∙ ap (λ k. cond (bytes_eq k n) (Some (left - 1)) old) named
+    ∙ ap (cond (t (binding_of b)) (Some (left - 1))) (before ∙ ap (λ i. position_from t i (map binding_of (drop left bindings))) (sym onward))
+    ∙ ap (λ l. position_from t (left - 1) (map binding_of l)) (sym first)
+
+-- the plain binding of one is the plain one at its place
+pub binding_at : (bindings : List BindingOf) (i : ℕ) (b : BindingOf) → i < length bindings → b ≡ get_or bindings i b → Some (binding_of b) ≡ slice_get (map binding_of bindings) i
+binding_at [] i b within is = absurd (omega arith)
+binding_at (x ∷ bindings) zero b within is = ap (λ (x : BindingOf). Some (binding_of x)) is
+binding_at (x ∷ bindings) (suc i) b within is = let below : i < length bindings = omega arith in binding_at bindings i b below is
+
+module _ (bindings : List BindingOf) (n : List ℕ) where
+  -- the place of a name is within the bindings
+  pub declared_within : (i : ℕ) → position_from (λ (b : Binding). bytes_eq b.name n) 0 (map binding_of bindings) ≡ Some i → i < length bindings
+  declared_within i h =
+      let below : i < 0 + length (map binding_of bindings) = place_within (λ (b : Binding). bytes_eq b.name n) 0 i (map binding_of bindings) h in
+      omega (arith, length-map bindings binding_of)
+
+  -- the declaration of a name is the binding at its place
+  pub declared_at : (o : Option ℕ) → o ≡ position_from (λ (b : Binding). bytes_eq b.name n) 0 (map binding_of bindings) → chosen o (map binding_of bindings) ≡ declaration (map binding_of bindings) n
+  declared_at o h = ap (λ p. chosen p (map binding_of bindings)) h ∙ sym (found_at (λ (b : Binding). bytes_eq b.name n) [] (map binding_of bindings))

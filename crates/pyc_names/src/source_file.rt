@@ -1,17 +1,20 @@
 //! A file as names see it.
 
-ghost use Rattle.std.specs.Prelude.{◌≡◌, map, IfOk};
+ghost use Rattle.std.specs.Prelude.{◌≡◌, ℕ, List, bytes_eq, map, IfOk, option_map};
+ghost use Rattle.std.specs.List.{position_from};
+ghost use Rattle.indexmap.specs.IndexMap.{get_by};
 ghost use Rattle.pyc_ast.specs.Modules.{outcome_of};
 ghost use Rattle.pyc_bindings.specs.BindingView.{binding_of};
+ghost use Rattle.pyc_bindings.specs.Redefinitions as again;
 ghost use Rattle.pyc_bindings.specs.RedefinitionView.{redefinition_of};
 ghost use Rattle.pyc_members.specs.DeclaredClassView.{declared_class_in};
 ghost use Rattle.pyc_names.specs.ModuleName.{module_of};
-ghost use Rattle.pyc_names.specs.SourceFileView.{source_in};
 ghost use Rattle.pyc_names.specs.SourceFiles as spec;
 
 use crate::fixed::fixed_module;
 use crate::module_name::ModuleName;
-use pyc_ast::Outcome;
+use indexmap::IndexMap;
+use pyc_ast::{Outcome, Text};
 use pyc_bindings::{Binding, Redefinition, redefinitions, scope_bindings};
 use pyc_members::{DeclaredClass, declared_classes};
 use std::alloc::{AllocError, Global};
@@ -26,11 +29,17 @@ pub struct SourceFile {
     is_package: bool,
     outcome: Outcome,
     bindings: Vec<Binding>,
+    /// The index of the first binding of each name.
+    places: IndexMap<Text, usize>,
     again: Vec<Redefinition>,
     classes: Vec<Rc<DeclaredClass>>,
+    ghost places_are: { (n : List ℕ) → get_by (bytes_eq n) places
+        ≡ position_from (λ b. bytes_eq b.name n) 0 (map binding_of bindings.items) },
 }
 
 impl SourceFile {
+    ghost use Rattle.pyc_names.specs.SourceFileView.{source_in};
+
     /// The file of a path, of the module that the path names, whose source is this. The only error is that memory runs
     /// out.
     #[tactic(auto, unfolding(crate::specs::SourceFiles::source_file))]
@@ -44,6 +53,7 @@ impl SourceFile {
         ensures { IfOk result (λ file. source_in file ≡ spec.source_file path.now (outcome_of outcome)) }
     {
         let bindings = top_bindings(alloc, &outcome)?;
+        let places = places_of(alloc, &bindings)?;
         let again = redefinitions(alloc, &bindings)?;
         let classes = classes_in(alloc, &name, &bindings, &outcome)?;
         Ok(SourceFile {
@@ -52,6 +62,7 @@ impl SourceFile {
             name,
             outcome,
             bindings,
+            places,
             again,
             classes,
         })
@@ -92,6 +103,17 @@ impl SourceFile {
         &self.bindings
     }
 
+    /// The declaration of a name of the file's top level: the first of its bindings. It takes no memory.
+    pub fn declaration(&self, name: &Text) -> Option<&Binding>
+        ensures { option_map (λ found. binding_of found.now) result
+            ≡ again.declaration (source_in self.now).bindings name.now }
+    {
+        match self.places.get(name) {
+            Some(place) => Some(&self.bindings[*place]),
+            None => None,
+        }
+    }
+
     /// The names that the bindings of the file's top level define again, in text order.
     pub fn redefinitions(&self) -> &[Redefinition]
         ensures { map redefinition_of result.now ≡ (source_in self.now).again }
@@ -115,6 +137,20 @@ fn top_bindings(alloc: Global, outcome: &Outcome) -> Result<Vec<Binding>, AllocE
         Outcome::Tree(module) => scope_bindings(alloc, &module.statements),
         Outcome::Fault(_) => Ok(Vec::new(alloc)),
     }
+}
+
+/// The index of the first binding of each name among bindings.
+fn places_of(alloc: Global, bindings: &[Binding]) -> Result<IndexMap<Text, usize>, AllocError>
+    ensures { IfOk result (λ places. (n : List ℕ) → get_by (bytes_eq n) places
+        ≡ position_from (λ b. bytes_eq b.name n) 0 (map binding_of bindings.now)) }
+{
+    let mut places = IndexMap::new(alloc);
+    let mut left = bindings.len();
+    while left > 0 {
+        left -= 1;
+        places.insert(bindings[left].name.clone()?, left)?;
+    }
+    Ok(places)
 }
 
 /// The classes that a source of a module declares, where these are the bindings of its top level.

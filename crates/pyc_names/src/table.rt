@@ -20,7 +20,7 @@ use crate::qualified_name::{QualifiedName, Referent, Step};
 use crate::source_file::SourceFile;
 use indexmap::IndexMap;
 use pyc_ast::{Outcome, Text};
-use pyc_bindings::{Binding, BindingForm, declaration};
+use pyc_bindings::{Binding, BindingForm};
 use std::alloc::{AllocError, Global};
 use std::rc::Rc;
 use std::slice;
@@ -162,12 +162,7 @@ impl Table {
             (source_in file.now).outcome) }
     {
         match file.outcome() {
-            Outcome::Tree(_) => self.binding_step(
-                alloc,
-                q,
-                file,
-                declaration(file.bindings(), &q.name),
-            ),
+            Outcome::Tree(_) => self.binding_step(alloc, q, file, file.declaration(&q.name)),
             Outcome::Fault(_) => Ok(Step::Ends(Referent::Opaque)),
         }
     }

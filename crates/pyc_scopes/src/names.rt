@@ -12,7 +12,6 @@ ghost use Rattle.pyc_type_forms.specs.TypeView.{ty_of};
 use crate::builtin_values::builtin_value;
 use crate::scope::{Local, Scope, local_named};
 use pyc_ast::{Position, Text};
-use pyc_bindings::declaration;
 use pyc_builtins::{builtin_name, is_dunder};
 use pyc_names::{FixedName, QualifiedName, SourceFile, fixed_module, fixed_name};
 use pyc_obligations::{Judge, Thing, Value, asked_name, tell_error};
@@ -122,7 +121,7 @@ fn own_value<N: Judge>(
 fn binds(file: &SourceFile, name: &Text) -> bool
     ensures { result ≡ spec.binds (source_in file.now) name.now }
 {
-    declaration(file.bindings(), name).is_some()
+    file.declaration(name).is_some()
 }
 
 /// A name that the module does not bind.

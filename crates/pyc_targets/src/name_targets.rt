@@ -10,7 +10,7 @@ ghost use Rattle.pyc_targets.specs.NameTargets as spec;
 ghost use Rattle.pyc_type_forms.specs.TypeView.{ty_of};
 
 use pyc_ast::{Position, Text};
-use pyc_bindings::{Binding, BindingForm, declaration};
+use pyc_bindings::{Binding, BindingForm};
 use pyc_names::{QualifiedName, SourceFile, fixed_module};
 use pyc_obligations::{Judge, asked_name};
 use pyc_reading::NameAnswer;
@@ -29,7 +29,7 @@ pub fn declared_type<N: Judge>(
     ensures { Performs (option_map ty_of) (spec.declared_type (source_in file.now) name.now) (N.desk notes.old) result
         (N.desk notes.new) }
 {
-    match declaration(file.bindings(), name) {
+    match file.declaration(name) {
         Some(found) => variable_type(alloc, notes, file, name, is_definition(&found.form)),
         None => own_type(alloc, notes, file, name, false),
     }
@@ -128,7 +128,7 @@ pub fn declares_at(file: &SourceFile, at: Position, name: &Text) -> bool
     if fixed_module(file.name().parts()).is_some() {
         false
     } else {
-        is_annotated_at(at, declaration(file.bindings(), name))
+        is_annotated_at(at, file.declaration(name))
     }
 }
 
