@@ -1,0 +1,3 @@
+mod TypeTokens
+pub mod AnswerSets
+pub mod KeptLemmas

@@ -1,5 +1,6 @@
 -- The desk at which an examiner performs readings.
 use Rattle.std.specs.Prelude.{map}
+use Rattle.indexmap.specs.IndexMap.{keys}
 use Rattle.pyc_examiner.specs.declared.examiner.Examiner.{Examiner}
 use Rattle.pyc_iface.specs.Answers.{answer_of}
 use Rattle.pyc_iface.specs.WorldView.{world_in}
@@ -11,6 +12,6 @@ abbrev pub desk_of : Examiner → Desk
 desk_of examiner =
     record {
       answers = answer_of (world_in examiner.world.now);
-      keys = examiner.keys.keys;
+      keys = keys examiner.answers;
       messages = map message_in examiner.messages.items;
     }

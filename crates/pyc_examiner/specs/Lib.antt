@@ -1,3 +1,4 @@
 pub mod KeyEquality
 pub mod KeyHash
+pub mod KeptAnswers
 pub mod ExaminerView

@@ -29,6 +29,13 @@ impl AskedKey {
     {
         AskedKey { key }
     }
+
+    /// The key.
+    pub(crate) fn key(&self) -> &Key
+        ensures { key_of result.now ≡ self.now }
+    {
+        &self.key
+    }
 }
 
 impl PartialEq for AskedKey {

@@ -1,12 +1,15 @@
 //! Who examines the bodies of files.
 
 ghost use Rattle.std.specs.Prelude.{◌≡◌, [], map, IfOk, is_ok};
+ghost use Rattle.pyc_examiner.specs.KeptAnswers.{AreAnswers};
 ghost use Rattle.pyc_iface.specs.Answers.{answer_of};
 ghost use Rattle.pyc_iface.specs.WorldView.{world_in};
 ghost use Rattle.pyc_report.specs.Message.{message_in};
 
 use crate::asked_key::AskedKey;
-use indexmap::IndexSet;
+use crate::copies::copy_of;
+use crate::kept::keep;
+use indexmap::IndexMap;
 use pyc_class::{ClassId, Lin, Lins};
 use pyc_iface::World;
 use pyc_obligations::Judge;
@@ -14,13 +17,14 @@ use pyc_reading::{Answer, Key, Notes};
 use pyc_report::Message;
 use std::alloc::{AllocError, Global};
 
-/// Who performs the readings of bodies over a world, and keeps the keys that were asked, each once, in the order in
-/// which they were first asked, and the messages that were told.
+/// Who performs the readings of bodies over a world, and keeps the keys that were asked, each once with its answer, in
+/// the order in which they were first asked, and the messages that were told.
 #[derive(Drop)]
 pub struct Examiner<'a> {
     world: &'a World,
-    keys: IndexSet<AskedKey>,
+    answers: IndexMap<AskedKey, Answer>,
     messages: Vec<Message>,
+    ghost answers_are: { ∥ AreAnswers (answer_of (world_in world.now)) answers.entries ∥₁ },
 }
 
 impl<'a> Examiner<'a> {
@@ -32,7 +36,7 @@ impl<'a> Examiner<'a> {
     {
         Examiner {
             world,
-            keys: IndexSet::new(alloc),
+            answers: IndexMap::new(alloc),
             messages: Vec::new(alloc),
         }
     }
@@ -51,9 +55,14 @@ impl Notes for Examiner<'_> {
     ghost desk = { desk_of };
 
     fn ask(&mut self, alloc: Global, key: Key) -> Result<Answer, AllocError> {
-        let answer = self.world.ask(alloc, &key)?;
-        self.keys.insert(AskedKey::new(key))?;
-        Ok(answer)
+        let asked = AskedKey::new(key);
+        if let Some(answer) = self.answers.get(&asked) {
+            return copy_of(answer);
+        }
+        let answer = self.world.ask(alloc, asked.key())?;
+        let copy = copy_of(&answer)?;
+        keep(&mut self.answers, asked, answer)?;
+        Ok(copy)
     }
 
     fn tell(&mut self, message: Message) -> Result<(), AllocError> {

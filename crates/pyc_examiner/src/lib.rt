@@ -1,8 +1,10 @@
-//! Who examines the bodies of files: it performs readings over a world, and keeps which keys were asked and what was
-//! told.
+//! Who examines the bodies of files: it performs readings over a world, and keeps which keys were asked, what was
+//! answered and what was told.
 #![tactic(auto)]
 
 mod asked_key;
+mod copies;
 mod examiner;
+mod kept;
 
 pub use examiner::Examiner;

@@ -1,0 +1,112 @@
+-- Asking where answers are kept.
+use Rattle.std.proofs.Common.{◌≡◌, ◌∙◌, ap, sym, refl, subst, true≢false, Bool, true, false, cond, ◌||◌, if◌then◌else◌}
+use Rattle.std.proofs.Common.{append-nil, List, [], ◌∷◌, ◌++◌, map, Option, Some, None, is_some, unwrap_or, Result, Ok, Err, IfOk}
+use Rattle.std.proofs.Math.Logic.{∥∥₁_elim}
+use Rattle.std.specs.List.{list_any}
+use Rattle.std.specs.Map.{lookup, keys_of}
+use Rattle.std.specs.declared.alloc.AllocError.{AllocError}
+use Rattle.indexmap.specs.IndexMap.{insert_entry}
+use Rattle.pyc_examiner.proofs.AnswerSets.{one_proof}
+use Rattle.pyc_examiner.specs.KeptAnswers.{AreAnswers}
+use Rattle.pyc_examiner.specs.KeyEquality.{is_asked, keys_are}
+use Rattle.pyc_reading.specs.AnswerView.{answer_in}
+use Rattle.pyc_reading.specs.Answers.{Answer}
+use Rattle.pyc_reading.specs.Desks.{Desk, Performs, Grown, asking, with_key, run, noted}
+use Rattle.pyc_reading.specs.Keys.{Key}
+use Rattle.pyc_reading.specs.declared.answer.Answer.{Answer as AnswerOf}
+use Rattle.pyc_report.specs.Message.{Message}
+
+none_some : {A : Type 0} {x : A} → None ≡ Some x → ⊥
+none_some e = true≢false (sym (ap is_some e))
+
+same_some : {A : Type 0} {x y : A} → Some x ≡ Some y → x ≡ y
+same_some {A} {x} e = ap (λ r. unwrap_or r x) e
+
+module _ (t : Key → Bool) where
+  -- a key whose answer is kept is among the keys
+  among : (es : List (Key × AnswerOf)) (a : AnswerOf) → lookup t es ≡ Some a → list_any t (keys_of es) ≡ true
+  among [] a h = absurd (none_some h)
+  among (e ∷ es) a h = by (t e.0) refl (among es a)
+    where
+      by : (b : Bool) → t e.0 ≡ b → (lookup t es ≡ Some a → list_any t (keys_of es) ≡ true)
+          → list_any t (keys_of (e ∷ es)) ≡ true
+      by true p rest = ap (λ c. c || list_any t (keys_of es)) p
+      by false p rest =
+          ap (λ c. c || list_any t (keys_of es)) p
+          ∙ rest (sym (ap (λ c. cond c (Some e.1) (lookup t es)) p) ∙ h)
+
+  -- a key without an answer is not among them
+  apart : (es : List (Key × AnswerOf)) → lookup t es ≡ None → list_any t (keys_of es) ≡ false
+  apart [] h = refl
+  apart (e ∷ es) h = by (t e.0) refl (apart es)
+    where
+      by : (b : Bool) → t e.0 ≡ b → (lookup t es ≡ None → list_any t (keys_of es) ≡ false)
+          → list_any t (keys_of (e ∷ es)) ≡ false
+      by true p rest = absurd (none_some (sym h ∙ ap (λ c. cond c (Some e.1) (lookup t es)) p))
+      by false p rest =
+          ap (λ c. c || list_any t (keys_of es)) p
+          ∙ rest (sym (ap (λ c. cond c (Some e.1) (lookup t es)) p) ∙ h)
+
+-- a new key goes last
+last : (k : Key) (a : AnswerOf) (es : List (Key × AnswerOf)) → lookup (is_asked k) es ≡ None
+    → keys_of (insert_entry is_asked es k a) ≡ keys_of es ++ (k ∷ [])
+last k a [] h = refl
+last k a (e ∷ es) h = by (is_asked k e.0) refl (last k a es)
+  where
+    by : (b : Bool) → is_asked k e.0 ≡ b
+        → (lookup (is_asked k) es ≡ None → keys_of (insert_entry is_asked es k a) ≡ keys_of es ++ (k ∷ []))
+        → keys_of (insert_entry is_asked (e ∷ es) k a) ≡ keys_of (e ∷ es) ++ (k ∷ [])
+    by true p rest = absurd (none_some (sym h ∙ ap (λ c. cond c (Some e.1) (lookup (is_asked k) es)) p))
+    by false p rest =
+        ap (λ c. keys_of (if c then (e.0, a) ∷ es else e ∷ insert_entry is_asked es k a)) p
+        ∙ ap (λ ks. e.0 ∷ ks) (rest (sym (ap (λ c. cond c (Some e.1) (lookup (is_asked k) es)) p) ∙ h))
+
+-- the answers that are kept stay the ones to their keys where one more such is kept
+pub still_answers : (answers : Key → Answer) (es fs : List (Key × AnswerOf)) (k : Key) (a : AnswerOf)
+    → ((q : Key) → lookup (is_asked q) fs ≡ cond (is_asked k q) (Some a) (lookup (is_asked q) es))
+    → answer_in a ≡ answers k → AreAnswers answers es → AreAnswers answers fs
+still_answers answers es fs k a updated is all q b found = by (is_asked k q) refl
+  where
+    by : (c : Bool) → is_asked k q ≡ c → answer_in b ≡ answers q
+    by true p =
+        let kept : Some a ≡ Some b =
+            sym (ap (λ c. cond c (Some a) (lookup (is_asked q) es)) p) ∙ sym (updated q) ∙ found
+        in
+        ap answer_in (sym (same_some kept)) ∙ is ∙ ap answers (sym (keys_are q k p))
+    by false p =
+        all q b (sym (ap (λ c. cond c (Some a) (lookup (is_asked q) es)) p) ∙ sym (updated q) ∙ found)
+
+module _ (answers : Key → Answer) (messages : List Message) where
+  abbrev pub desk_with : List Key → Desk
+  desk_with keys = record { answers = answers; keys = keys; messages = messages }
+
+  -- an answer that is kept is handed out, and nothing is taken down
+  pub handed_out : (es : List (Key × AnswerOf)) (k : Key) (a : AnswerOf) (result : Result AnswerOf AllocError)
+      → ∥ AreAnswers answers es ∥₁ → lookup (is_asked k) es ≡ Some a → IfOk result (λ copy. answer_in copy ≡ answer_in a)
+      → Performs answer_in (asking k) (desk_with (keys_of es)) result (desk_with (keys_of es))
+  handed_out es k a (Ok copy) are found same =
+      let is : answer_in a ≡ answers k = ∥∥₁_elim are (one_proof _ _) (λ all. all k a found) in
+      let stay : with_key (keys_of es) k ≡ keys_of es =
+          ap (λ c. if c then keys_of es else keys_of es ++ (k ∷ [])) (among (is_asked k) es a found)
+      in
+      record {
+        done = λ j. (sym (same ∙ is) j, desk_with (stay j));
+        grown = record { answers = refl; more = []; keys = sym (append-nil (keys_of es)) };
+      }
+  handed_out es k a (Err e) are found same =
+      record { done = tt; grown = record { answers = refl; more = []; keys = sym (append-nil (keys_of es)) } }
+
+  -- a new answer is handed out, and its key taken down
+  pub newly_kept : (es fs : List (Key × AnswerOf)) (k : Key) (a copy : AnswerOf)
+      → lookup (is_asked k) es ≡ None → answer_in a ≡ answers k → answer_in copy ≡ answer_in a
+      → fs ≡ insert_entry is_asked es k a
+      → Performs answer_in (asking k) (desk_with (keys_of es)) (Ok copy) (desk_with (keys_of fs))
+  newly_kept es fs k a copy none is same kept =
+      let keys : keys_of fs ≡ keys_of es ++ (k ∷ []) = ap keys_of kept ∙ last k a es none in
+      let taken : with_key (keys_of es) k ≡ keys_of es ++ (k ∷ []) =
+          ap (λ c. if c then keys_of es else keys_of es ++ (k ∷ [])) (apart (is_asked k) es none)
+      in
+      record {
+        done = λ j. (sym (same ∙ is) j, desk_with ((taken ∙ sym keys) j));
+        grown = record { answers = refl; more = k ∷ []; keys = keys };
+      }

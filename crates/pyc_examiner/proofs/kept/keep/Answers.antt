@@ -1,0 +1,14 @@
+use Rattle.std.proofs.Common.{subst, sym}
+use Rattle.pyc_examiner.proofs.KeptLemmas.{still_answers}
+use Rattle.pyc_examiner.specs.KeptAnswers.{AreAnswers}
+use Rattle.pyc_examiner.proofs.kept.keep.Goals as goal
+
+pub returns-in_err-insert-clause-answers : goal.returns-in_err-insert-clause-answers
+returns-in_err-insert-clause-answers c =
+    λ answers is all. subst (AreAnswers answers) (sym c.in_err-insert.ensures.err) all
+
+pub returns-clause-answers : goal.returns-clause-answers
+returns-clause-answers c =
+    λ answers is all.
+        still_answers answers c.args.kept.now.entries c.insert.new.self.entries c.args.asked c.args.answer
+        c.in_ok-insert.ensures.updates.0 is all
