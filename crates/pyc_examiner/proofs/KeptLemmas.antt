@@ -1,6 +1,6 @@
 -- Asking where answers are kept.
-use Rattle.std.proofs.Common.{◌≡◌, ◌∙◌, ap, sym, refl, subst, true≢false, Bool, true, false, cond, ◌||◌, if◌then◌else◌}
-use Rattle.std.proofs.Common.{append-nil, List, [], ◌∷◌, ◌++◌, map, Option, Some, None, is_some, unwrap_or, Result, Ok, Err, IfOk}
+use Rattle.std.proofs.Common.{◌≡◌, ◌∙◌, ap, sym, refl, true≢false, Bool, true, false, cond, ◌||◌, if◌then◌else◌}
+use Rattle.std.proofs.Common.{append-nil, List, [], ◌∷◌, ◌++◌, Some, None, is_some, unwrap_or, Result, Ok, Err, IfOk}
 use Rattle.std.proofs.Math.Logic.{∥∥₁_elim}
 use Rattle.std.specs.List.{list_any}
 use Rattle.std.specs.Map.{lookup, keys_of}
@@ -11,7 +11,7 @@ use Rattle.pyc_examiner.specs.KeptAnswers.{AreAnswers}
 use Rattle.pyc_examiner.specs.KeyEquality.{is_asked, keys_are}
 use Rattle.pyc_reading.specs.AnswerView.{answer_in}
 use Rattle.pyc_reading.specs.Answers.{Answer}
-use Rattle.pyc_reading.specs.Desks.{Desk, Performs, Grown, asking, with_key, run, noted}
+use Rattle.pyc_reading.specs.Desks.{Desk, Performs, asking, with_key}
 use Rattle.pyc_reading.specs.Keys.{Key}
 use Rattle.pyc_reading.specs.declared.answer.Answer.{Answer as AnswerOf}
 use Rattle.pyc_report.specs.Message.{Message}
@@ -70,7 +70,7 @@ still_answers answers es fs k a updated is all q b found = by (is_asked k q) ref
     by : (c : Bool) → is_asked k q ≡ c → answer_in b ≡ answers q
     by true p =
         let kept : Some a ≡ Some b =
-            sym (ap (λ c. cond c (Some a) (lookup (is_asked q) es)) p) ∙ sym (updated q) ∙ found
+        sym (ap (λ c. cond c (Some a) (lookup (is_asked q) es)) p) ∙ sym (updated q) ∙ found
         in
         ap answer_in (sym (same_some kept)) ∙ is ∙ ap answers (sym (keys_are q k p))
     by false p =
@@ -87,7 +87,7 @@ module _ (answers : Key → Answer) (messages : List Message) where
   handed_out es k a (Ok copy) are found same =
       let is : answer_in a ≡ answers k = ∥∥₁_elim are (one_proof _ _) (λ all. all k a found) in
       let stay : with_key (keys_of es) k ≡ keys_of es =
-          ap (λ c. if c then keys_of es else keys_of es ++ (k ∷ [])) (among (is_asked k) es a found)
+      ap (λ c. if c then keys_of es else keys_of es ++ (k ∷ [])) (among (is_asked k) es a found)
       in
       record {
         done = λ j. (sym (same ∙ is) j, desk_with (stay j));
@@ -104,7 +104,7 @@ module _ (answers : Key → Answer) (messages : List Message) where
   newly_kept es fs k a copy none is same kept =
       let keys : keys_of fs ≡ keys_of es ++ (k ∷ []) = ap keys_of kept ∙ last k a es none in
       let taken : with_key (keys_of es) k ≡ keys_of es ++ (k ∷ []) =
-          ap (λ c. if c then keys_of es else keys_of es ++ (k ∷ [])) (apart (is_asked k) es none)
+      ap (λ c. if c then keys_of es else keys_of es ++ (k ∷ [])) (apart (is_asked k) es none)
       in
       record {
         done = λ j. (sym (same ∙ is) j, desk_with ((taken ∙ sym keys) j));

@@ -1,6 +1,6 @@
 -- Types as rows of tokens that give them back, so that two proofs that types are one are the same.
 use Rattle.std.proofs.Common.{◌≡◌, ◌∙◌, ap, List, [], ◌∷◌, refl}
-use Rattle.std.specs.Coded.{Coded, Coded-set, code_by, coded_list, codes}
+use Rattle.std.specs.Coded.{Coded, code_by, coded_list, codes}
 use Rattle.pyc_class.specs.Class.{Id}
 use Rattle.pyc_type_forms.specs.Types.{Slot}
 use Rattle.pyc_type_forms.specs.Types.{Ty, Tys, Params, Listed, any, none, module_type, instance, class_object}

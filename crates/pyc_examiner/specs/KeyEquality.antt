@@ -14,7 +14,7 @@ use Rattle.pyc_names.specs.Following.{QualifiedName, same_name}
 use Rattle.pyc_names.specs.ModuleName.{same_module}
 use Rattle.pyc_reading.specs.Keys.{Key, MemberName, same_key, same_member, has_module, has_name, name, class, member}
 
--- whether two keys are one, as a set of keys asks it: of the one that it holds, with the one that is sought
+-- whether two keys are one, as a map of keys asks it: of the one that it holds, with the one that is sought
 abbrev pub is_asked : Key → Key → Bool
 is_asked sought held = same_key held sought
 

@@ -7,7 +7,7 @@ use pyc_reading::Key;
 use std::hash::{Hash, Hasher};
 use std::marker::Model;
 
-/// A key that was asked, as one of a set. Contracts see the key.
+/// A key that was asked, as one of a map. Contracts see the key.
 #[derive(Debug, Drop)]
 pub(crate) struct AskedKey {
     key: Key,

@@ -1,4 +1,4 @@
-use Rattle.std.proofs.Common.{◌≡◌, ◌∙◌, ap, sym, map}
+use Rattle.std.proofs.Common.{◌∙◌, ap, sym, map}
 use Rattle.std.proofs.Math.Logic.{∥∥₁_elim}
 use Rattle.pyc_examiner.proofs.KeptLemmas.{handed_out, newly_kept}
 use Rattle.pyc_examiner.specs.KeyEquality.{is_asked}
