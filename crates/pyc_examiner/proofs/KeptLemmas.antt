@@ -82,7 +82,8 @@ module _ (answers : Key → Answer) (messages : List Message) where
 
   -- an answer that is kept is handed out, and nothing is taken down
   pub handed_out : (es : List (Key × AnswerOf)) (k : Key) (a : AnswerOf) (result : Result AnswerOf AllocError)
-      → ∥ AreAnswers answers es ∥₁ → lookup (is_asked k) es ≡ Some a → IfOk result (λ copy. answer_in copy ≡ answer_in a)
+      → ∥ AreAnswers answers es ∥₁ → lookup (is_asked k) es ≡ Some a
+      → IfOk result (λ copy. answer_in copy ≡ answer_in a)
       → Performs answer_in (asking k) (desk_with (keys_of es)) result (desk_with (keys_of es))
   handed_out es k a (Ok copy) are found same =
       let is : answer_in a ≡ answers k = ∥∥₁_elim are (one_proof _ _) (λ all. all k a found) in

@@ -34,4 +34,5 @@ returns c =
     (ap (λ k. lookup (is_asked k) self.answers.entries) (sym c.new-asked.ensures) ∙ sym c.in_default.ensures.value)
     (c.in_ok-answer.ensures ∙ ap (answer_of (world_in self.world.now)) (c.key.ensures ∙ c.new-asked.ensures))
     c.in_ok-copy.ensures
-    (c.in_ok-keep.ensures.done ∙ ap (λ k. insert_entry is_asked self.answers.entries k c.in_ok-answer.answer) c.new-asked.ensures)
+    (c.in_ok-keep.ensures.done
+    ∙ ap (λ k. insert_entry is_asked self.answers.entries k c.in_ok-answer.answer) c.new-asked.ensures)
