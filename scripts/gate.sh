@@ -2,14 +2,15 @@
 # The gate: proves, builds and tests every crate by `rt ci`, tries the must-fail edits, looks at the layout and at the names in
 # the documents, then runs the built program by the other scripts.
 # The crates are proved and built in a copy without the edits: `rt ci` would try these one by one, each with a load of its
-# crate, after it had proved each crate a second time; scripts/gate/edits.py tries several in one check.
+# crate, after it had proved each crate a second time; scripts/gate/edits.py tries several in one check, each crate's once
+# `rt ci` has proved it, on the processors that the proofs leave free.
 # Its last line is `gate: N passed, M failed`, the sum of all, and its status is 1 if anything failed.
 set -u
 cd "$(dirname "${BASH_SOURCE[0]}")/.." || exit 1
 
-log=$(mktemp) || exit 1
+log=$(mktemp) proofs=$(mktemp) tried=$(mktemp) || exit 1
 tree=$(mktemp -d) && chmod 755 "$tree" || exit 1
-trap 'rm -rf "$log" "$tree"' EXIT
+trap 'rm -rf "$log" "$proofs" "$tried" "$tree"' EXIT
 tar -c --exclude=./.git --exclude='./crates/*/out' --exclude='./crates/*/must-fail' . | tar -x -C "$tree" || exit 1
 passed=0
 failed=0
@@ -19,7 +20,13 @@ failed=0
 # at least once.
 run() {
     "$@" | tee "$log"
-    local status=${PIPESTATUS[0]} pattern='(^|: )([0-9]+) passed, ([0-9]+) failed$' last good=0 bad=0
+    judge "${PIPESTATUS[0]}" "$@"
+}
+
+# Adds up the last line of the log of a command that ended with this status.
+judge() {
+    local status=$1 pattern='(^|: )([0-9]+) passed, ([0-9]+) failed$' last good=0 bad=0
+    shift
     last=$(grep -v '^[[:space:]]*$' "$log" | tail -n 1)
     if [[ $last =~ $pattern ]]; then
         good=${BASH_REMATCH[2]}
@@ -45,12 +52,22 @@ run() {
 export RT_JOBS="${RT_JOBS:-4}"
 run python3 scripts/gate/check_layout.py
 run python3 scripts/gate/check_names.py
-run env -C "$tree" rt ci
+nice -n 19 python3 scripts/gate/edits.py --libraries "$tree/crates" --once --follow "$proofs" > "$tried" 2>&1 &
+edits=$!
+env -C "$tree" rt ci 2>&1 | tee "$proofs"
+status=${PIPESTATUS[0]}
+cp "$proofs" "$log"
+judge "$status" rt ci
+# (who follows it waits for a closing line)
+echo "0 passed, 0 failed" >> "$proofs"
 run python3 "$tree/scripts/gate/readme.py"
 run python3 "$tree/scripts/gate/rows.py"
 run python3 "$tree/scripts/gate/refused_growths.py"
 run python3 "$tree/scripts/gate/real_files.py"
-run python3 scripts/gate/edits.py --libraries "$tree/crates" --once
+wait "$edits"
+status=$?
+tee "$log" < "$tried"
+judge "$status" scripts/gate/edits.py
 
 echo "gate: $passed passed, $failed failed"
 [[ $failed -eq 0 ]]

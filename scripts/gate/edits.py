@@ -1,18 +1,21 @@
 #!/usr/bin/env python3
-"""Tries must-fail edits: `edits.py [--libraries FOLDER] [--once] [CRATE..]`.
+"""Tries must-fail edits: `edits.py [--libraries FOLDER] [--once] [--follow LOG] [CRATE..]`.
 
 The libraries that the crates stand on are those that `rt ci` left in FOLDER/NAME/out; FOLDER is `crates` where it is not
-named. The prover must refuse each edit `crates/NAME/must-fail/*.edit`. `rt must-fail NAME` tries them one by one, each with
+named. With `--follow` that `rt ci` still runs and writes LOG: the edits of a crate are tried once LOG says that it is proved,
+and count as failed where it is not. The prover must refuse each edit `crates/NAME/must-fail/*.edit`. `rt must-fail NAME` tries them one by one, each with
 a load of the whole crate. Here several edits of one crate stand in one check, at most one to a function, and the check asks
 for the edited functions alone. A proof reads what other functions promise and not their bodies, so an edit of one body leaves
 the proof of another as it was: an edit counts as refused in such a check only where the prover says of that very function
 that it is not proved. One whose function is still proved is tried alone, in a check of the whole crate. One of whose function
 the prover says nothing, since it calls another edited one, is tried in the next check, at last alone; with `--once`, as the gate
 calls this, it is passed over, and counts for nothing. An edit of what is stated, or of what several functions read, has a line
-`refuses: FUNCTION`: it is tried alone, in a check of that function.
+`refuses: FUNCTION`: it is tried in a check of that function, with others of such a line where no function of theirs reads a
+file that another of them changes. A check takes at most 12 edits, so that those of a crate with many are tried side by side.
 
-`RT_JOBS` says how many crates are tried side by side, 4 where it is not set. The last line is `edits: N passed, M failed`."""
+`RT_JOBS` says how many checks run side by side, 4 where it is not set. The last line is `edits: N passed, M failed`."""
 
+import argparse
 import concurrent.futures
 import os
 import re
@@ -33,6 +36,7 @@ UNREAD = (
     r".*(is not in scope|has no field|is no name|operand is missing|expected the end|cannot continue)"
 )
 PARTS = ("src", "specs", "proofs")
+TOGETHER = 12
 
 
 class Edit:
@@ -168,7 +172,7 @@ def words(known, name, built):
 
 
 class Trial:
-    """The trial of one crate's edits, with the folder where its checks keep what they proved."""
+    """The trial of some edits of one crate, with the folder where its checks keep what they proved."""
 
     def __init__(self, command, name, edits, room):
         self.words, self.name, self.edits, self.kept = command, name, edits, f"{room}/kept"
@@ -229,10 +233,14 @@ class Trial:
 
     def run(self, once):
         """Tries all, or those that stand in one check, and returns how many were refused and how many were not."""
+        if self.words is None:
+            return 0, len(self.edits)
         begun, self.left, self.said, self.failed, self.passed_over = time.monotonic(), [*self.edits], [], 0, []
         for it in [it for it in self.left if it.fault]:
             self.judge(it, None)
             self.said.append(f"{self.name}/{it.path.name}: BAD EDIT: {it.fault}")
+        for it, why in self.together([it for it in self.left if len(self.left) > 1 and it.refuses]).items():
+            self.judge(it, why)
         while refused := self.together(one_a_function(self.left)):
             for it, why in refused.items():
                 self.judge(it, why)
@@ -276,23 +284,93 @@ def one_a_function(edits):
     return [*found.values()]
 
 
+def shares(edits):
+    """Returns the edits in parts that are tried each by itself: those of bodies at most so many together, and at most one to a
+    function where that can be, and each other alone."""
+    bodies, of_function = [it for it in edits if it.is_body and it.place and not it.fault], {}
+    for it in bodies:
+        of_function.setdefault(it.place[3], []).append(it)
+    number = max(-(-len(bodies) // TOGETHER), *map(len, of_function.values()), 0) if bodies else 0
+    in_turn = [it for found in sorted(of_function.values(), key=len, reverse=True) for it in found]
+    return [in_turn[at::number] for at in range(number)] + apart([it for it in edits if it not in bodies])
+
+
+def apart(edits):
+    """Returns edits of what is stated in parts, in each of which no function reads what another edit changes."""
+    parts = []
+    for it in edits:
+        is_stated = it.refuses and it.place and not it.fault and not it.file.startswith("src/")
+        read = files_read(it) if is_stated else None
+        beside = lambda one, other: read and other and it.file not in other and one.file not in read
+        found = next((part for part in parts if len(part) < TOGETHER and all(beside(*one) for one in part)), None)
+        if found is None:
+            parts.append(found := [])
+        found.append((it, read))
+    return [[it for it, _ in part] for part in parts]
+
+
+def files_read(edit):
+    """Returns the files of definitions and lemmas of its own crate that an edit's function may read, as they name one another."""
+    folder, inside = edit.path.parents[1], edit.place[3].split("::")
+    left = [edit.place[0], *(str(it.relative_to(folder)) for it in folder.glob(f"proofs/**/{inside[-1]}/*.antt"))]
+    found = set(left)
+    while left:
+        text = (folder / left.pop()).read_text(encoding="utf-8")
+        named = re.findall(rf"\b(?:Rattle\.{folder.name}|crate)(?:\.|::)((?:specs|proofs)(?:(?:\.|::)\w+)+)", text)
+        for name in named:
+            parts = re.split(r"\.|::", name)
+            for end in range(2, len(parts) + 1):
+                file = "/".join(parts[:end]) + ".antt"
+                if file not in found and (folder / file).is_file():
+                    found.add(file)
+                    left.append(file)
+    return found
+
+
+def proved_by(log):
+    """Returns the crates of which the log of `rt ci` says that they are proved, and whether it has its closing line."""
+    text = log.read_text(encoding="utf-8", errors="replace")
+    return set(re.findall(r"(?m)^rt: (\w+) (?:proved|is kept: .*)$", text)), bool(re.search(r"(?m)^\d+ passed, \d+ failed", text))
+
+
+def as_they_are_proved(trials, log):
+    """Gives each trial once its crate is proved, in the order of the log; those whose crates are not proved last, as none."""
+    left = [*trials]
+    while left:
+        proved, is_over = proved_by(log)
+        for it in [it for it in left if it.name in proved]:
+            left.remove(it)
+            yield it
+        if is_over:
+            break
+        time.sleep(2 if left else 0)
+    for it in left:
+        print(f"edits: {it.name}: NOT TRIED: the crate is not proved", flush=True)
+        it.words = None
+        yield it
+
+
 def main():
-    words_given = sys.argv[1:]
-    built = ROOT / "crates"
-    if words_given[:1] == ["--libraries"]:
-        built, words_given = Path(words_given[1]).resolve(), words_given[2:]
-    once = words_given[:1] == ["--once"]
-    words_given = words_given[once:]
-    known = libraries()
-    edits = {it: edits_of(it) for it in words_given or known}
+    given = argparse.ArgumentParser(description="Tries must-fail edits.")
+    given.add_argument("--libraries", type=Path, default=ROOT / "crates", help="where the crates were built")
+    given.add_argument("--once", action="store_true", help="pass over what stands in no common check")
+    given.add_argument("--follow", type=Path, help="the log of the `rt ci` that builds the libraries")
+    given.add_argument("crates", nargs="*", help="the crates, all where none is named")
+    given = given.parse_args()
+    known, built = libraries(), given.libraries.resolve()
     passed = failed = 0
     with tempfile.TemporaryDirectory(prefix="edits-") as room:
-        trials = [Trial(words(known, it, built), it, found, tempfile.mkdtemp(dir=room)) for it, found in edits.items() if found]
+        trials = [
+            Trial(words(known, it, built), it, share, tempfile.mkdtemp(dir=room))
+            for it in given.crates or known
+            for share in shares(edits_of(it))
+        ]
         # (those with the most to do begin first)
         trials.sort(key=lambda it: -len(it.edits) * (8 + len(below(known, it.name))))
+        ready = as_they_are_proved(trials, given.follow) if given.follow else trials
         with concurrent.futures.ThreadPoolExecutor(int(os.environ.get("RT_JOBS", "4"))) as pool:
-            for good, bad in pool.map(lambda it: it.run(once), trials):
-                passed, failed = passed + good, failed + bad
+            for done in [pool.submit(it.run, given.once) for it in ready]:
+                passed, failed = passed + done.result()[0], failed + done.result()[1]
     print(f"edits: {passed} passed, {failed} failed")
     return 1 if failed else 0
 
