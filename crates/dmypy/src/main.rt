@@ -2,12 +2,8 @@
 #![tactic(auto)]
 
 pub mod check_files;
-#[cfg(test)]
-mod daemon_tests;
 pub mod disk;
 pub mod session;
-#[cfg(test)]
-mod session_tests;
 pub mod words;
 
 use check_files::check_files;

@@ -8,8 +8,6 @@ mod merging;
 mod orders;
 mod stored;
 mod table;
-#[cfg(test)]
-mod tests;
 
 pub use orders::{Order, Orders};
 pub use table::Base;

@@ -1,6 +1,6 @@
 //! Replies and ends of sessions over readers and writers of each kind, and calls on a daemon.
 
-use super::fakes::{NEVER, OPTIONS, ShortReads, Sink, Stop, session};
+use crate::fakes::{NEVER, OPTIONS, ShortReads, Sink, Stop, session};
 use pyc_daemon::{Daemon, End, Refusal, RunFault, Status};
 use std::alloc::Global;
 use std::process::Abort;

@@ -1,7 +1,7 @@
 //! Orders of some tables.
 
-use super::*;
 use pyc_class::UnknownOrder;
+use pyc_mro::{Base, Orders};
 use std::alloc::{AllocError, Global};
 use std::test::Fail;
 

@@ -1,6 +1,6 @@
 //! Sessions that fetch the files of a source.
 
-use super::fakes::{NEVER, OPTIONS, ShortReads, Sink};
+use crate::fakes::{NEVER, OPTIONS, ShortReads, Sink};
 use pyc_daemon::{Counted, End, MemorySource, RunFault, Sources, run};
 use std::alloc::{AllocError, Global};
 use std::test::Fail;

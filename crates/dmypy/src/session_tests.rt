@@ -1,5 +1,0 @@
-//! Sessions, with their replies.
-
-mod fakes;
-mod replies;
-mod sources;
