@@ -172,10 +172,10 @@ def words(known, name, built):
 
 
 class Trial:
-    """The trial of some edits of one crate, with the folder where its checks keep what they proved."""
+    """The trial of some edits of one crate, with the folder where all checks of that crate keep what they proved."""
 
     def __init__(self, command, name, edits, room):
-        self.words, self.name, self.edits, self.kept = command, name, edits, f"{room}/kept"
+        self.words, self.name, self.edits, self.kept = command, name, edits, f"{room}/{name}"
         self.folder, self.room, self.checks = ROOT / "crates" / name, room, 0
 
     def check(self, edits, only):
@@ -207,7 +207,7 @@ class Trial:
         tried = [it for it in edits if status in (0, 1) and verdict(it, said)]
         # (where the check said nothing of any of them, each is tried alone)
         self.passed_over = [it for it in self.left if tried and it not in tried and it.place and not it.refuses]
-        return {it: why for it in edits if status == 1 and (why := refusal(it, said))}
+        return {it: why for it in edits if status == 1 and (why := refusal(it, said, files_read(it) if it.refuses else ()))}
 
     def alone(self, edit):
         """Tries one edit, on the function that it names or on the whole crate, and returns why it is refused, or None."""
@@ -262,15 +262,17 @@ def verdict(edit, said):
     return found[1] if found and not is_passed_over else ""
 
 
-def refusal(edit, said):
-    """Returns what the prover says of an edited function that is not proved, or None where it says nothing of its contract."""
+def refusal(edit, said, files=None):
+    """Returns what the prover says of an edited function that is not proved, or None where it says nothing of its contract: it
+    says it of the function's lines or proof, or of one of these files; of any where none are given and a function is named."""
     file, begin, end, name = edit.place
     if not verdict(edit, said).startswith(("not proved", "no proof")):
         return None
     for it in re.findall(TOLD, said):
         where, line = re.match(r"(?:note: )?(?:\./)?(\S+?):(\d+):", it).groups()
-        is_own = where == file and begin <= int(line) <= end or f"/{name.split('::')[-1]}/" in where or edit.refuses
-        if is_own and not re.match(NOT_OF_THE_CONTRACT, it):
+        is_own = where == file and begin <= int(line) <= end or f"/{name.split('::')[-1]}/" in where
+        is_read = edit.refuses if files is None else where in files
+        if (is_own or is_read) and not re.match(NOT_OF_THE_CONTRACT, it):
             return it
     return None
 
@@ -361,7 +363,7 @@ def main():
     passed = failed = 0
     with tempfile.TemporaryDirectory(prefix="edits-") as room:
         trials = [
-            Trial(words(known, it, built), it, share, tempfile.mkdtemp(dir=room))
+            Trial(words(known, it, built), it, share, room)
             for it in given.crates or known
             for share in shares(edits_of(it))
         ]
