@@ -13,16 +13,16 @@ use Rattle.pyc_ast.specs.Exprs.{Comparison, comparison, Comparisons, no_comparis
 use Rattle.pyc_calls.specs.Called.{call, called}
 use Rattle.pyc_expr.proofs.Same.{Agree, then_same, if_same, type_same, read_same, list_same, tuple_same, set_same, dict_same, arguments_same}
 use Rattle.pyc_expr.proofs.SameSplit.{split_same}
-use Rattle.pyc_expr.specs.CallValues.{revealed, one_revealed, revealed_by, cast_to, two_cast, cast_by, by_thing, called_value, member_called, attribute_called, plainly_called, call_type}
-use Rattle.pyc_expr.specs.CallValues.{shown_attribute}
-use Rattle.pyc_expr.specs.Choices.{reached_type, type_where, and_right, or_right, right_type, boolean_rest, boolean_type, orelse_type, arms_type, choice_type}
-use Rattle.pyc_expr.specs.Contexts.{Context, Parts, type_in, looked_by, plainly}
+use Rattle.pyc_expr_forms.specs.CallValues.{revealed, one_revealed, revealed_by, cast_to, two_cast, cast_by, by_thing, called_value, member_called, attribute_called, plainly_called, call_type}
+use Rattle.pyc_expr_forms.specs.CallValues.{shown_attribute}
+use Rattle.pyc_expr_forms.specs.Choices.{reached_type, type_where, and_right, or_right, right_type, boolean_rest, boolean_type, orelse_type, arms_type, choice_type}
+use Rattle.pyc_expr_forms.specs.Contexts.{Context, Parts, type_in, looked_by, plainly}
 use Rattle.pyc_expr.specs.Heights.{height, parts_height, optional_height, index_height, index_form_height, indices_height, comparisons_height, comparison_height, arguments_height, argument_height}
 use Rattle.pyc_expr.specs.Laws.{value_of_expr}
-use Rattle.pyc_expr.specs.Names.{attribute_value}
-use Rattle.pyc_expr.specs.Operations.{unary_type, with_right, binary_type, compared_with, all_compared, chain_type, compare_type}
+use Rattle.pyc_expr_forms.specs.Names.{attribute_value}
+use Rattle.pyc_expr_forms.specs.Operations.{unary_type, with_right, binary_type, compared_with, all_compared, chain_type, compare_type}
 use Rattle.pyc_expr.specs.Parts.{argument_list}
-use Rattle.pyc_expr.specs.Subscripting.{optional_read, slice_type, index_type, index_form_type, index_types, subscript_of, subscript_type}
+use Rattle.pyc_expr_forms.specs.Subscripting.{optional_read, slice_type, index_type, index_form_type, index_types, subscript_of, subscript_type}
 use Rattle.pyc_expr.specs.Values.{any_after, choice_by_form, operation_by_form, type_by_form, by_form, by_parts, value_at_depth, infer, infer_index, split_by, most_depth}
 use Rattle.pyc_names.specs.declared.fixed.FixedName.TheVariants as fixed
 use Rattle.pyc_narrowing.specs.Splitting.{is_positional, split}

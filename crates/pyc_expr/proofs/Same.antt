@@ -10,7 +10,7 @@ use Rattle.pyc_displays.specs.Displays.{EntryTypes, more_types, items_to, value_
 use Rattle.pyc_displays.specs.Displays.{entry_types, pair_to, entries_to, free_pair, free_unpacking, more_entries, free_dict, dict_to, dict_by}
 use Rattle.pyc_displays.specs.Displays.{tuple_display, set_display, list_display, dict_display}
 use Rattle.pyc_displays.specs.Expecting.{Entry, expected_item, expected_entry}
-use Rattle.pyc_expr.specs.Contexts.{Parts, type_in, only_read}
+use Rattle.pyc_expr_forms.specs.Contexts.{Parts, type_in, only_read}
 use Rattle.pyc_expr.specs.Heights.{height, elements_height, dict_items_height, arguments_height}
 use Rattle.pyc_expr.specs.Parts.{element_list, dict_item_list, argument_list}
 use Rattle.pyc_places.specs.States.{State}

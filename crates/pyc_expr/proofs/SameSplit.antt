@@ -10,7 +10,7 @@ use Rattle.pyc_ast.specs.Exprs.{Comparison, comparison, Comparisons, no_comparis
 use Rattle.pyc_ast.specs.Exprs as form
 use Rattle.pyc_class.specs.Class.{Id}
 use Rattle.pyc_expr.proofs.Same.{Agree, then_same, if_same}
-use Rattle.pyc_expr.specs.Contexts.{Parts, looked_by}
+use Rattle.pyc_expr_forms.specs.Contexts.{Parts, looked_by}
 use Rattle.pyc_expr.specs.Heights.{height, elements_height, argument_height, arguments_height}
 use Rattle.pyc_narrowing.specs.Splitting.{Splits, looked, class_at, if_class, more_classes, one_class, classes_at, isinstance_rule, called, callee_rule}
 use Rattle.pyc_narrowing.specs.Splitting.{pair_rule, is_positional, two_arguments, call_rule, sense_of, is_none_literal, none_rule, sense_rule, compared_with_none, one_comparison}

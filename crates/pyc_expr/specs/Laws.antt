@@ -1,9 +1,9 @@
 -- The depth to which expressions are read is no part of what they are.
 use Rattle.std.specs.Prelude.{◌≡◌, ◌≤◌, ℕ, Option}
 use Rattle.pyc_ast.specs.Exprs.{Expr, Index}
-use Rattle.pyc_expr.specs.Contexts.{Context, Parts, looked_by}
+use Rattle.pyc_expr_forms.specs.Contexts.{Context, Parts, looked_by}
 use Rattle.pyc_expr.specs.Heights.{height, index_height}
-use Rattle.pyc_expr.specs.Subscripting.{index_type}
+use Rattle.pyc_expr_forms.specs.Subscripting.{index_type}
 use Rattle.pyc_expr.specs.Values.{by_parts, value_at_depth, infer, infer_index, split_by, most_depth}
 use Rattle.pyc_narrowing.specs.Splitting.{split}
 use Rattle.pyc_places.specs.States.{State}

@@ -1,10 +1,4 @@
-pub mod Contexts
 pub mod Parts
-pub mod Names
-pub mod Operations
-pub mod Subscripting
-pub mod Choices
-pub mod CallValues
 pub mod Values
 pub mod Heights
 pub mod Laws

@@ -6,7 +6,7 @@ use Rattle.std.specs.declared.result.Result.{Result}
 use denote.Ref.{Bor, MutBor}
 use Rattle.pyc_ast.specs.declared.expr.Expr.{Expr}
 use Rattle.pyc_ast.specs.ExprView.{expr_of}
-use Rattle.pyc_expr.specs.Contexts.{Context}
+use Rattle.pyc_expr_forms.specs.Contexts.{Context}
 use Rattle.pyc_expr.specs.Values.{value_at_depth}
 use Rattle.pyc_obligations.specs.declared.value.Value.{Value}
 use Rattle.pyc_obligations.specs.ValueView.{value_of}

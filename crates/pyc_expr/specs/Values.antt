@@ -5,13 +5,13 @@ use Rattle.pyc_ast.specs.declared.position.Position.{Position}
 use Rattle.pyc_ast.specs.Exprs as form
 use Rattle.pyc_ast.specs.Exprs.{Expr, expr, Form}
 use Rattle.pyc_displays.specs.Displays.{tuple_display, list_display, set_display, dict_display}
-use Rattle.pyc_expr.specs.CallValues.{call_type}
-use Rattle.pyc_expr.specs.Choices.{boolean_type, choice_type}
-use Rattle.pyc_expr.specs.Contexts.{Context, Parts, type_in, looked_by, only_read, plainly}
-use Rattle.pyc_expr.specs.Names.{str_type, opaque_type, name_value, attribute_value}
-use Rattle.pyc_expr.specs.Operations.{unary_type, binary_type, compare_type}
+use Rattle.pyc_expr_forms.specs.CallValues.{call_type}
+use Rattle.pyc_expr_forms.specs.Choices.{boolean_type, choice_type}
+use Rattle.pyc_expr_forms.specs.Contexts.{Context, Parts, type_in, looked_by, only_read, plainly}
+use Rattle.pyc_expr_forms.specs.Names.{str_type, opaque_type, name_value, attribute_value}
+use Rattle.pyc_expr_forms.specs.Operations.{unary_type, binary_type, compare_type}
 use Rattle.pyc_expr.specs.Parts.{element_list, dict_item_list, argument_list}
-use Rattle.pyc_expr.specs.Subscripting.{optional_read, subscript_type, index_type}
+use Rattle.pyc_expr_forms.specs.Subscripting.{optional_read, subscript_type, index_type}
 use Rattle.pyc_narrowing.specs.Splitting.{split}
 use Rattle.pyc_narrowing.specs.SplitStates.{States}
 use Rattle.pyc_obligations.specs.Values.{Value, plain_value}

@@ -10,11 +10,9 @@ ghost use Rattle.pyc_places.specs.StateView.{state_of};
 ghost use Rattle.pyc_reading.specs.Desks.{Performs};
 ghost use Rattle.pyc_type_forms.specs.TypeView.{ty_of};
 
-use crate::context::Context;
-use crate::parts::{Looking, Parts, only_read};
-use crate::subscripting::index_type;
 use crate::types::by_parts;
 use pyc_ast::{Expr, Index};
+use pyc_expr_forms::{Context, Looking, Parts, index_type, only_read};
 use pyc_narrowing::{States, split as split_by};
 use pyc_obligations::{Judge, Value};
 use pyc_places::State;
@@ -121,7 +119,7 @@ pub fn infer<N: Judge, C: Context<N>>(
 }
 
 /// The type of an expression in a state and by what is expected of it. The only error is that memory runs out.
-#[tactic(auto, using(pyc_obligations::proofs::Steps::performing), unfolding(crate::specs::Contexts::type_in))]
+#[tactic(auto, using(pyc_obligations::proofs::Steps::performing), unfolding(pyc_expr_forms::specs::Contexts::type_in))]
 pub fn infer_type<N: Judge, C: Context<N>>(
     alloc: Global,
     notes: &mut N,

@@ -2,9 +2,9 @@
 
 ghost use Rattle.std.specs.Prelude.{◌≡◌, IfOk, option_map};
 ghost use Rattle.pyc_ast.specs.ExprView.{expr_of, form_of, optional_of};
-ghost use Rattle.pyc_expr.specs.Contexts as contexts;
-ghost use Rattle.pyc_expr.specs.Names as names;
-ghost use Rattle.pyc_expr.specs.Subscripting as subscripting;
+ghost use Rattle.pyc_expr_forms.specs.Contexts as contexts;
+ghost use Rattle.pyc_expr_forms.specs.Names as names;
+ghost use Rattle.pyc_expr_forms.specs.Subscripting as subscripting;
 ghost use Rattle.pyc_expr.specs.Values as spec;
 ghost use Rattle.pyc_obligations.specs.ValueView.{value_of};
 ghost use Rattle.pyc_places.specs.StateView.{state_of};
@@ -12,16 +12,13 @@ ghost use Rattle.pyc_reading.specs.Desks.{Performs};
 ghost use Rattle.pyc_type_forms.specs.Types.{any, dict, list};
 ghost use Rattle.pyc_type_forms.specs.TypeView.{ty_of};
 
-use crate::call_values::call_type;
-use crate::choices::{boolean_type, choice_type};
-use crate::context::Context;
-use crate::names::{attribute_value, name_value};
-use crate::operations::{binary_type, compare_type, unary_type};
-use crate::parts::{InState, Parts, only_read};
-use crate::subscripting::{optional_read, subscript_type};
 use pyc_ast::{Expr, Form, Opaque, OptionalExpr};
 use pyc_class::{BuiltinClass, ClassId};
 use pyc_displays::{dict_display, list_display, set_display, tuple_display};
+use pyc_expr_forms::{
+    Context, InState, Parts, attribute_value, binary_type, boolean_type, call_type, choice_type,
+    compare_type, name_value, only_read, optional_read, subscript_type, unary_type,
+};
 use pyc_obligations::{Judge, Value};
 use pyc_places::State;
 use pyc_scopes::constant_type;
@@ -77,7 +74,7 @@ fn by_form<N: Judge, C: Context<N>, P: Parts<N>>(
 }
 
 /// What an expression is that is no place.
-#[tactic(auto, using(pyc_obligations::proofs::Steps::performing), unfolding(crate::specs::Contexts::plainly))]
+#[tactic(auto, using(pyc_obligations::proofs::Steps::performing), unfolding(pyc_expr_forms::specs::Contexts::plainly))]
 fn plain_value<N: Judge, C: Context<N>, P: Parts<N>>(
     alloc: Global,
     notes: &mut N,

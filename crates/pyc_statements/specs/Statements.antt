@@ -8,7 +8,7 @@ use Rattle.pyc_ast.specs.Exprs.{Expr}
 use Rattle.pyc_ast.specs.Statements.{AnnotatedAssignment, Stmt, stmt, StmtForm, Stmts, no_stmt, another_stmt}
 use Rattle.pyc_ast.specs.Statements as plain
 use Rattle.pyc_ast.specs.Targets.{Target, target, TargetForm, name}
-use Rattle.pyc_expr.specs.Contexts.{scope_context}
+use Rattle.pyc_expr_forms.specs.Contexts.{scope_context}
 use Rattle.pyc_expr.specs.Values.{read_by}
 use Rattle.pyc_names.specs.SourceFiles.{SourceFile}
 use Rattle.pyc_places.specs.States.{nothing_narrowed}

@@ -2,7 +2,7 @@
 -- input").
 use Rattle.std.specs.Prelude.{[]}
 use Rattle.pyc_assignments.specs.Reads.{Reads}
-use Rattle.pyc_expr.specs.Contexts.{scope_context}
+use Rattle.pyc_expr_forms.specs.Contexts.{scope_context}
 use Rattle.pyc_expr.specs.Values.{infer, infer_index}
 use Rattle.pyc_names.specs.SourceFiles.{SourceFile}
 use Rattle.pyc_scopes.specs.Scopes.{Scope}

@@ -1,7 +1,7 @@
 use Rattle.std.proofs.Common.{ap}
 use Rattle.pyc_ast.specs.ExprView.{optional_of}
 use Rattle.pyc_calls.proofs.Kept.{any_in}
-use Rattle.pyc_expr.specs.Subscripting.{optional_read}
+use Rattle.pyc_expr_forms.specs.Subscripting.{optional_read}
 use Rattle.pyc_expr.specs.Values.{any_after}
 use Rattle.pyc_places.specs.StateView.{state_of}
 use Rattle.pyc_reading.proofs.RunLemmas.{after}

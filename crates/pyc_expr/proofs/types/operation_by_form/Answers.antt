@@ -3,7 +3,7 @@ use Rattle.pyc_ast.specs.declared.expr.DictItem.TheFolds.{the_lemmas}
 use Rattle.pyc_ast.specs.Exprs.{Form, Argument, arguments, call}
 use Rattle.pyc_ast.specs.ExprView.{expr_of, form_of, argument_of}
 use Rattle.pyc_expr.proofs.Rows.{argument_row}
-use Rattle.pyc_expr.specs.CallValues.{call_type}
+use Rattle.pyc_expr_forms.specs.CallValues.{call_type}
 use Rattle.pyc_expr.specs.Values.{operation_by_form}
 use Rattle.pyc_obligations.proofs.Steps.{performs_same}
 use Rattle.pyc_places.specs.StateView.{state_of}

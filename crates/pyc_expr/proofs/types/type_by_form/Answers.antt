@@ -5,7 +5,7 @@ use Rattle.pyc_ast.specs.Exprs.{Form, Element, elements, DictItem, dict_items}
 use Rattle.pyc_ast.specs.ExprView.{form_of, element_of, dict_item_of}
 use Rattle.pyc_displays.specs.Displays.{tuple_display, list_display, set_display, dict_display}
 use Rattle.pyc_expr.proofs.Rows.{element_row, dict_item_row}
-use Rattle.pyc_expr.specs.Contexts.{type_in}
+use Rattle.pyc_expr_forms.specs.Contexts.{type_in}
 use Rattle.pyc_expr.specs.Values.{type_by_form}
 use Rattle.pyc_obligations.proofs.Steps.{performs_same}
 use Rattle.pyc_places.specs.StateView.{state_of}

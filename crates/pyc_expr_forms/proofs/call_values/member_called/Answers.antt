@@ -1,0 +1,27 @@
+use Rattle.std.proofs.Common.{map, ap, sym, ◌∙◌}
+use Rattle.pyc_arguments.specs.Telling.{Shown}
+use Rattle.pyc_ast.specs.ExprView.{expr_of, argument_of}
+use Rattle.pyc_expr_forms.specs.CallValues.{called_value, member_called, shown_attribute}
+use Rattle.pyc_expr_forms.specs.Names.{attribute_of}
+use Rattle.pyc_obligations.specs.ValueView.{value_of}
+use Rattle.pyc_places.specs.StateView.{state_of}
+use Rattle.pyc_reading.proofs.RunLemmas.{after, grown_trans}
+use Rattle.pyc_reading.specs.Desks.{run}
+use Rattle.pyc_expr_forms.proofs.call_values.member_called.Goals as goal
+
+pub returns : goal.returns
+unfolding member_called
+returns g c =
+    let s = state_of c.args.state.now in
+    let context = g.C.Context.context c.args.context.now in
+    let parts = g.P.Parts.parts c.args.parts.now in
+    let given = map argument_of c.args.arguments.now in
+    let name = c.args.name.now in
+    let owner = value_of c.args.owner.now in
+    record {
+      done =
+          after (attribute_of s (expr_of c.args.callee.now) c.args.callee.now.inside name owner) (called_value context parts s c.args.at given (shown_attribute name owner.ty)) (g.N.Notes.desk c.args.notes.now) _ _ _ _ c.in_ok-found.ensures.done
+          (ap (λ (shown : Shown). run (called_value context parts s c.args.at given shown (value_of c.in_ok-found.found)) (g.N.Notes.desk c.attribute_of.new.notes)) (sym c.shown_attribute-shown.ensures)
+          ∙ c.in_ok-ty.ensures.done);
+      grown = grown_trans c.attribute_of.ensures.grown c.called_value.ensures.grown;
+    }

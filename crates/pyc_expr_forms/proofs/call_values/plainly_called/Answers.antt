@@ -1,0 +1,19 @@
+use Rattle.std.proofs.Common.{map, None}
+use Rattle.pyc_arguments.specs.Views.{shown_in}
+use Rattle.pyc_ast.specs.ExprView.{expr_of, argument_of}
+use Rattle.pyc_expr_forms.specs.CallValues.{called_value, plainly_called}
+use Rattle.pyc_places.specs.StateView.{state_of}
+use Rattle.pyc_reading.proofs.RunLemmas.{after, grown_trans}
+use Rattle.pyc_expr_forms.proofs.call_values.plainly_called.Goals as goal
+
+pub returns : goal.returns
+unfolding plainly_called
+returns g c =
+    let s = state_of c.args.state.now in
+    let context = g.C.Context.context c.args.context.now in
+    let parts = g.P.Parts.parts c.args.parts.now in
+    record {
+      done =
+          after (parts s (expr_of c.args.callee.now) None) (called_value context parts s c.args.at (map argument_of c.args.arguments.now) (shown_in c.args.shown)) (g.N.Notes.desk c.args.notes.now) _ _ _ _ c.in_ok-found.ensures.done c.in_ok-ty.ensures.done;
+      grown = grown_trans c.part.ensures.grown c.called_value.ensures.grown;
+    }

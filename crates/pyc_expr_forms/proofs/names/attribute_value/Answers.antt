@@ -1,0 +1,16 @@
+use Rattle.std.proofs.Common.{None}
+use Rattle.pyc_ast.specs.ExprView.{expr_of}
+use Rattle.pyc_expr_forms.specs.Names.{attribute_of, attribute_value}
+use Rattle.pyc_places.specs.StateView.{state_of}
+use Rattle.pyc_reading.proofs.RunLemmas.{after, grown_trans}
+use Rattle.pyc_expr_forms.proofs.names.attribute_value.Goals as goal
+
+pub returns : goal.returns
+unfolding attribute_value
+returns g c =
+    let s = state_of c.args.state.now in
+    record {
+      done =
+          after (g.P.Parts.parts c.args.parts.now s (expr_of c.args.owner.now) None) (attribute_of s (expr_of c.args.whole.now) c.args.at c.args.name.now) (g.N.Notes.desk c.args.notes.now) _ _ _ _ c.in_ok-owner.ensures.done c.in_ok-value.ensures.done;
+      grown = grown_trans c.part.ensures.grown c.attribute_of.ensures.grown;
+    }

@@ -1,0 +1,14 @@
+use Rattle.std.proofs.Common.{◌∙◌}
+use Rattle.pyc_expr_forms.proofs.Turns.{compared_turn}
+use Rattle.pyc_places.specs.StateView.{state_of}
+use Rattle.pyc_reading.proofs.RunLemmas.{grown_trans}
+use Rattle.pyc_type_forms.specs.TypeView.{ty_of}
+use Rattle.pyc_expr_forms.proofs.operations.all_compared.Goals as goal
+
+pub loop-link-preserved : goal.loop-link-preserved
+loop-link-preserved g c = record {
+  same =
+      compared_turn (g.P.Parts.parts c.args.parts.now) (state_of c.args.state.now) c.args.at (ty_of c.loop-link.left) _ c.args.rest.now c.loop-link.link-index c.link-item.result _ _ c.loop-link-test.true c.link-item.is c.in_ok-left.ensures.done
+      ∙ c.loop-link.invariant.same;
+  grown = grown_trans c.loop-link.invariant.grown c.compared_with.ensures.grown;
+}

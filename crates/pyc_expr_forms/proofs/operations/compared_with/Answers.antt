@@ -1,0 +1,32 @@
+use Rattle.std.proofs.Common.{◌≡◌, None, ap, refl, ◌∙◌, rules}
+use Rattle.pyc_ast.specs.declared.expr.DictItem.TheFolds.{the_lemmas}
+use Rattle.pyc_ast.specs.Exprs.{Comparison, comparison}
+use Rattle.pyc_ast.specs.ExprView.{expr_of, comparison_of}
+use Rattle.pyc_calls.specs.Methods.{method_called}
+use Rattle.pyc_expr_forms.specs.Contexts.{type_in}
+use Rattle.pyc_expr_forms.specs.Operations.{compared_with}
+use Rattle.pyc_operators.specs.Binary.{compared}
+use Rattle.pyc_places.specs.StateView.{state_of}
+use Rattle.pyc_reading.proofs.RunLemmas.{after, grown_trans}
+use Rattle.pyc_reading.specs.Desks.{run}
+use Rattle.pyc_reading.specs.Readings.{Done, and_then}
+use Rattle.pyc_type_forms.specs.TypeView.{ty_of}
+use Rattle.pyc_expr_forms.proofs.operations.compared_with.Goals as goal
+
+pub returns : goal.returns
+unfolding compared_with
+returns g c =
+    let s = state_of c.args.state.now in
+    let parts = g.P.Parts.parts c.args.parts.now in
+    let desk = g.N.Notes.desk c.args.notes.now in
+    let left = ty_of c.args.left.now in
+    let operator = c.args.link.now.operator in
+    let right = ty_of c.in_ok-right.right in
+    let link : comparison_of c.args.link.now ≡ comparison operator (expr_of c.args.link.now.right) = search (rules, the_lemmas) in
+    record {
+      done =
+          ap (λ (x : Comparison). run (compared_with parts s c.args.at left x) desk) link
+          ∙ after (type_in parts s (expr_of c.args.link.now.right) None) (λ r. and_then (compared method_called c.args.at operator left r) (λ u. Done r)) desk _ _ _ _ c.in_ok-right.ensures.done
+          (after (compared method_called c.args.at operator left right) (λ u. Done right) _ _ _ _ _ c.in_ok-compared.ensures.done refl);
+      grown = grown_trans c.type_in.ensures.grown c.compared.ensures.grown;
+    }

@@ -1,0 +1,23 @@
+use Rattle.std.proofs.Common.{ap}
+use Rattle.pyc_ast.specs.ExprView.{optional_of}
+use Rattle.pyc_calls.proofs.Kept.{any_in}
+use Rattle.pyc_expr_forms.specs.Subscripting.{optional_read, slice_type}
+use Rattle.pyc_places.specs.StateView.{state_of}
+use Rattle.pyc_reading.proofs.RunLemmas.{after, grown_trans}
+use Rattle.pyc_reading.specs.Readings.{Done, and_then}
+use Rattle.pyc_type_forms.specs.Types.{any}
+use Rattle.pyc_expr_forms.proofs.subscripting.slice_type.Goals as goal
+
+pub returns : goal.returns
+unfolding slice_type
+returns g c =
+    let read = optional_read (g.P.Parts.parts c.args.parts.now) (state_of c.args.state.now) in
+    let upper = optional_of c.args.upper.now in
+    let step = optional_of c.args.step.now in
+    record {
+      done =
+          after (read (optional_of c.args.lower.now)) (λ u. and_then (read upper) (λ v. and_then (read step) (λ w. Done any))) (g.N.Notes.desk c.args.notes.now) _ _ _ _ c.in_ok-optional_read.ensures.done
+          (after (read upper) (λ v. and_then (read step) (λ w. Done any)) _ _ _ _ _ c.in_ok-optional_read-2.ensures.done
+          (after (read step) (λ w. Done any) _ _ _ _ _ c.in_ok-optional_read-3.ensures.done (ap (λ ty. (ty, g.N.Notes.desk c.optional_read-3.new.notes)) any_in)));
+      grown = grown_trans (grown_trans c.optional_read.ensures.grown c.optional_read-2.ensures.grown) c.optional_read-3.ensures.grown;
+    }

@@ -1,0 +1,6 @@
+pub mod Contexts
+pub mod Names
+pub mod Operations
+pub mod Subscripting
+pub mod Choices
+pub mod CallValues

@@ -1,0 +1,90 @@
+//! Calls of `reveal_type` and `cast`.
+
+ghost use Rattle.std.specs.Prelude.{◌≡◌, IfOk, string_bytes};
+ghost use Rattle.pyc_ast.specs.ExprView.{expr_of};
+ghost use Rattle.pyc_expr_forms.specs.CallValues as spec;
+ghost use Rattle.pyc_narrowing.specs.Splitting as splitting;
+ghost use Rattle.pyc_places.specs.StateView.{state_of};
+ghost use Rattle.pyc_reading.specs.Desks.{Performs};
+ghost use Rattle.pyc_type_forms.specs.TypeView.{ty_of};
+
+use crate::context::Context;
+use crate::parts::{Parts, only_read, type_in};
+use pyc_ast::{ArgumentKind, Expr, Position};
+use pyc_obligations::{Judge, tell_note};
+use pyc_places::State;
+use pyc_type_forms::{Ty, show};
+use std::alloc::{AllocError, Global};
+
+/// Whether an argument of a kind is given at its place. It takes no memory.
+pub(crate) fn is_positional(kind: &ArgumentKind) -> bool
+    ensures { result ≡ splitting.is_positional kind.now }
+{
+    matches!(kind, ArgumentKind::Positional)
+}
+
+/// Tells the type of a part, which is the type of the call. The only error is that memory runs out.
+#[tactic(auto, using(pyc_obligations::proofs::Steps::performing), unfolding(crate::specs::CallValues::revealed))]
+pub(crate) fn revealed<N: Judge, P: Parts<N>>(
+    alloc: Global,
+    notes: &mut N,
+    parts: &P,
+    state: &State,
+    at: Position,
+    part: &Expr,
+) -> Result<Ty, AllocError>
+    requires { P.ready parts.now }
+    ensures { Performs ty_of (spec.revealed (P.parts parts.now) (state_of state.now) at (expr_of part.now))
+        (N.desk notes.old) result (N.desk notes.new) }
+{
+    let ty = type_in(alloc, notes, parts, state, part, None)?;
+    let told = type_told(alloc, notes, at, ty)?;
+    Ok(told)
+}
+
+/// Tells a type.
+#[tactic(auto, using(pyc_obligations::proofs::Steps::performing))]
+fn type_told<N: Judge>(alloc: Global, notes: &mut N, at: Position, ty: Ty) -> Result<Ty, AllocError>
+    ensures { Performs ty_of (spec.type_told at (ty_of ty)) (N.desk notes.old) result (N.desk notes.new) }
+{
+    let text = type_text(alloc, &ty)?;
+    tell_note(notes, at, text)?;
+    Ok(ty)
+}
+
+/// The text on a type that is revealed.
+fn type_text(alloc: Global, ty: &Ty) -> Result<String, AllocError>
+    ensures { IfOk result (λ text. string_bytes text ≡ spec.type_text (ty_of ty.now)) }
+{
+    let shown = show(alloc, ty)?;
+    revealed_text(alloc, shown.as_str())
+}
+
+/// The text on a type that is shown so.
+#[tactic(auto, unfolding(crate::specs::CallValues::revealed_text))]
+fn revealed_text(alloc: Global, shown: &str) -> Result<String, AllocError>
+    ensures { IfOk result (λ text. string_bytes text ≡ spec.revealed_text shown.now) }
+{
+    format!(in alloc; "Revealed type is \"{shown}\"")
+}
+
+/// A cast to the type that an annotation means, of a value that is read. The only error is that memory runs out.
+#[tactic(auto, using(pyc_obligations::proofs::Steps::performing), unfolding(crate::specs::CallValues::cast_to))]
+pub(crate) fn cast_to<N: Judge, C: Context<N>, P: Parts<N>>(
+    alloc: Global,
+    notes: &mut N,
+    context: &C,
+    parts: &P,
+    state: &State,
+    annotation: &Expr,
+    value: &Expr,
+) -> Result<Ty, AllocError>
+    requires { P.ready parts.now }
+    ensures { Performs ty_of
+        (spec.cast_to (C.context context.now) (P.parts parts.now) (state_of state.now) (expr_of annotation.now)
+        (expr_of value.now)) (N.desk notes.old) result (N.desk notes.new) }
+{
+    let ty = context.annotated(alloc, notes, annotation)?;
+    only_read(alloc, notes, parts, state, value)?;
+    Ok(ty)
+}

@@ -1,0 +1,167 @@
+//! Subscripts.
+
+ghost use Rattle.std.specs.Prelude.{◌≡◌, IfOk, [], map};
+ghost use Rattle.std.specs.declared.vec.Vec.{Vec};
+ghost use Rattle.pyc_ast.specs.Exprs.{indices_of};
+ghost use Rattle.pyc_ast.specs.ExprView.{expr_of, index_of, index_form_of, optional_of};
+ghost use Rattle.pyc_expr_forms.specs.Subscripting as spec;
+ghost use Rattle.pyc_places.specs.StateView.{state_of};
+ghost use Rattle.pyc_reading.specs.Desks.{Performs};
+ghost use Rattle.pyc_type_forms.specs.TypeView.{ty_of};
+
+use crate::parts::{Parts, only_read, type_in};
+use pyc_ast::{Expr, Index, IndexForm, OptionalExpr, Position};
+use pyc_displays::tuple_type;
+use pyc_items::subscript;
+use pyc_obligations::Judge;
+use pyc_places::State;
+use pyc_type_forms::Ty;
+use std::alloc::{AllocError, Global};
+
+/// The type of a subscript. The only error is that memory runs out.
+#[tactic(auto, using(pyc_obligations::proofs::Steps::performing), unfolding(crate::specs::Subscripting::subscript_type))]
+pub fn subscript_type<N: Judge, P: Parts<N>>(
+    alloc: Global,
+    notes: &mut N,
+    parts: &P,
+    state: &State,
+    at: Position,
+    owner: &Expr,
+    index: &Index,
+) -> Result<Ty, AllocError>
+    requires { P.ready parts.now }
+    ensures { Performs ty_of
+        (spec.subscript_type (P.parts parts.now) (state_of state.now) at (expr_of owner.now) (index_of index.now))
+        (N.desk notes.old) result (N.desk notes.new) }
+{
+    let owner = type_in(alloc, notes, parts, state, owner, None)?;
+    let ty = subscript_of(alloc, notes, parts, state, at, index, &owner)?;
+    Ok(ty)
+}
+
+/// A subscript of a value of a type that was read.
+#[tactic(auto, using(pyc_obligations::proofs::Steps::performing), unfolding(crate::specs::Subscripting::subscript_of))]
+fn subscript_of<N: Judge, P: Parts<N>>(
+    alloc: Global,
+    notes: &mut N,
+    parts: &P,
+    state: &State,
+    at: Position,
+    index: &Index,
+    owner: &Ty,
+) -> Result<Ty, AllocError>
+    requires { P.ready parts.now }
+    ensures { Performs ty_of
+        (spec.subscript_of (P.parts parts.now) (state_of state.now) at (index_of index.now) (ty_of owner.now))
+        (N.desk notes.old) result (N.desk notes.new) }
+{
+    let got = index_type(alloc, notes, parts, state, index)?;
+    let ty = subscript(alloc, notes, at, index, &got, owner)?;
+    Ok(ty)
+}
+
+/// The type of what stands between the brackets of a subscript. The only error is that memory runs out.
+#[cycle(index)]
+pub fn index_type<N: Judge, P: Parts<N>>(
+    alloc: Global,
+    notes: &mut N,
+    parts: &P,
+    state: &State,
+    index: &Index,
+) -> Result<Ty, AllocError>
+    requires { P.ready parts.now }
+    ensures { Performs ty_of (spec.index_type (P.parts parts.now) (state_of state.now) (index_of index.now))
+        (N.desk notes.old) result (N.desk notes.new) }
+{
+    match &index.form {
+        IndexForm::Item(part) => type_in(alloc, notes, parts, state, part, None),
+        IndexForm::Slice { lower, upper, step } => {
+            slice_type(alloc, notes, parts, state, lower, upper, step)
+        }
+        IndexForm::Indices(indices) => indices_type(alloc, notes, parts, state, indices),
+    }
+}
+
+/// Indices with commas are a tuple.
+#[cycle(index)]
+#[tactic(auto, using(pyc_obligations::proofs::Steps::performing))]
+fn indices_type<N: Judge, P: Parts<N>>(
+    alloc: Global,
+    notes: &mut N,
+    parts: &P,
+    state: &State,
+    indices: &[Index],
+) -> Result<Ty, AllocError>
+    requires { P.ready parts.now }
+    ensures { Performs ty_of
+        (spec.tuple_of_indices (P.parts parts.now) (state_of state.now) (indices_of (map index_of indices.now)))
+        (N.desk notes.old) result (N.desk notes.new) }
+{
+    let types = index_types(alloc, notes, parts, state, indices)?;
+    let ty = tuple_type(alloc, false, types)?;
+    Ok(ty)
+}
+
+/// The types of indices, in turn.
+#[cycle(index)]
+#[tactic(auto, using(pyc_obligations::proofs::Steps::performing))]
+fn index_types<N: Judge, P: Parts<N>>(
+    alloc: Global,
+    notes: &mut N,
+    parts: &P,
+    state: &State,
+    indices: &[Index],
+) -> Result<Vec<Ty>, AllocError>
+    requires { P.ready parts.now }
+    ensures { Performs (λ (types : Vec Ty Global). map ty_of types.items)
+        (spec.index_types (P.parts parts.now) (state_of state.now) [] (indices_of (map index_of indices.now)))
+        (N.desk notes.old) result (N.desk notes.new) }
+{
+    let mut types = Vec::with_capacity(alloc, indices.len())?;
+    for index in indices {
+        let ty = index_type(alloc, notes, parts, state, index)?;
+        types.push(ty)?;
+    }
+    Ok(types)
+}
+
+/// Reads the bounds and the step of a slice, of which nothing is expected.
+#[tactic(auto, using(pyc_obligations::proofs::Steps::performing), unfolding(crate::specs::Subscripting::slice_type))]
+fn slice_type<N: Judge, P: Parts<N>>(
+    alloc: Global,
+    notes: &mut N,
+    parts: &P,
+    state: &State,
+    lower: &OptionalExpr,
+    upper: &OptionalExpr,
+    step: &OptionalExpr,
+) -> Result<Ty, AllocError>
+    requires { P.ready parts.now }
+    ensures { Performs ty_of
+        (spec.slice_type (P.parts parts.now) (state_of state.now) (optional_of lower.now) (optional_of upper.now)
+        (optional_of step.now)) (N.desk notes.old) result (N.desk notes.new) }
+{
+    optional_read(alloc, notes, parts, state, lower)?;
+    optional_read(alloc, notes, parts, state, upper)?;
+    optional_read(alloc, notes, parts, state, step)?;
+    Ok(Ty::Any)
+}
+
+/// Reads a part that may be absent. The only error is that memory runs out.
+pub fn optional_read<N: Judge, P: Parts<N>>(
+    alloc: Global,
+    notes: &mut N,
+    parts: &P,
+    state: &State,
+    part: &OptionalExpr,
+) -> Result<(), AllocError>
+    requires { P.ready parts.now }
+    ensures { Performs (λ u. u)
+        (spec.optional_read (P.parts parts.now) (state_of state.now) (optional_of part.now)) (N.desk notes.old) result
+        (N.desk notes.new) }
+{
+    match part {
+        OptionalExpr::Absent => Ok(()),
+        OptionalExpr::Present(part) => only_read(alloc, notes, parts, state, part),
+    }
+}
