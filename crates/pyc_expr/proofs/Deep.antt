@@ -3,7 +3,6 @@ use Rattle.std.proofs.Common.{◌≡◌, ◌≤◌, ◌∷◌, [], ◌++◌, ℕ
 use Rattle.pyc_arguments.specs.Arguments.{Arg}
 use Rattle.pyc_arguments.specs.Telling.{Shown, shown_name, shown_nameless}
 use Rattle.pyc_ast.specs.declared.operator.BooleanOperator.{BooleanOperator}
-use Rattle.pyc_ast.specs.declared.operator.BooleanOperator.TheVariants as joins
 use Rattle.pyc_ast.specs.declared.operator.Operator.{Operator}
 use Rattle.pyc_ast.specs.declared.operator.UnaryOperator.{UnaryOperator}
 use Rattle.pyc_ast.specs.declared.position.Position.{Position}
@@ -15,7 +14,7 @@ use Rattle.pyc_expr.proofs.Same.{Agree, then_same, if_same, type_same, read_same
 use Rattle.pyc_expr.proofs.SameSplit.{split_same}
 use Rattle.pyc_expr_forms.specs.CallValues.{revealed, one_revealed, revealed_by, cast_to, two_cast, cast_by, by_thing, called_value, member_called, attribute_called, plainly_called, call_type}
 use Rattle.pyc_expr_forms.specs.CallValues.{shown_attribute}
-use Rattle.pyc_expr_forms.specs.Choices.{reached_type, type_where, and_right, or_right, right_type, boolean_rest, boolean_type, orelse_type, arms_type, choice_type}
+use Rattle.pyc_expr_forms.specs.Choices.{reached_type, type_where, Chain, side_said, first_side, with_side, next_side, same_operator, chained, chained_form, boolean_type, orelse_type, arms_type, choice_type}
 use Rattle.pyc_expr_forms.specs.Contexts.{Context, Parts, type_in, looked_by, plainly}
 use Rattle.pyc_expr.specs.Heights.{height, parts_height, optional_height, index_height, index_form_height, indices_height, comparisons_height, comparison_height, arguments_height, argument_height}
 use Rattle.pyc_expr.specs.Laws.{value_of_expr}
@@ -112,21 +111,62 @@ unfolding reached_type
 where_same n p q same unreachable x want low = refl
 where_same n p q same (reachable narrowings) x want low = then_same _ _ _ _ (type_same n p q same (reachable narrowings) x want low) (λ ty. refl)
 
-side_same : (n : ℕ) (p q : Parts) → Agree n p q → (want : Option Ty) (operator : BooleanOperator) (y : Expr) (left : Ty) (states : States) → height y ≤ n
-    → right_type p want operator y left states ≡ right_type q want operator y left states
-unfolding and_right or_right
-side_same n p q same want joins.And y left states low = then_same _ _ _ _ (where_same n p q same states.if_true y want low) (λ right. refl)
-side_same n p q same want joins.Or y left states low = then_same _ _ _ _ (where_same n p q same states.if_false y want low) (λ right. refl)
+said_same : (n : ℕ) (p q : Parts) → Agree n p q → (s : State) (operator : BooleanOperator) (x : Expr) (ty : Ty) → height x ≤ n
+    → side_said p s operator x ty ≡ side_said q s operator x ty
+unfolding side_said
+said_same n p q same s operator x ty low = then_same _ _ _ _ (split_same n p q same s x low) (λ states. refl)
 
-rest_same : (n : ℕ) (p q : Parts) → Agree n p q → (s : State) (want : Option Ty) (operator : BooleanOperator) (x y : Expr) (left : Ty) → height x ≤ n → height y ≤ n
-    → boolean_rest p s want operator x y left ≡ boolean_rest q s want operator x y left
-unfolding boolean_rest
-rest_same n p q same s want operator x y left low other = then_same _ _ _ _ (split_same n p q same s x low) (λ states. side_same n p q same want operator y left states other)
+first_side_same : (n : ℕ) (p q : Parts) → Agree n p q → (s : State) (want : Option Ty) (operator : BooleanOperator) (x : Expr) → height x ≤ n
+    → first_side p s want operator x ≡ first_side q s want operator x
+unfolding first_side
+first_side_same n p q same s want operator x low = then_same _ _ _ _ (type_same n p q same s x want low) (λ ty. said_same n p q same s operator x ty low)
+
+with_side_same : (n : ℕ) (p q : Parts) → Agree n p q → (s : State) (want : Option Ty) (operator : BooleanOperator) (y : Expr) (left : Ty) → height y ≤ n
+    → with_side p s want operator y left ≡ with_side q s want operator y left
+unfolding with_side
+with_side_same n p q same s want operator y left low = then_same _ _ _ _ (where_same n p q same s y want low) (λ right. refl)
+
+next_side_same : (n : ℕ) (p q : Parts) → Agree n p q → (want : Option Ty) (operator : BooleanOperator) (y : Expr) (left : Chain) → height y ≤ n
+    → next_side p want operator y left ≡ next_side q want operator y left
+unfolding next_side
+next_side_same n p q same want operator y left low =
+    then_same _ _ _ _ (with_side_same n p q same left.state want operator y left.ty low) (λ ty. said_same n p q same left.state operator y ty low)
+
+mutual
+  chained_same : (n : ℕ) (p q : Parts) → Agree n p q → (s : State) (want : Option Ty) (operator : BooleanOperator) (x : Expr) → height x ≤ n
+      → chained p s want operator x ≡ chained q s want operator x
+  chained_same n p q same s want operator (expr at inside found) low = chained_form_same n p q same s want operator at inside found low
+
+  chained_form_same : (n : ℕ) (p q : Parts) → Agree n p q → (s : State) (want : Option Ty) (operator : BooleanOperator) (at inside : Position) (found : Form)
+      → height (expr at inside found) ≤ n → chained_form p s want operator (expr at inside found) found ≡ chained_form q s want operator (expr at inside found) found
+  chained_form_same n p q same s want operator at inside (form.boolean inner x y) low =
+      if_same (same_operator operator inner) _ _ _ _
+      (then_same _ _ _ _ (chained_same n p q same s want operator x (omega (arith, low))) (λ left. next_side_same n p q same want operator y left (omega (arith, low))))
+      (first_side_same n p q same s want operator _ low)
+  chained_form_same n p q same s want operator at inside (form.name x) low = first_side_same n p q same s want operator _ low
+  chained_form_same n p q same s want operator at inside (form.constant x) low = first_side_same n p q same s want operator _ low
+  chained_form_same n p q same s want operator at inside (form.quoted x) low = first_side_same n p q same s want operator _ low
+  chained_form_same n p q same s want operator at inside (form.tuple x) low = first_side_same n p q same s want operator _ low
+  chained_form_same n p q same s want operator at inside (form.list x) low = first_side_same n p q same s want operator _ low
+  chained_form_same n p q same s want operator at inside (form.set x) low = first_side_same n p q same s want operator _ low
+  chained_form_same n p q same s want operator at inside (form.dict x) low = first_side_same n p q same s want operator _ low
+  chained_form_same n p q same s want operator at inside (form.opaque x) low = first_side_same n p q same s want operator _ low
+  chained_form_same n p q same s want operator at inside (form.attribute x y) low = first_side_same n p q same s want operator _ low
+  chained_form_same n p q same s want operator at inside (form.call x y) low = first_side_same n p q same s want operator _ low
+  chained_form_same n p q same s want operator at inside (form.subscript x y) low = first_side_same n p q same s want operator _ low
+  chained_form_same n p q same s want operator at inside (form.unary x y) low = first_side_same n p q same s want operator _ low
+  chained_form_same n p q same s want operator at inside (form.binary x y z) low = first_side_same n p q same s want operator _ low
+  chained_form_same n p q same s want operator at inside (form.compare x y) low = first_side_same n p q same s want operator _ low
+  chained_form_same n p q same s want operator at inside (form.conditional x y z) low = first_side_same n p q same s want operator _ low
+  chained_form_same n p q same s want operator at inside (form.await x) low = first_side_same n p q same s want operator _ low
+  chained_form_same n p q same s want operator at inside (form.yield x) low = first_side_same n p q same s want operator _ low
+  chained_form_same n p q same s want operator at inside (form.yield_from x) low = first_side_same n p q same s want operator _ low
 
 boolean_same : (n : ℕ) (p q : Parts) → Agree n p q → (s : State) (want : Option Ty) (operator : BooleanOperator) (x y : Expr) → height x ≤ n → height y ≤ n
     → boolean_type p s want operator x y ≡ boolean_type q s want operator x y
 unfolding boolean_type
-boolean_same n p q same s want operator x y low other = then_same _ _ _ _ (type_same n p q same s x want low) (λ left. rest_same n p q same s want operator x y left low other)
+boolean_same n p q same s want operator x y low other =
+    then_same _ _ _ _ (chained_same n p q same s want operator x low) (λ left. with_side_same n p q same left.state want operator y left.ty other)
 
 orelse_same : (n : ℕ) (p q : Parts) → Agree n p q → (s : State) (want : Option Ty) (y : Expr) (body : Option Ty) → height y ≤ n → orelse_type p s want y body ≡ orelse_type q s want y body
 unfolding orelse_type

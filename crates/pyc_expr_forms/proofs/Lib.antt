@@ -1,2 +1,3 @@
 pub mod Others
 pub mod Turns
+pub mod Chains

@@ -1,9 +1,9 @@
 -- Expressions of which a part is read only where a condition holds, or does not (Python reference 3.13, "Boolean
 -- operations" and "Conditional expressions"; typing specification, "Type narrowing").
-use Rattle.std.specs.Prelude.{Option, None, Some}
+use Rattle.std.specs.Prelude.{Bool, true, false, if◌then◌else◌, Option, None, Some}
 use Rattle.pyc_ast.specs.declared.operator.BooleanOperator.{BooleanOperator}
 use Rattle.pyc_ast.specs.declared.operator.BooleanOperator.TheVariants as joins
-use Rattle.pyc_ast.specs.Exprs.{Expr}
+use Rattle.pyc_ast.specs.Exprs.{Expr, expr, Form, boolean}
 use Rattle.pyc_displays.specs.Joins.{and_type, or_type, conditional_type}
 use Rattle.pyc_expr_forms.specs.Contexts.{Parts, type_in, looked_by, only_read}
 use Rattle.pyc_narrowing.specs.Splitting.{split}
@@ -23,24 +23,64 @@ type_where parts (reachable narrowings) x want = reached_type parts (reachable n
 
 -- ---- `and` and `or`
 
-unfoldable pub and_right : Parts → Option Ty → Expr → Ty → State → Step Ty
-and_right parts want y left s = and_then (type_where parts s y want) (λ right. Done (and_type left right))
-
-unfoldable pub or_right : Parts → Option Ty → Expr → Ty → State → Step Ty
-or_right parts want y left s = and_then (type_where parts s y want) (λ right. Done (or_type left right))
+-- the type of `and` or `or`, by those of its sides
+abbrev pub joined_type : BooleanOperator → Ty → Option Ty → Ty
+joined_type joins.And left right = and_type left right
+joined_type joins.Or left right = or_type left right
 
 -- the right side of `and` is read where the left side holds, and that of `or` where it does not
-abbrev pub right_type : Parts → Option Ty → BooleanOperator → Expr → Ty → States → Step Ty
-right_type parts want joins.And y left states = and_right parts want y left states.if_true
-right_type parts want joins.Or y left states = or_right parts want y left states.if_false
+abbrev pub goes_on : BooleanOperator → States → State
+goes_on joins.And states = states.if_true
+goes_on joins.Or states = states.if_false
 
--- `and` or `or` whose left side was read
-unfoldable pub boolean_rest : Parts → State → Option Ty → BooleanOperator → (left right : Expr) → Ty → Step Ty
-boolean_rest parts s want operator x y left =
-    and_then (split (looked_by parts) s x) (right_type parts want operator y left)
+-- a chain so far: its type, and the state in which what stands to the right of it is read
+pub record Chain : Type 0 where
+  pub ty : Ty
+  pub state : State
+
+-- a side of this type, by what it says in a state
+unfoldable pub side_said : Parts → State → BooleanOperator → Expr → Ty → Step Chain
+side_said parts s operator x ty =
+    and_then (split (looked_by parts) s x) (λ states. Done (record { ty = ty; state = goes_on operator states }))
+
+-- the first side of a chain
+unfoldable pub first_side : Parts → State → Option Ty → BooleanOperator → Expr → Step Chain
+first_side parts s want operator x = and_then (type_in parts s x want) (side_said parts s operator x)
+
+-- the type with a side more, which is read in a state
+unfoldable pub with_side : Parts → State → Option Ty → BooleanOperator → Expr → Ty → Step Ty
+with_side parts s want operator y left =
+    and_then (type_where parts s y want) (λ right. Done (joined_type operator left right))
+
+abbrev pub last_side : Parts → Option Ty → BooleanOperator → Expr → Chain → Step Ty
+last_side parts want operator y left = with_side parts left.state want operator y left.ty
+
+-- a side of a chain, after which the chain goes on
+unfoldable pub next_side : Parts → Option Ty → BooleanOperator → Expr → Chain → Step Chain
+next_side parts want operator y left =
+    and_then (last_side parts want operator y left) (side_said parts left.state operator y)
+
+abbrev pub same_operator : BooleanOperator → BooleanOperator → Bool
+same_operator joins.And joins.And = true
+same_operator joins.Or joins.Or = true
+same_operator _ _ = false
+
+abbrev mutual
+  -- what stands to the left of an operator: each side of a chain of that operator is read once, from left to right, in
+  -- the state in which the sides before it leave it to be read
+  pub chained : Parts → State → Option Ty → BooleanOperator → Expr → Step Chain
+  chained parts s want operator (expr at inside form) =
+      chained_form parts s want operator (expr at inside form) form
+
+  pub chained_form : Parts → State → Option Ty → BooleanOperator → Expr → Form → Step Chain
+  chained_form parts s want operator whole (boolean inner x y) =
+      if same_operator operator inner then and_then (chained parts s want operator x) (next_side parts want operator y)
+      else first_side parts s want operator whole
+  chained_form parts s want operator whole form = first_side parts s want operator whole
 
 unfoldable pub boolean_type : Parts → State → Option Ty → BooleanOperator → (left right : Expr) → Step Ty
-boolean_type parts s want operator x y = and_then (type_in parts s x want) (boolean_rest parts s want operator x y)
+boolean_type parts s want operator x y =
+    and_then (chained parts s want operator x) (last_side parts want operator y)
 
 -- ---- conditional expressions
 

@@ -4,3 +4,5 @@ pub mod Operations
 pub mod Subscripting
 pub mod Choices
 pub mod CallValues
+pub mod ChainView
+pub mod Laws

@@ -1,7 +1,8 @@
 //! Expressions of which a part is read only where a condition holds, or does not.
 
-ghost use Rattle.std.specs.Prelude.{option_map};
+ghost use Rattle.std.specs.Prelude.{◌≡◌, IfOk, option_map};
 ghost use Rattle.pyc_ast.specs.ExprView.{expr_of};
+ghost use Rattle.pyc_expr_forms.specs.ChainView.{chain_of};
 ghost use Rattle.pyc_expr_forms.specs.Choices as spec;
 ghost use Rattle.pyc_narrowing.specs.SplitView.{states_of};
 ghost use Rattle.pyc_places.specs.StateView.{state_of};
@@ -9,7 +10,7 @@ ghost use Rattle.pyc_reading.specs.Desks.{Performs};
 ghost use Rattle.pyc_type_forms.specs.TypeView.{ty_of};
 
 use crate::parts::{Looking, Parts, only_read, type_in};
-use pyc_ast::{BooleanOperator, Expr};
+use pyc_ast::{BooleanOperator, Expr, Form};
 use pyc_displays::{and_type, conditional_type, or_type};
 use pyc_narrowing::{States, split};
 use pyc_obligations::Judge;
@@ -56,7 +57,14 @@ fn reached_type<N: Judge, P: Parts<N>>(
     Ok(Some(ty))
 }
 
-/// The type of `and` or `or`. The only error is that memory runs out.
+/// A chain of `and`, or of `or`, so far: its type, and the state in which what stands to the right of it is read.
+#[derive(Drop)]
+pub(crate) struct Chain {
+    pub(crate) ty: Ty,
+    pub(crate) state: State,
+}
+
+/// The type of `and` or `or`. Each side of a chain of one of them is read once. The only error is that memory runs out.
 #[tactic(auto, using(pyc_obligations::proofs::Steps::performing), unfolding(crate::specs::Choices::boolean_type))]
 pub fn boolean_type<N: Judge, P: Parts<N>>(
     alloc: Global,
@@ -73,102 +81,181 @@ pub fn boolean_type<N: Judge, P: Parts<N>>(
         (spec.boolean_type (P.parts parts.now) (state_of state.now) (option_map (λ ty. ty_of ty.now) want.entry)
         operator (expr_of left.now) (expr_of right.now)) (N.desk notes.old) result (N.desk notes.new) }
 {
-    let first = type_in(alloc, notes, parts, state, left, want)?;
-    let ty = boolean_rest(
-        alloc, notes, parts, state, want, operator, left, right, first,
-    )?;
+    let left = chained(alloc, notes, parts, state, want, operator, left)?;
+    let ty = last_side(alloc, notes, parts, want, operator, right, left)?;
     Ok(ty)
 }
 
-/// The same, when its left side was read.
-#[tactic(auto, using(pyc_obligations::proofs::Steps::performing), unfolding(crate::specs::Choices::boolean_rest))]
-fn boolean_rest<N: Judge, P: Parts<N>>(
+/// What stands to the left of an operator: the sides of a chain of that operator are read from left to right.
+fn chained<N: Judge, P: Parts<N>>(
     alloc: Global,
     notes: &mut N,
     parts: &P,
     state: &State,
     want: Option<&Ty>,
     operator: BooleanOperator,
-    left: &Expr,
-    right: &Expr,
-    first: Ty,
-) -> Result<Ty, AllocError>
+    e: &Expr,
+) -> Result<Chain, AllocError>
     requires { P.ready parts.now }
-    ensures { Performs ty_of
-        (spec.boolean_rest (P.parts parts.now) (state_of state.now) (option_map (λ ty. ty_of ty.now) want.entry)
-        operator (expr_of left.now) (expr_of right.now) (ty_of first)) (N.desk notes.old) result (N.desk notes.new) }
+    ensures { Performs chain_of
+        (spec.chained (P.parts parts.now) (state_of state.now) (option_map (λ ty. ty_of ty.now) want.entry) operator
+        (expr_of e.now)) (N.desk notes.old) result (N.desk notes.new) }
 {
-    let states = split(alloc, notes, &Looking { parts }, state, left)?;
-    let ty = right_type(alloc, notes, parts, want, operator, right, first, &states)?;
-    Ok(ty)
-}
-
-/// The right side of `and` is read where the left side holds, and that of `or` where it does not.
-fn right_type<N: Judge, P: Parts<N>>(
-    alloc: Global,
-    notes: &mut N,
-    parts: &P,
-    want: Option<&Ty>,
-    operator: BooleanOperator,
-    right: &Expr,
-    first: Ty,
-    states: &States,
-) -> Result<Ty, AllocError>
-    requires { P.ready parts.now }
-    ensures { Performs ty_of
-        (spec.right_type (P.parts parts.now) (option_map (λ ty. ty_of ty.now) want.entry) operator
-        (expr_of right.now) (ty_of first) (states_of states.now)) (N.desk notes.old) result (N.desk notes.new) }
-{
-    match operator {
-        BooleanOperator::And => {
-            and_right(alloc, notes, parts, want, right, first, &states.if_true)
+    match &e.form {
+        Form::Boolean {
+            operator: inner,
+            left,
+            right,
+        } => {
+            if same_operator(operator, *inner) {
+                let first = chained(alloc, notes, parts, state, want, operator, left)?;
+                let both = next_side(alloc, notes, parts, want, operator, right, first)?;
+                Ok(both)
+            } else {
+                first_side(alloc, notes, parts, state, want, operator, e)
+            }
         }
-        BooleanOperator::Or => {
-            or_right(alloc, notes, parts, want, right, first, &states.if_false)
-        }
+        _ => first_side(alloc, notes, parts, state, want, operator, e),
     }
 }
 
-/// The right side of `and`.
-#[tactic(auto, using(pyc_obligations::proofs::Steps::performing), unfolding(crate::specs::Choices::and_right))]
-fn and_right<N: Judge, P: Parts<N>>(
+fn same_operator(operator: BooleanOperator, other: BooleanOperator) -> bool
+    ensures { result ≡ spec.same_operator operator other }
+{
+    match operator {
+        BooleanOperator::And => matches!(other, BooleanOperator::And),
+        BooleanOperator::Or => matches!(other, BooleanOperator::Or),
+    }
+}
+
+/// The first side of a chain.
+#[tactic(auto, using(pyc_obligations::proofs::Steps::performing), unfolding(crate::specs::Choices::first_side))]
+fn first_side<N: Judge, P: Parts<N>>(
+    alloc: Global,
+    notes: &mut N,
+    parts: &P,
+    state: &State,
+    want: Option<&Ty>,
+    operator: BooleanOperator,
+    side: &Expr,
+) -> Result<Chain, AllocError>
+    requires { P.ready parts.now }
+    ensures { Performs chain_of
+        (spec.first_side (P.parts parts.now) (state_of state.now) (option_map (λ ty. ty_of ty.now) want.entry)
+        operator (expr_of side.now)) (N.desk notes.old) result (N.desk notes.new) }
+{
+    let ty = type_in(alloc, notes, parts, state, side, want)?;
+    let found = side_said(alloc, notes, parts, state, operator, side, ty)?;
+    Ok(found)
+}
+
+/// A side of a chain, after which the chain goes on.
+#[tactic(auto, using(pyc_obligations::proofs::Steps::performing), unfolding(crate::specs::Choices::next_side))]
+fn next_side<N: Judge, P: Parts<N>>(
     alloc: Global,
     notes: &mut N,
     parts: &P,
     want: Option<&Ty>,
-    right: &Expr,
-    first: Ty,
-    state: &State,
+    operator: BooleanOperator,
+    side: &Expr,
+    left: Chain,
+) -> Result<Chain, AllocError>
+    requires { P.ready parts.now }
+    ensures { Performs chain_of
+        (spec.next_side (P.parts parts.now) (option_map (λ ty. ty_of ty.now) want.entry) operator (expr_of side.now)
+        (chain_of left)) (N.desk notes.old) result (N.desk notes.new) }
+{
+    let Chain { ty, state } = left;
+    let joined = with_side(alloc, notes, parts, &state, want, operator, side, ty)?;
+    let found = side_said(alloc, notes, parts, &state, operator, side, joined)?;
+    Ok(found)
+}
+
+/// The last side of a chain.
+fn last_side<N: Judge, P: Parts<N>>(
+    alloc: Global,
+    notes: &mut N,
+    parts: &P,
+    want: Option<&Ty>,
+    operator: BooleanOperator,
+    side: &Expr,
+    left: Chain,
 ) -> Result<Ty, AllocError>
     requires { P.ready parts.now }
     ensures { Performs ty_of
-        (spec.and_right (P.parts parts.now) (option_map (λ ty. ty_of ty.now) want.entry) (expr_of right.now)
-        (ty_of first) (state_of state.now)) (N.desk notes.old) result (N.desk notes.new) }
+        (spec.last_side (P.parts parts.now) (option_map (λ ty. ty_of ty.now) want.entry) operator (expr_of side.now)
+        (chain_of left)) (N.desk notes.old) result (N.desk notes.new) }
 {
-    let second = type_where(alloc, notes, parts, state, right, want)?;
-    let ty = and_type(alloc, first, second)?;
+    let Chain { ty, state } = left;
+    with_side(alloc, notes, parts, &state, want, operator, side, ty)
+}
+
+/// A side of a chain that is of a type, by what it says in a state.
+#[tactic(auto, using(pyc_obligations::proofs::Steps::performing), unfolding(crate::specs::Choices::side_said))]
+fn side_said<N: Judge, P: Parts<N>>(
+    alloc: Global,
+    notes: &mut N,
+    parts: &P,
+    state: &State,
+    operator: BooleanOperator,
+    side: &Expr,
+    ty: Ty,
+) -> Result<Chain, AllocError>
+    requires { P.ready parts.now }
+    ensures { Performs chain_of
+        (spec.side_said (P.parts parts.now) (state_of state.now) operator (expr_of side.now) (ty_of ty))
+        (N.desk notes.old) result (N.desk notes.new) }
+{
+    let states = split(alloc, notes, &Looking { parts }, state, side)?;
+    let state = goes_on(operator, states);
+    Ok(Chain { ty, state })
+}
+
+/// The right side of `and` is read where the left side holds, and that of `or` where it does not.
+fn goes_on(operator: BooleanOperator, states: States) -> State
+    ensures { state_of result ≡ spec.goes_on operator (states_of states) }
+{
+    match operator {
+        BooleanOperator::And => states.if_true,
+        BooleanOperator::Or => states.if_false,
+    }
+}
+
+/// The type with a side more, which is read in a state.
+#[tactic(auto, using(pyc_obligations::proofs::Steps::performing), unfolding(crate::specs::Choices::with_side))]
+fn with_side<N: Judge, P: Parts<N>>(
+    alloc: Global,
+    notes: &mut N,
+    parts: &P,
+    state: &State,
+    want: Option<&Ty>,
+    operator: BooleanOperator,
+    side: &Expr,
+    left: Ty,
+) -> Result<Ty, AllocError>
+    requires { P.ready parts.now }
+    ensures { Performs ty_of
+        (spec.with_side (P.parts parts.now) (state_of state.now) (option_map (λ ty. ty_of ty.now) want.entry) operator
+        (expr_of side.now) (ty_of left)) (N.desk notes.old) result (N.desk notes.new) }
+{
+    let right = type_where(alloc, notes, parts, state, side, want)?;
+    let ty = joined_type(alloc, operator, left, right)?;
     Ok(ty)
 }
 
-/// The right side of `or`.
-#[tactic(auto, using(pyc_obligations::proofs::Steps::performing), unfolding(crate::specs::Choices::or_right))]
-fn or_right<N: Judge, P: Parts<N>>(
+/// The type of `and` or `or`, by those of its sides.
+fn joined_type(
     alloc: Global,
-    notes: &mut N,
-    parts: &P,
-    want: Option<&Ty>,
-    right: &Expr,
-    first: Ty,
-    state: &State,
+    operator: BooleanOperator,
+    left: Ty,
+    right: Option<Ty>,
 ) -> Result<Ty, AllocError>
-    requires { P.ready parts.now }
-    ensures { Performs ty_of
-        (spec.or_right (P.parts parts.now) (option_map (λ ty. ty_of ty.now) want.entry) (expr_of right.now)
-        (ty_of first) (state_of state.now)) (N.desk notes.old) result (N.desk notes.new) }
+    ensures { IfOk result (λ ty. ty_of ty ≡ spec.joined_type operator (ty_of left) (option_map ty_of right)) }
 {
-    let second = type_where(alloc, notes, parts, state, right, want)?;
-    let ty = or_type(alloc, first, second)?;
-    Ok(ty)
+    match operator {
+        BooleanOperator::And => Ok(and_type(alloc, left, right)?),
+        BooleanOperator::Or => Ok(or_type(alloc, left, right)?),
+    }
 }
 
 /// The type of a conditional expression. The only error is that memory runs out.

@@ -5,6 +5,7 @@
 mod call_values;
 mod choices;
 mod context;
+pub mod laws;
 mod method_caller;
 mod names;
 mod operations;
