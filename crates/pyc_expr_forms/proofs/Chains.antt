@@ -1,5 +1,5 @@
 -- A chain goes on in the state that all of it leaves, taken as one condition.
-use Rattle.std.proofs.Common.{◌≡◌, Option, Bool, true, false, refl, ap, sym, ◌∙◌}
+use Rattle.std.proofs.Common.{◌≡◌, Option, refl, ap, sym, ◌∙◌}
 use Rattle.pyc_ast.specs.declared.operator.BooleanOperator.{BooleanOperator}
 use Rattle.pyc_ast.specs.declared.operator.BooleanOperator.TheVariants as joins
 use Rattle.pyc_ast.specs.declared.position.Position.{Position}
@@ -8,7 +8,7 @@ use Rattle.pyc_ast.specs.Exprs.{Expr, expr, Form}
 use Rattle.pyc_expr_forms.specs.Choices.{Chain, chained, chained_form, first_side, next_side, last_side, side_said, goes_on}
 use Rattle.pyc_expr_forms.specs.Contexts.{Parts, type_in, looked_by}
 use Rattle.pyc_narrowing.specs.Splitting.{Splits, split, right_rule, and_right, or_right, boolean_rule}
-use Rattle.pyc_narrowing.specs.SplitStates.{States, unchanged, and_states, or_states}
+use Rattle.pyc_narrowing.specs.SplitStates.{States, and_states, or_states}
 use Rattle.pyc_places.specs.States.{State, unreachable, reachable}
 use Rattle.pyc_reading.specs.Answers.{Answer}
 use Rattle.pyc_reading.specs.Desks.{Step}

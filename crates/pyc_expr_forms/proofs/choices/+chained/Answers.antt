@@ -1,0 +1,33 @@
+use Rattle.std.proofs.Common.{◌≡◌, Bool, if◌then◌else◌, option_map, Bor, ap, sym, ◌∙◌, rules}
+use Rattle.pyc_ast.specs.declared.expr.DictItem.TheFolds.{the_lemmas}
+use Rattle.pyc_ast.specs.Exprs.{Expr, expr, boolean}
+use Rattle.pyc_ast.specs.ExprView.{expr_of}
+use Rattle.pyc_expr_forms.specs.ChainView.{chain_of}
+use Rattle.pyc_expr_forms.specs.Choices.{chained, first_side, next_side}
+use Rattle.pyc_places.specs.StateView.{state_of}
+use Rattle.pyc_reading.proofs.RunLemmas.{after, grown_trans}
+use Rattle.pyc_reading.specs.Desks.{run}
+use Rattle.pyc_reading.specs.Readings.{and_then}
+use Rattle.pyc_type_forms.specs.declared.types.Ty.{Ty as TyOf}
+use Rattle.pyc_type_forms.specs.TypeView.{ty_of}
+use Rattle.pyc_expr_forms.proofs.choices.+chained.Goals as goal
+
+pub returns-in_ok-both-in-Boolean : goal.returns-in_ok-both-in-Boolean
+returns-in_ok-both-in-Boolean g t c =
+    let parts = g.P.Parts.parts c.args.parts.now in
+    let s = state_of c.args.state.now in
+    let want = option_map (λ (ty : Bor TyOf). ty_of ty.now) c.args.want in
+    let operator = c.args.operator in
+    let desk = g.N.Notes.desk c.args.notes.now in
+    let left = expr_of c.deref.result.now in
+    let right = expr_of c.deref-then-same_operator.result.now in
+    let e = expr c.args.e.now.at c.args.e.now.inside (boolean c.in-Boolean.inner left right) in
+    let form : expr_of c.args.e.now ≡ e = rw (c.deref.ensures, c.deref-then-same_operator.ensures) (search (rules, the_lemmas, c.in-Boolean.is)) in
+    record {
+      done =
+          ap (λ (x : Expr). run (chained parts s want operator x) desk) form
+          ∙ ap (λ (b : Bool). run (if b then and_then (chained parts s want operator left) (next_side parts want operator right) else first_side parts s want operator e) desk)
+          (sym c.same_operator.ensures ∙ c.if-same_operator.true)
+          ∙ after (chained parts s want operator left) (next_side parts want operator right) desk (g.N.Notes.desk c.chained.new.notes) (g.N.Notes.desk c.next_side.new.notes) (chain_of c.in_ok-first-in-Boolean.first) (chain_of c.in_ok-both-in-Boolean.both) c.in_ok-first-in-Boolean.ensures.done c.in_ok-both-in-Boolean.ensures.done;
+      grown = grown_trans c.chained.ensures.grown c.next_side.ensures.grown;
+    }
