@@ -256,7 +256,7 @@ fn types_of(alloc: Global, source: &str) -> Result<(Option<Builtin>, Option<Buil
         return Err("no annotation".into());
     };
     Ok((
-        annotation_builtin(&file, &found.annotation),
+        annotation_builtin(file.bindings(), &found.annotation),
         found.value.as_ref().and_then(|value| literal_type(value)),
     ))
 }
