@@ -71,6 +71,9 @@ EMPTY = '""'
 DICT, ENTRY = "x: dict[int, int]", '1: ""'
 CALLEE = "def g(*a: int): ...\n"
 DECLARED = f"from typing import Callable, Union\nf: {CALLED}\n"
+OPTIONAL = "def f() -> int | None: ...\n"
+LONG_OR = " or ".join(["f()"] * 899 + ["1"])
+NARROWED = "a: int | None = f()\n" + " and ".join(["a", *["a + 1"] * 898, f"a + {EMPTY}"])
 NO_SUM = 'Unsupported operand types for + ("int" and "str")  [operator]'
 NO_ITEM = 'List item 19999 has incompatible type "str"; expected "int"  [list-item]'
 NO_ENTRY = 'Dict entry 19999 has incompatible type "int": "str"; expected "int": "int"  [dict-item]'
@@ -129,6 +132,8 @@ LIMITS = [
     ("limits/long_sum_with_a_wrong_end", *checked("e.py", f"{total(900, EMPTY)}\n", [(1, NO_SUM)])),
     ("limits/longest_sum", *checked("e.py", f"{total(998, EMPTY)}\n", [(1, NO_SUM)])),
     ("limits/sum_one_term_too_long", *checked("e.py", f"{total(999, EMPTY)}\n", [(1, INVALID)])),
+    ("limits/long_or", *checked("o.py", f"{OPTIONAL}x: str = {LONG_OR}\n", [(2, no_str("int"))])),
+    ("limits/long_and_with_a_wrong_end", *checked("o.py", f"{OPTIONAL}{NARROWED}\n", [(3, NO_SUM)])),
     ("limits/long_list", *assigned(f"[{row(20_000, '1')}]", "list[int]")),
     ("limits/list_with_a_wrong_end", *checked("e.py", f"x: list[int] = [{row(20_000, '1', EMPTY)}]\n", [(1, NO_ITEM)])),
     ("limits/dict_with_a_wrong_end", *checked("e.py", f"{DICT} = {{{row(20_000, '1: 1', ENTRY)}}}\n", [(1, NO_ENTRY)])),
