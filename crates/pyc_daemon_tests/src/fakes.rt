@@ -5,27 +5,27 @@ use std::alloc::Global;
 use std::io::{self, ErrorKind, Read, Write};
 
 /// Options with room for each session of the tests.
-pub const OPTIONS: Options = Options {
+pub(crate) const OPTIONS: Options = Options {
     ignore_missing: false,
     check_untyped: false,
     turns: 1_000_000,
 };
 
 /// Never.
-pub const NEVER: usize = usize::MAX;
+pub(crate) const NEVER: usize = usize::MAX;
 
 /// A reader of known bytes: at most `most` of them a call, and a fault at the call of number `faulty`, from 0.
 #[derive(Drop)]
-pub struct ShortReads<'a> {
-    pub bytes: &'a [u8],
-    pub most: usize,
-    pub faulty: usize,
-    pub calls: usize,
+pub(crate) struct ShortReads<'a> {
+    pub(crate) bytes: &'a [u8],
+    pub(crate) most: usize,
+    pub(crate) faulty: usize,
+    pub(crate) calls: usize,
 }
 
 impl<'a> ShortReads<'a> {
     /// All bytes in pieces of at most `most`, without a fault.
-    pub fn new(bytes: &'a [u8], most: usize) -> Self {
+    pub(crate) fn new(bytes: &'a [u8], most: usize) -> Self {
         ShortReads {
             bytes,
             most,
@@ -51,23 +51,23 @@ impl Read for ShortReads<'_> {
 
 /// How a writer stops.
 #[derive(Clone, Copy, Debug, PartialEq, Eq)]
-pub enum Stop {
+pub(crate) enum Stop {
     Fault,
     Zero,
 }
 
 /// A writer that keeps what it gets: at most `most` bytes a call, and after `room` bytes it stops.
 #[derive(Drop)]
-pub struct Sink<'a> {
-    pub kept: &'a mut Vec<u8>,
-    pub most: usize,
-    pub room: usize,
-    pub stop: Stop,
+pub(crate) struct Sink<'a> {
+    pub(crate) kept: &'a mut Vec<u8>,
+    pub(crate) most: usize,
+    pub(crate) room: usize,
+    pub(crate) stop: Stop,
 }
 
 impl<'a> Sink<'a> {
     /// A writer that never stops.
-    pub fn new(kept: &'a mut Vec<u8>) -> Self {
+    pub(crate) fn new(kept: &'a mut Vec<u8>) -> Self {
         Sink {
             kept,
             most: NEVER,
@@ -97,7 +97,7 @@ impl Write for Sink<'_> {
 }
 
 /// The answer of a session over these streams, without a source of files, with at most so many reads.
-pub fn session(
+pub(crate) fn session(
     alloc: Global,
     reader: ShortReads<'_>,
     writer: Sink<'_>,
