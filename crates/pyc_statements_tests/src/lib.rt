@@ -1,6 +1,8 @@
-//! Tests of what is told of statements, in a crate of their own.
+//! Tests of expressions and statements, by what is told of them, in a crate of their own.
 #![tactic(auto)]
 
+#[cfg(test)]
+mod expressions;
 #[cfg(test)]
 mod statements;
 #[cfg(test)]

@@ -1,6 +1,6 @@
 //! What is told of statements of a file's top level.
 
-use crate::told::all_told;
+use crate::told::{OF_STATEMENTS, all_told};
 use std::test::Fail;
 
 /// Sources, each with what is told of it.
@@ -68,7 +68,10 @@ const ASSIGNMENTS_TO_NAMES: &[(&str, &str)] = &[
 #[test]
 fn assignments_to_names(rt: HostRuntime) -> Result<(), Fail> {
     for (source, want) in ASSIGNMENTS_TO_NAMES {
-        assert_eq!(rt; all_told(rt.alloc(), source)?.as_str(), *want);
+        assert_eq!(rt;
+            all_told(rt.alloc(), &OF_STATEMENTS, source)?.as_str(),
+            *want
+        );
     }
     Ok(())
 }
@@ -123,7 +126,10 @@ const ANNOTATED_ASSIGNMENTS: &[(&str, &str)] = &[
 #[test]
 fn annotated_assignments(rt: HostRuntime) -> Result<(), Fail> {
     for (source, want) in ANNOTATED_ASSIGNMENTS {
-        assert_eq!(rt; all_told(rt.alloc(), source)?.as_str(), *want);
+        assert_eq!(rt;
+            all_told(rt.alloc(), &OF_STATEMENTS, source)?.as_str(),
+            *want
+        );
     }
     Ok(())
 }
@@ -213,7 +219,10 @@ const UNPACKING: &[(&str, &str)] = &[
 #[test]
 fn unpacking(rt: HostRuntime) -> Result<(), Fail> {
     for (source, want) in UNPACKING {
-        assert_eq!(rt; all_told(rt.alloc(), source)?.as_str(), *want);
+        assert_eq!(rt;
+            all_told(rt.alloc(), &OF_STATEMENTS, source)?.as_str(),
+            *want
+        );
     }
     Ok(())
 }
@@ -327,7 +336,10 @@ const ATTRIBUTES: &[(&str, &str)] = &[
 #[test]
 fn attributes(rt: HostRuntime) -> Result<(), Fail> {
     for (source, want) in ATTRIBUTES {
-        assert_eq!(rt; all_told(rt.alloc(), source)?.as_str(), *want);
+        assert_eq!(rt;
+            all_told(rt.alloc(), &OF_STATEMENTS, source)?.as_str(),
+            *want
+        );
     }
     Ok(())
 }
@@ -416,7 +428,10 @@ const SUBSCRIPTS: &[(&str, &str)] = &[
 #[test]
 fn subscripts(rt: HostRuntime) -> Result<(), Fail> {
     for (source, want) in SUBSCRIPTS {
-        assert_eq!(rt; all_told(rt.alloc(), source)?.as_str(), *want);
+        assert_eq!(rt;
+            all_told(rt.alloc(), &OF_STATEMENTS, source)?.as_str(),
+            *want
+        );
     }
     Ok(())
 }
@@ -449,7 +464,10 @@ const STATES: &[(&str, &str)] = &[
 #[test]
 fn states(rt: HostRuntime) -> Result<(), Fail> {
     for (source, want) in STATES {
-        assert_eq!(rt; all_told(rt.alloc(), source)?.as_str(), *want);
+        assert_eq!(rt;
+            all_told(rt.alloc(), &OF_STATEMENTS, source)?.as_str(),
+            *want
+        );
     }
     Ok(())
 }
@@ -486,7 +504,10 @@ const EXPRESSIONS: &[(&str, &str)] = &[
 #[test]
 fn expressions(rt: HostRuntime) -> Result<(), Fail> {
     for (source, want) in EXPRESSIONS {
-        assert_eq!(rt; all_told(rt.alloc(), source)?.as_str(), *want);
+        assert_eq!(rt;
+            all_told(rt.alloc(), &OF_STATEMENTS, source)?.as_str(),
+            *want
+        );
     }
     Ok(())
 }

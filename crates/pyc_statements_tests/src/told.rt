@@ -1,4 +1,4 @@
-//! What is told of statements of a file.
+//! What is told of statements of a file's top level.
 
 use pyc_ast::{Module, Outcome};
 use pyc_examiner::Examiner;
@@ -7,13 +7,79 @@ use pyc_lower::read as read_source;
 use pyc_names::{ModuleName, SourceFile};
 use pyc_report::Message;
 use pyc_statements::read_top_level;
-use std::alloc::Global;
+use std::alloc::{AllocError, Global};
 use std::fmt::Write;
 use std::rc::Rc;
 use std::test::Fail;
 
-/// What stands before the statement.
-const START: &str = "from typing import Optional\n\
+/// What stands before a statement, and the file `base.py` that it imports from.
+pub(crate) struct Setting {
+    start: &'static str,
+    base: &'static str,
+}
+
+/// Where expressions stand.
+pub(crate) const OF_EXPRESSIONS: Setting = Setting {
+    start: EXPRESSIONS_START,
+    base: EXPRESSIONS_BASE,
+};
+
+/// Where other statements stand.
+pub(crate) const OF_STATEMENTS: Setting = Setting {
+    start: STATEMENTS_START,
+    base: STATEMENTS_BASE,
+};
+
+const EXPRESSIONS_START: &str = "from typing import cast, reveal_type\nimport typing\n\
+    from base import C, D, any, c, cb, d, f, ls, n, o, oc, s, t, tn, u\n";
+
+const EXPRESSIONS_BASE: &str =
+    "from typing import Any, Callable, Optional, Union, cast, reveal_type\n\
+    import typing\n\
+    \n\
+    \n\
+    class C:\n\
+    \x20   x: int = 1\n\
+    \x20   o: Optional[str] = None\n\
+    \n\
+    \x20   def __init__(self, a: int, b: str = \"\") -> None:\n\
+    \x20       pass\n\
+    \n\
+    \x20   def __add__(self, other: int) -> str:\n\
+    \x20       return \"\"\n\
+    \n\
+    \x20   def __call__(self) -> bytes:\n\
+    \x20       return b\"\"\n\
+    \n\
+    \x20   def __getitem__(self, i: Any) -> float:\n\
+    \x20       return 1.0\n\
+    \n\
+    \x20   def m(self, a: int) -> str:\n\
+    \x20       return \"\"\n\
+    \n\
+    \n\
+    class D(C):\n\
+    \x20   pass\n\
+    \n\
+    \n\
+    def f(a: int, *, k: str) -> bytes:\n\
+    \x20   return b\"\"\n\
+    \n\
+    \n\
+    n: int = 1\n\
+    s: str = \"\"\n\
+    o: Optional[int] = None\n\
+    u: Union[int, str] = 1\n\
+    c: C = C(1)\n\
+    oc: Optional[C] = None\n\
+    any: Any = 1\n\
+    ls: list[int] = []\n\
+    d: dict[str, int] = {}\n\
+    t: tuple[int, str] = (1, \"\")\n\
+    tn: tuple[float, ...] = ()\n\
+    cb: Callable[[int], str] = s.join\n";
+
+const STATEMENTS_START: &str = "from typing import Optional\n\
     import base\n\
     from base import B, C, E, any, b, c, d, e, f, ll, ls, n, oc, s, t, tn, u, uc\n\
     i: int = 1\n\
@@ -23,8 +89,7 @@ const START: &str = "from typing import Optional\n\
     y: Optional[C] = None\n\
     lf: list[float] = []\n";
 
-/// The file that it imports from.
-const BASE: &str = "from typing import Any, Optional, Union\n\
+const STATEMENTS_BASE: &str = "from typing import Any, Optional, Union\n\
     \n\
     \n\
     class C:\n\
@@ -76,10 +141,23 @@ const BASE: &str = "from typing import Any, Optional, Union\n\
     tn: tuple[float, ...] = ()\n";
 
 /// A file of this path and source, as names see it, shared.
-fn file_of(alloc: Global, path: &str, source: &str) -> Result<Rc<SourceFile>, Fail> {
+fn file_of(alloc: Global, path: &str, source: &str) -> Result<Rc<SourceFile>, AllocError> {
     let name = ModuleName::of_path(alloc, path)?;
     let outcome = read_source(alloc, source.as_bytes())?;
-    Ok(Rc::new(alloc, SourceFile::new(alloc, path, name, outcome)?)?)
+    Rc::new(alloc, SourceFile::new(alloc, path, name, outcome)?)
+}
+
+/// The file with the statement, and the one that it imports from.
+fn files_of(
+    alloc: Global,
+    setting: &Setting,
+    statement: &str,
+) -> Result<Vec<Rc<SourceFile>>, AllocError> {
+    let source = format!(in alloc; "{}{statement}\n", setting.start)?;
+    let mut files = Vec::new(alloc);
+    files.push(file_of(alloc, "a.py", source.as_str())?)?;
+    files.push(file_of(alloc, "base.py", setting.base)?)?;
+    Ok(files)
 }
 
 /// These messages, each as its code and text, and ended by a `;`.
@@ -107,14 +185,17 @@ fn told_in(
     shown(alloc, &examiner.into_messages())
 }
 
-/// What is told of a statement in a file.
-pub(crate) fn all_told(alloc: Global, statement: &str) -> Result<String, Fail> {
-    let source = format!(in alloc; "{START}{statement}\n")?;
-    let file = file_of(alloc, "a.py", source.as_str())?;
-    let files = vec![in alloc; file.clone()?, file_of(alloc, "base.py", BASE)?]?;
-    let world = World::build(alloc, &files)?;
+/// What is told of the last statement of a file of a world.
+fn told_of(alloc: Global, world: &World, file: &SourceFile) -> Result<String, Fail> {
     match file.outcome() {
-        Outcome::Tree(module) => told_in(alloc, &world, &file, module),
+        Outcome::Tree(module) => told_in(alloc, world, file, module),
         Outcome::Fault(_) => Err("a fault".into()),
     }
+}
+
+/// What is told of a statement in a file.
+pub(crate) fn all_told(alloc: Global, setting: &Setting, statement: &str) -> Result<String, Fail> {
+    let files = files_of(alloc, setting, statement)?;
+    let world = World::build(alloc, &files)?;
+    told_of(alloc, &world, &files[0])
 }

@@ -1,6 +1,6 @@
 //! What expressions are, by what is told of them.
 
-use crate::told::all_told;
+use crate::told::{OF_EXPRESSIONS, all_told};
 use std::test::Fail;
 
 /// Sources, each with what is told of it.
@@ -53,7 +53,10 @@ const LITERALS_AND_DISPLAYS: &[(&str, &str)] = &[
 #[test]
 fn literals_and_displays(rt: HostRuntime) -> Result<(), Fail> {
     for (source, want) in LITERALS_AND_DISPLAYS {
-        assert_eq!(rt; all_told(rt.alloc(), source)?.as_str(), *want);
+        assert_eq!(rt;
+            all_told(rt.alloc(), &OF_EXPRESSIONS, source)?.as_str(),
+            *want
+        );
     }
     Ok(())
 }
@@ -93,7 +96,10 @@ const NAMES_AND_ATTRIBUTES: &[(&str, &str)] = &[
 #[test]
 fn names_and_attributes(rt: HostRuntime) -> Result<(), Fail> {
     for (source, want) in NAMES_AND_ATTRIBUTES {
-        assert_eq!(rt; all_told(rt.alloc(), source)?.as_str(), *want);
+        assert_eq!(rt;
+            all_told(rt.alloc(), &OF_EXPRESSIONS, source)?.as_str(),
+            *want
+        );
     }
     Ok(())
 }
@@ -140,7 +146,10 @@ const OPERATORS: &[(&str, &str)] = &[
 #[test]
 fn operators(rt: HostRuntime) -> Result<(), Fail> {
     for (source, want) in OPERATORS {
-        assert_eq!(rt; all_told(rt.alloc(), source)?.as_str(), *want);
+        assert_eq!(rt;
+            all_told(rt.alloc(), &OF_EXPRESSIONS, source)?.as_str(),
+            *want
+        );
     }
     Ok(())
 }
@@ -177,7 +186,10 @@ const SUBSCRIPTS: &[(&str, &str)] = &[
 #[test]
 fn subscripts(rt: HostRuntime) -> Result<(), Fail> {
     for (source, want) in SUBSCRIPTS {
-        assert_eq!(rt; all_told(rt.alloc(), source)?.as_str(), *want);
+        assert_eq!(rt;
+            all_told(rt.alloc(), &OF_EXPRESSIONS, source)?.as_str(),
+            *want
+        );
     }
     Ok(())
 }
@@ -231,7 +243,10 @@ const CHOICES: &[(&str, &str)] = &[
 #[test]
 fn choices(rt: HostRuntime) -> Result<(), Fail> {
     for (source, want) in CHOICES {
-        assert_eq!(rt; all_told(rt.alloc(), source)?.as_str(), *want);
+        assert_eq!(rt;
+            all_told(rt.alloc(), &OF_EXPRESSIONS, source)?.as_str(),
+            *want
+        );
     }
     Ok(())
 }
@@ -302,7 +317,10 @@ const CALLS: &[(&str, &str)] = &[
 #[test]
 fn calls(rt: HostRuntime) -> Result<(), Fail> {
     for (source, want) in CALLS {
-        assert_eq!(rt; all_told(rt.alloc(), source)?.as_str(), *want);
+        assert_eq!(rt;
+            all_told(rt.alloc(), &OF_EXPRESSIONS, source)?.as_str(),
+            *want
+        );
     }
     Ok(())
 }
