@@ -144,7 +144,7 @@ const STATEMENTS_BASE: &str = "from typing import Any, Optional, Union\n\
 fn file_of(alloc: Global, path: &str, source: &str) -> Result<Rc<SourceFile>, AllocError> {
     let name = ModuleName::of_path(alloc, path)?;
     let outcome = read_source(alloc, source.as_bytes())?;
-    Rc::new(alloc, SourceFile::new(alloc, path, name, outcome)?)
+    Ok(Rc::new(alloc, SourceFile::new(alloc, path, name, outcome)?)?)
 }
 
 /// The file with the statement, and the one that it imports from.
@@ -193,9 +193,17 @@ fn told_of(alloc: Global, world: &World, file: &SourceFile) -> Result<String, Fa
     }
 }
 
+/// What is told of the last statement of the first of the files of a world.
+fn told_of_first(alloc: Global, world: &World, files: &[Rc<SourceFile>]) -> Result<String, Fail> {
+    match files.first() {
+        Some(file) => told_of(alloc, world, file),
+        None => Err("no file".into()),
+    }
+}
+
 /// What is told of a statement in a file.
 pub(crate) fn all_told(alloc: Global, setting: &Setting, statement: &str) -> Result<String, Fail> {
     let files = files_of(alloc, setting, statement)?;
     let world = World::build(alloc, &files)?;
-    told_of(alloc, &world, &files[0])
+    told_of_first(alloc, &world, &files)
 }
