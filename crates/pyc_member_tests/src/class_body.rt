@@ -4,6 +4,7 @@ use crate::sources::module_of;
 use pyc_ast::Text;
 use pyc_members::{ClassBody, OwnMember};
 use std::alloc::Global;
+use std::fmt::Write;
 use std::test::Fail;
 
 /// What the class statement with this body binds.
@@ -12,47 +13,50 @@ fn body_of(alloc: Global, body: &str) -> Result<ClassBody, Fail> {
     Ok(ClassBody::read(alloc, &module.statements)?)
 }
 
+/// Writes what decides of a name: a word for it, and its line.
+fn write_member(found: Option<OwnMember<'_>>, shown: &mut String) -> Result<(), Fail> {
+    let (word, line) = match found {
+        Some(OwnMember::Bound(binding)) => ("bound", binding.place.at.line),
+        Some(OwnMember::Annotated(attribute)) => ("annotated", attribute.at.line),
+        Some(OwnMember::Assigned(attribute)) => ("assigned", attribute.at.line),
+        None => ("none", 0),
+    };
+    write!(shown, "{word} {line}; ")?;
+    Ok(())
+}
+
+/// What decides of a name in a body, what of those bound or annotated does, and what of those assigned does.
+fn write_decided(body: &ClassBody, name: &Text, shown: &mut String) -> Result<(), Fail> {
+    write_member(body.own_member(name), shown)?;
+    write_member(body.in_body_or_annotated(name), shown)?;
+    write_member(body.assigned_through_self(name), shown)?;
+    shown.push_str(if body.is_settable(name) {
+        "settable"
+    } else {
+        ""
+    })?;
+    Ok(())
+}
+
+/// What decides of a name in a body, by all, by what declares it and by what assigns it, and whether it is a settable
+/// property there.
+fn shown(alloc: Global, body: &ClassBody, name: &str) -> Result<String, Fail> {
+    let name = Text::new(alloc, name)?;
+    let mut shown = String::new(alloc);
+    write_decided(body, &name, &mut shown)?;
+    Ok(shown)
+}
+
+/// The same in the class statement with this body.
+fn decided(alloc: Global, body: &str, name: &str) -> Result<String, Fail> {
+    let body = body_of(alloc, body)?;
+    shown(alloc, &body, name)
+}
+
 /// How many names the class statement with this body binds, and how many attributes it gives its instances.
 fn counts(alloc: Global, body: &str) -> Result<(usize, usize), Fail> {
     let body = body_of(alloc, body)?;
     Ok((body.bindings.len(), body.attributes.len()))
-}
-
-/// What decides of a name: a word for it, and its line.
-fn shown(alloc: Global, found: Option<OwnMember<'_>>) -> Result<String, Fail> {
-    match found {
-        Some(OwnMember::Bound(binding)) => {
-            let line = binding.place.at.line;
-            Ok(format!(in alloc; "bound {line}")?)
-        }
-        Some(OwnMember::Annotated(attribute)) => {
-            let line = attribute.at.line;
-            Ok(format!(in alloc; "annotated {line}")?)
-        }
-        Some(OwnMember::Assigned(attribute)) => {
-            let line = attribute.at.line;
-            Ok(format!(in alloc; "assigned {line}")?)
-        }
-        None => Ok(String::from_str(alloc, "none")?),
-    }
-}
-
-/// What decides of a name in the class statement with this body.
-fn own(alloc: Global, body: &str, name: &str) -> Result<String, Fail> {
-    let body = body_of(alloc, body)?;
-    shown(alloc, body.own_member(&Text::new(alloc, name)?))
-}
-
-/// What decides of a name in this body of what is bound or annotated.
-fn declared(alloc: Global, body: &str, name: &str) -> Result<String, Fail> {
-    let body = body_of(alloc, body)?;
-    shown(alloc, body.in_body_or_annotated(&Text::new(alloc, name)?))
-}
-
-/// What decides of a name in this body of what is assigned through the instance.
-fn assigned(alloc: Global, body: &str, name: &str) -> Result<String, Fail> {
-    let body = body_of(alloc, body)?;
-    shown(alloc, body.assigned_through_self(&Text::new(alloc, name)?))
 }
 
 /// Names that are bound in the body, annotated through the instance, assigned through it, and more than one of these.
@@ -70,78 +74,44 @@ def g(self):
 x = 1
 x: str
 from m import y
+@property
+def p(self): ...
+@q.setter
+def p(self, v): ...
+@property
+def q(self): ...
+@p.setter
+class q: ...
+@p.setter
+def r(self, v): ...
 ";
 
-/// Names, with what decides of each, what of those bound or annotated does, and what of those assigned does.
-const DECIDED: &[(&str, &str, &str, &str)] = &[
-    ("a", "assigned 2", "none", "assigned 2"),
-    ("b", "annotated 4", "annotated 4", "assigned 3"),
-    ("c", "annotated 10", "annotated 10", "assigned 5"),
-    ("x", "bound 12", "bound 12", "none"),
-    ("y", "bound 14", "bound 14", "none"),
-    ("f", "bound 1", "bound 1", "none"),
-    ("self", "none", "none", "none"),
+/// Names, with what decides of each, what of those bound or annotated does, what of those assigned does, and which is a
+/// settable property.
+const DECIDED: &[(&str, &str)] = &[
+    ("a", "assigned 2; none 0; assigned 2; "),
+    ("b", "annotated 4; annotated 4; assigned 3; "),
+    ("c", "annotated 10; annotated 10; assigned 5; "),
+    ("x", "bound 12; bound 12; none 0; "),
+    ("y", "bound 14; bound 14; none 0; "),
+    ("f", "bound 1; bound 1; none 0; "),
+    ("self", "none 0; none 0; none 0; "),
+    ("p", "bound 16; bound 16; none 0; settable"),
+    ("q", "bound 20; bound 20; none 0; "),
+    ("r", "bound 24; bound 24; none 0; settable"),
 ];
 
 #[test]
 fn what_decides_of_a_name(rt: HostRuntime) -> Result<(), Fail> {
-    let a = rt.alloc();
-    let (bound, given) = counts(a, BODY)?;
-    assert_eq!(rt; bound, 5);
-    assert_eq!(rt; given, 9);
-    for (name, by_all, by_declared, by_assigned) in DECIDED {
-        assert_eq!(rt; own(a, BODY, name)?.as_str(), *by_all, "{name}");
-        assert_eq!(rt; declared(a, BODY, name)?.as_str(), *by_declared, "{name}");
-        assert_eq!(rt; assigned(a, BODY, name)?.as_str(), *by_assigned, "{name}");
+    for (name, want) in DECIDED {
+        assert_eq!(rt; decided(rt.alloc(), BODY, name)?.as_str(), *want, "{name}");
     }
     Ok(())
 }
 
-/// Bodies, with whether `p` is a settable property in them.
-const PROPERTIES: &[(&str, bool)] = &[
-    (
-        "@property\ndef p(self): ...\n@p.setter\ndef p(self, v): ...\n",
-        true,
-    ),
-    (
-        "@property\ndef p(self): ...\n@q.setter\ndef p(self, v): ...\n",
-        true,
-    ),
-    (
-        "@property\ndef p(self): ...\nif p:\n    @p.setter\n    def p(self, v): ...\n",
-        true,
-    ),
-    ("@p.setter\ndef p(self, v): ...\n", true),
-    ("@property\ndef p(self): ...\n", false),
-    (
-        "@property\ndef p(self): ...\n@p.setter\ndef q(self, v): ...\n",
-        false,
-    ),
-    (
-        "@property\ndef p(self): ...\n@p.deleter\ndef p(self): ...\n",
-        false,
-    ),
-    (
-        "@property\ndef p(self): ...\n@p.setter\nclass p: ...\n",
-        false,
-    ),
-    (
-        "@property\ndef p(self):\n    @p.setter\n    def p(self, v): ...\n",
-        false,
-    ),
-];
-
-/// Whether `p` is a settable property in the class statement with this body.
-fn is_settable(alloc: Global, body: &str) -> Result<bool, Fail> {
-    let body = body_of(alloc, body)?;
-    Ok(body.is_settable(&Text::new(alloc, "p")?))
-}
-
-/// A property is settable where a setter is bound to its name, whatever stands before `.setter`.
 #[test]
-fn settable_properties(rt: HostRuntime) -> Result<(), Fail> {
-    for (body, want) in PROPERTIES {
-        assert_eq!(rt; is_settable(rt.alloc(), body)?, *want, "{body}");
-    }
+fn names_bound_and_attributes_given(rt: HostRuntime) -> Result<(), Fail> {
+    let found = counts(rt.alloc(), BODY)?;
+    assert!(rt; found == (10, 9));
     Ok(())
 }

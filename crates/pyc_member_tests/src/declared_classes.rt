@@ -30,21 +30,13 @@ fn shown(alloc: Global, classes: &[Rc<DeclaredClass>]) -> Result<String, Fail> {
     Ok(shown)
 }
 
-#[test]
-fn classes_in_text_order(rt: HostRuntime) -> Result<(), Fail> {
-    let source =
-        "class B(A):\n    x = 1\n    class C: ...\nclass A: ...\nif x:\n    @known\n    class D:\n        y: int\n\
-                  else:\n    for z in x:\n        class E: pass\n\
-                  def f():\n    class F: ...\nx = lambda: 1\n";
-    assert_eq!(rt;
-        classes_of(rt.alloc(), source)?.as_str(),
-        "B 1 2; A 4 0; D 7 1; E 11 0; "
-    );
-    Ok(())
-}
-
 /// Sources, with the classes that they declare.
 const DECLARED: &[(&str, &str)] = &[
+    (
+        "class B(A):\n    x = 1\n    class C: ...\nclass A: ...\nif x:\n    @known\n    class D:\n        y: int\n\
+         else:\n    for z in x:\n        class E: pass\ndef f():\n    class F: ...\nx = lambda: 1\n",
+        "B 1 2; A 4 0; D 7 1; E 11 0; ",
+    ),
     ("class A: x = 1\nclass A: ...\n", "A 1 1; "),
     ("A = 1\nclass A: ...\n", ""),
     ("import A.b\nclass A: ...\n", ""),
@@ -59,9 +51,9 @@ const DECLARED: &[(&str, &str)] = &[
     ("def f():\n    A = 1\nclass A: ...\n", "A 3 0; "),
 ];
 
-/// A class statement declares a class only where it is the first that binds its name.
+/// Classes are told in text order. A class statement declares a class only where it is the first that binds its name.
 #[test]
-fn classes_that_are_no_declarations(rt: HostRuntime) -> Result<(), Fail> {
+fn classes_that_are_declared(rt: HostRuntime) -> Result<(), Fail> {
     for (source, want) in DECLARED {
         assert_eq!(rt; classes_of(rt.alloc(), source)?.as_str(), *want, "{source}");
     }

@@ -9,9 +9,7 @@ mod class_body;
 #[cfg(test)]
 mod declared_classes;
 #[cfg(test)]
-mod inherited;
-#[cfg(test)]
-mod member_types;
+mod members;
 #[cfg(test)]
 mod methods;
 #[cfg(test)]

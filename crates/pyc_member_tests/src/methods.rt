@@ -26,8 +26,9 @@ fn shown(alloc: Global, methods: &[Method<'_>]) -> Result<String, Fail> {
     Ok(shown)
 }
 
-/// Functions with decorators, with the methods that they are.
-const KINDS: &[(&str, &str)] = &[
+/// Bodies, with their methods: functions with decorators, functions with parameters of each kind, and functions in
+/// blocks and in definitions.
+const METHODS: &[(&str, &str)] = &[
     ("def f(self): ...\n", "f 1 Plain self; "),
     ("@property\ndef f(self): ...\n", "f 2 Property self; "),
     ("@x.setter\ndef f(self, v): ...\n", "f 2 Property self; "),
@@ -61,19 +62,6 @@ const KINDS: &[(&str, &str)] = &[
         "@abstractmethod\n@classmethod\ndef f(me): ...\n",
         "f 3 Class -; ",
     ),
-];
-
-/// Of several decorators property decides before static, and static before class.
-#[test]
-fn kinds_by_the_spelling_of_decorators(rt: HostRuntime) -> Result<(), Fail> {
-    for (body, want) in KINDS {
-        assert_eq!(rt; methods_of(rt.alloc(), body)?.as_str(), *want, "{body}");
-    }
-    Ok(())
-}
-
-/// Functions with parameters of each kind, with the methods that they are.
-const FIRST_PARAMETERS: &[(&str, &str)] = &[
     ("def f(this, that): ...\n", "f 1 Plain this; "),
     ("def f(this: int = 1): ...\n", "f 1 Plain this; "),
     ("async def f(this): ...\n", "f 1 Plain this; "),
@@ -81,25 +69,19 @@ const FIRST_PARAMETERS: &[(&str, &str)] = &[
     ("def f(*this): ...\n", "f 1 Plain -; "),
     ("def f(*, this): ...\n", "f 1 Plain -; "),
     ("def f(**this): ...\n", "f 1 Plain -; "),
+    (
+        "if x:\n    def f(a):\n        def g(b): ...\nelse:\n    for y in x:\n        def f(c): ...\n\
+         class C:\n    def h(d): ...\nk = lambda e: e\ntry:\n    pass\nfinally:\n    def l(f): ...\n",
+        "f 2 Plain a; f 6 Plain c; l 13 Plain f; ",
+    ),
 ];
 
-/// The first parameter is the instance only where an argument at its place fills it.
+/// Of several decorators property decides before static, and static before class. The first parameter is the instance
+/// only where an argument at its place fills it. Methods stand in blocks and in no definition.
 #[test]
-fn first_parameters_are_instances(rt: HostRuntime) -> Result<(), Fail> {
-    for (body, want) in FIRST_PARAMETERS {
+fn methods_of_bodies(rt: HostRuntime) -> Result<(), Fail> {
+    for (body, want) in METHODS {
         assert_eq!(rt; methods_of(rt.alloc(), body)?.as_str(), *want, "{body}");
     }
-    Ok(())
-}
-
-#[test]
-fn methods_stand_in_blocks_and_in_no_definition(rt: HostRuntime) -> Result<(), Fail> {
-    let body =
-        "if x:\n    def f(a):\n        def g(b): ...\nelse:\n    for y in x:\n        def f(c): ...\n\
-                class C:\n    def h(d): ...\nk = lambda e: e\ntry:\n    pass\nfinally:\n    def l(f): ...\n";
-    assert_eq!(rt;
-        methods_of(rt.alloc(), body)?.as_str(),
-        "f 2 Plain a; f 6 Plain c; l 13 Plain f; "
-    );
     Ok(())
 }

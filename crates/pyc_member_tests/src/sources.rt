@@ -1,8 +1,8 @@
-//! Trees, worlds, classes and members for the tests.
+//! Trees, worlds and classes for the tests, and what worlds answer of classes.
 
 use pyc_ast::{Module, Outcome, Text};
-use pyc_class::ClassId;
-use pyc_iface::{Answer, Key, MemberAnswer, MemberName, World};
+use pyc_class::{ClassId, UnknownOrder};
+use pyc_iface::{Answer, Key, MemberAnswer, World};
 use pyc_lower::read;
 use pyc_names::{ModuleName, SourceFile};
 use pyc_types::show;
@@ -36,19 +36,50 @@ pub(crate) fn class_of(alloc: Global, home: &str, name: &str) -> Result<ClassId,
     ClassId::user(alloc, parts, Text::new(alloc, name)?)
 }
 
-/// What a class has under a name: its kind, the class that declares it and its type, or `absent`.
-pub(crate) fn member_of(
-    world: &World,
-    alloc: Global,
-    class: ClassId,
-    name: &str,
-) -> Result<String, Fail> {
-    let name = Text::new(alloc, name)?;
-    match world.ask(alloc, &Key::Member(MemberName { class, name }))? {
-        Answer::Member(Some(found)) => member_shown(alloc, &found),
+/// What the world of these files answers to a key.
+fn answer(alloc: Global, sources: &[(&str, &str)], key: &Key) -> Result<Answer, AllocError> {
+    let world = world_of(alloc, sources)?;
+    world.ask(alloc, key)
+}
+
+/// What the world of these files tells of a class or of what it has under a name.
+pub(crate) fn answered(alloc: Global, sources: &[(&str, &str)], key: &Key) -> Result<String, Fail> {
+    let answer = answer(alloc, sources, key)?;
+    told(alloc, &answer)
+}
+
+/// What an answer tells: the order of a class, a member, or `absent` for none.
+fn told(alloc: Global, answer: &Answer) -> Result<String, Fail> {
+    match answer {
+        Answer::Order(order) => {
+            order_shown(alloc, &order.classes, order.unknown, order.has_call)
+        }
+        Answer::Member(Some(found)) => member_shown(alloc, found),
         Answer::Member(None) => Ok(String::from_str(alloc, "absent")?),
-        _ => Err("no member".into()),
+        _ => Err("no answer of a class".into()),
     }
+}
+
+/// The names of the classes of an order, why it is not known, and whether instances can be called.
+pub(crate) fn order_shown(
+    alloc: Global,
+    classes: &[ClassId],
+    unknown: Option<UnknownOrder>,
+    has_call: bool,
+) -> Result<String, Fail> {
+    let mut shown = String::new(alloc);
+    for class in classes {
+        shown.push_str(class.name())?;
+        shown.push_str(" ")?;
+    }
+    shown.push_str(match unknown {
+        Some(UnknownOrder::Base) => "base",
+        Some(UnknownOrder::Cycle) => "cycle",
+        Some(UnknownOrder::Merge) => "merge",
+        None => "known",
+    })?;
+    shown.push_str(if has_call { " called" } else { "" })?;
+    Ok(shown)
 }
 
 /// A member: its kind, the class that declares it, and its type.

@@ -1,7 +1,7 @@
 //! Annotations, with what they are written as.
 
 use crate::sources::module_of;
-use pyc_ast::{AnnotatedAssignment, StmtForm, Text};
+use pyc_ast::{AnnotatedAssignment, Expr, StmtForm, Text};
 use pyc_type_exprs::{ArgumentShape, TypeArgument, TypeExpr, dotted_names, innermost, type_expr};
 use std::alloc::Global;
 use std::fmt::Write;
@@ -70,16 +70,14 @@ fn write_argument(argument: &TypeArgument, shown: &mut String) -> Result<(), Fai
     Ok(())
 }
 
-/// What an annotation is written as: a union with the heads of both sides, a name with its arguments, and `2` before
-/// them where it is subscripted more than once, or its head alone.
-fn written(alloc: Global, annotation: &str) -> Result<String, Fail> {
-    let found = annotated(alloc, annotation)?;
-    let mut shown = String::new(alloc);
-    match &type_expr(alloc, &found.annotation)? {
+/// Writes an annotation: a union with the heads of both sides, a name with its arguments, with `2` before them where it
+/// is subscripted more than once, or its head alone.
+fn write_form(written: &TypeExpr, shown: &mut String) -> Result<(), Fail> {
+    match written {
         TypeExpr::Union { left, right } => {
-            write_head(left, &mut shown)?;
+            write_head(left, shown)?;
             shown.push_str(" | ")?;
-            write_head(right, &mut shown)?;
+            write_head(right, shown)?;
         }
         TypeExpr::Subscript {
             name,
@@ -87,20 +85,40 @@ fn written(alloc: Global, annotation: &str) -> Result<String, Fail> {
             arguments,
             ..
         } => {
-            write_names(&name.names, &mut shown)?;
+            write_names(&name.names, shown)?;
             shown.push_str(if *is_nested { "2[" } else { "[" })?;
             for argument in arguments {
-                write_argument(argument, &mut shown)?;
+                write_argument(argument, shown)?;
             }
             shown.push_str("]")?;
         }
-        other => write_head(other, &mut shown)?,
+        other => write_head(other, shown)?,
     }
+    Ok(())
+}
+
+/// The text of an annotation.
+fn shown(alloc: Global, written: &TypeExpr) -> Result<String, Fail> {
+    let mut shown = String::new(alloc);
+    write_form(written, &mut shown)?;
     Ok(shown)
 }
 
-/// Annotations that are names and unions, with what they are written as.
-const NAMES_AND_UNIONS: &[(&str, &str)] = &[
+/// What an annotation is.
+fn form_of(alloc: Global, annotation: &str) -> Result<TypeExpr, Fail> {
+    let found = annotated(alloc, annotation)?;
+    Ok(type_expr(alloc, &found.annotation)?)
+}
+
+/// What an annotation is written as.
+fn written(alloc: Global, annotation: &str) -> Result<String, Fail> {
+    let form = form_of(alloc, annotation)?;
+    shown(alloc, &form)
+}
+
+/// Annotations, with what they are written as: names and unions, expressions that mean no type, names with arguments,
+/// and strings.
+const WRITTEN: &[(&str, &str)] = &[
     ("int", "int"),
     ("((a))", "a"),
     ("a.b.c", "a.b.c"),
@@ -110,66 +128,9 @@ const NAMES_AND_UNIONS: &[(&str, &str)] = &[
     ("a.b | (c | d)", "a.b | |"),
     ("a | b[c] | d", "| | d"),
     ("list[a] | 1", "list[] | ?14"),
-];
-
-#[test]
-fn names_and_unions(rt: HostRuntime) -> Result<(), Fail> {
-    for (annotation, want) in NAMES_AND_UNIONS {
-        assert_eq!(rt;
-            written(rt.alloc(), annotation)?.as_str(),
-            *want,
-            "{annotation}"
-        );
-    }
-    Ok(())
-}
-
-/// Annotations that mean no type, whatever their names mean.
-const WRONG: &[&str] = &[
-    "1",
-    "...",
-    "True",
-    "1.5",
-    "a()",
-    "a().b",
-    "a() | b if c else d",
-    "a + b",
-    "-a",
-    "not a",
-    "a or b",
-    "a < b",
-    "(a, b)",
-    "[a]",
-    "{a}",
-    "{a: b}",
-    "()",
-    "lambda: a",
-    "await a",
-    "(a)()[b]",
-    "[a][b]",
-    "b''",
-    "f'a'",
-    "r'a'",
-    "'a' 'b'",
-    "'a b'",
-    "'\\x61'",
-    "''",
-];
-
-#[test]
-fn other_expressions_are_wrong(rt: HostRuntime) -> Result<(), Fail> {
-    for annotation in WRONG {
-        assert_eq!(rt;
-            written(rt.alloc(), annotation)?.as_str(),
-            "?4",
-            "{annotation}"
-        );
-    }
-    Ok(())
-}
-
-/// Annotations with arguments, with what they are written as.
-const SUBSCRIPTS: &[(&str, &str)] = &[
+    ("1", "?4"),
+    ("(a)()[b]", "?4"),
+    ("'\\x61'", "?4"),
     ("list[int]", "list[int;]"),
     ("(a.b)[c | d]", "a.b[|;]"),
     ("dict[str, a.b]", "dict[str;a.b;]"),
@@ -190,23 +151,6 @@ const SUBSCRIPTS: &[(&str, &str)] = &[
     ("Callable[([a]), (...)]", "Callable[list a;...;]"),
     ("a[b][c, d]", "a2[c;d;]"),
     ("(a.b[c])[d]", "a.b2[d;]"),
-];
-
-/// The items of a tuple are the arguments, also in parentheses.
-#[test]
-fn arguments_in_brackets(rt: HostRuntime) -> Result<(), Fail> {
-    for (annotation, want) in SUBSCRIPTS {
-        assert_eq!(rt;
-            written(rt.alloc(), annotation)?.as_str(),
-            *want,
-            "{annotation}"
-        );
-    }
-    Ok(())
-}
-
-/// Annotations with strings, with what they are written as.
-const STRINGS: &[(&str, &str)] = &[
     ("'a'", "a"),
     ("\" a.b \"", "a.b"),
     ("'''a | None'''", "a | None"),
@@ -220,11 +164,11 @@ const STRINGS: &[(&str, &str)] = &[
     ("dict['a, b']", "dict[?9;]"),
 ];
 
-/// A string without prefix and backslash is read as the expression that its text spells, each part of which stands at
-/// the string.
+/// The items of a tuple are the arguments, also in parentheses. A string without prefix and backslash is read as the
+/// expression that its text spells, each part of which stands at the string.
 #[test]
-fn strings_are_read(rt: HostRuntime) -> Result<(), Fail> {
-    for (annotation, want) in STRINGS {
+fn annotations_as_they_are_written(rt: HostRuntime) -> Result<(), Fail> {
+    for (annotation, want) in WRITTEN {
         assert_eq!(rt;
             written(rt.alloc(), annotation)?.as_str(),
             *want,
@@ -245,8 +189,8 @@ fn columns(form: &TypeExpr) -> (u32, u32) {
 
 /// The columns at which the name of an annotation begins.
 fn columns_of(alloc: Global, annotation: &str) -> Result<(u32, u32), Fail> {
-    let found = annotated(alloc, annotation)?;
-    Ok(columns(&type_expr(alloc, &found.annotation)?))
+    let form = form_of(alloc, annotation)?;
+    Ok(columns(&form))
 }
 
 /// Annotations, with the columns of their names.
@@ -268,49 +212,52 @@ fn names_have_their_places(rt: HostRuntime) -> Result<(), Fail> {
     Ok(())
 }
 
-/// The dotted names of an annotation.
-fn own_names(alloc: Global, annotation: &str) -> Result<String, Fail> {
-    let found = annotated(alloc, annotation)?;
-    names_shown(alloc, dotted_names(alloc, &found.annotation)?)
-}
-
-/// The dotted names of what is subscripted in an annotation.
-fn names_below(alloc: Global, annotation: &str) -> Result<String, Fail> {
-    let found = annotated(alloc, annotation)?;
-    names_shown(alloc, dotted_names(alloc, innermost(&found.annotation))?)
-}
-
-/// Annotations, each with its dotted names, and with those of what is subscripted in it.
-const DOTTED: &[(&str, &str, &str)] = &[
-    ("a", "a", "a"),
-    ("a.b.c", "a.b.c", "a.b.c"),
-    ("((a).b)", "a.b", "a.b"),
-    ("a.b[c]", "-", "a.b"),
-    ("(a[b])[c][d]", "-", "a"),
-    ("a[b].c", "-", "-"),
-    ("a()", "-", "-"),
-    ("a()[b]", "-", "-"),
-    ("None", "-", "-"),
-    ("'a'", "-", "-"),
-];
-
-#[test]
-fn dotted_names_and_what_is_subscripted(rt: HostRuntime) -> Result<(), Fail> {
-    for (annotation, names, under) in DOTTED {
-        let own = own_names(rt.alloc(), annotation)?;
-        assert_eq!(rt; own.as_str(), *names, "{annotation}");
-        let below = names_below(rt.alloc(), annotation)?;
-        assert_eq!(rt; below.as_str(), *under, "{annotation}");
+/// Writes the dotted names of an expression, or `-` where it has none.
+fn write_dotted(alloc: Global, expr: &Expr, shown: &mut String) -> Result<(), Fail> {
+    match dotted_names(alloc, expr)? {
+        Some(names) => write_names(&names, shown)?,
+        None => shown.push_str("-")?,
     }
     Ok(())
 }
 
-/// Names with dots between them, or `-` for none.
-fn names_shown(alloc: Global, names: Option<Vec<Text>>) -> Result<String, Fail> {
+/// The dotted names of an expression, and those of what is subscripted in it.
+fn both_dotted(alloc: Global, expr: &Expr) -> Result<String, Fail> {
     let mut shown = String::new(alloc);
-    match names {
-        Some(names) => write_names(&names, &mut shown)?,
-        None => shown.push_str("-")?,
-    }
+    write_dotted(alloc, expr, &mut shown)?;
+    shown.push_str(" ")?;
+    write_dotted(alloc, innermost(expr), &mut shown)?;
     Ok(shown)
+}
+
+/// The dotted names of an annotation, and those of what is subscripted in it.
+fn names_of(alloc: Global, annotation: &str) -> Result<String, Fail> {
+    let found = annotated(alloc, annotation)?;
+    both_dotted(alloc, &found.annotation)
+}
+
+/// Annotations, each with its dotted names and with those of what is subscripted in it.
+const DOTTED: &[(&str, &str)] = &[
+    ("a", "a a"),
+    ("a.b.c", "a.b.c a.b.c"),
+    ("((a).b)", "a.b a.b"),
+    ("a.b[c]", "- a.b"),
+    ("(a[b])[c][d]", "- a"),
+    ("a[b].c", "- -"),
+    ("a()", "- -"),
+    ("a()[b]", "- -"),
+    ("None", "- -"),
+    ("'a'", "- -"),
+];
+
+#[test]
+fn dotted_names_and_what_is_subscripted(rt: HostRuntime) -> Result<(), Fail> {
+    for (annotation, want) in DOTTED {
+        assert_eq!(rt;
+            names_of(rt.alloc(), annotation)?.as_str(),
+            *want,
+            "{annotation}"
+        );
+    }
+    Ok(())
 }
