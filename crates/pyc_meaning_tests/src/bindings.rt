@@ -66,25 +66,13 @@ fn bindings_of(alloc: Global, source: &str) -> Result<String, Fail> {
     }
 }
 
-/// Imports, with what they bind.
-const IMPORTS: &[(&str, &str)] = &[
+/// Imports, assignments, deletions, definitions and compound statements, with what they bind.
+const SCOPES: &[(&str, &str)] = &[
     ("import a.b, c\n", "a 1 a; c 1 c; "),
     ("import a.b as c\n", "c 1 a.b; "),
     ("from a.b import c as d, e\n", "d 1 0a.b:c; e 1 0a.b:e; "),
     ("from .. import m\n", "m 1 2:m; "),
     ("from .x import m\n", "m 1 1x:m; "),
-];
-
-#[test]
-fn imports_bind(rt: HostRuntime) -> Result<(), Fail> {
-    for (source, want) in IMPORTS {
-        assert_eq!(rt; bindings_of(rt.alloc(), source)?.as_str(), *want);
-    }
-    Ok(())
-}
-
-/// Assignments and deletions, with what they bind.
-const ASSIGNMENTS: &[(&str, &str)] = &[
     ("x = (y) = 1\n", "x 1 assigned; y 1 assigned; "),
     (
         "a, (b, *c) = d = 1\n",
@@ -94,18 +82,6 @@ const ASSIGNMENTS: &[(&str, &str)] = &[
     ("x.y = 1\nx[0] = 2\nx.y: int = 3\n", ""),
     ("x += 1\ndel y, (z)\n", "x 1 other; y 2 other; z 2 other; "),
     ("x\npass\nglobal g\n", ""),
-];
-
-#[test]
-fn assignments_bind(rt: HostRuntime) -> Result<(), Fail> {
-    for (source, want) in ASSIGNMENTS {
-        assert_eq!(rt; bindings_of(rt.alloc(), source)?.as_str(), *want);
-    }
-    Ok(())
-}
-
-/// Definitions and compound statements, with what they bind.
-const BLOCKS: &[(&str, &str)] = &[
     (
         "@x\ndef f(a):\n    b = 1\nclass C(D):\n    e = 1\n",
         "f 2 function; C 4 class; ",
@@ -129,8 +105,8 @@ const BLOCKS: &[(&str, &str)] = &[
 ];
 
 #[test]
-fn definitions_and_blocks_bind(rt: HostRuntime) -> Result<(), Fail> {
-    for (source, want) in BLOCKS {
+fn scopes_bind(rt: HostRuntime) -> Result<(), Fail> {
+    for (source, want) in SCOPES {
         assert_eq!(rt; bindings_of(rt.alloc(), source)?.as_str(), *want);
     }
     Ok(())

@@ -92,8 +92,8 @@ fn lines_told(alloc: Global, source: &[u8]) -> Result<String, Fail> {
     lines_in(alloc, &world, &file)
 }
 
-/// Sources with annotated values, with what is found in them.
-const ANNOTATED: &[(&[u8], &str)] = &[
+/// Sources with annotated values, and sources that have no tree, with what is found in them.
+const SOURCES: &[(&[u8], &str)] = &[
     (
         b"x: int = \"a\"\n",
         "1:10 assignment: Incompatible types in assignment (expression has type \"str\", variable has type \"int\");",
@@ -131,18 +131,6 @@ const ANNOTATED: &[(&[u8], &str)] = &[
         "3:14 assignment: Incompatible types in assignment (expression has type \"int\", variable has type \"str\");\
          1:10 assignment: Incompatible types in assignment (expression has type \"str\", variable has type \"int\");",
     ),
-];
-
-#[test]
-fn reports_what_is_not_assignable(rt: HostRuntime) -> Result<(), Fail> {
-    for (source, want) in ANNOTATED {
-        assert_eq!(rt; found_in(rt.alloc(), source)?.as_str(), *want);
-    }
-    Ok(())
-}
-
-/// Sources that have no tree, with what is found in them.
-const FAULTY: &[(&[u8], &str)] = &[
     (b" x: int = 1\n", "1:1 syntax: Unexpected or missing block;"),
     (b"if: int = 1\n", "1:1 syntax: Invalid syntax;"),
     (
@@ -155,8 +143,8 @@ const FAULTY: &[(&[u8], &str)] = &[
 ];
 
 #[test]
-fn reports_the_first_fault(rt: HostRuntime) -> Result<(), Fail> {
-    for (source, want) in FAULTY {
+fn reports_what_is_found(rt: HostRuntime) -> Result<(), Fail> {
+    for (source, want) in SOURCES {
         assert_eq!(rt; found_in(rt.alloc(), source)?.as_str(), *want);
     }
     Ok(())

@@ -8,8 +8,6 @@ mod found;
 #[cfg(test)]
 mod literal_forms;
 #[cfg(test)]
-mod module_name;
-#[cfg(test)]
 mod names;
 #[cfg(test)]
 mod redefinitions;

@@ -35,7 +35,8 @@ fn shown(alloc: Global, forms: &[LiteralForm]) -> Result<String, Fail> {
     Ok(shown)
 }
 
-/// Sources with annotated literals.
+/// Sources with their annotated literals: in blocks and in no definitions, where they are no other statements, and
+/// where the file does not itself bind the name of the builtin class, wherever it binds it.
 const LITERALS: &[(&str, &str)] = &[
     ("x: int = 1\n", "1:10 Int Int;"),
     ("x: float = 1.5\n", "1:12 Float Float;"),
@@ -49,54 +50,10 @@ const LITERALS: &[(&str, &str)] = &[
     ("x: int = Rb'a'\n", "1:10 Int Bytes;"),
     ("x: \u{ff49}\u{ff4e}\u{ff54} = 1\n", "1:10 Int Int;"),
     ("x: int = \\\n  1\n", "2:3 Int Int;"),
-];
-
-#[test]
-fn finds_annotated_literals(rt: HostRuntime) -> Result<(), Fail> {
-    for (source, want) in LITERALS {
-        assert_eq!(rt; forms_of(rt.alloc(), source)?.as_str(), *want);
-    }
-    Ok(())
-}
-
-/// Sources without an annotated literal.
-const OTHERS: &[&str] = &[
-    "x = 1\n",
-    "x: int\n",
-    "(x): int = 1\n",
-    "x.y: int = 1\n",
-    "x: (int) = 1\n",
-    "x: object = 1\n",
-    "x: True = 1\n",
-    "x: 'int' = 1\n",
-    "x: int = (1)\n",
-    "x: int = -1\n",
-    "x: int = 1j\n",
-    "x: int = ...\n",
-    "x: int = y\n",
-];
-
-#[test]
-fn passes_other_statements_over(rt: HostRuntime) -> Result<(), Fail> {
-    for source in OTHERS {
-        assert_eq!(rt; forms_of(rt.alloc(), source)?.as_str(), "");
-    }
-    Ok(())
-}
-
-#[test]
-fn looks_into_blocks_and_no_definitions(rt: HostRuntime) -> Result<(), Fail> {
-    let source =
-        "if x:\n    y: int = 'a'\nelse:\n    z: str = 2\ndef f():\n    w: int = 3\nclass C:\n    v: int = 4\n";
-    assert_eq!(rt;
-        forms_of(rt.alloc(), source)?.as_str(),
-        "2:14 Int Str;4:14 Str Int;"
-    );
-    Ok(())
-}
-
-/// Sources that bind the names of builtin classes, with their annotated literals.
-const BOUND: &[(&str, &str)] = &[
+    (
+        "if x:\n    y: int = 'a'\nelse:\n    z: str = 2\ndef f():\n    w: int = 3\nclass C:\n    v: int = 4\n",
+        "2:14 Int Str;4:14 Str Int;",
+    ),
     (
         "class int: ...\nx: int = 'a'\ny: str = 1\n",
         "3:10 Str Int;",
@@ -104,12 +61,24 @@ const BOUND: &[(&str, &str)] = &[
     ("x: int = 'a'\nfrom m import int\n", ""),
     ("if x:\n    import float\ny: float = ''\n", ""),
     ("def f():\n    int = 1\nx: int = 'a'\n", "3:10 Int Str;"),
+    ("x = 1\n", ""),
+    ("x: int\n", ""),
+    ("(x): int = 1\n", ""),
+    ("x.y: int = 1\n", ""),
+    ("x: (int) = 1\n", ""),
+    ("x: object = 1\n", ""),
+    ("x: True = 1\n", ""),
+    ("x: 'int' = 1\n", ""),
+    ("x: int = (1)\n", ""),
+    ("x: int = -1\n", ""),
+    ("x: int = 1j\n", ""),
+    ("x: int = ...\n", ""),
+    ("x: int = y\n", ""),
 ];
 
-/// A name that the file binds is the file's own, wherever it is bound.
 #[test]
-fn passes_bound_names_over(rt: HostRuntime) -> Result<(), Fail> {
-    for (source, want) in BOUND {
+fn finds_annotated_literals(rt: HostRuntime) -> Result<(), Fail> {
+    for (source, want) in LITERALS {
         assert_eq!(rt; forms_of(rt.alloc(), source)?.as_str(), *want);
     }
     Ok(())

@@ -1,47 +1,60 @@
 //! Files, with what the names of their modules stand for.
 
-use crate::sources::{dotted, file_of, files_of, module_of, name_of, spelled};
+use crate::sources::{dotted, file_of, files_of, module_of, name_of};
 use pyc_ast::Outcome;
-use pyc_names::{Referent, Table, joined};
-use std::alloc::Global;
+use pyc_names::{ModuleName, QualifiedName, Referent, SourceFile, Table, joined};
+use std::alloc::{AllocError, Global};
 use std::test::Fail;
 
-/// What a name stands for, as a word, and the module or the name that it is.
-fn shown(alloc: Global, found: &Referent) -> Result<String, Fail> {
+/// A word for what a name stands for.
+fn word(found: &Referent) -> &str {
     match found {
-        Referent::Declared(q) => {
-            let home = spelled(alloc, &q.home)?;
-            let name = q.name.as_str();
-            Ok(format!(in alloc; "declared {home}:{name}")?)
-        }
-        Referent::Module(name) => {
-            let name = spelled(alloc, name)?;
-            Ok(format!(in alloc; "module {name}")?)
-        }
-        Referent::Opaque => Ok(String::from_str(alloc, "opaque")?),
-        Referent::FixedAny => Ok(String::from_str(alloc, "fixed Any")?),
-        Referent::NoModule => Ok(String::from_str(alloc, "no module")?),
-        Referent::NoName => Ok(String::from_str(alloc, "no name")?),
-        Referent::Cycle => Ok(String::from_str(alloc, "cycle")?),
+        Referent::Declared(_) => "declared",
+        Referent::Module(_) => "module",
+        Referent::Opaque => "opaque",
+        Referent::FixedAny => "fixed Any",
+        Referent::NoModule => "no module",
+        Referent::NoName => "no name",
+        Referent::Cycle => "cycle",
     }
 }
 
-/// What a name of a module stands for in these files.
-fn followed(
+/// The table of these files.
+fn table_of(alloc: Global, sources: &[(&str, &str)]) -> Result<Table, AllocError> {
+    Table::build(alloc, &files_of(alloc, sources)?)
+}
+
+/// Whether this is the word for what a name stands for in a table.
+fn is_word(
+    alloc: Global,
+    table: &Table,
+    name: &QualifiedName,
+    want: &str,
+) -> Result<bool, AllocError> {
+    Ok(word(&table.follow(alloc, name)?) == want)
+}
+
+/// Whether this is the word for what a name of a module stands for in these files.
+fn is_followed(
     alloc: Global,
     sources: &[(&str, &str)],
     home: &str,
     name: &str,
-) -> Result<String, Fail> {
-    let table = Table::build(alloc, &files_of(alloc, sources)?)?;
-    let found = table.follow(alloc, &name_of(alloc, home, name)?)?;
-    shown(alloc, &found)
+    want: &str,
+) -> Result<bool, AllocError> {
+    let name = name_of(alloc, home, name)?;
+    is_word(alloc, &table_of(alloc, sources)?, &name, want)
 }
 
 /// Whether a name of a module is on a ring in these files.
-fn on_ring(alloc: Global, sources: &[(&str, &str)], home: &str, name: &str) -> Result<bool, Fail> {
-    let table = Table::build(alloc, &files_of(alloc, sources)?)?;
-    Ok(table.is_on_ring(alloc, &name_of(alloc, home, name)?)?)
+fn on_ring(
+    alloc: Global,
+    sources: &[(&str, &str)],
+    home: &str,
+    name: &str,
+) -> Result<bool, AllocError> {
+    let name = name_of(alloc, home, name)?;
+    table_of(alloc, sources)?.is_on_ring(alloc, &name)
 }
 
 /// Three files in a ring, one that leads into it, and one that leads away from all.
@@ -53,27 +66,22 @@ const RING: &[(&str, &str)] = &[
     ("e.py", "from f import x\n"),
 ];
 
-/// Names of their modules: whether they are on a ring, and what they stand for.
-const RING_NAMES: &[(&str, &str, bool, &str)] = &[
-    ("a", "x", true, "cycle"),
-    ("b", "x", true, "cycle"),
-    ("c", "y", true, "cycle"),
-    ("d", "x", false, "cycle"),
-    ("e", "x", false, "no module"),
-    ("c", "x", false, "no name"),
+/// Names of their modules, with whether they are on a ring.
+const RING_NAMES: &[(&[(&str, &str)], &str, &str, bool)] = &[
+    (RING, "a", "x", true),
+    (RING, "b", "x", true),
+    (RING, "c", "y", true),
+    (RING, "d", "x", false),
+    (RING, "e", "x", false),
+    (RING, "c", "x", false),
+    (PACKAGES, "pkg", "m", false),
 ];
 
 #[test]
 fn rings_are_cycles(rt: HostRuntime) -> Result<(), Fail> {
-    let a = rt.alloc();
-    for (home, name, is_on_ring, found) in RING_NAMES {
-        let found_on_ring = on_ring(a, RING, home, name)?;
-        assert_eq!(rt; found_on_ring, *is_on_ring, "{home}:{name}");
-        assert_eq!(rt;
-            followed(a, RING, home, name)?.as_str(),
-            *found,
-            "{home}:{name}"
-        );
+    for (sources, home, name, want) in RING_NAMES {
+        let is_on_ring = on_ring(rt.alloc(), sources, home, name)?;
+        assert_eq!(rt; is_on_ring, *want, "{home}:{name}");
     }
     Ok(())
 }
@@ -90,31 +98,6 @@ const CHAINS: &[(&str, &str)] = &[
     ("above.py", "from ..z import k\n"),
 ];
 
-/// Names of their modules, with what they stand for.
-const CHAIN_NAMES: &[(&str, &str, &str)] = &[
-    ("a", "v", "declared a:v"),
-    ("a", "x", "declared c:x"),
-    ("a", "z", "no name"),
-    ("a", "w", "no module"),
-    ("a", "q", "opaque"),
-    ("broken", "q", "opaque"),
-    ("gone", "w", "no module"),
-    ("above", "k", "no module"),
-];
-
-#[test]
-fn chains_end(rt: HostRuntime) -> Result<(), Fail> {
-    let a = rt.alloc();
-    for (home, name, found) in CHAIN_NAMES {
-        assert_eq!(rt;
-            followed(a, CHAINS, home, name)?.as_str(),
-            *found,
-            "{home}:{name}"
-        );
-    }
-    Ok(())
-}
-
 /// Files that import modules: `import p.q` binds `p`, and with `as` it binds the module itself.
 const MODULES: &[(&str, &str)] = &[
     ("p/q.py", ""),
@@ -122,30 +105,6 @@ const MODULES: &[(&str, &str)] = &[
     ("last.py", "import p.q as r\n"),
     ("gone.py", "import gone.x as r\nimport lost\n"),
 ];
-
-/// Names of the files that import modules, with what they stand for.
-const MODULE_NAMES: &[(&str, &str, &str)] = &[
-    ("first", "p", "module p"),
-    ("first", "q", "no name"),
-    ("last", "r", "module p.q"),
-    ("last", "p", "no name"),
-    ("p", "q", "module p.q"),
-    ("gone", "r", "no module"),
-    ("gone", "lost", "no module"),
-];
-
-#[test]
-fn imports_of_modules(rt: HostRuntime) -> Result<(), Fail> {
-    let a = rt.alloc();
-    for (home, name, found) in MODULE_NAMES {
-        assert_eq!(rt;
-            followed(a, MODULES, home, name)?.as_str(),
-            *found,
-            "{home}:{name}"
-        );
-    }
-    Ok(())
-}
 
 /// Packages, of which `pkg` imports one of its submodules and binds the name of another.
 const PACKAGES: &[(&str, &str)] = &[
@@ -155,31 +114,6 @@ const PACKAGES: &[(&str, &str)] = &[
     ("space/o.py", "from . import o\n"),
     ("a.py", "from pkg import m, n\nfrom space import o\n"),
 ];
-
-/// Names of packages and of who imports them, with what they stand for.
-const PACKAGE_NAMES: &[(&str, &str, &str)] = &[
-    ("pkg", "m", "module pkg.m"),
-    ("pkg", "n", "declared pkg:n"),
-    ("space", "o", "module space.o"),
-    ("space.o", "o", "module space.o"),
-    ("a", "m", "module pkg.m"),
-    ("a", "n", "declared pkg:n"),
-    ("a", "o", "module space.o"),
-];
-
-#[test]
-fn submodules_of_packages(rt: HostRuntime) -> Result<(), Fail> {
-    let a = rt.alloc();
-    for (home, name, found) in PACKAGE_NAMES {
-        assert_eq!(rt;
-            followed(a, PACKAGES, home, name)?.as_str(),
-            *found,
-            "{home}:{name}"
-        );
-    }
-    assert!(rt; !on_ring(a, PACKAGES, "pkg", "m")?);
-    Ok(())
-}
 
 /// A file in the place of a fixed module, whose names are not seen.
 const FIXED: &[(&str, &str)] = &[
@@ -191,85 +125,162 @@ const FIXED: &[(&str, &str)] = &[
     ),
 ];
 
-/// Names of a fixed module and of who imports it, with what they stand for.
-const FIXED_NAMES: &[(&str, &str, &str)] = &[
-    ("typing", "own", "fixed Any"),
-    ("a", "own", "fixed Any"),
-    ("a", "Any", "declared typing:Any"),
-    ("a", "O", "declared typing:Optional"),
-    ("a", "OrderedDict", "fixed Any"),
-    ("a", "abc", "module collections.abc"),
+/// Names of the modules of these files, with words for what they stand for.
+const FOLLOWED: &[(&[(&str, &str)], &str, &str, &str)] = &[
+    (RING, "a", "x", "cycle"),
+    (RING, "b", "x", "cycle"),
+    (RING, "c", "y", "cycle"),
+    (RING, "d", "x", "cycle"),
+    (RING, "e", "x", "no module"),
+    (RING, "c", "x", "no name"),
+    (CHAINS, "a", "v", "declared"),
+    (CHAINS, "a", "x", "declared"),
+    (CHAINS, "a", "z", "no name"),
+    (CHAINS, "a", "w", "no module"),
+    (CHAINS, "a", "q", "opaque"),
+    (CHAINS, "broken", "q", "opaque"),
+    (CHAINS, "gone", "w", "no module"),
+    (CHAINS, "above", "k", "no module"),
+    (MODULES, "first", "p", "module"),
+    (MODULES, "first", "q", "no name"),
+    (MODULES, "last", "r", "module"),
+    (MODULES, "last", "p", "no name"),
+    (MODULES, "p", "q", "module"),
+    (MODULES, "gone", "r", "no module"),
+    (MODULES, "gone", "lost", "no module"),
+    (PACKAGES, "pkg", "m", "module"),
+    (PACKAGES, "pkg", "n", "declared"),
+    (PACKAGES, "space", "o", "module"),
+    (PACKAGES, "space.o", "o", "module"),
+    (PACKAGES, "a", "m", "module"),
+    (PACKAGES, "a", "n", "declared"),
+    (PACKAGES, "a", "o", "module"),
+    (FIXED, "typing", "own", "fixed Any"),
+    (FIXED, "a", "own", "fixed Any"),
+    (FIXED, "a", "Any", "declared"),
+    (FIXED, "a", "O", "declared"),
+    (FIXED, "a", "OrderedDict", "fixed Any"),
+    (FIXED, "a", "abc", "module"),
 ];
 
 #[test]
-fn fixed_modules_stand_first(rt: HostRuntime) -> Result<(), Fail> {
-    let a = rt.alloc();
-    for (home, name, found) in FIXED_NAMES {
-        assert_eq!(rt;
-            followed(a, FIXED, home, name)?.as_str(),
-            *found,
-            "{home}:{name}"
-        );
+fn names_are_followed(rt: HostRuntime) -> Result<(), Fail> {
+    for (sources, home, name, want) in FOLLOWED {
+        let is_followed = is_followed(rt.alloc(), sources, home, name, want)?;
+        assert!(rt; is_followed, "{home}:{name}");
     }
     Ok(())
 }
 
+/// A file in a folder, one of a package, and one beside them.
+const FILES: &[(&str, &str)] = &[("p/q/r.py", ""), ("pkg/__init__.py", ""), ("b.py", "")];
+
+/// Whether a module is there in a table, and the path of its file.
+fn there<'a>(alloc: Global, table: &'a Table, name: &str) -> Result<(bool, &'a str), AllocError> {
+    let parts = dotted(alloc, name)?;
+    let path = match table.file(&parts) {
+        Some(file) => file.path(),
+        None => "",
+    };
+    Ok((table.has_module(&parts), path))
+}
+
 /// Modules, whether they are there, and the paths of their files.
-const THERE: &[(&str, bool, &str)] = &[
-    ("", true, ""),
-    ("p", true, ""),
-    ("p.q.r", true, "p/q/r.py"),
-    ("p.q.r.s", false, ""),
-    ("pkg", true, "pkg/__init__.py"),
-    ("b", true, "b.py"),
-    ("typing", true, ""),
-    ("gone", false, ""),
+const THERE: &[(&str, (bool, &str))] = &[
+    ("", (true, "")),
+    ("p", (true, "")),
+    ("p.q.r", (true, "p/q/r.py")),
+    ("p.q.r.s", (false, "")),
+    ("pkg", (true, "pkg/__init__.py")),
+    ("b", (true, "b.py")),
+    ("typing", (true, "")),
+    ("gone", (false, "")),
 ];
 
 #[test]
 fn modules_and_their_files(rt: HostRuntime) -> Result<(), Fail> {
-    let a = rt.alloc();
-    let files = files_of(
-        a,
-        &[("p/q/r.py", ""), ("pkg/__init__.py", ""), ("b.py", "")],
-    )?;
-    let table = Table::build(a, &files)?;
+    let table = table_of(rt.alloc(), FILES)?;
+    for (name, want) in THERE {
+        assert!(rt; there(rt.alloc(), &table, name)? == *want, "{name}");
+    }
     assert_eq!(rt; table.files().len(), 3);
-    for (name, is_there, path) in THERE {
-        let parts = dotted(a, name)?;
-        let found = table.file(&parts).map_or("", |file| file.path());
-        assert_eq!(rt; table.has_module(&parts), *is_there, "{name}");
-        assert_eq!(rt; found, *path, "{name}");
+    Ok(())
+}
+
+/// Whether a file is that of a package, whether it has a tree, and how many bindings it has.
+fn marks(file: &SourceFile) -> (bool, bool, usize) {
+    let has_tree = matches!(file.outcome(), Outcome::Tree(_));
+    (file.is_package(), has_tree, file.bindings().len())
+}
+
+/// Whether a file of this path and source tells its path, this name of its module, and these marks.
+fn is_told(
+    alloc: Global,
+    path: &str,
+    source: &str,
+    name: &str,
+    want: (bool, bool, usize),
+) -> Result<bool, AllocError> {
+    let file = file_of(alloc, path, source.as_bytes())?;
+    let is_named = *file.name() == module_of(alloc, name)?;
+    Ok(is_named && file.path() == path && marks(&file) == want)
+}
+
+/// Files, each of its path and source: the name of its module, and its marks.
+const TOLD: &[(&str, &str, &str, (bool, bool, usize))] = &[
+    (
+        "p/q/__init__.py",
+        "x: int = 1\nimport m\n",
+        "p.q",
+        (true, true, 2),
+    ),
+    ("p/q.py", "x: int = 1\ndef (\n", "p.q", (false, false, 0)),
+    ("p/my__init__.py", "", "p.my__init__", (false, true, 0)),
+];
+
+#[test]
+fn files_tell_what_they_are(rt: HostRuntime) -> Result<(), Fail> {
+    for (path, source, name, want) in TOLD {
+        let is_told = is_told(rt.alloc(), path, source, name, *want)?;
+        assert!(rt; is_told, "{path}");
     }
     Ok(())
 }
 
-#[test]
-fn files_tell_what_they_are(rt: HostRuntime) -> Result<(), Fail> {
-    let a = rt.alloc();
-    let package = file_of(a, "p/q/__init__.py", b"x: int = 1\nimport m\n")?;
-    assert_eq!(rt; package.path(), "p/q/__init__.py");
-    assert_eq!(rt; spelled(a, package.name())?.as_str(), "p.q");
-    assert!(rt; package.is_package());
-    assert!(rt; matches!(package.outcome(), Outcome::Tree(_)));
-    assert_eq!(rt; package.bindings().len(), 2);
-    let broken = file_of(a, "p/q.py", b"x: int = 1\ndef (\n")?;
-    assert!(rt; !broken.is_package());
-    assert!(rt; matches!(broken.outcome(), Outcome::Fault(_)));
-    assert_eq!(rt; broken.bindings().len(), 0);
-    assert!(rt; !file_of(a, "p/my__init__.py", b"")?.is_package());
-    Ok(())
+/// Whether two names of modules are the same, and so a copy of the first.
+fn same(first: &QualifiedName, second: &QualifiedName) -> Result<(bool, bool), AllocError> {
+    let copy = first.clone()?;
+    Ok((first.is_same(second), copy.is_same(second)))
 }
+
+/// Whether the name `x` of `p.q` is this one, and so its copy.
+fn is_x(alloc: Global, home: &str, name: &str) -> Result<(bool, bool), AllocError> {
+    let first = name_of(alloc, "p.q", "x")?;
+    same(&first, &name_of(alloc, home, name)?)
+}
+
+/// Names of modules, with whether they are the name `x` of `p.q`.
+const SAME: &[(&str, &str, bool)] = &[("p.q", "x", true), ("p.q", "y", false), ("p", "x", false)];
 
 #[test]
 fn names_are_told_apart(rt: HostRuntime) -> Result<(), Fail> {
-    let a = rt.alloc();
-    let name = name_of(a, "p.q", "x")?;
-    assert!(rt; name.is_same(&name.clone()?));
-    assert!(rt; name.is_same(&name_of(a, "p.q", "x")?));
-    assert!(rt; !name.is_same(&name_of(a, "p.q", "y")?));
-    assert!(rt; !name.is_same(&name_of(a, "p", "x")?));
+    for (home, name, want) in SAME {
+        let found = is_x(rt.alloc(), home, name)?;
+        assert!(rt; found == (*want, *want), "{home}:{name}");
+    }
     Ok(())
+}
+
+/// The module whose parts are those of both dotted names.
+fn joined_name(alloc: Global, base: &str, path: &str) -> Result<ModuleName, AllocError> {
+    let base = dotted(alloc, base)?;
+    joined(alloc, &base, &dotted(alloc, path)?)
+}
+
+/// Whether the parts of two dotted names make a third.
+fn is_joined(alloc: Global, base: &str, path: &str, whole: &str) -> Result<bool, AllocError> {
+    let name = joined_name(alloc, base, path)?;
+    Ok(name == module_of(alloc, whole)?)
 }
 
 /// Dotted names, with the one that both make.
@@ -282,10 +293,9 @@ const JOINED: &[(&str, &str, &str)] = &[
 
 #[test]
 fn names_are_joined(rt: HostRuntime) -> Result<(), Fail> {
-    let a = rt.alloc();
     for (base, path, whole) in JOINED {
-        let name = joined(a, &dotted(a, base)?, &dotted(a, path)?)?;
-        assert!(rt; name == module_of(a, whole)?, "{base} and {path}");
+        let is_joined = is_joined(rt.alloc(), base, path, whole)?;
+        assert!(rt; is_joined, "{base} and {path}");
     }
     Ok(())
 }

@@ -3,8 +3,8 @@
 use crate::sources::file_of;
 use pyc_ast::{Expr, Module, Outcome, Stmt, StmtForm, Text};
 use pyc_bindings::{
-    Decorator, Redefinition, declaration, decorator_of, has_other, has_setter, is_decorated,
-    redefinitions,
+    Binding, Decorator, Redefinition, declaration, decorator_of, has_other, has_setter,
+    is_decorated, redefinitions,
 };
 use pyc_lower::read;
 use std::alloc::{AllocError, Global};
@@ -32,12 +32,6 @@ fn decorators(statements: &[Stmt]) -> &[Expr] {
     }
 }
 
-/// How many decorators a function has.
-fn count_of(alloc: Global, source: &str) -> Result<usize, Fail> {
-    let module = module_of(alloc, source)?;
-    Ok(decorators(&module.statements).len())
-}
-
 /// What the first decorator of a function is.
 fn first_of(alloc: Global, source: &str) -> Result<Option<Decorator>, Fail> {
     let module = module_of(alloc, source)?;
@@ -55,58 +49,91 @@ fn marks_of(alloc: Global, source: &str) -> Result<(bool, bool), Fail> {
     Ok((has_other(found), has_setter(found)))
 }
 
-/// A function with a decorator.
-fn decorated(alloc: Global, spelled: &str) -> Result<String, AllocError> {
-    format!(in alloc; "@{spelled}\ndef f(): ...\n")
-}
-
-/// Decorators, with what they are.
-const DECORATORS: &[(&str, Decorator)] = &[
-    ("property", Decorator::Property),
-    ("x.setter", Decorator::Setter),
-    ("staticmethod", Decorator::StaticMethod),
-    ("classmethod", Decorator::ClassMethod),
-    ("abstractmethod", Decorator::AbstractMethod),
-    ("abc.abstractmethod", Decorator::AbstractMethod),
-    ("x.abstractmethod", Decorator::Other),
-    ("x.y.setter", Decorator::Other),
-    ("setter", Decorator::Other),
-    ("overload", Decorator::Other),
-    ("property()", Decorator::Other),
+/// Functions: what the first of their decorators is; whether one is an unknown one, and whether one makes a setter.
+const DECORATED: &[(&str, Option<Decorator>, (bool, bool))] = &[
+    (
+        "@property\ndef f(): ...\n",
+        Some(Decorator::Property),
+        (false, false),
+    ),
+    (
+        "@x.setter\ndef f(): ...\n",
+        Some(Decorator::Setter),
+        (false, true),
+    ),
+    (
+        "@staticmethod\ndef f(): ...\n",
+        Some(Decorator::StaticMethod),
+        (false, false),
+    ),
+    (
+        "@classmethod\ndef f(): ...\n",
+        Some(Decorator::ClassMethod),
+        (false, false),
+    ),
+    (
+        "@abstractmethod\ndef f(): ...\n",
+        Some(Decorator::AbstractMethod),
+        (false, false),
+    ),
+    (
+        "@abc.abstractmethod\ndef f(): ...\n",
+        Some(Decorator::AbstractMethod),
+        (false, false),
+    ),
+    (
+        "@x.abstractmethod\ndef f(): ...\n",
+        Some(Decorator::Other),
+        (true, false),
+    ),
+    (
+        "@x.y.setter\ndef f(): ...\n",
+        Some(Decorator::Other),
+        (true, false),
+    ),
+    (
+        "@setter\ndef f(): ...\n",
+        Some(Decorator::Other),
+        (true, false),
+    ),
+    (
+        "@overload\ndef f(): ...\n",
+        Some(Decorator::Other),
+        (true, false),
+    ),
+    (
+        "@property()\ndef f(): ...\n",
+        Some(Decorator::Other),
+        (true, false),
+    ),
+    ("def f(): ...\n", None, (false, false)),
+    (
+        "@property\n@abstractmethod\ndef f(): ...\n",
+        Some(Decorator::Property),
+        (false, false),
+    ),
+    (
+        "@x.setter\n@abstractmethod\ndef f(): ...\n",
+        Some(Decorator::Setter),
+        (false, true),
+    ),
+    (
+        "@property\n@known\ndef f(): ...\n",
+        Some(Decorator::Property),
+        (true, false),
+    ),
+    (
+        "@known\n@x.setter\ndef f(): ...\n",
+        Some(Decorator::Other),
+        (true, true),
+    ),
 ];
 
-/// A decorator by itself, with what it is, whether it is an unknown one, and whether it makes a setter.
 #[test]
 fn decorators_by_their_spelling(rt: HostRuntime) -> Result<(), Fail> {
-    for (spelled, want) in DECORATORS {
-        let source = decorated(rt.alloc(), spelled)?;
-        assert_eq!(rt; count_of(rt.alloc(), source.as_str())?, 1, "{spelled}");
-        assert!(rt;
-            first_of(rt.alloc(), source.as_str())? == Some(*want),
-            "{spelled}"
-        );
-        let (other, setter) = marks_of(rt.alloc(), source.as_str())?;
-        assert_eq!(rt; other, *want == Decorator::Other, "{spelled}");
-        assert_eq!(rt; setter, *want == Decorator::Setter, "{spelled}");
-    }
-    Ok(())
-}
-
-/// Functions: whether one of their decorators is an unknown one, and whether one makes a setter.
-const DECORATED: &[(&str, bool, bool)] = &[
-    ("def f(): ...\n", false, false),
-    ("@property\n@abstractmethod\ndef f(): ...\n", false, false),
-    ("@x.setter\n@abstractmethod\ndef f(): ...\n", false, true),
-    ("@property\n@known\ndef f(): ...\n", true, false),
-    ("@known\n@x.setter\ndef f(): ...\n", true, true),
-];
-
-#[test]
-fn one_decorator_of_several(rt: HostRuntime) -> Result<(), Fail> {
-    for (source, other, setter) in DECORATED {
-        let (is_other, is_setter) = marks_of(rt.alloc(), source)?;
-        assert_eq!(rt; is_other, *other, "{source}");
-        assert_eq!(rt; is_setter, *setter, "{source}");
+    for (source, first, marks) in DECORATED {
+        assert!(rt; first_of(rt.alloc(), source)? == *first, "{source}");
+        assert!(rt; marks_of(rt.alloc(), source)? == *marks, "{source}");
     }
     Ok(())
 }
@@ -115,40 +142,36 @@ fn one_decorator_of_several(rt: HostRuntime) -> Result<(), Fail> {
 const DECLARING: &[u8] =
     b"if y:\n    x = 1\nx: int = 2\n@known\ndef f(): ...\nfrom m import f as g\n";
 
+/// The line of a name's declaration among these bindings, and whether it stands under an unknown decorator.
+fn declared_in(bindings: &[Binding], name: &Text) -> (u32, bool) {
+    match declaration(bindings, name) {
+        Some(found) => (found.place.at.line, is_decorated(&found.form)),
+        None => (0, false),
+    }
+}
+
 /// The line of a name's declaration in that source, and whether it stands under an unknown decorator.
-fn declared(alloc: Global, name: &str) -> Result<(u32, bool), Fail> {
+fn declared(alloc: Global, name: &str) -> Result<(u32, bool), AllocError> {
     let file = file_of(alloc, "a.py", DECLARING)?;
-    let found = declaration(file.bindings(), &Text::new(alloc, name)?);
-    let at = found.map_or(0, |b| b.place.at.line);
-    let under = found.map_or(false, |b| is_decorated(&b.form));
-    Ok((at, under))
+    Ok(declared_in(file.bindings(), &Text::new(alloc, name)?))
 }
 
 /// Names, each with the line of its declaration, 0 where there is none, and whether it stands under an unknown
 /// decorator.
-const DECLARED: &[(&str, u32, bool)] = &[
-    ("x", 2, false),
-    ("f", 5, true),
-    ("g", 6, false),
-    ("y", 0, false),
-    ("m", 0, false),
+const DECLARED: &[(&str, (u32, bool))] = &[
+    ("x", (2, false)),
+    ("f", (5, true)),
+    ("g", (6, false)),
+    ("y", (0, false)),
+    ("m", (0, false)),
 ];
 
-/// The line of a name's declaration, and whether it stands under an unknown decorator.
 #[test]
 fn first_bindings_declare(rt: HostRuntime) -> Result<(), Fail> {
-    for (name, line, is_under) in DECLARED {
-        let (at, under) = declared(rt.alloc(), name)?;
-        assert_eq!(rt; at, *line, "{name}");
-        assert_eq!(rt; under, *is_under, "{name}");
+    for (name, want) in DECLARED {
+        assert!(rt; declared(rt.alloc(), name)? == *want, "{name}");
     }
     Ok(())
-}
-
-/// The names that a source defines again: each with its line, and the line of its declaration.
-fn defined_again(alloc: Global, source: &str) -> Result<String, Fail> {
-    let file = file_of(alloc, "a.py", source.as_bytes())?;
-    shown(alloc, &redefinitions(alloc, file.bindings())?)
 }
 
 /// These names, one after another.
@@ -162,6 +185,17 @@ fn shown(alloc: Global, names: &[Redefinition]) -> Result<String, Fail> {
     Ok(shown)
 }
 
+/// The names that these bindings define again: each with its line, and the line of its declaration.
+fn again_in(alloc: Global, bindings: &[Binding]) -> Result<String, Fail> {
+    shown(alloc, &redefinitions(alloc, bindings)?)
+}
+
+/// The names that a source defines again.
+fn defined_again(alloc: Global, source: &str) -> Result<String, Fail> {
+    let file = file_of(alloc, "a.py", source.as_bytes())?;
+    again_in(alloc, file.bindings())
+}
+
 /// Sources, with the names that they define again.
 const DEFINED_AGAIN: &[(&str, &str)] = &[
     ("x: int = 1\nx: int = 2\n", "2 x 1; "),
@@ -170,6 +204,26 @@ const DEFINED_AGAIN: &[(&str, &str)] = &[
     ("import f\nclass f: ...\n", "2 f 1; "),
     ("for i in x:\n    i: int = 1\n", "2 i 1; "),
     ("if y:\n    x = 1\nx: int = 2\n", "3 x 2; "),
+    (
+        "x: int = 1\nx = 2\nx += 1\nimport x\nfrom m import x\ndel x\n",
+        "",
+    ),
+    (
+        "x: int = 1\nif y:\n    x: int = 2\nelse:\n    def x(): ...\n",
+        "",
+    ),
+    (
+        "x: int = 1\ntry:\n    class x: ...\nfinally:\n    x: str = 2\n",
+        "",
+    ),
+    ("@overload\ndef f(): ...\ndef f(): ...\n", ""),
+    ("def f(): ...\n@known\ndef f(): ...\n", ""),
+    ("@known\nclass C: ...\nclass C: ...\n", ""),
+    ("@property\ndef f(): ...\n@f.setter\ndef f(x): ...\n", ""),
+    (
+        "x: int\ndef f():\n    x: int = 1\nclass C:\n    x: int = 1\n",
+        "",
+    ),
 ];
 
 #[test]
@@ -180,26 +234,6 @@ fn names_defined_again(rt: HostRuntime) -> Result<(), Fail> {
             *want,
             "{source}"
         );
-    }
-    Ok(())
-}
-
-/// Sources that define no name again.
-const NOT_DEFINED_AGAIN: &[&str] = &[
-    "x: int = 1\nx = 2\nx += 1\nimport x\nfrom m import x\ndel x\n",
-    "x: int = 1\nif y:\n    x: int = 2\nelse:\n    def x(): ...\n",
-    "x: int = 1\ntry:\n    class x: ...\nfinally:\n    x: str = 2\n",
-    "@overload\ndef f(): ...\ndef f(): ...\n",
-    "def f(): ...\n@known\ndef f(): ...\n",
-    "@known\nclass C: ...\nclass C: ...\n",
-    "@property\ndef f(): ...\n@f.setter\ndef f(x): ...\n",
-    "x: int\ndef f():\n    x: int = 1\nclass C:\n    x: int = 1\n",
-];
-
-#[test]
-fn names_not_defined_again(rt: HostRuntime) -> Result<(), Fail> {
-    for source in NOT_DEFINED_AGAIN {
-        assert_eq!(rt; defined_again(rt.alloc(), source)?.as_str(), "", "{source}");
     }
     Ok(())
 }

@@ -47,15 +47,3 @@ pub(crate) fn name_of(alloc: Global, home: &str, name: &str) -> Result<Qualified
         name: Text::new(alloc, name)?,
     })
 }
-
-/// A module's name with dots between its parts.
-pub(crate) fn spelled(alloc: Global, name: &ModuleName) -> Result<String, AllocError> {
-    let mut shown = String::new(alloc);
-    for part in name.parts() {
-        if !shown.is_empty() {
-            shown.push_str(".")?;
-        }
-        shown.push_str(part.as_str())?;
-    }
-    Ok(shown)
-}

@@ -1,81 +1,48 @@
 //! Keys, with what the files of a workspace answer; the types of annotations and of literals.
 
-use crate::sources::{file_of, files_of, module_of, name_of, spelled};
-use pyc_ast::{Module, Outcome, StmtForm};
+use crate::sources::{file_of, files_of, module_of, name_of};
+use pyc_ast::{Outcome, Stmt, StmtForm};
 use pyc_iface::{
     Answer, Key, NameAnswer, NameKind, Presence, World, annotation_builtin, literal_type,
 };
+use pyc_names::SourceFile;
 use pyc_types::{Builtin, show};
-use std::alloc::Global;
+use std::alloc::{AllocError, Global};
 use std::test::Fail;
 
-/// What the world of these files answers to a key on presence.
-fn presence(alloc: Global, sources: &[(&str, &str)], key: &Key) -> Result<Presence, Fail> {
+/// What the world of these files answers to a key.
+fn answer(alloc: Global, sources: &[(&str, &str)], key: &Key) -> Result<Answer, AllocError> {
     let world = World::build(alloc, &files_of(alloc, sources)?)?;
-    match world.ask(alloc, key)? {
-        Answer::Presence(found) => Ok(found),
-        _ => Err("no presence".into()),
+    world.ask(alloc, key)
+}
+
+/// Whether this is the answer that a module or a name is there, or why it is not.
+fn is_presence(found: &Answer, want: Presence) -> bool {
+    match found {
+        Answer::Presence(found) => *found == want,
+        _ => false,
     }
 }
 
-/// Whether a module is there in these files.
-fn module_there(alloc: Global, sources: &[(&str, &str)], name: &str) -> Result<Presence, Fail> {
-    let key = Key::HasModule(module_of(alloc, name)?);
-    presence(alloc, sources, &key)
+/// The key on whether a module is there, or a name of it, where one is given.
+fn presence_key(alloc: Global, home: &str, name: &str) -> Result<Key, AllocError> {
+    if name.is_empty() {
+        Ok(Key::HasModule(module_of(alloc, home)?))
+    } else {
+        Ok(Key::HasName(name_of(alloc, home, name)?))
+    }
 }
 
-/// Whether a name of a module is there in these files.
-fn name_there(
+/// Whether this is what these files answer to the key on whether a module or its name is there.
+fn is_answered(
     alloc: Global,
     sources: &[(&str, &str)],
     home: &str,
     name: &str,
-) -> Result<Presence, Fail> {
-    let key = Key::HasName(name_of(alloc, home, name)?);
-    presence(alloc, sources, &key)
-}
-
-/// What a world answers to a key on a name.
-fn answer(world: &World, alloc: Global, key: &Key) -> Result<NameAnswer, Fail> {
-    match world.ask(alloc, key)? {
-        Answer::Name(found) => Ok(found),
-        _ => Err("no name".into()),
-    }
-}
-
-/// The kind of thing that a name stands for, and its type.
-fn shown(alloc: Global, found: &NameAnswer) -> Result<String, Fail> {
-    let ty = show(alloc, &found.ty)?;
-    match &found.kind {
-        NameKind::Module(name) => {
-            let name = spelled(alloc, name)?;
-            Ok(format!(in alloc; "module {name}: {ty}")?)
-        }
-        NameKind::Fixed(name) => Ok(format!(in alloc; "fixed {name:?}: {ty}")?),
-        NameKind::AnnotatedVariable => Ok(format!(in alloc; "annotated: {ty}")?),
-        NameKind::Variable => Ok(format!(in alloc; "variable: {ty}")?),
-        NameKind::Alias => Ok(format!(in alloc; "alias: {ty}")?),
-        NameKind::Function => Ok(format!(in alloc; "function: {ty}")?),
-        NameKind::Class => Ok(format!(in alloc; "class: {ty}")?),
-        NameKind::Unknown => Ok(format!(in alloc; "unknown: {ty}")?),
-        NameKind::NoModule => Ok(format!(in alloc; "no module: {ty}")?),
-        NameKind::NoName => Ok(format!(in alloc; "no name: {ty}")?),
-        NameKind::NoTarget => Ok(format!(in alloc; "no target: {ty}")?),
-        NameKind::Cycle => Ok(format!(in alloc; "cycle: {ty}")?),
-    }
-}
-
-/// What a name of a module is in the world of these files.
-fn name_shown(
-    alloc: Global,
-    sources: &[(&str, &str)],
-    home: &str,
-    name: &str,
-) -> Result<String, Fail> {
-    let world = World::build(alloc, &files_of(alloc, sources)?)?;
-    let key = Key::Name(name_of(alloc, home, name)?);
-    let found = answer(&world, alloc, &key)?;
-    shown(alloc, &found)
+    want: Presence,
+) -> Result<bool, AllocError> {
+    let key = presence_key(alloc, home, name)?;
+    Ok(is_presence(&answer(alloc, sources, &key)?, want))
 }
 
 /// A package without `__init__.py`, a file with a fault, and a ring that a third file leads into.
@@ -90,52 +57,93 @@ const FILES: &[(&str, &str)] = &[
     ("c.py", "from a import y\n"),
 ];
 
-/// Modules, with whether they are there.
-const MODULES: &[(&str, Presence)] = &[
-    ("a", Presence::There),
-    ("p", Presence::There),
-    ("p.q", Presence::There),
-    ("p.q.x", Presence::NoModule),
-    ("broken", Presence::Opaque),
-    ("gone", Presence::NoModule),
-    ("typing", Presence::There),
+/// A file in the place of a fixed module, which is never asked.
+const OF_TYPING: &[(&str, &str)] = &[("typing.py", "def (\n")];
+
+/// Modules, or names of modules, with whether they are there.
+const ASKED: &[(&[(&str, &str)], &str, &str, Presence)] = &[
+    (FILES, "a", "", Presence::There),
+    (FILES, "p", "", Presence::There),
+    (FILES, "p.q", "", Presence::There),
+    (FILES, "p.q.x", "", Presence::NoModule),
+    (FILES, "broken", "", Presence::Opaque),
+    (FILES, "gone", "", Presence::NoModule),
+    (FILES, "typing", "", Presence::There),
+    (FILES, "p.q", "x", Presence::There),
+    (FILES, "p.q", "z", Presence::NoName),
+    (FILES, "p", "q", Presence::There),
+    (FILES, "p", "r", Presence::NoName),
+    (FILES, "a", "x", Presence::There),
+    (FILES, "a", "z", Presence::There),
+    (FILES, "a", "gone", Presence::There),
+    (FILES, "a", "y", Presence::Cycle),
+    (FILES, "b", "y", Presence::Cycle),
+    (FILES, "c", "y", Presence::There),
+    (FILES, "broken", "z", Presence::Opaque),
+    (FILES, "gone", "x", Presence::NoModule),
+    (FILES, "typing", "anything", Presence::There),
+    (OF_TYPING, "typing", "", Presence::There),
+    (OF_TYPING, "typing", "own", Presence::There),
 ];
 
 #[test]
-fn modules_are_asked_for(rt: HostRuntime) -> Result<(), Fail> {
-    let a = rt.alloc();
-    for (name, want) in MODULES {
-        assert_eq!(rt; module_there(a, FILES, name)?, *want, "{name}");
+fn modules_and_names_are_asked_for(rt: HostRuntime) -> Result<(), Fail> {
+    for (sources, home, name, want) in ASKED {
+        let is_answered = is_answered(rt.alloc(), sources, home, name, *want)?;
+        assert!(rt; is_answered, "{home}:{name}");
     }
-    let world = World::build(a, &files_of(a, FILES)?)?;
-    assert_eq!(rt; world.files().len(), 5);
     Ok(())
 }
 
-/// Names of modules, with whether they are there.
-const NAMES: &[(&str, &str, Presence)] = &[
-    ("p.q", "x", Presence::There),
-    ("p.q", "z", Presence::NoName),
-    ("p", "q", Presence::There),
-    ("p", "r", Presence::NoName),
-    ("a", "x", Presence::There),
-    ("a", "z", Presence::There),
-    ("a", "gone", Presence::There),
-    ("a", "y", Presence::Cycle),
-    ("b", "y", Presence::Cycle),
-    ("c", "y", Presence::There),
-    ("broken", "z", Presence::Opaque),
-    ("gone", "x", Presence::NoModule),
-    ("typing", "anything", Presence::There),
-];
-
 #[test]
-fn names_are_asked_for(rt: HostRuntime) -> Result<(), Fail> {
-    let a = rt.alloc();
-    for (home, name, want) in NAMES {
-        assert_eq!(rt; name_there(a, FILES, home, name)?, *want, "{home}:{name}");
-    }
+fn worlds_have_their_files(rt: HostRuntime) -> Result<(), Fail> {
+    let files = files_of(rt.alloc(), FILES)?;
+    assert_eq!(rt; World::build(rt.alloc(), &files)?.files().len(), 5);
     Ok(())
+}
+
+/// A word for the kind of thing that a name stands for.
+fn word(kind: &NameKind) -> &str {
+    match kind {
+        NameKind::Module(_) => "module",
+        NameKind::Fixed(_) => "fixed",
+        NameKind::AnnotatedVariable => "annotated",
+        NameKind::Variable => "variable",
+        NameKind::Alias => "alias",
+        NameKind::Function => "function",
+        NameKind::Class => "class",
+        NameKind::Unknown => "unknown",
+        NameKind::NoModule => "no module",
+        NameKind::NoName => "no name",
+        NameKind::NoTarget => "no target",
+        NameKind::Cycle => "cycle",
+    }
+}
+
+/// The kind of thing that a name stands for, and its type.
+fn shown(alloc: Global, found: &NameAnswer) -> Result<String, AllocError> {
+    let word = word(&found.kind);
+    let ty = show(alloc, &found.ty)?;
+    format!(in alloc; "{word}: {ty}")
+}
+
+/// What is told of a name in an answer.
+fn name_in(alloc: Global, found: &Answer) -> Result<String, Fail> {
+    match found {
+        Answer::Name(found) => Ok(shown(alloc, found)?),
+        _ => Err("no name".into()),
+    }
+}
+
+/// What a name of a module is in the world of these files.
+fn name_shown(
+    alloc: Global,
+    sources: &[(&str, &str)],
+    home: &str,
+    name: &str,
+) -> Result<String, Fail> {
+    let key = Key::Name(name_of(alloc, home, name)?);
+    name_in(alloc, &answer(alloc, sources, &key)?)
 }
 
 /// Declarations of each form; of what stands under `@known` nothing is known.
@@ -147,41 +155,6 @@ const DECLARED: &[(&str, &str)] = &[(
      from typing import Literal, Callable\nA: Literal = 1\nv: A\nc: Callable[[C], dict[str, C]]\n\
      o: type[C]\nb: f\n",
 )];
-
-/// Declared names, with what they are.
-const DECLARED_NAMES: &[(&str, &str)] = &[
-    ("i", "annotated: int"),
-    ("l", "annotated: list[Any]"),
-    ("s", "variable: str"),
-    ("n", "variable: Any"),
-    ("t", "variable: Any"),
-    ("f", "function: Callable[[], Any]"),
-    ("C", "class: type[C]"),
-    ("h", "function: Callable[[int, C], C | None]"),
-    ("k", "function: Callable[..., Any]"),
-    ("w", "function: Any"),
-    ("A", "alias: Any"),
-    ("v", "annotated: Any"),
-    ("c", "annotated: Callable[[C], dict[str, C]]"),
-    ("o", "annotated: type[C]"),
-    ("b", "annotated: Any"),
-    ("g", "unknown: Any"),
-    ("D", "unknown: Any"),
-    ("gone", "no name: Any"),
-];
-
-#[test]
-fn names_are_declared(rt: HostRuntime) -> Result<(), Fail> {
-    let a = rt.alloc();
-    for (name, want) in DECLARED_NAMES {
-        assert_eq!(rt;
-            name_shown(a, DECLARED, "d", name)?.as_str(),
-            *want,
-            "{name}"
-        );
-    }
-    Ok(())
-}
 
 /// Imports of a declaration, a submodule, a name of a fixed module, and of what is not there.
 const IMPORTS: &[(&str, &str)] = &[
@@ -198,26 +171,44 @@ const IMPORTS: &[(&str, &str)] = &[
     ("broken.py", "z: int = 1\ndef (\n"),
 ];
 
-/// Names of modules, with what they are.
-const IMPORTED_NAMES: &[(&str, &str, &str)] = &[
-    ("a", "i", "annotated: int"),
-    ("b", "i", "annotated: int"),
-    ("a", "j", "no target: Any"),
-    ("a", "d", "module p.d: Module"),
-    ("a", "p", "module p: Module"),
-    ("b", "O", "fixed Optional: Any"),
-    ("b", "o", "unknown: Any"),
-    ("c", "x", "no module: Any"),
-    ("c", "y", "cycle: Any"),
-    ("c", "z", "unknown: Any"),
+/// Names of the modules of these files, with what they are.
+const DECLARED_NAMES: &[(&[(&str, &str)], &str, &str, &str)] = &[
+    (DECLARED, "d", "i", "annotated: int"),
+    (DECLARED, "d", "l", "annotated: list[Any]"),
+    (DECLARED, "d", "s", "variable: str"),
+    (DECLARED, "d", "n", "variable: Any"),
+    (DECLARED, "d", "t", "variable: Any"),
+    (DECLARED, "d", "f", "function: Callable[[], Any]"),
+    (DECLARED, "d", "C", "class: type[C]"),
+    (DECLARED, "d", "h", "function: Callable[[int, C], C | None]"),
+    (DECLARED, "d", "k", "function: Callable[..., Any]"),
+    (DECLARED, "d", "w", "function: Any"),
+    (DECLARED, "d", "A", "alias: Any"),
+    (DECLARED, "d", "v", "annotated: Any"),
+    (DECLARED, "d", "c", "annotated: Callable[[C], dict[str, C]]"),
+    (DECLARED, "d", "o", "annotated: type[C]"),
+    (DECLARED, "d", "b", "annotated: Any"),
+    (DECLARED, "d", "g", "unknown: Any"),
+    (DECLARED, "d", "D", "unknown: Any"),
+    (DECLARED, "d", "gone", "no name: Any"),
+    (IMPORTS, "a", "i", "annotated: int"),
+    (IMPORTS, "b", "i", "annotated: int"),
+    (IMPORTS, "a", "j", "no target: Any"),
+    (IMPORTS, "a", "d", "module: Module"),
+    (IMPORTS, "a", "p", "module: Module"),
+    (IMPORTS, "b", "O", "fixed: Any"),
+    (IMPORTS, "b", "o", "unknown: Any"),
+    (IMPORTS, "c", "x", "no module: Any"),
+    (IMPORTS, "c", "y", "cycle: Any"),
+    (IMPORTS, "c", "z", "unknown: Any"),
+    (OF_TYPING, "typing", "Union", "fixed: Any"),
 ];
 
 #[test]
-fn imported_names(rt: HostRuntime) -> Result<(), Fail> {
-    let a = rt.alloc();
-    for (home, name, want) in IMPORTED_NAMES {
+fn names_are_declared(rt: HostRuntime) -> Result<(), Fail> {
+    for (sources, home, name, want) in DECLARED_NAMES {
         assert_eq!(rt;
-            name_shown(a, IMPORTS, home, name)?.as_str(),
+            name_shown(rt.alloc(), sources, home, name)?.as_str(),
             *want,
             "{home}:{name}"
         );
@@ -225,40 +216,31 @@ fn imported_names(rt: HostRuntime) -> Result<(), Fail> {
     Ok(())
 }
 
-/// A file in the place of a fixed module.
-const OF_TYPING: &[(&str, &str)] = &[("typing.py", "def (\n")];
-
-/// A file `typing.py` is never asked.
-#[test]
-fn fixed_modules_are_asked_first(rt: HostRuntime) -> Result<(), Fail> {
-    let a = rt.alloc();
-    let module = module_there(a, OF_TYPING, "typing")?;
-    assert_eq!(rt; module, Presence::There);
-    let name = name_there(a, OF_TYPING, "typing", "own")?;
-    assert_eq!(rt; name, Presence::There);
-    assert_eq!(rt;
-        name_shown(a, OF_TYPING, "typing", "Union")?.as_str(),
-        "fixed Union: Any"
-    );
-    Ok(())
+/// The types of the annotation and of the value of a statement of a file.
+fn types_at(file: &SourceFile, statement: &Stmt) -> (Option<Builtin>, Option<Builtin>) {
+    match &statement.form {
+        StmtForm::Annotate(found) => (
+            annotation_builtin(file.bindings(), &found.annotation),
+            found.value.as_ref().and_then(|value| literal_type(value)),
+        ),
+        _ => (None, None),
+    }
 }
 
-/// The types of the annotation and of the value of the first statement of a source, in the file that it is.
-fn types_of(alloc: Global, source: &str) -> Result<(Option<Builtin>, Option<Builtin>), Fail> {
-    let file = file_of(alloc, "a.py", source.as_bytes())?;
-    let Outcome::Tree(Module { statements, .. }) = file.outcome() else {
-        return Err("no tree".into());
-    };
-    let Some(first) = statements.first() else {
-        return Err("no statement".into());
-    };
-    let StmtForm::Annotate(found) = &first.form else {
-        return Err("no annotation".into());
-    };
-    Ok((
-        annotation_builtin(file.bindings(), &found.annotation),
-        found.value.as_ref().and_then(|value| literal_type(value)),
-    ))
+/// The types of the annotation and of the value of the first statement of a file, where there is one.
+fn types_in(file: &SourceFile) -> Option<(Option<Builtin>, Option<Builtin>)> {
+    match file.outcome() {
+        Outcome::Tree(module) => module.statements.first().map(|first| types_at(file, first)),
+        Outcome::Fault(_) => None,
+    }
+}
+
+/// The types of the annotation and of the value of the first statement of a source.
+fn types_of(
+    alloc: Global,
+    source: &str,
+) -> Result<Option<(Option<Builtin>, Option<Builtin>)>, AllocError> {
+    Ok(types_in(&file_of(alloc, "a.py", source.as_bytes())?))
 }
 
 /// Annotated names: the types of the annotation and of the value, where they have one.
@@ -283,7 +265,7 @@ const TYPES: &[(&str, Option<Builtin>, Option<Builtin>)] = &[
 fn types_of_annotations_and_literals(rt: HostRuntime) -> Result<(), Fail> {
     for (source, annotation, value) in TYPES {
         let found = types_of(rt.alloc(), source)?;
-        assert!(rt; found == (*annotation, *value), "{source}");
+        assert!(rt; found == Some((*annotation, *value)), "{source}");
     }
     Ok(())
 }
