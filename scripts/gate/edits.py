@@ -36,7 +36,9 @@ UNREAD = (
     r".*(is not in scope|has no field|is no name|operand is missing|expected the end|cannot continue)"
 )
 PARTS = ("src", "specs", "proofs")
+# The most edits in one check, and the most checks beside an `rt ci` that still runs, for the memory that they take.
 TOGETHER = 12
+BESIDE = 2
 
 
 class Edit:
@@ -335,17 +337,18 @@ def proved_by(log):
     return set(re.findall(r"(?m)^rt: (\w+) (?:proved|is kept: .*)$", text)), bool(re.search(r"(?m)^\d+ passed, \d+ failed", text))
 
 
-def as_they_are_proved(trials, log):
-    """Gives each trial once its crate is proved, in the order of the log; those whose crates are not proved last, as none."""
-    left = [*trials]
-    while left:
+def as_they_are_proved(trials, log, begun):
+    """Gives each trial once its crate is proved, in the order of the log, so that few run while the log goes on; those whose
+    crates are not proved last, as none. What was begun of them is added to a list by the caller."""
+    left, is_over = [*trials], False
+    while left and not is_over:
         proved, is_over = proved_by(log)
         for it in [it for it in left if it.name in proved]:
+            while sum(not one.done() for one in begun) >= BESIDE and not proved_by(log)[1]:
+                time.sleep(2)
             left.remove(it)
             yield it
-        if is_over:
-            break
-        time.sleep(2 if left else 0)
+        time.sleep(0 if is_over else 2)
     for it in left:
         print(f"edits: {it.name}: NOT TRIED: the crate is not proved", flush=True)
         it.words = None
@@ -360,7 +363,7 @@ def main():
     given.add_argument("crates", nargs="*", help="the crates, all where none is named")
     given = given.parse_args()
     known, built = libraries(), given.libraries.resolve()
-    passed = failed = 0
+    begun = []
     with tempfile.TemporaryDirectory(prefix="edits-") as room:
         trials = [
             Trial(words(known, it, built), it, share, room)
@@ -369,10 +372,11 @@ def main():
         ]
         # (those with the most to do begin first)
         trials.sort(key=lambda it: -len(it.edits) * (8 + len(below(known, it.name))))
-        ready = as_they_are_proved(trials, given.follow) if given.follow else trials
+        ready = as_they_are_proved(trials, given.follow, begun) if given.follow else trials
         with concurrent.futures.ThreadPoolExecutor(int(os.environ.get("RT_JOBS", "4"))) as pool:
-            for done in [pool.submit(it.run, given.once) for it in ready]:
-                passed, failed = passed + done.result()[0], failed + done.result()[1]
+            for it in ready:
+                begun.append(pool.submit(it.run, given.once))
+        passed, failed = (sum(done.result()[at] for done in begun) for at in (0, 1))
     print(f"edits: {passed} passed, {failed} failed")
     return 1 if failed else 0
 
