@@ -7,6 +7,7 @@ ghost use Rattle.pyc_bindings.specs.RedefinitionView.{redefinition_of};
 
 use crate::binding::{Binding, BindingForm};
 use crate::decorators::{has_other, has_setter};
+use crate::first_bindings::{declaration_before, first_places};
 use pyc_ast::{Position, Text};
 use std::alloc::{AllocError, Global};
 
@@ -37,25 +38,26 @@ pub fn redefinitions(alloc: Global, bindings: &[Binding]) -> Result<Vec<Redefini
     ensures { IfOk result (λ found. map redefinition_of found.items
         ≡ spec.redefinitions (map binding_of bindings.now)) }
 {
+    let places = first_places(alloc, bindings)?;
     let mut found = Vec::new(alloc);
     for (i, binding) in bindings.iter().enumerate() {
-        push_redefinition(&bindings[..i], binding, &mut found)?;
+        let earlier = declaration_before(&places, bindings, i, &binding.name);
+        push_redefinition(earlier, binding, &mut found)?;
     }
     Ok(found)
 }
 
-/// Adds a binding, where it defines its name again after earlier ones.
+/// Adds a binding, where it defines its name again after this earlier declaration.
 fn push_redefinition(
-    earlier: &[Binding],
+    earlier: Option<&Binding>,
     binding: &Binding,
     found: &mut Vec<Redefinition>,
 ) -> Result<(), AllocError>
     ensures { OnOk result (map redefinition_of found.new.items
         ≡ map redefinition_of found.old.items
-        ++ spec.redefinition (spec.declaration (map binding_of earlier.now) (binding_of binding.now).name)
-        (binding_of binding.now)) }
+        ++ spec.redefinition (option_map (λ first. binding_of first.now) earlier.entry) (binding_of binding.now)) }
 {
-    if let Some(first) = declaration(earlier, &binding.name) {
+    if let Some(first) = earlier {
         if is_redefinition(first, binding) {
             found.push(Redefinition {
                 at: binding.place.at,
