@@ -1,13 +1,16 @@
 //! The declaration of a name, and the bindings that define it again.
 
-ghost use Rattle.std.specs.Prelude.{◌≡◌, ◌++◌, map, IfOk, OnOk, option_map};
+ghost use Rattle.std.specs.Prelude.{◌≡◌, ◌++◌, ℕ, List, bytes_eq, map, IfOk, OnOk, option_map};
+ghost use Rattle.indexmap.specs.IndexMap.{get_by};
 ghost use Rattle.pyc_bindings.specs.BindingView.{binding_of, binding_form_of};
+ghost use Rattle.pyc_bindings.specs.FirstBindings.{declaration_place};
 ghost use Rattle.pyc_bindings.specs.Redefinitions as spec;
 ghost use Rattle.pyc_bindings.specs.RedefinitionView.{redefinition_of};
 
 use crate::binding::{Binding, BindingForm};
 use crate::decorators::{has_other, has_setter};
 use crate::first_bindings::{declaration_before, first_places};
+use indexmap::IndexMap;
 use pyc_ast::{Position, Text};
 use std::alloc::{AllocError, Global};
 
@@ -33,15 +36,29 @@ pub fn declaration<'a>(bindings: &'a [Binding], name: &Text) -> Option<&'a Bindi
 }
 
 /// The names that the bindings of a scope define again, in text order. The only error is that memory runs out.
-#[tactic(auto, unfolding(crate::specs::Redefinitions::redefinitions))]
 pub fn redefinitions(alloc: Global, bindings: &[Binding]) -> Result<Vec<Redefinition>, AllocError>
     ensures { IfOk result (λ found. map redefinition_of found.items
         ≡ spec.redefinitions (map binding_of bindings.now)) }
 {
     let places = first_places(alloc, bindings)?;
+    redefinitions_at(alloc, &places, bindings)
+}
+
+/// The names that the bindings of a scope define again, whose first places these are, in text order. The only error is
+/// that memory runs out.
+#[tactic(auto, unfolding(crate::specs::Redefinitions::redefinitions))]
+pub fn redefinitions_at(
+    alloc: Global,
+    places: &IndexMap<Text, usize>,
+    bindings: &[Binding],
+) -> Result<Vec<Redefinition>, AllocError>
+    requires { (n : List ℕ) → get_by (bytes_eq n) places.now ≡ declaration_place (map binding_of bindings.now) n }
+    ensures { IfOk result (λ found. map redefinition_of found.items
+        ≡ spec.redefinitions (map binding_of bindings.now)) }
+{
     let mut found = Vec::new(alloc);
     for (i, binding) in bindings.iter().enumerate() {
-        let earlier = declaration_before(&places, bindings, i, &binding.name);
+        let earlier = declaration_before(places, bindings, i, &binding.name);
         push_redefinition(earlier, binding, &mut found)?;
     }
     Ok(found)

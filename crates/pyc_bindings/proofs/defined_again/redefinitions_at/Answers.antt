@@ -1,5 +1,5 @@
 use Rattle.pyc_bindings.proofs.AgainLemmas.{again_more}
-use Rattle.pyc_bindings.proofs.defined_again.redefinitions.Goals as goal
+use Rattle.pyc_bindings.proofs.defined_again.redefinitions_at.Goals as goal
 
 -- what a binding defines again is found
 pub loop-i-preserved : goal.loop-i-preserved
