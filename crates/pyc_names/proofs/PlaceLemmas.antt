@@ -1,9 +1,9 @@
 -- Places of files by their modules.
-use Rattle.std.proofs.Common.{◌≡◌, ℕ, zero, suc, ◌+◌, ◌-◌, ◌<◌, ◌≤◌, Bool, true, false, cond, ◌||◌, bytes_eq, is_some, List, [], ◌∷◌, ◌++◌, map, drop, length, get_or, slice_get, Option, None, Some, true≢false, refl, sym, ap, ◌∙◌, arith, append_assoc, length-append, add-one, drop-cons}
+use Rattle.std.proofs.Common.{◌≡◌, ℕ, zero, suc, ◌+◌, ◌-◌, ◌<◌, ◌≤◌, Bool, true, false, cond, ◌||◌, bytes_eq, is_some, List, [], ◌∷◌, map, drop, length, get_or, slice_get, Option, Some, true≢false, refl, sym, ap, ◌∙◌, arith, drop-cons}
 use Rattle.std.specs.declared.alloc.Global.{Global}
 use Rattle.std.specs.declared.rc.Rc.{Rc}
 use Rattle.std.specs.declared.vec.Vec.{Vec}
-use Rattle.std.specs.List.{find, position_from, list_any, starts_with}
+use Rattle.std.specs.List.{position_from, list_any, starts_with}
 use Rattle.std.specs.Map.{lookup}
 use Rattle.indexmap.specs.IndexMap.{insert_entry}
 use Rattle.pyc_bindings.proofs.PlaceLemmas.{chosen, found_at, place_within}
