@@ -3,6 +3,7 @@
 ghost use Rattle.std.specs.Prelude.{◌≡◌, IfOk, string_bytes};
 ghost use Rattle.pyc_attributes.specs.AttributeValues as spec;
 ghost use Rattle.pyc_reading.specs.Desks.{Performs};
+ghost use Rattle.pyc_type_forms.specs.Text.{text_of};
 ghost use Rattle.pyc_type_forms.specs.TypeView.{ty_of};
 
 use pyc_ast::Position;
@@ -33,11 +34,17 @@ fn absent_text(alloc: Global, ty: &Ty, name: &str) -> Result<String, AllocError>
 {
     match ty {
         Ty::Module(_) => no_module_attribute_text(alloc, name),
-        _ => {
-            let shown = show(alloc, ty)?;
-            no_attribute_text(alloc, shown.as_str(), name)
-        }
+        _ => no_type_attribute_text(alloc, ty, name),
     }
+}
+
+/// The text on a type that is no module.
+fn no_type_attribute_text(alloc: Global, ty: &Ty, name: &str) -> Result<String, AllocError>
+    ensures { IfOk result (λ text. string_bytes text
+        ≡ spec.no_attribute_text (text_of (ty_of ty.now)) name.now) }
+{
+    let shown = show(alloc, ty)?;
+    no_attribute_text(alloc, shown.as_str(), name)
 }
 
 /// Tells that a type has no such attribute, and answers Any. The only error is that memory runs out.

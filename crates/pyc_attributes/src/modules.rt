@@ -85,7 +85,7 @@ fn qualified(alloc: Global, home: &[Text], name: &str) -> Result<QualifiedName, 
     ensures { IfOk result (λ q. qualified_of q ≡ record { home = home.now; name = name.now }) }
 {
     Ok(QualifiedName {
-        home: joined(alloc, home, &[])?,
+        home: joined(alloc, &[], home)?,
         name: Text::new(alloc, name)?,
     })
 }
