@@ -20,7 +20,7 @@ use Rattle.pyc_reading.specs.Desks.{Step}
 use Rattle.pyc_reading.specs.Readings.{Done, Tell, and_then}
 use Rattle.pyc_report.specs.declared.message.Code.TheVariants.{Misc}
 use Rattle.pyc_report.specs.Message.{error_at}
-use Rattle.pyc_type_forms.specs.Types.{Ty, any, instance, class_object, list, dict, tuple, tuple_of, union}
+use Rattle.pyc_type_forms.specs.Types.{Ty, instance, class_object, list, dict, tuple, tuple_of, union}
 use Rattle.pyc_type_forms.specs.Unions.{items_of, union_of}
 
 -- ---- what is told
