@@ -5,4 +5,3 @@ pub mod BindingView
 pub mod Decorators
 pub mod Redefinitions
 pub mod RedefinitionView
-pub mod FirstBindings

@@ -5,6 +5,7 @@ mod attribute_targets;
 mod item_targets;
 mod members;
 mod messages;
+mod module_targets;
 mod name_targets;
 mod slot;
 
