@@ -8,8 +8,11 @@ use Rattle.pyc_class.specs.declared.builtin_class.BuiltinClass.{BuiltinClass}
 use Rattle.pyc_class.specs.declared.builtin_class.BuiltinClass.TheVariants as class
 use Rattle.pyc_class.specs.Class.{Id, builtin, user}
 use Rattle.pyc_attributes.specs.Binding.{is_of_builtin, through_instance, through_class}
-use Rattle.pyc_obligations.specs.Asking.{asked_member, is_unknown_class}
-use Rattle.pyc_reading.specs.Answers.{MemberAnswer}
+use Rattle.pyc_names.specs.declared.fixed.FixedModule.{FixedModule}
+use Rattle.pyc_names.specs.declared.fixed.FixedName.{FixedName}
+use Rattle.pyc_names.specs.FixedModules.{fixed_module, fixed_name}
+use Rattle.pyc_obligations.specs.Asking.{asked_member, asked_name, is_unknown_class}
+use Rattle.pyc_reading.specs.Answers.{MemberAnswer, NameAnswer, NameKind, fixed, no_name}
 use Rattle.pyc_reading.specs.declared.answer.MemberKind.{MemberKind}
 use Rattle.pyc_reading.specs.Desks.{Step}
 use Rattle.pyc_reading.specs.Readings.{Done, and_then}
@@ -23,6 +26,8 @@ pub data Found : Type 0 where
   known : Ty → Found
   -- a member that this class declares, of this kind; its type is as it is read
   member_of : Id → MemberKind → Ty → Found
+  -- a name of a module, and what it stands for
+  name_with : NameAnswer → Found
 
 -- ---- builtins
 
@@ -92,6 +97,27 @@ class_object_found c n None = no_class_member c n
 unfoldable pub class_object_attribute : Id → List ℕ → Step Found
 class_object_attribute c n = and_then (asked_member c n) (class_object_found c n)
 
+-- ---- modules
+
+-- a name of a module, as the answer to its key tells it
+abbrev pub answered_found : NameAnswer → NameKind → Found
+answered_found found no_name = absent
+answered_found found _ = name_with found
+
+-- a name of a fixed module: Any, but that it may be a special one
+abbrev pub fixed_found : Option FixedName → Found
+fixed_found (Some found) = name_with (record { kind = fixed found; ty = any })
+fixed_found None = known any
+
+abbrev pub module_name : List (List ℕ) → List ℕ → Option FixedModule → Step Found
+module_name m n (Some found) = Done (fixed_found (fixed_name found n))
+module_name m n None =
+    and_then (asked_name (record { home = m; name = n })) (λ found. Done (answered_found found found.kind))
+
+-- Any where two underscores stand at both ends
+unfoldable pub module_attribute : List (List ℕ) → List ℕ → Step Found
+module_attribute m n = if is_dunder n then Done (known any) else module_name m n (fixed_module m)
+
 -- ---- by the form of the type
 
 abbrev pub of_instance : Id → List ℕ → Step Found
@@ -102,12 +128,11 @@ abbrev pub of_class_object : Id → List ℕ → Step Found
 of_class_object (builtin c) n = Done (builtin_class_attribute c n)
 of_class_object (user m x) n = class_object_attribute (user m x) n
 
--- what a value of a type that is no union has under a name; nothing is known of a union as one item, and of a module
--- that has no name here
+-- what a value of a type that is no union has under a name; nothing is known of a union as one item
 abbrev pub item_attribute : Ty → List ℕ → Step Found
 item_attribute any n = Done (known any)
 item_attribute none n = Done (bare_attribute n)
-item_attribute module_type n = Done (known any)
+item_attribute (module_type m) n = module_attribute m n
 item_attribute (instance c) n = of_instance c n
 item_attribute (class_object c) n = of_class_object c n
 item_attribute (list item) n = Done (builtin_attribute (list item) class.List n)

@@ -11,10 +11,11 @@ ghost use Rattle.pyc_type_forms.specs.Types as plain;
 ghost use Rattle.pyc_type_forms.specs.TypeView.{ty_of};
 
 use crate::binding::{through_class, through_instance};
+use crate::modules::module_attribute;
 use pyc_builtins::{FoundMember, builtin_member, is_dunder, member_type};
 use pyc_class::{BuiltinClass, ClassId};
 use pyc_obligations::{Judge, asked_member, is_unknown_class};
-use pyc_reading::{MemberAnswer, MemberKind};
+use pyc_reading::{MemberAnswer, MemberKind, NameAnswer};
 use pyc_type_forms::Ty;
 use std::alloc::{AllocError, Global};
 
@@ -26,6 +27,8 @@ pub enum FoundAttribute {
     Known(Ty),
     /// A member that this class declares, of this kind; its type is as it is read.
     Member(ClassId, MemberKind, Ty),
+    /// A name of a module, and what it stands for.
+    Name(NameAnswer),
 }
 
 /// What a value of a type that is no union has under a name. The only error is that memory runs out.
@@ -41,7 +44,7 @@ pub fn item_attribute<N: Judge>(
     match ty {
         Ty::Any => Ok(FoundAttribute::Known(Ty::Any)),
         Ty::None => Ok(bare_attribute(name)),
-        Ty::Module => Ok(FoundAttribute::Known(Ty::Any)),
+        Ty::Module(home) => module_attribute(alloc, notes, home, name),
         Ty::Instance(class) => of_instance(alloc, notes, ty, class, name),
         Ty::Class(class) => of_class_object(alloc, notes, class, name),
         Ty::List(_) => Ok(builtin_attribute(alloc, ty, BuiltinClass::List, name)?),

@@ -9,5 +9,5 @@ mod values;
 
 pub use binding::{through_class, through_instance, without_first};
 pub use found::{FoundAttribute, item_attribute};
-pub use messages::{no_attribute, no_item_attribute, no_module_attribute};
+pub use messages::{no_attribute, no_item_attribute};
 pub use values::attribute;

@@ -2,12 +2,12 @@
 
 ghost use Rattle.std.specs.Prelude.{◌≡◌, IfOk, string_bytes};
 ghost use Rattle.pyc_attributes.specs.AttributeValues as spec;
-ghost use Rattle.pyc_obligations.specs.ValueView.{value_of};
 ghost use Rattle.pyc_reading.specs.Desks.{Performs};
+ghost use Rattle.pyc_type_forms.specs.Text.{text_of};
 ghost use Rattle.pyc_type_forms.specs.TypeView.{ty_of};
 
 use pyc_ast::Position;
-use pyc_obligations::{Judge, Value, tell_error};
+use pyc_obligations::{Judge, tell_error};
 use pyc_report::Code;
 use pyc_type_forms::{Ty, show};
 use std::alloc::{AllocError, Global};
@@ -18,6 +18,33 @@ fn no_attribute_text(alloc: Global, shown: &str, name: &str) -> Result<String, A
     ensures { IfOk result (λ text. string_bytes text ≡ spec.no_attribute_text shown.now name.now) }
 {
     format!(in alloc; "\"{shown}\" has no attribute \"{name}\"")
+}
+
+/// The text on a module that has no such attribute.
+#[tactic(auto, unfolding(crate::specs::AttributeValues::no_module_attribute_text))]
+fn no_module_attribute_text(alloc: Global, name: &str) -> Result<String, AllocError>
+    ensures { IfOk result (λ text. string_bytes text ≡ spec.no_module_attribute_text name.now) }
+{
+    format!(in alloc; "Module has no attribute \"{name}\"")
+}
+
+/// The text on what has no such attribute.
+fn absent_text(alloc: Global, ty: &Ty, name: &str) -> Result<String, AllocError>
+    ensures { IfOk result (λ text. string_bytes text ≡ spec.absent_text (ty_of ty.now) name.now) }
+{
+    match ty {
+        Ty::Module(_) => no_module_attribute_text(alloc, name),
+        _ => no_type_attribute_text(alloc, ty, name),
+    }
+}
+
+/// The text on a type that is no module.
+fn no_type_attribute_text(alloc: Global, ty: &Ty, name: &str) -> Result<String, AllocError>
+    ensures { IfOk result (λ text. string_bytes text
+        ≡ spec.no_attribute_text (text_of (ty_of ty.now)) name.now) }
+{
+    let shown = show(alloc, ty)?;
+    no_attribute_text(alloc, shown.as_str(), name)
 }
 
 /// Tells that a type has no such attribute, and answers Any. The only error is that memory runs out.
@@ -32,34 +59,9 @@ pub fn no_attribute<N: Judge>(
     ensures { Performs ty_of (spec.no_attribute at (ty_of ty.now) name.now) (N.desk notes.old) result
         (N.desk notes.new) }
 {
-    let shown = show(alloc, ty)?;
-    let text = no_attribute_text(alloc, shown.as_str(), name)?;
+    let text = absent_text(alloc, ty, name)?;
     tell_error(notes, at, Code::AttrDefined, text)?;
     Ok(Ty::Any)
-}
-
-/// The text on a module that has no such attribute.
-#[tactic(auto, unfolding(crate::specs::AttributeValues::no_module_attribute_text))]
-fn no_module_attribute_text(alloc: Global, name: &str) -> Result<String, AllocError>
-    ensures { IfOk result (λ text. string_bytes text ≡ spec.no_module_attribute_text name.now) }
-{
-    format!(in alloc; "Module has no attribute \"{name}\"")
-}
-
-/// Tells that a module has no such attribute, and answers Any. The only error is that memory runs out.
-#[tactic(auto, using(crate::proofs::Steps::performing), unfolding(crate::specs::AttributeValues::no_module_attribute))]
-pub fn no_module_attribute<N: Judge>(
-    alloc: Global,
-    notes: &mut N,
-    at: Position,
-    name: &str,
-) -> Result<Value, AllocError>
-    ensures { Performs value_of (spec.no_module_attribute at name.now) (N.desk notes.old) result
-        (N.desk notes.new) }
-{
-    let text = no_module_attribute_text(alloc, name)?;
-    tell_error(notes, at, Code::AttrDefined, text)?;
-    Ok(Value::plain(Ty::Any))
 }
 
 /// The text on an item of a union that has no such attribute.

@@ -1,38 +1,37 @@
-//! The attributes of modules.
+//! What modules have under names.
 
-ghost use Rattle.std.specs.Prelude.{None};
-ghost use Rattle.pyc_attributes.specs.AttributeValues as spec;
-ghost use Rattle.pyc_obligations.specs.ValueView.{value_of};
+ghost use Rattle.std.specs.Prelude.{◌≡◌, IfOk, None};
+ghost use Rattle.pyc_attributes.specs.FoundAttributes as spec;
+ghost use Rattle.pyc_attributes.specs.FoundView.{found_in};
 ghost use Rattle.pyc_names.specs.FixedModules as fixed;
+ghost use Rattle.pyc_names.specs.FollowingView.{qualified_of};
 ghost use Rattle.pyc_reading.specs.AnswerView.{kind_of, name_answer_of};
 ghost use Rattle.pyc_reading.specs.Desks.{Performs};
 
-use crate::messages::no_module_attribute;
-use pyc_ast::{Position, Text};
+use crate::found::FoundAttribute;
+use pyc_ast::Text;
 use pyc_builtins::is_dunder;
-use pyc_names::{ModuleName, QualifiedName, fixed_module, fixed_name};
-use pyc_obligations::{Judge, Value, asked_name};
+use pyc_names::{FixedName, QualifiedName, fixed_module, fixed_name, joined};
+use pyc_obligations::{Judge, asked_name};
 use pyc_reading::{NameAnswer, NameKind};
-use pyc_scopes::{answered_value, fixed_value};
 use pyc_type_forms::Ty;
 use std::alloc::{AllocError, Global};
 
-/// An attribute of a module.
-#[tactic(auto, unfolding(crate::specs::AttributeValues::module_attribute))]
+/// What a module has under a name, by the parts of its own.
+#[tactic(auto, unfolding(crate::specs::FoundAttributes::module_attribute))]
 pub(crate) fn module_attribute<N: Judge>(
     alloc: Global,
     notes: &mut N,
-    at: Position,
-    home: &ModuleName,
-    name: &Text,
-) -> Result<Value, AllocError>
-    ensures { Performs value_of (spec.module_attribute at home.now name.now) (N.desk notes.old) result
+    home: &[Text],
+    name: &str,
+) -> Result<FoundAttribute, AllocError>
+    ensures { Performs found_in (spec.module_attribute home.now name.now) (N.desk notes.old) result
         (N.desk notes.new) }
 {
-    if is_dunder(name.as_str()) {
-        Ok(Value::plain(Ty::Any))
+    if is_dunder(name) {
+        Ok(FoundAttribute::Known(Ty::Any))
     } else {
-        module_name(alloc, notes, at, home, name)
+        module_name(alloc, notes, home, name)
     }
 }
 
@@ -40,16 +39,28 @@ pub(crate) fn module_attribute<N: Judge>(
 fn module_name<N: Judge>(
     alloc: Global,
     notes: &mut N,
-    at: Position,
-    home: &ModuleName,
-    name: &Text,
-) -> Result<Value, AllocError>
-    ensures { Performs value_of (spec.module_name at home.now name.now (fixed.fixed_module home.now))
+    home: &[Text],
+    name: &str,
+) -> Result<FoundAttribute, AllocError>
+    ensures { Performs found_in (spec.module_name home.now name.now (fixed.fixed_module home.now))
         (N.desk notes.old) result (N.desk notes.new) }
 {
-    match fixed_module(home.parts()) {
-        Some(found) => Ok(fixed_value(fixed_name(found, name.as_str()))),
-        None => asked_attribute(alloc, notes, at, home, name),
+    match fixed_module(home) {
+        Some(found) => Ok(fixed_found(fixed_name(found, name))),
+        None => asked_attribute(alloc, notes, home, name),
+    }
+}
+
+/// A name of a fixed module.
+fn fixed_found(found: Option<FixedName>) -> FoundAttribute
+    ensures { found_in result ≡ spec.fixed_found found }
+{
+    match found {
+        Some(name) => FoundAttribute::Name(NameAnswer {
+            kind: NameKind::Fixed(name),
+            ty: Ty::Any,
+        }),
+        None => FoundAttribute::Known(Ty::Any),
     }
 }
 
@@ -58,35 +69,33 @@ fn module_name<N: Judge>(
 fn asked_attribute<N: Judge>(
     alloc: Global,
     notes: &mut N,
-    at: Position,
-    home: &ModuleName,
-    name: &Text,
-) -> Result<Value, AllocError>
-    ensures { Performs value_of (spec.module_name at home.now name.now None) (N.desk notes.old) result
+    home: &[Text],
+    name: &str,
+) -> Result<FoundAttribute, AllocError>
+    ensures { Performs found_in (spec.module_name home.now name.now None) (N.desk notes.old) result
         (N.desk notes.new) }
 {
-    let asked = QualifiedName {
-        home: home.clone()?,
-        name: name.clone()?,
-    };
+    let asked = qualified(alloc, home, name)?;
     let found = asked_name(alloc, notes, asked)?;
-    let value = answered(alloc, notes, at, name, found)?;
-    Ok(value)
+    Ok(answered_found(found))
 }
 
-/// An attribute of a module, as an answer tells it.
-fn answered<N: Judge>(
-    alloc: Global,
-    notes: &mut N,
-    at: Position,
-    name: &Text,
-    found: NameAnswer,
-) -> Result<Value, AllocError>
-    ensures { Performs value_of (spec.answered at name.now (name_answer_of found) (kind_of found.kind))
-        (N.desk notes.old) result (N.desk notes.new) }
+/// A name with the module of these parts.
+fn qualified(alloc: Global, home: &[Text], name: &str) -> Result<QualifiedName, AllocError>
+    ensures { IfOk result (λ q. qualified_of q ≡ record { home = home.now; name = name.now }) }
+{
+    Ok(QualifiedName {
+        home: joined(alloc, &[], home)?,
+        name: Text::new(alloc, name)?,
+    })
+}
+
+/// A name of a module, as an answer tells it.
+fn answered_found(found: NameAnswer) -> FoundAttribute
+    ensures { found_in result ≡ spec.answered_found (name_answer_of found) (kind_of found.kind) }
 {
     match &found.kind {
-        NameKind::NoName => no_module_attribute(alloc, notes, at, name.as_str()),
-        _ => Ok(answered_value(found)),
+        NameKind::NoName => FoundAttribute::Absent,
+        _ => FoundAttribute::Name(found),
     }
 }

@@ -11,9 +11,9 @@ ghost use Rattle.pyc_type_forms.specs.Unions as unions;
 
 use crate::found::{FoundAttribute, item_attribute};
 use crate::messages::{no_attribute, no_item_attribute};
-use crate::modules::module_attribute;
 use pyc_ast::{Position, Text};
-use pyc_obligations::{Judge, Thing, Value};
+use pyc_obligations::{Judge, Value};
+use pyc_scopes::answered_value;
 use pyc_type_forms::{Ty, items_of, union_of};
 use std::alloc::{AllocError, Global};
 
@@ -29,26 +29,7 @@ pub fn attribute<N: Judge>(
     ensures { Performs value_of (spec.attribute at (value_of value.now) name.now) (N.desk notes.old) result
         (N.desk notes.new) }
 {
-    match &value.thing {
-        Thing::Module(home) => module_attribute(alloc, notes, at, home, name),
-        _ => plain_attribute(alloc, notes, at, &value.ty, name),
-    }
-}
-
-/// The attribute of what is no module.
-#[tactic(auto, using(crate::proofs::Steps::performing), unfolding(crate::specs::AttributeValues::plain_attribute))]
-fn plain_attribute<N: Judge>(
-    alloc: Global,
-    notes: &mut N,
-    at: Position,
-    ty: &Ty,
-    name: &Text,
-) -> Result<Value, AllocError>
-    ensures { Performs value_of (spec.plain_attribute at (ty_of ty.now) name.now) (N.desk notes.old) result
-        (N.desk notes.new) }
-{
-    let found = type_attribute(alloc, notes, at, ty, name.as_str())?;
-    Ok(Value::plain(found))
+    type_attribute(alloc, notes, at, &value.ty, name.as_str())
 }
 
 /// The attribute of a value of a type.
@@ -58,8 +39,8 @@ fn type_attribute<N: Judge>(
     at: Position,
     ty: &Ty,
     name: &str,
-) -> Result<Ty, AllocError>
-    ensures { Performs ty_of (spec.type_attribute at (ty_of ty.now) name.now) (N.desk notes.old) result
+) -> Result<Value, AllocError>
+    ensures { Performs value_of (spec.type_attribute at (ty_of ty.now) name.now) (N.desk notes.old) result
         (N.desk notes.new) }
 {
     match ty {
@@ -76,32 +57,49 @@ fn single_attribute<N: Judge>(
     at: Position,
     ty: &Ty,
     name: &str,
-) -> Result<Ty, AllocError>
-    ensures { Performs ty_of (spec.single_attribute at (ty_of ty.now) name.now) (N.desk notes.old) result
+) -> Result<Value, AllocError>
+    ensures { Performs value_of (spec.single_attribute at (ty_of ty.now) name.now) (N.desk notes.old) result
         (N.desk notes.new) }
 {
     let found = item_attribute(alloc, notes, ty, name)?;
-    let ty = found_type(alloc, notes, at, ty, name, found)?;
-    Ok(ty)
+    let value = found_value(alloc, notes, at, ty, name, found)?;
+    Ok(value)
 }
 
-/// The type of what was found.
-fn found_type<N: Judge>(
+/// What was found.
+fn found_value<N: Judge>(
     alloc: Global,
     notes: &mut N,
     at: Position,
     ty: &Ty,
     name: &str,
     found: FoundAttribute,
-) -> Result<Ty, AllocError>
-    ensures { Performs ty_of (spec.found_type at (ty_of ty.now) name.now (found_in found)) (N.desk notes.old) result
+) -> Result<Value, AllocError>
+    ensures { Performs value_of (spec.found_value at (ty_of ty.now) name.now (found_in found)) (N.desk notes.old) result
         (N.desk notes.new) }
 {
     match found {
-        FoundAttribute::Absent => no_attribute(alloc, notes, at, ty, name),
-        FoundAttribute::Known(found) => Ok(found),
-        FoundAttribute::Member(_, _, found) => Ok(found),
+        FoundAttribute::Absent => absent_value(alloc, notes, at, ty, name),
+        FoundAttribute::Known(found) => Ok(Value::plain(found)),
+        FoundAttribute::Member(_, _, found) => Ok(Value::plain(found)),
+        FoundAttribute::Name(found) => Ok(answered_value(found)),
     }
+}
+
+/// What is not there.
+#[tactic(auto, using(crate::proofs::Steps::performing), unfolding(crate::specs::AttributeValues::absent_value))]
+fn absent_value<N: Judge>(
+    alloc: Global,
+    notes: &mut N,
+    at: Position,
+    ty: &Ty,
+    name: &str,
+) -> Result<Value, AllocError>
+    ensures { Performs value_of (spec.absent_value at (ty_of ty.now) name.now) (N.desk notes.old) result
+        (N.desk notes.new) }
+{
+    let found = no_attribute(alloc, notes, at, ty, name)?;
+    Ok(Value::plain(found))
 }
 
 /// The attribute of the items of a union.
@@ -112,14 +110,15 @@ fn union_attribute<N: Judge>(
     at: Position,
     whole: &Ty,
     name: &str,
-) -> Result<Ty, AllocError>
-    ensures { Performs ty_of (spec.union_attribute at (ty_of whole.now) name.now (unions.items_of (ty_of whole.now)))
-        (N.desk notes.old) result (N.desk notes.new) }
+) -> Result<Value, AllocError>
+    ensures { Performs value_of
+        (spec.union_attribute at (ty_of whole.now) name.now (unions.items_of (ty_of whole.now))) (N.desk notes.old)
+        result (N.desk notes.new) }
 {
     let items = items_of(alloc, whole)?;
     let found = item_types(alloc, notes, at, whole, name, &items)?;
     let union = union_of(alloc, &found)?;
-    Ok(union)
+    Ok(Value::plain(union))
 }
 
 /// The types of the attribute of items, in turn.
@@ -179,5 +178,6 @@ fn item_type<N: Judge>(
         FoundAttribute::Absent => no_item_attribute(alloc, notes, at, whole, item, name),
         FoundAttribute::Known(found) => Ok(found),
         FoundAttribute::Member(_, _, found) => Ok(found),
+        FoundAttribute::Name(found) => Ok(found.ty),
     }
 }

@@ -5,3 +5,4 @@ pub mod BindingView
 pub mod Decorators
 pub mod Redefinitions
 pub mod RedefinitionView
+pub mod FirstBindings

@@ -1,12 +1,16 @@
 //! The declaration of a name, and the bindings that define it again.
 
-ghost use Rattle.std.specs.Prelude.{◌≡◌, ◌++◌, map, IfOk, OnOk, option_map};
+ghost use Rattle.std.specs.Prelude.{◌≡◌, ◌++◌, ℕ, List, bytes_eq, map, IfOk, OnOk, option_map};
+ghost use Rattle.indexmap.specs.IndexMap.{get_by};
 ghost use Rattle.pyc_bindings.specs.BindingView.{binding_of, binding_form_of};
+ghost use Rattle.pyc_bindings.specs.FirstBindings.{declaration_place};
 ghost use Rattle.pyc_bindings.specs.Redefinitions as spec;
 ghost use Rattle.pyc_bindings.specs.RedefinitionView.{redefinition_of};
 
 use crate::binding::{Binding, BindingForm};
 use crate::decorators::{has_other, has_setter};
+use crate::first_bindings::{declaration_before, first_places};
+use indexmap::IndexMap;
 use pyc_ast::{Position, Text};
 use std::alloc::{AllocError, Global};
 
@@ -32,30 +36,45 @@ pub fn declaration<'a>(bindings: &'a [Binding], name: &Text) -> Option<&'a Bindi
 }
 
 /// The names that the bindings of a scope define again, in text order. The only error is that memory runs out.
-#[tactic(auto, unfolding(crate::specs::Redefinitions::redefinitions))]
 pub fn redefinitions(alloc: Global, bindings: &[Binding]) -> Result<Vec<Redefinition>, AllocError>
+    ensures { IfOk result (λ found. map redefinition_of found.items
+        ≡ spec.redefinitions (map binding_of bindings.now)) }
+{
+    let places = first_places(alloc, bindings)?;
+    redefinitions_at(alloc, &places, bindings)
+}
+
+/// The names that the bindings of a scope define again, whose first places these are, in text order. The only error is
+/// that memory runs out.
+#[tactic(auto, unfolding(crate::specs::Redefinitions::redefinitions))]
+pub fn redefinitions_at(
+    alloc: Global,
+    places: &IndexMap<Text, usize>,
+    bindings: &[Binding],
+) -> Result<Vec<Redefinition>, AllocError>
+    requires { (n : List ℕ) → get_by (bytes_eq n) places.now ≡ declaration_place (map binding_of bindings.now) n }
     ensures { IfOk result (λ found. map redefinition_of found.items
         ≡ spec.redefinitions (map binding_of bindings.now)) }
 {
     let mut found = Vec::new(alloc);
     for (i, binding) in bindings.iter().enumerate() {
-        push_redefinition(&bindings[..i], binding, &mut found)?;
+        let earlier = declaration_before(places, bindings, i, &binding.name);
+        push_redefinition(earlier, binding, &mut found)?;
     }
     Ok(found)
 }
 
-/// Adds a binding, where it defines its name again after earlier ones.
+/// Adds a binding, where it defines its name again after this earlier declaration.
 fn push_redefinition(
-    earlier: &[Binding],
+    earlier: Option<&Binding>,
     binding: &Binding,
     found: &mut Vec<Redefinition>,
 ) -> Result<(), AllocError>
     ensures { OnOk result (map redefinition_of found.new.items
         ≡ map redefinition_of found.old.items
-        ++ spec.redefinition (spec.declaration (map binding_of earlier.now) (binding_of binding.now).name)
-        (binding_of binding.now)) }
+        ++ spec.redefinition (option_map (λ first. binding_of first.now) earlier.entry) (binding_of binding.now)) }
 {
-    if let Some(first) = declaration(earlier, &binding.name) {
+    if let Some(first) = earlier {
         if is_redefinition(first, binding) {
             found.push(Redefinition {
                 at: binding.place.at,

@@ -24,15 +24,15 @@ module _ (answers : Key → Answer) where
   cycles_step file earlier later b = told-and_then answers (binding_reading file earlier b) (λ u. cycles_after file (earlier ++ (b ∷ [])) later)
 
   -- one binding more
-  cycles_turn : (file : SourceFile) (bs earlier : List BindingOf) (i : ℕ) (b : BindingOf) (now : List Message) → i < length bs → b ≡ get_or bs i b → earlier ≡ take i bs
-      → (now ++ told answers (binding_reading file (map binding_of earlier) (binding_of b))) ++ told answers (cycles_after file (map binding_of (take (i + 1) bs)) (map binding_of (drop (i + 1) bs)))
+  cycles_turn : (file : SourceFile) (bs : List BindingOf) (earlier : List Binding) (i : ℕ) (b : BindingOf) (now : List Message) → i < length bs → b ≡ get_or bs i b → earlier ≡ map binding_of (take i bs)
+      → (now ++ told answers (binding_reading file earlier (binding_of b))) ++ told answers (cycles_after file (map binding_of (take (i + 1) bs)) (map binding_of (drop (i + 1) bs)))
       ≡ now ++ told answers (cycles_after file (map binding_of (take i bs)) (map binding_of (drop i bs)))
   cycles_turn file bs earlier i b now within is before =
       let left : drop i bs ≡ b ∷ drop (i + 1) bs = rw add-one (drop-cons bs i b within ∙ ap (λ x. x ∷ drop (suc i) bs) (sym is)) in
       let done : take (i + 1) bs ≡ take i bs ++ b ∷ [] = take_more bs i b within ∙ ap (λ x. take i bs ++ x ∷ []) (sym is) in
       let mapped = ap (map binding_of) done ∙ map-append binding_of (take i bs) (b ∷ []) in
       let later = map binding_of (drop (i + 1) bs) in
-      ap (λ l. (now ++ told answers (binding_reading file (map binding_of l) (binding_of b))) ++ told answers (cycles_after file (map binding_of (take (i + 1) bs)) later)) before
+      ap (λ l. (now ++ told answers (binding_reading file l (binding_of b))) ++ told answers (cycles_after file (map binding_of (take (i + 1) bs)) later)) before
       ∙ append_assoc now _ _
       ∙ ap (λ l. now ++ l)
       (ap (λ l. told answers (binding_reading file (map binding_of (take i bs)) (binding_of b)) ++ told answers (cycles_after file l later)) mapped
@@ -40,8 +40,8 @@ module _ (answers : Key → Answer) where
       ∙ sym (ap (λ l. told answers (cycles_after file (map binding_of (take i bs)) (map binding_of l))) left))
 
   -- one binding more, where all comes to the same
-  pub cycles_more : (file : SourceFile) (bs earlier : List BindingOf) (i : ℕ) (b : BindingOf) (now new whole : List Message) → i < length bs → b ≡ get_or bs i b → earlier ≡ take i bs
-      → new ≡ now ++ told answers (binding_reading file (map binding_of earlier) (binding_of b))
+  pub cycles_more : (file : SourceFile) (bs : List BindingOf) (earlier : List Binding) (i : ℕ) (b : BindingOf) (now new whole : List Message) → i < length bs → b ≡ get_or bs i b → earlier ≡ map binding_of (take i bs)
+      → new ≡ now ++ told answers (binding_reading file earlier (binding_of b))
       → now ++ told answers (cycles_after file (map binding_of (take i bs)) (map binding_of (drop i bs))) ≡ whole
       → new ++ told answers (cycles_after file (map binding_of (take (i + 1) bs)) (map binding_of (drop (i + 1) bs))) ≡ whole
   cycles_more file bs earlier i b now new whole within is before n w =

@@ -199,7 +199,7 @@ fn push_statement_blocks(
     }
     let alone = slice::from_ref(statement);
     push_block_annotations(alloc, world, file, alone, messages)?;
-    let forms = literal_forms(alloc, file.bindings(), alone)?;
+    let forms = literal_forms(alloc, file, alone)?;
     push_form_messages(alloc, builtins, &forms, messages)
 }
 

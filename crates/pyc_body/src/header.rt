@@ -1,6 +1,6 @@
 //! What is told of the top level of a module: imports, cyclic definitions, names that are defined again.
 
-ghost use Rattle.std.specs.Prelude.{◌≡◌, ◌++◌, ◌∷◌, [], map, flat_map, OnOk, string_bytes};
+ghost use Rattle.std.specs.Prelude.{◌≡◌, ◌++◌, ◌∷◌, [], map, flat_map, take, OnOk, string_bytes};
 ghost use Rattle.pyc_ast.specs.Modules.{tree, module_of};
 ghost use Rattle.pyc_ast.specs.StatementView.{imported_of, imported_module_of, import_from_of, stmt_form_of};
 ghost use Rattle.pyc_bindings.specs.BindingView.{binding_of, binding_form_of};
@@ -21,9 +21,7 @@ use crate::import_texts::{
 use pyc_ast::{
     Alias, Fault, ImportFrom, ImportedModule, Module, Outcome, Position, StmtForm, Text,
 };
-use pyc_bindings::{
-    Binding, BindingForm, Part, PartForm, Place, Redefinition, declaration, scope_parts,
-};
+use pyc_bindings::{Binding, BindingForm, Part, PartForm, Place, Redefinition, scope_parts};
 use pyc_iface::{Answer, Key, Options, Presence, World};
 use pyc_names::{ModuleName, QualifiedName, SourceFile, fixed_module, joined, named_module};
 use pyc_report::{Code, Message, MessageKind};
@@ -302,25 +300,27 @@ impl HeaderCheck<'_> {
     {
         let bindings = self.file.bindings();
         for (i, binding) in bindings.iter().enumerate() {
-            self.push_binding(&bindings[..i], binding, messages)?;
+            self.push_binding(i, binding, messages)?;
         }
         Ok(())
     }
 
-    /// Adds what is told of a binding after earlier ones, where it is a from-import that declares its name.
+    /// Adds what is told of a binding after so many of the file's, where it is a from-import that declares its name.
     fn push_binding(
         &self,
-        earlier: &[Binding],
+        count: usize,
         binding: &Binding,
         messages: &mut Vec<Message>,
     ) -> Result<(), AllocError>
         ensures { OnOk result (map message_in messages.new.items
             ≡ map message_in messages.old.items
             ++ told (answer_of (world_in self.now.world.now))
-            (spec.binding_reading (source_in self.now.file.now) (map binding_of earlier.now)
+            (spec.binding_reading (source_in self.now.file.now) (take count (source_in self.now.file.now).bindings)
             (binding_of binding.now))) }
     {
-        if is_import_from(&binding.form) && declaration(earlier, &binding.name).is_none() {
+        if is_import_from(&binding.form)
+            && self.file.declaration_before(count, &binding.name).is_none()
+        {
             self.push_cycle(binding, messages)
         } else {
             Ok(())

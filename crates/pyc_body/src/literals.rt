@@ -5,14 +5,15 @@ ghost use Rattle.pyc_ast.specs.ExprView.{expr_of};
 ghost use Rattle.pyc_ast.specs.Statements.{stmts};
 ghost use Rattle.pyc_ast.specs.StatementView.{annotated_of, stmt_of};
 ghost use Rattle.pyc_ast.specs.TargetView.{target_of};
-ghost use Rattle.pyc_bindings.specs.BindingView.{binding_of};
 ghost use Rattle.pyc_bindings.specs.ScopeView.{part_form_of};
 ghost use Rattle.pyc_body.specs.LiteralForms as spec;
 ghost use Rattle.pyc_body.specs.LiteralForms.{literal_forms};
+ghost use Rattle.pyc_names.specs.SourceFileView.{source_in};
 
 use pyc_ast::{AnnotatedAssignment, Expr, Position, Stmt, StmtForm, Target, TargetForm};
-use pyc_bindings::{Binding, PartForm, scope_parts};
+use pyc_bindings::{PartForm, scope_parts};
 use pyc_iface::{annotation_builtin, literal_type};
+use pyc_names::SourceFile;
 use pyc_types::Builtin;
 use std::alloc::{AllocError, Global};
 
@@ -24,21 +25,20 @@ pub struct LiteralForm {
     pub at: Position,
 }
 
-/// The annotated literals of a module that has these bindings and statements, in text order. The only error is that
-/// memory runs out.
+/// The annotated literals among statements of a file, in text order. The only error is that memory runs out.
 #[tactic(auto, unfolding(crate::specs::LiteralForms::literal_forms))]
 pub fn literal_forms(
     alloc: Global,
-    bindings: &[Binding],
+    file: &SourceFile,
     statements: &[Stmt],
 ) -> Result<Vec<LiteralForm>, AllocError>
     ensures { IfOk result (λ forms. forms.items
-        ≡ literal_forms (map binding_of bindings.now) (stmts (map stmt_of statements.now))) }
+        ≡ literal_forms (source_in file.now).bindings (stmts (map stmt_of statements.now))) }
 {
     let parts = scope_parts(alloc, statements)?;
     let mut forms = Vec::new(alloc);
     for part in &parts {
-        if let Some(form) = part_literal(bindings, part.form) {
+        if let Some(form) = part_literal(file, part.form) {
             forms.push(form)?;
         }
     }
@@ -46,35 +46,35 @@ pub fn literal_forms(
 }
 
 /// The annotated literal that a part of a scope is.
-fn part_literal(bindings: &[Binding], part: PartForm<'_>) -> Option<LiteralForm>
-    ensures { result ≡ spec.part_literal (map binding_of bindings.now) (part_form_of part.entry) }
+fn part_literal(file: &SourceFile, part: PartForm<'_>) -> Option<LiteralForm>
+    ensures { result ≡ spec.part_literal (source_in file.now).bindings (part_form_of part.entry) }
 {
     match part {
-        PartForm::Statement(statement) => literal_form(bindings, statement),
+        PartForm::Statement(statement) => literal_form(file, statement),
         _ => None,
     }
 }
 
 /// The annotated literal that a statement is.
-fn literal_form(bindings: &[Binding], statement: &Stmt) -> Option<LiteralForm>
-    ensures { result ≡ spec.literal_form (map binding_of bindings.now) (stmt_of statement.now) }
+fn literal_form(file: &SourceFile, statement: &Stmt) -> Option<LiteralForm>
+    ensures { result ≡ spec.literal_form (source_in file.now).bindings (stmt_of statement.now) }
 {
     match &statement.form {
-        StmtForm::Annotate(found) => annotated_form(bindings, found),
+        StmtForm::Annotate(found) => annotated_form(file, found),
         _ => None,
     }
 }
 
 /// The annotated literal that an annotated assignment is.
-fn annotated_form(bindings: &[Binding], found: &AnnotatedAssignment) -> Option<LiteralForm>
-    ensures { result ≡ spec.annotated_form (map binding_of bindings.now) (annotated_of found.now) }
+fn annotated_form(file: &SourceFile, found: &AnnotatedAssignment) -> Option<LiteralForm>
+    ensures { result ≡ spec.annotated_form (source_in file.now).bindings (annotated_of found.now) }
 {
     if !is_bare_name(&found.target) {
         return None;
     }
     let value = found.value.as_ref()?;
     Some(LiteralForm {
-        annotation: annotation_type(bindings, &found.annotation)?,
+        annotation: annotation_type(file, &found.annotation)?,
         value: value_type(value)?,
         at: value.at,
     })
@@ -97,12 +97,12 @@ fn is_bare(at: Position, inside: Position) -> bool
     at == inside
 }
 
-/// The type that an annotation means where these bindings stand, where no parentheses stand around it.
-fn annotation_type(bindings: &[Binding], annotation: &Expr) -> Option<Builtin>
-    ensures { result ≡ spec.annotation_type (map binding_of bindings.now) (expr_of annotation.now) }
+/// The type that an annotation means at the top level of a file, where no parentheses stand around it.
+fn annotation_type(file: &SourceFile, annotation: &Expr) -> Option<Builtin>
+    ensures { result ≡ spec.annotation_type (source_in file.now).bindings (expr_of annotation.now) }
 {
     if is_bare(annotation.at, annotation.inside) {
-        annotation_builtin(bindings, annotation)
+        annotation_builtin(file, annotation)
     } else {
         None
     }

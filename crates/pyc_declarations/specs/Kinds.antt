@@ -39,6 +39,10 @@ answer_with kind ty = record { kind = kind; ty = ty }
 abbrev pub of_kind : NameKind → NameAnswer
 of_kind kind = answer_with kind any
 
+-- a module: its type tells which one it is
+abbrev pub module_answer : List (List ℕ) → NameAnswer
+module_answer m = answer_with (kind.module_name m) (module_type m)
+
 -- a declaration: nothing is known of what stands under an unknown decorator
 abbrev pub found_binding : SourceFile → Option Binding → Found
 found_binding file (Some b) = if is_decorated b.form then answered (of_kind kind.unknown) else declared_in file b.form
@@ -66,7 +70,7 @@ absent_name None x = kind.no_name
 -- what following a name came to
 abbrev pub found_referent : List SourceFile → QualifiedName → Referent → Found
 found_referent files q (names.declared r) = found_declared files r (fixed_module r.home)
-found_referent files q (names.module_itself m) = answered (answer_with (kind.module_name m) module_type)
+found_referent files q (names.module_itself m) = answered (module_answer m)
 found_referent files q names.opaque = answered (of_kind kind.unknown)
 found_referent files q names.fixed_any = answered (of_kind kind.unknown)
 found_referent files q names.no_module = answered (of_kind kind.no_module)

@@ -1,32 +1,32 @@
 //! The types that declarations declare.
 
-ghost use Rattle.std.specs.Prelude.{◌≡◌, map};
+ghost use Rattle.std.specs.Prelude.{◌≡◌};
 ghost use Rattle.pyc_ast.specs.ExprView.{expr_of};
-ghost use Rattle.pyc_bindings.specs.BindingView.{binding_of};
 ghost use Rattle.pyc_declarations.specs.DeclaredTypes as spec;
+ghost use Rattle.pyc_names.specs.SourceFileView.{source_in};
 ghost use Rattle.pyc_type_forms.specs.TypeView.{ty_of};
 
 use pyc_ast::{Constant, Expr, Form, Text};
-use pyc_bindings::{Binding, declaration};
+use pyc_names::SourceFile;
 use pyc_types::{Builtin, BuiltinClass, ClassId, Ty};
 
-/// The type that an annotation means where these bindings stand, if it is understood: `None`, or a builtin class by its
+/// The type that an annotation means at the top level of a file, if it is understood: `None`, or a builtin class by its
 /// own name, which nothing there binds. It takes no memory.
-pub fn annotation_builtin(bindings: &[Binding], annotation: &Expr) -> Option<Builtin>
-    ensures { result ≡ spec.annotation_builtin (map binding_of bindings.now) (expr_of annotation.now) }
+pub fn annotation_builtin(file: &SourceFile, annotation: &Expr) -> Option<Builtin>
+    ensures { result ≡ spec.annotation_builtin (source_in file.now).bindings (expr_of annotation.now) }
 {
     match &annotation.form {
-        Form::Name(name) => unbound_builtin(bindings, name),
+        Form::Name(name) => unbound_builtin(file, name),
         Form::Constant(constant) => constant_annotation(*constant),
         _ => None,
     }
 }
 
-/// The builtin class that a name means where these bindings stand.
-fn unbound_builtin(bindings: &[Binding], name: &Text) -> Option<Builtin>
-    ensures { result ≡ spec.unbound_builtin (map binding_of bindings.now) name.now }
+/// The builtin class that a name means at the top level of a file.
+fn unbound_builtin(file: &SourceFile, name: &Text) -> Option<Builtin>
+    ensures { result ≡ spec.unbound_builtin (source_in file.now).bindings name.now }
 {
-    match declaration(bindings, name) {
+    match file.declaration(name) {
         Some(_) => None,
         None => builtin_named(name.as_str()),
     }

@@ -25,6 +25,7 @@ use pyc_names::{
 use pyc_reading::{Answer, ClassOrder, Key, NameAnswer, NameKind};
 use pyc_types::Ty;
 use std::alloc::{AllocError, Global};
+use std::rc::Rc;
 
 /// The files of a workspace, and the kinds of things that their names stand for.
 #[derive(Clone, Copy, Drop)]
@@ -82,20 +83,22 @@ impl<'a> Kinds<'a> {
         ensures { IfOk result (λ found. found_in found ≡ spec.found_name (kinds_in self.now) (qualified_of q.now)) }
     {
         let found = self.table.follow(alloc, q)?;
-        Ok(self.found_referent(q, found))
+        self.found_referent(alloc, q, found)
     }
 
     /// What following a name came to.
-    fn found_referent(&self, q: &QualifiedName, found: Referent) -> Found<'a>
-        ensures { found_in result
-            ≡ spec.found_referent (kinds_in self.now) (qualified_of q.now) (referent_of found) }
+    fn found_referent(
+        &self,
+        alloc: Global,
+        q: &QualifiedName,
+        found: Referent,
+    ) -> Result<Found<'a>, AllocError>
+        ensures { IfOk result (λ led. found_in led
+            ≡ spec.found_referent (kinds_in self.now) (qualified_of q.now) (referent_of found)) }
     {
-        match found {
+        Ok(match found {
             Referent::Declared(q) => self.found_declared(&q),
-            Referent::Module(name) => Found::Answered(NameAnswer {
-                kind: NameKind::Module(name),
-                ty: Ty::Module,
-            }),
+            Referent::Module(name) => Found::Answered(module_answer(alloc, name)?),
             Referent::Opaque | Referent::FixedAny => Found::Answered(of_kind(NameKind::Unknown)),
             Referent::NoModule => Found::Answered(of_kind(NameKind::NoModule)),
             Referent::NoName => {
@@ -103,7 +106,7 @@ impl<'a> Kinds<'a> {
                 Found::Answered(of_kind(absent_name(file, &q.name)))
             }
             Referent::Cycle => Found::Answered(of_kind(NameKind::Cycle)),
-        }
+        })
     }
 
     /// What is declared under a name.
@@ -149,6 +152,17 @@ fn of_kind(kind: NameKind) -> NameAnswer
     ensures { name_answer_of result ≡ spec.of_kind (kind_of kind) }
 {
     NameAnswer { kind, ty: Ty::Any }
+}
+
+/// A module: its type tells which one it is.
+fn module_answer(alloc: Global, name: ModuleName) -> Result<NameAnswer, AllocError>
+    ensures { IfOk result (λ found. name_answer_of found ≡ spec.module_answer name) }
+{
+    let parts = Rc::new(alloc, copied(alloc, name.parts())?)?;
+    Ok(NameAnswer {
+        kind: NameKind::Module(name),
+        ty: Ty::Module(parts),
+    })
 }
 
 /// The kind of a name that leads to none.

@@ -1,5 +1,5 @@
 -- Types as rows of tokens that give them back, so that two proofs that types are one are the same.
-use Rattle.std.proofs.Common.{◌≡◌, ◌∙◌, ap, List, [], ◌∷◌, refl}
+use Rattle.std.proofs.Common.{◌≡◌, ◌∙◌, ap, ℕ, List, [], ◌∷◌, refl}
 use Rattle.std.specs.Coded.{Coded, code_by, coded_list, codes}
 use Rattle.pyc_class.specs.Class.{Id}
 use Rattle.pyc_type_forms.specs.Types.{Slot}
@@ -11,7 +11,7 @@ use Rattle.pyc_type_forms.specs.Types.{param}
 pub data Token : Type 0 where
   an_any : Token
   a_none : Token
-  a_module : Token
+  a_module : List (List ℕ) → Token
   an_instance : Id → Token
   a_class : Id → Token
   a_list : Token
@@ -39,7 +39,7 @@ abbrev mutual
   ty_tokens : Ty → List Token → List Token
   ty_tokens any more = an_any ∷ more
   ty_tokens none more = a_none ∷ more
-  ty_tokens module_type more = a_module ∷ more
+  ty_tokens (module_type m) more = a_module m ∷ more
   ty_tokens (instance c) more = an_instance c ∷ more
   ty_tokens (class_object c) more = a_class c ∷ more
   ty_tokens (list x) more = ty_tokens x (a_list ∷ more)
@@ -65,7 +65,7 @@ abbrev mutual
 abbrev take : Token → List Item → List Item
 take an_any s = a_ty any ∷ s
 take a_none s = a_ty none ∷ s
-take a_module s = a_ty module_type ∷ s
+take (a_module m) s = a_ty (module_type m) ∷ s
 take (an_instance c) s = a_ty (instance c) ∷ s
 take (a_class c) s = a_ty (class_object c) ∷ s
 take a_list (a_ty x ∷ s) = a_ty (list x) ∷ s
@@ -92,7 +92,7 @@ mutual
   read-ty : (x : Ty) (more : List Token) (s : List Item) → read (ty_tokens x more) s ≡ read more (a_ty x ∷ s)
   read-ty any more s = refl
   read-ty none more s = refl
-  read-ty module_type more s = refl
+  read-ty (module_type m) more s = refl
   read-ty (instance c) more s = refl
   read-ty (class_object c) more s = refl
   read-ty (list x) more s = read-ty x (a_list ∷ more) s

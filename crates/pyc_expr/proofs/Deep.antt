@@ -26,7 +26,7 @@ use Rattle.pyc_expr.specs.Values.{any_after, choice_by_form, operation_by_form, 
 use Rattle.pyc_names.specs.declared.fixed.FixedName.TheVariants as fixed
 use Rattle.pyc_narrowing.specs.Splitting.{is_positional, split}
 use Rattle.pyc_narrowing.specs.SplitStates.{States}
-use Rattle.pyc_obligations.specs.Values.{Thing, Value, plain_thing, module_thing, fixed_thing, reveal_type_thing, isinstance_thing}
+use Rattle.pyc_obligations.specs.Values.{Thing, Value, plain_thing, fixed_thing, reveal_type_thing, isinstance_thing}
 use Rattle.pyc_places.specs.States.{State, unreachable, reachable}
 use Rattle.pyc_reading.specs.Desks.{Step}
 use Rattle.pyc_type_forms.specs.Types.{Ty}
@@ -219,7 +219,6 @@ cast_same n p q same context s (another_argument a (another_argument b (another_
 thing_same : (n : ℕ) (p q : Parts) → Agree n p q → (context : Context) (s : State) (at : Position) (xs : Arguments) (v w : Step Ty) (thing : Thing) → v ≡ w → arguments_height xs ≤ n
     → by_thing context p s at (argument_list xs) v thing ≡ by_thing context q s at (argument_list xs) w thing
 thing_same n p q same context s at xs v w plain_thing otherwise low = otherwise
-thing_same n p q same context s at xs v w (module_thing m) otherwise low = otherwise
 thing_same n p q same context s at xs v w reveal_type_thing otherwise low = reveal_same n p q same s at xs v w otherwise low
 thing_same n p q same context s at xs v w isinstance_thing otherwise low = otherwise
 thing_same n p q same context s at xs v w (fixed_thing fixed.RevealType) otherwise low = reveal_same n p q same s at xs v w otherwise low

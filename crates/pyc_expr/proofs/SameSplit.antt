@@ -17,7 +17,7 @@ use Rattle.pyc_narrowing.specs.Splitting.{pair_rule, is_positional, two_argument
 use Rattle.pyc_narrowing.specs.Splitting.{comparison_rule, truth_rule, place_rule, not_rule, unary_rule, and_right, or_right, right_rule, boolean_rule, split, form_rule}
 use Rattle.pyc_narrowing.specs.SplitStates.{States}
 use Rattle.pyc_obligations.specs.Quiet.{quiet}
-use Rattle.pyc_obligations.specs.Values.{Thing, plain_thing, module_thing, fixed_thing, reveal_type_thing, isinstance_thing}
+use Rattle.pyc_obligations.specs.Values.{Thing, plain_thing, fixed_thing, reveal_type_thing, isinstance_thing}
 use Rattle.pyc_places.specs.Places.{Place, place_of}
 use Rattle.pyc_places.specs.States.{State, unreachable, reachable}
 use Rattle.pyc_reading.specs.Desks.{Step}
@@ -82,7 +82,6 @@ called_same : (n : ℕ) (p q : Parts) → Agree n p q → (s : State) (place : P
     → called (looked_by p) s place x y thing ≡ called (looked_by q) s place x y thing
 called_same n p q same s place x y isinstance_thing low other = isinstance_same n p q same s place x y low other
 called_same n p q same s place x y plain_thing low other = refl
-called_same n p q same s place x y (module_thing m) low other = refl
 called_same n p q same s place x y (fixed_thing found) low other = refl
 called_same n p q same s place x y reveal_type_thing low other = refl
 

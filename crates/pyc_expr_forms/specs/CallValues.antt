@@ -29,7 +29,7 @@ shown_of n ty = shown_by n (owner_name ty)
 
 -- an attribute of a value of a type: of a module it is a name
 abbrev pub shown_attribute : List ℕ → Ty → Shown
-shown_attribute n module_type = shown_name n
+shown_attribute n (module_type m) = shown_name n
 shown_attribute n ty = shown_of n ty
 
 -- ---- `reveal_type`

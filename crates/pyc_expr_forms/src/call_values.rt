@@ -119,7 +119,7 @@ fn shown_attribute<'a>(name: &'a Text, owner: &'a Ty) -> Shown<'a>
     ensures { shown_in result ≡ spec.shown_attribute name.now (ty_of owner.now) }
 {
     match owner {
-        Ty::Module => Shown::Name(name.as_str()),
+        Ty::Module(_) => Shown::Name(name.as_str()),
         _ => shown_member(name, owner),
     }
 }

@@ -90,7 +90,7 @@ instance_owner (user m x) = source_owner (user m x)
 abbrev pub subscript_owner : Ty → Step Owner
 subscript_owner any = Done unknown_owner
 subscript_owner none = Done no_owner
-subscript_owner module_type = Done no_owner
+subscript_owner (module_type m) = Done no_owner
 subscript_owner (instance c) = instance_owner c
 subscript_owner (class_object c) = Done unknown_owner
 subscript_owner (list item) = Done (builtin_owner (list item))
@@ -133,7 +133,7 @@ instance_iterable (user m x) = source_iterable (user m x)
 abbrev pub iterable : Ty → Step Owner
 iterable any = Done unknown_owner
 iterable none = Done no_owner
-iterable module_type = Done no_owner
+iterable (module_type m) = Done no_owner
 iterable (instance c) = instance_iterable c
 iterable (class_object c) = Done unknown_owner
 iterable (list item) = Done (builtin_owner (list item))

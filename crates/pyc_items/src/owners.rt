@@ -49,7 +49,7 @@ pub(crate) fn subscript_owner<N: Judge>(
     match ty {
         Ty::Any => Ok(Owner::Unknown),
         Ty::None => Ok(Owner::Nothing),
-        Ty::Module => Ok(Owner::Nothing),
+        Ty::Module(_) => Ok(Owner::Nothing),
         Ty::Instance(class) => instance_owner(alloc, notes, class),
         Ty::Class(_) => Ok(Owner::Unknown),
         Ty::List(_) => Ok(Owner::Builtin(ty.clone()?)),
@@ -68,7 +68,7 @@ pub(crate) fn iterable<N: Judge>(alloc: Global, notes: &mut N, ty: &Ty) -> Resul
     match ty {
         Ty::Any => Ok(Owner::Unknown),
         Ty::None => Ok(Owner::Nothing),
-        Ty::Module => Ok(Owner::Nothing),
+        Ty::Module(_) => Ok(Owner::Nothing),
         Ty::Instance(class) => instance_iterable(alloc, notes, class),
         Ty::Class(_) => Ok(Owner::Unknown),
         Ty::List(_) => Ok(Owner::Builtin(ty.clone()?)),

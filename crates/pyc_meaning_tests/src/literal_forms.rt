@@ -1,25 +1,19 @@
 //! Modules, with their annotated literals.
 
-use pyc_ast::{Outcome, Stmt};
-use pyc_bindings::scope_bindings;
+use crate::sources::file_of;
+use pyc_ast::Outcome;
 use pyc_body::{LiteralForm, literal_forms};
-use pyc_lower::read;
 use std::alloc::Global;
 use std::fmt::Write;
 use std::test::Fail;
 
 /// The annotated literals of a source, each as its line, column, annotation and type, and ended by a `;`.
 fn forms_of(alloc: Global, source: &str) -> Result<String, Fail> {
-    match read(alloc, source.as_bytes())? {
-        Outcome::Tree(module) => forms_in(alloc, &module.statements),
+    let file = file_of(alloc, "a.py", source.as_bytes())?;
+    match file.outcome() {
+        Outcome::Tree(module) => { shown(alloc, &literal_forms(alloc, &file, &module.statements)?) }
         Outcome::Fault(_) => Err("no tree".into()),
     }
-}
-
-/// The annotated literals of these statements.
-fn forms_in(alloc: Global, statements: &[Stmt]) -> Result<String, Fail> {
-    let bindings = scope_bindings(alloc, statements)?;
-    shown(alloc, &literal_forms(alloc, &bindings, statements)?)
 }
 
 /// These annotated literals, one after another.

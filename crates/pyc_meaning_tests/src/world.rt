@@ -227,20 +227,22 @@ fn types_at(file: &SourceFile, statement: &Stmt) -> (Option<Builtin>, Option<Bui
     }
 }
 
-/// The types of the annotation and of the value of the first statement of a file, where there is one.
-fn types_in(file: &SourceFile) -> Option<(Option<Builtin>, Option<Builtin>)> {
-    match file.outcome() {
-        Outcome::Tree(module) => module.statements.first().map(|first| types_at(file, first)),
-        Outcome::Fault(_) => None,
-    }
-}
-
-/// The types of the annotation and of the value of the first statement of a source.
-fn types_of(
-    alloc: Global,
-    source: &str,
-) -> Result<Option<(Option<Builtin>, Option<Builtin>)>, AllocError> {
-    Ok(types_in(&file_of(alloc, "a.py", source.as_bytes())?))
+/// The types of the annotation and of the value of the first statement of a source, in the file that it is.
+fn types_of(alloc: Global, source: &str) -> Result<(Option<Builtin>, Option<Builtin>), Fail> {
+    let file = file_of(alloc, "a.py", source.as_bytes())?;
+    let Outcome::Tree(Module { statements, .. }) = file.outcome() else {
+        return Err("no tree".into());
+    };
+    let Some(first) = statements.first() else {
+        return Err("no statement".into());
+    };
+    let StmtForm::Annotate(found) = &first.form else {
+        return Err("no annotation".into());
+    };
+    Ok((
+        annotation_builtin(&file, &found.annotation),
+        found.value.as_ref().and_then(|value| literal_type(value)),
+    ))
 }
 
 /// Annotated names: the types of the annotation and of the value, where they have one.

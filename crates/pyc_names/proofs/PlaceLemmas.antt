@@ -1,16 +1,12 @@
--- Places of files by their modules, and of bindings by their names.
-use Rattle.std.proofs.Common.{◌≡◌, ℕ, zero, suc, ◌+◌, ◌-◌, ◌<◌, ◌≤◌, Bool, true, false, cond, ◌||◌, bytes_eq, is_some, List, [], ◌∷◌, ◌++◌, map, drop, length, get_or, slice_get, Option, None, Some, true≢false, refl, sym, ap, ◌∙◌, arith, append_assoc, length-append, add-one, drop-cons}
+-- Places of files by their modules.
+use Rattle.std.proofs.Common.{◌≡◌, ℕ, zero, suc, ◌+◌, ◌-◌, ◌<◌, ◌≤◌, Bool, true, false, cond, ◌||◌, bytes_eq, is_some, List, [], ◌∷◌, map, drop, length, get_or, slice_get, Option, Some, true≢false, refl, sym, ap, ◌∙◌, arith, drop-cons}
 use Rattle.std.specs.declared.alloc.Global.{Global}
 use Rattle.std.specs.declared.rc.Rc.{Rc}
 use Rattle.std.specs.declared.vec.Vec.{Vec}
-use Rattle.std.specs.List.{find, position_from, list_any, starts_with}
+use Rattle.std.specs.List.{position_from, list_any, starts_with}
 use Rattle.std.specs.Map.{lookup}
-use Rattle.std.proofs.lemmas.List.{length-map}
 use Rattle.indexmap.specs.IndexMap.{insert_entry}
-use Rattle.pyc_bindings.specs.Bindings.{Binding}
-use Rattle.pyc_bindings.specs.BindingView.{binding_of}
-use Rattle.pyc_bindings.specs.Redefinitions.{declaration}
-use Rattle.pyc_bindings.specs.declared.binding.Binding.{Binding as BindingOf}
+use Rattle.pyc_bindings.proofs.PlaceLemmas.{chosen, found_at, place_within}
 use Rattle.pyc_names.specs.declared.source_file.SourceFile.{SourceFile as SourceFileOf}
 use Rattle.pyc_names.specs.FixedModules.{fixed_module}
 use Rattle.pyc_names.specs.Following.{has_module}
@@ -20,39 +16,6 @@ use Rattle.pyc_names.specs.SourceFiles.{SourceFile, file_of}
 use Rattle.pyc_names.specs.SourceFileView.{source_in, sources_in}
 use Rattle.std.proofs.lemmas.Slice.Eq.{bytes_eq-Decides}
 use Rattle.pyc_names.proofs.RingLemmas.{same_module-is, same_module-same}
-
--- the element at an index, or none where there is no index
-abbrev pub chosen : {X : Type 0} → Option ℕ → List X → Option X
-chosen None all = None
-chosen (Some i) all = slice_get all i
-
-at_length : {X : Type 0} (pre xs : List X) (x : X) → slice_get (pre ++ x ∷ xs) (length pre) ≡ Some x
-at_length [] xs x = refl
-at_length (y ∷ pre) xs x = at_length pre xs x
-
-found_here : {X : Type 0} (t : X → Bool) (pre xs : List X) (x : X) (b : Bool) → find t xs ≡ chosen (position_from t (length pre + 1) xs) (pre ++ x ∷ xs)
-    → cond b (Some x) (find t xs) ≡ chosen (cond b (Some (length pre)) (position_from t (length pre + 1) xs)) (pre ++ x ∷ xs)
-found_here t pre xs x true next = sym (at_length pre xs x)
-found_here t pre xs x false next = next
-
--- the first that passes is at the first place that passes
-found_at : {X : Type 0} (t : X → Bool) (pre xs : List X) → find t xs ≡ chosen (position_from t (length pre) xs) (pre ++ xs)
-found_at t pre [] = refl
-found_at t pre (x ∷ xs) =
-    let longer : length (pre ++ x ∷ []) ≡ length pre + 1 = length-append pre (x ∷ []) in
-    found_here t pre xs x (t x)
-    (found_at t (pre ++ x ∷ []) xs ∙ ap (λ n. chosen (position_from t n xs) ((pre ++ x ∷ []) ++ xs)) longer
-    ∙ ap (chosen (position_from t (length pre + 1) xs)) (append_assoc pre (x ∷ []) xs))
-
-within_here : {X : Type 0} (t : X → Bool) (n i : ℕ) (xs : List X) (b : Bool) → (position_from t (n + 1) xs ≡ Some i → i < (n + 1) + length xs)
-    → cond b (Some n) (position_from t (n + 1) xs) ≡ Some i → i < n + suc (length xs)
-within_here t n i xs true next h = let e : n ≡ i = cc in omega arith
-within_here t n i xs false next h = let below : i < (n + 1) + length xs = next h in omega arith
-
--- a place is within
-place_within : {X : Type 0} (t : X → Bool) (n i : ℕ) (xs : List X) → position_from t n xs ≡ Some i → i < n + length xs
-place_within t n i [] h = cc
-place_within t n i (x ∷ xs) h = within_here t n i xs (t x) (place_within t (n + 1) i xs) h
 
 module _ {K V : Type 0} (eq : K → K → Bool) (test : K → Bool) (alike : (x y : K) → eq x y ≡ true → test x ≡ test y) (one : (x y : K) → test x ≡ true → test y ≡ true → eq x y ≡ true) (k : K) (v : V) where
   there : (e : K × V) (es : List (K × V)) (b : Bool) → test k ≡ b → cond b (Some v) (lookup test es) ≡ cond (test k) (Some v) (cond b (Some e.1) (lookup test es))
@@ -146,38 +109,3 @@ there_placed m files h = by (is_root m || is_some (fixed_module m)) ∙ ap (λ b
     by : (b : Bool) → true ≡ (b || true)
     by true = refl
     by false = refl
-
--- ---- bindings
-
--- the first binding of each name, one binding more
-pub binding_more : (n : List ℕ) (bindings : List BindingOf) (left : ℕ) (b : BindingOf) (old new : Option ℕ) (key : List ℕ)
-    → 0 < left → left ≤ length bindings → b ≡ get_or bindings (left - 1) b → key ≡ b.name
-    → new ≡ cond (bytes_eq key n) (Some (left - 1)) old
-    → old ≡ position_from (λ (b : Binding). bytes_eq b.name n) left (map binding_of (drop left bindings))
-    → new ≡ position_from (λ (b : Binding). bytes_eq b.name n) (left - 1) (map binding_of (drop (left - 1) bindings))
-binding_more n bindings left b old new key some within is named put before =
-    let t : Binding → Bool = λ b. bytes_eq b.name n in
-    let below : left - 1 < length bindings = omega arith in
-    let next : suc (left - 1) ≡ left = omega arith in
-    let onward : left - 1 + 1 ≡ left = omega arith in
-    let first : drop (left - 1) bindings ≡ b ∷ drop left bindings = drop-cons bindings (left - 1) b below ∙ ap (λ x. x ∷ drop (suc (left - 1)) bindings) (sym is) ∙ ap (λ i. b ∷ drop i bindings) next in
-    put ∙ ap (λ k. cond (bytes_eq k n) (Some (left - 1)) old) named
-    ∙ ap (cond (t (binding_of b)) (Some (left - 1))) (before ∙ ap (λ i. position_from t i (map binding_of (drop left bindings))) (sym onward))
-    ∙ ap (λ l. position_from t (left - 1) (map binding_of l)) (sym first)
-
--- the plain binding of one is the plain one at its place
-pub binding_at : (bindings : List BindingOf) (i : ℕ) (b : BindingOf) → i < length bindings → b ≡ get_or bindings i b → Some (binding_of b) ≡ slice_get (map binding_of bindings) i
-binding_at [] i b within is = absurd (omega arith)
-binding_at (x ∷ bindings) zero b within is = ap (λ (x : BindingOf). Some (binding_of x)) is
-binding_at (x ∷ bindings) (suc i) b within is = let below : i < length bindings = omega arith in binding_at bindings i b below is
-
-module _ (bindings : List BindingOf) (n : List ℕ) where
-  -- the place of a name is within the bindings
-  pub declared_within : (i : ℕ) → position_from (λ (b : Binding). bytes_eq b.name n) 0 (map binding_of bindings) ≡ Some i → i < length bindings
-  declared_within i h =
-      let below : i < 0 + length (map binding_of bindings) = place_within (λ (b : Binding). bytes_eq b.name n) 0 i (map binding_of bindings) h in
-      omega (arith, length-map bindings binding_of)
-
-  -- the declaration of a name is the binding at its place
-  pub declared_at : (o : Option ℕ) → o ≡ position_from (λ (b : Binding). bytes_eq b.name n) 0 (map binding_of bindings) → chosen o (map binding_of bindings) ≡ declaration (map binding_of bindings) n
-  declared_at o h = ap (λ p. chosen p (map binding_of bindings)) h ∙ sym (found_at (λ (b : Binding). bytes_eq b.name n) [] (map binding_of bindings))

@@ -1,10 +1,10 @@
 //! A file as names see it.
 
-ghost use Rattle.std.specs.Prelude.{◌≡◌, ℕ, List, bytes_eq, map, IfOk, option_map};
-ghost use Rattle.std.specs.List.{position_from};
+ghost use Rattle.std.specs.Prelude.{◌≡◌, ℕ, List, bytes_eq, map, take, IfOk, option_map};
 ghost use Rattle.indexmap.specs.IndexMap.{get_by};
 ghost use Rattle.pyc_ast.specs.Modules.{outcome_of};
 ghost use Rattle.pyc_bindings.specs.BindingView.{binding_of};
+ghost use Rattle.pyc_bindings.specs.FirstBindings.{declaration_place};
 ghost use Rattle.pyc_bindings.specs.Redefinitions as again;
 ghost use Rattle.pyc_bindings.specs.RedefinitionView.{redefinition_of};
 ghost use Rattle.pyc_members.specs.DeclaredClassView.{declared_class_in};
@@ -15,7 +15,10 @@ use crate::fixed::fixed_module;
 use crate::module_name::ModuleName;
 use indexmap::IndexMap;
 use pyc_ast::{Outcome, Text};
-use pyc_bindings::{Binding, Redefinition, redefinitions, scope_bindings};
+use pyc_bindings::{
+    Binding, Redefinition, declaration_at, declaration_before, first_places, redefinitions_at,
+    scope_bindings,
+};
 use pyc_members::{DeclaredClass, declared_classes};
 use std::alloc::{AllocError, Global};
 use std::rc::Rc;
@@ -29,12 +32,12 @@ pub struct SourceFile {
     is_package: bool,
     outcome: Outcome,
     bindings: Vec<Binding>,
-    /// The index of the first binding of each name.
+    /// The place of the first binding of each name.
     places: IndexMap<Text, usize>,
     again: Vec<Redefinition>,
     classes: Vec<Rc<DeclaredClass>>,
     ghost places_are: { (n : List ℕ) → get_by (bytes_eq n) places
-        ≡ position_from (λ b. bytes_eq b.name n) 0 (map binding_of bindings.items) },
+        ≡ declaration_place (map binding_of bindings.items) n },
 }
 
 impl SourceFile {
@@ -53,8 +56,8 @@ impl SourceFile {
         ensures { IfOk result (λ file. source_in file ≡ spec.source_file path.now (outcome_of outcome)) }
     {
         let bindings = top_bindings(alloc, &outcome)?;
-        let places = places_of(alloc, &bindings)?;
-        let again = redefinitions(alloc, &bindings)?;
+        let places = first_places(alloc, &bindings)?;
+        let again = redefinitions_at(alloc, &places, &bindings)?;
         let classes = classes_in(alloc, &name, &bindings, &outcome)?;
         Ok(SourceFile {
             is_package: path.as_bytes().ends_with(b"/__init__.py"),
@@ -108,10 +111,15 @@ impl SourceFile {
         ensures { option_map (λ found. binding_of found.now) result
             ≡ again.declaration (source_in self.now).bindings name.now }
     {
-        match self.places.get(name) {
-            Some(place) => Some(&self.bindings[*place]),
-            None => None,
-        }
+        declaration_at(&self.places, &self.bindings, name)
+    }
+
+    /// The declaration of a name among so many of the first bindings of the file's top level. It takes no memory.
+    pub fn declaration_before(&self, count: usize, name: &Text) -> Option<&Binding>
+        ensures { option_map (λ found. binding_of found.now) result
+            ≡ again.declaration (take count (source_in self.now).bindings) name.now }
+    {
+        declaration_before(&self.places, &self.bindings, count, name)
     }
 
     /// The names that the bindings of the file's top level define again, in text order.
@@ -137,20 +145,6 @@ fn top_bindings(alloc: Global, outcome: &Outcome) -> Result<Vec<Binding>, AllocE
         Outcome::Tree(module) => scope_bindings(alloc, &module.statements),
         Outcome::Fault(_) => Ok(Vec::new(alloc)),
     }
-}
-
-/// The index of the first binding of each name among bindings.
-fn places_of(alloc: Global, bindings: &[Binding]) -> Result<IndexMap<Text, usize>, AllocError>
-    ensures { IfOk result (λ places. (n : List ℕ) → get_by (bytes_eq n) places
-        ≡ position_from (λ b. bytes_eq b.name n) 0 (map binding_of bindings.now)) }
-{
-    let mut places = IndexMap::new(alloc);
-    let mut left = bindings.len();
-    while left > 0 {
-        left -= 1;
-        places.insert(bindings[left].name.clone()?, left)?;
-    }
-    Ok(places)
 }
 
 /// The classes that a source of a module declares, where these are the bindings of its top level.

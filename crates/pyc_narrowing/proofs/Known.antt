@@ -44,7 +44,7 @@ mutual
   items_agree : (o p : Orders) (ty : Ty) → AgreeBuiltins o p → AgreeEach o p (written ty) → AgreeItems o p (items_of ty)
   items_agree o p any b h = (tt, tt)
   items_agree o p none b h = (tt, tt)
-  items_agree o p module_type b h = (tt, tt)
+  items_agree o p (module_type m) b h = (tt, tt)
   items_agree o p (instance c) b h = (h.0, tt)
   items_agree o p (class_object c) b h = (tt, tt)
   items_agree o p (list x) b h = (b class.List, tt)
@@ -75,7 +75,7 @@ same_instance o p item d c own tested = ap (λ (x : Order). left_by item d c x (
 same_item : (o p : Orders) (item : Ty) (c : Id) → AgreeClass o p (class_of item) → o c ≡ p c → narrowed_item o item c ≡ narrowed_item p item c
 same_item o p any c own tested = refl
 same_item o p none c own tested = refl
-same_item o p module_type c own tested = refl
+same_item o p (module_type m) c own tested = refl
 same_item o p (instance d) c own tested = same_instance o p (instance d) d c own tested
 same_item o p (class_object d) c own tested = refl
 same_item o p (list x) c own tested = same_instance o p (list x) (builtin class.List) c own tested

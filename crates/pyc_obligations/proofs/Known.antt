@@ -73,7 +73,7 @@ mutual
   agree_on : (o p : Orders) (t : Ty) → AgreeEach o p (written t) → AgreeOn o p t
   agree_on o p any h = tt
   agree_on o p none h = tt
-  agree_on o p module_type h = tt
+  agree_on o p (module_type m) h = tt
   agree_on o p (instance c) h = h.0
   agree_on o p (class_object c) h = h.0
   agree_on o p (list x) h = agree_on o p x h

@@ -18,7 +18,7 @@ abbrev mutual
   pub written : Ty → List Id
   written any = []
   written none = []
-  written module_type = []
+  written (module_type m) = []
   written (instance c) = c ∷ []
   written (class_object c) = c ∷ []
   written (list x) = written x

@@ -88,7 +88,7 @@ pub fn ask_written<N: Judge>(alloc: Global, notes: &mut N, ty: &Ty) -> Result<()
         (N.desk notes.new) }
 {
     match ty {
-        Ty::Any | Ty::None | Ty::Module => Ok(()),
+        Ty::Any | Ty::None | Ty::Module(_) => Ok(()),
         Ty::Instance(class) => ask_class(alloc, notes, class),
         Ty::Class(class) => ask_class(alloc, notes, class),
         Ty::List(item) | Ty::TupleOf(item) => ask_written(alloc, notes, item),

@@ -34,7 +34,7 @@ class_sort (user m x) = s.Other
 abbrev pub sort_of : Ty → Sort
 sort_of any = s.Any
 sort_of none = s.None
-sort_of module_type = s.Other
+sort_of (module_type m) = s.Other
 sort_of (instance c) = class_sort c
 sort_of (class_object c) = s.Class
 sort_of (list item) = s.List

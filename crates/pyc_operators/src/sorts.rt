@@ -28,7 +28,7 @@ pub(crate) fn sort_of(ty: &Ty) -> Sort
         Ty::Dict(_) => Sort::Dict,
         Ty::Tuple(_) => Sort::Tuple,
         Ty::TupleOf(_) => Sort::TupleOf,
-        Ty::Module | Ty::Union(_) | Ty::Callable(_) => Sort::Other,
+        Ty::Module(_) | Ty::Union(_) | Ty::Callable(_) => Sort::Other,
     }
 }
 

@@ -2,46 +2,39 @@
 use Rattle.std.proofs.Common.{◌≡◌, ℕ, Bool, true, false, ◌||◌, codes, if◌then◌else◌, is_some, List, [], ◌∷◌, ◌++◌, flat_map, Option, None, Some, refl, sym, ap, ◌∙◌}
 use Rattle.std.proofs.lemmas.Bool.{false≢true}
 use Rattle.pyc_ast.specs.declared.position.Position.{Position}
-use Rattle.pyc_attributes.specs.AttributeValues.{no_attribute, no_item_attribute, no_module_attribute, found_type, item_type, union_item, item_types, union_attribute, single_attribute, type_attribute, answered, module_name, module_attribute, plain_attribute}
-use Rattle.pyc_attributes.specs.FoundAttributes.{Found, absent, known, member_of, absent_unless, without_member, instance_found, instance_attribute, class_object_found, class_object_attribute, item_attribute}
+use Rattle.pyc_attributes.specs.AttributeValues.{no_attribute, no_item_attribute, absent_value, found_value, item_type, union_item, item_types, union_attribute, single_attribute}
+use Rattle.pyc_attributes.specs.FoundAttributes.{Found, absent, known, member_of, name_with, module_name, module_attribute, absent_unless, without_member, instance_found, instance_attribute, class_object_found, class_object_attribute, item_attribute}
 use Rattle.pyc_builtins.specs.Members.{is_dunder}
 use Rattle.pyc_class.specs.Class.{Id, user}
 use Rattle.pyc_names.specs.declared.fixed.FixedModule.{FixedModule}
 use Rattle.pyc_names.specs.FixedModules.{fixed_module}
-use Rattle.pyc_obligations.specs.Asking.{is_unknown_class, name_in}
-use Rattle.pyc_obligations.specs.Values.{module_thing, fixed_thing, plain_thing, reveal_type_thing, isinstance_thing, plain_value}
+use Rattle.pyc_obligations.specs.Asking.{is_unknown_class}
+use Rattle.pyc_obligations.specs.Values.{plain_value}
 use Rattle.pyc_read_laws.proofs.AskedLemmas.{asked-and_then, asked-then_nothing}
-use Rattle.pyc_read_laws.specs.AttributeRows.{item_attribute_keys, ModuleAttributeReads, InstanceAttributeReads, ClassObjectAttributeReads, SingleAttributeReads, UnionAttributeReads, ValueAttributeReads}
+use Rattle.pyc_read_laws.specs.AttributeRows.{module_attribute_keys, item_attribute_keys, ModuleAttributeReads, InstanceAttributeReads, ClassObjectAttributeReads, SingleAttributeReads, UnionAttributeReads, ValueAttributeReads}
 use Rattle.pyc_read_laws.specs.NameRows.{is_fixed}
 use Rattle.pyc_read_laws.specs.Rows.{Answers, name_key, class_key, member_key, member_at, has_no_order}
-use Rattle.pyc_reading.specs.Answers.{MemberAnswer, NameAnswer, NameKind, no_name}
+use Rattle.pyc_reading.specs.Answers.{MemberAnswer}
 use Rattle.pyc_reading.specs.Readings.{Done, and_then, result_of, asked}
 use Rattle.pyc_type_forms.specs.Types.{Ty, any, none, module_type, instance, class_object, list, dict, tuple, tuple_of, union, callable}
 use Rattle.pyc_type_forms.specs.Unions.{row_items, union_of}
 
 -- ---- modules
 
-answered-asks : (answers : Answers) (at : Position) (n : List ℕ) (found : NameAnswer) (kind : NameKind) → asked answers (answered at n found kind) ≡ []
-unfolding no_module_attribute
-answered-asks answers at n found no_name = refl
-answered-asks answers at n found _ = refl
-
-module_name-asks : (answers : Answers) (at : Position) (m : List (List ℕ)) (n : List ℕ) (found : Option FixedModule)
-    → asked answers (module_name at m n found) ≡ (if is_some found then [] else name_key m n ∷ [])
+module_name-asks : (answers : Answers) (m : List (List ℕ)) (n : List ℕ) (found : Option FixedModule)
+    → asked answers (module_name m n found) ≡ (if is_some found then [] else name_key m n ∷ [])
 unfolding and_then
-module_name-asks answers at m n (Some found) = refl
-module_name-asks answers at m n None =
-    let found = name_in (answers (name_key m n)) in
-    ap (λ l. name_key m n ∷ l) (answered-asks answers at n found found.kind)
+module_name-asks answers m n (Some found) = refl
+module_name-asks answers m n None = refl
 
-unless_dunder-asks : (answers : Answers) (at : Position) (m : List (List ℕ)) (n : List ℕ) (b : Bool)
-    → asked answers (if b then Done (plain_value any) else module_name at m n (fixed_module m)) ≡ (if b || is_fixed m then [] else name_key m n ∷ [])
-unless_dunder-asks answers at m n true = refl
-unless_dunder-asks answers at m n false = module_name-asks answers at m n (fixed_module m)
+unless_dunder-asks : (answers : Answers) (m : List (List ℕ)) (n : List ℕ) (b : Bool)
+    → asked answers (if b then Done (known any) else module_name m n (fixed_module m)) ≡ (if b || is_fixed m then [] else name_key m n ∷ [])
+unless_dunder-asks answers m n true = refl
+unless_dunder-asks answers m n false = module_name-asks answers m n (fixed_module m)
 
-pub module_attribute_asks : ModuleAttributeReads
+module_attribute-asks : (answers : Answers) (m : List (List ℕ)) (n : List ℕ) → asked answers (module_attribute m n) ≡ module_attribute_keys m n
 unfolding module_attribute
-module_attribute_asks answers at ty m n = unless_dunder-asks answers at m n (is_dunder n)
+module_attribute-asks answers m n = unless_dunder-asks answers m n (is_dunder n)
 
 -- ---- classes of sources
 
@@ -82,18 +75,23 @@ item_attribute-asks : (answers : Answers) (ty : Ty) (n : List ℕ) → asked ans
 unfolding and_then instance_attribute class_object_attribute
 item_attribute-asks answers (instance (user m x)) n = ap (λ l. member_key (user m x) n ∷ l) (instance_found-asks answers m x n (member_at answers (user m x) n))
 item_attribute-asks answers (class_object (user m x)) n = ap (λ l. member_key (user m x) n ∷ l) (class_object_found-asks answers m x n (member_at answers (user m x) n))
+item_attribute-asks answers (module_type m) n = module_attribute-asks answers m n
 item_attribute-asks answers _ n = refl
 
-found_type-asks : (answers : Answers) (at : Position) (ty : Ty) (n : List ℕ) (found : Found) → asked answers (found_type at ty n found) ≡ []
-unfolding no_attribute
-found_type-asks answers at ty n absent = refl
-found_type-asks answers at ty n (known found) = refl
-found_type-asks answers at ty n (member_of c kind found) = refl
+found_value-asks : (answers : Answers) (at : Position) (ty : Ty) (n : List ℕ) (found : Found) → asked answers (found_value at ty n found) ≡ []
+unfolding and_then no_attribute absent_value
+found_value-asks answers at ty n absent = refl
+found_value-asks answers at ty n (known found) = refl
+found_value-asks answers at ty n (member_of c kind found) = refl
+found_value-asks answers at ty n (name_with found) = refl
 
 single-asks : (answers : Answers) (at : Position) (ty : Ty) (n : List ℕ) → asked answers (single_attribute at ty n) ≡ item_attribute_keys answers ty n
 unfolding single_attribute
 single-asks answers at ty n =
-    asked-then_nothing answers (item_attribute ty n) (found_type at ty n) (λ found. found_type-asks answers at ty n found) ∙ item_attribute-asks answers ty n
+    asked-then_nothing answers (item_attribute ty n) (found_value at ty n) (λ found. found_value-asks answers at ty n found) ∙ item_attribute-asks answers ty n
+
+pub module_attribute_asks : ModuleAttributeReads
+module_attribute_asks answers at m n = single-asks answers at (module_type m) n
 
 pub instance_attribute_asks : InstanceAttributeReads
 instance_attribute_asks answers at m x n = single-asks answers at (instance (user m x)) n
@@ -105,7 +103,7 @@ pub single_attribute_asks : SingleAttributeReads
 single_attribute_asks answers at (union items) n single = absurd (false≢true (sym single))
 single_attribute_asks answers at any n single = single-asks answers at any n
 single_attribute_asks answers at none n single = single-asks answers at none n
-single_attribute_asks answers at module_type n single = single-asks answers at module_type n
+single_attribute_asks answers at (module_type m) n single = single-asks answers at (module_type m) n
 single_attribute_asks answers at (instance c) n single = single-asks answers at (instance c) n
 single_attribute_asks answers at (class_object c) n single = single-asks answers at (class_object c) n
 single_attribute_asks answers at (list item) n single = single-asks answers at (list item) n
@@ -121,6 +119,7 @@ unfolding no_item_attribute
 item_type-asks answers at whole item n absent = refl
 item_type-asks answers at whole item n (known found) = refl
 item_type-asks answers at whole item n (member_of c kind found) = refl
+item_type-asks answers at whole item n (name_with found) = refl
 
 union_item-asks : (answers : Answers) (at : Position) (whole : Ty) (n : List ℕ) (item : Ty) → asked answers (union_item at whole n item) ≡ item_attribute_keys answers item n
 unfolding union_item
@@ -141,18 +140,10 @@ item_types-asks answers at whole n found (item ∷ items) =
 pub union_attribute_asks : UnionAttributeReads
 unfolding union_attribute
 union_attribute_asks answers at items n =
-    asked-then_nothing answers (item_types at (union items) n [] (row_items items)) (λ found. Done (union_of found)) (λ found. refl)
+    asked-then_nothing answers (item_types at (union items) n [] (row_items items)) (λ found. Done (plain_value (union_of found))) (λ found. refl)
     ∙ item_types-asks answers at (union items) n [] (row_items items)
 
 -- ---- values
 
-plain-asks : (answers : Answers) (at : Position) (ty : Ty) (n : List ℕ) → asked answers (plain_attribute at ty n) ≡ asked answers (type_attribute at ty n)
-unfolding plain_attribute
-plain-asks answers at ty n = asked-then_nothing answers (type_attribute at ty n) (λ found. Done (plain_value found)) (λ found. refl)
-
 pub value_attribute_asks : ValueAttributeReads
-value_attribute_asks answers at ty (module_thing m) n plain = absurd (false≢true (sym plain))
-value_attribute_asks answers at ty plain_thing n plain = plain-asks answers at ty n
-value_attribute_asks answers at ty (fixed_thing found) n plain = plain-asks answers at ty n
-value_attribute_asks answers at ty reveal_type_thing n plain = plain-asks answers at ty n
-value_attribute_asks answers at ty isinstance_thing n plain = plain-asks answers at ty n
+value_attribute_asks answers at ty thing n = refl

@@ -190,7 +190,7 @@ pub iteration_asks : IterationReads
 iteration_asks answers at (union items) = union-asks answers at items
 iteration_asks answers at any = single-asks answers at any
 iteration_asks answers at none = single-asks answers at none
-iteration_asks answers at module_type = single-asks answers at module_type
+iteration_asks answers at (module_type m) = single-asks answers at (module_type m)
 iteration_asks answers at (instance c) = single-asks answers at (instance c)
 iteration_asks answers at (class_object c) = single-asks answers at (class_object c)
 iteration_asks answers at (list item) = single-asks answers at (list item)

@@ -5,13 +5,13 @@ use Rattle.pyc_ast.specs.declared.position.Position.{Position}
 use Rattle.pyc_attributes.specs.AttributeValues.{attribute, type_attribute}
 use Rattle.pyc_builtins.specs.Members.{is_dunder}
 use Rattle.pyc_class.specs.Class.{Id, user}
-use Rattle.pyc_obligations.specs.Values.{Thing, module_thing}
+use Rattle.pyc_obligations.specs.Values.{Thing}
 use Rattle.pyc_read_laws.specs.NameRows.{is_fixed}
 use Rattle.pyc_read_laws.specs.Rows.{Answers, name_key, class_key, member_key, has_no_order, has_member}
 use Rattle.pyc_reading.specs.Keys.{Key}
 use Rattle.pyc_reading.specs.Readings.{asked}
 use Rattle.pyc_scopes.specs.NamedValues.{value_with}
-use Rattle.pyc_type_forms.specs.Types.{Ty, Tys, instance, class_object, union}
+use Rattle.pyc_type_forms.specs.Types.{Ty, Tys, module_type, instance, class_object, union}
 use Rattle.pyc_type_forms.specs.Unions.{row_items}
 
 -- ---- the rows
@@ -35,18 +35,14 @@ abbrev pub class_attribute_keys : Answers → Id → List ℕ → List Key
 class_attribute_keys answers c n =
     member_key c n ∷ (if has_member answers c n || is_dunder n then [] else class_key c ∷ [])
 
--- of an item of a type: of what is no instance and no class object of a class of a source nothing
+-- of an item of a type: of what is no instance and no class object of a class of a source, and no module, nothing
 abbrev pub item_attribute_keys : Answers → Ty → List ℕ → List Key
 item_attribute_keys answers (instance (user m x)) n = instance_attribute_keys answers (user m x) n
 item_attribute_keys answers (class_object (user m x)) n = class_attribute_keys answers (user m x) n
+item_attribute_keys answers (module_type m) n = module_attribute_keys m n
 item_attribute_keys answers _ n = []
 
 -- ---- the laws
-
--- whether a value is a module
-abbrev pub is_module : Thing → Bool
-is_module (module_thing m) = true
-is_module _ = false
 
 -- whether a type is a union
 abbrev pub is_union : Ty → Bool
@@ -56,8 +52,8 @@ is_union _ = false
 -- the law of attributes of modules
 abbrev pub ModuleAttributeReads : Type 0
 ModuleAttributeReads =
-    (answers : Answers) (at : Position) (ty : Ty) (m : List (List ℕ)) (n : List ℕ)
-    → asked answers (attribute at (value_with ty (module_thing m)) n) ≡ module_attribute_keys m n
+    (answers : Answers) (at : Position) (m : List (List ℕ)) (n : List ℕ)
+    → asked answers (type_attribute at (module_type m) n) ≡ module_attribute_keys m n
 
 -- the law of attributes of instances of classes of sources
 abbrev pub InstanceAttributeReads : Type 0
@@ -84,9 +80,8 @@ UnionAttributeReads =
     → asked answers (type_attribute at (union items) n)
     ≡ flat_map (λ item. item_attribute_keys answers item n) (row_items items)
 
--- the law of attributes of values that are no modules: the keys of the type
+-- the law of attributes of values: the keys of the type
 abbrev pub ValueAttributeReads : Type 0
 ValueAttributeReads =
     (answers : Answers) (at : Position) (ty : Ty) (thing : Thing) (n : List ℕ)
-    → is_module thing ≡ false
     → asked answers (attribute at (value_with ty thing) n) ≡ asked answers (type_attribute at ty n)

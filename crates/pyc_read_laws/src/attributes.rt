@@ -32,7 +32,7 @@ pub fn union_attribute_asks()
     ensures { UnionAttributeReads }
 {}
 
-/// An attribute of a value that is no module asks what its type says.
+/// An attribute of a value asks what its type says.
 pub fn value_attribute_asks()
     ensures { ValueAttributeReads }
 {}

@@ -16,8 +16,8 @@ use Rattle.pyc_names.specs.declared.fixed.FixedName.{FixedName}
 use Rattle.pyc_names.specs.FixedModules.{fixed_module, fixed_name}
 use Rattle.pyc_names.specs.SourceFiles.{SourceFile}
 use Rattle.pyc_obligations.specs.Asking.{asked_name}
-use Rattle.pyc_obligations.specs.Values.{Thing, Value, plain_thing, module_thing, fixed_thing, reveal_type_thing}
-use Rattle.pyc_obligations.specs.Values.{isinstance_thing, plain_value}
+use Rattle.pyc_obligations.specs.Values.{Thing, Value, plain_thing, fixed_thing, reveal_type_thing, isinstance_thing}
+use Rattle.pyc_obligations.specs.Values.{plain_value}
 use Rattle.pyc_reading.specs.Answers.{NameAnswer, NameKind}
 use Rattle.pyc_reading.specs.Answers as kind
 use Rattle.pyc_reading.specs.Desks.{Step}
@@ -35,7 +35,6 @@ value_with ty thing = record { ty = ty; thing = thing }
 
 -- which thing a name of this kind is
 abbrev pub thing_of_kind : NameKind → Thing
-thing_of_kind (kind.module_name m) = module_thing m
 thing_of_kind (kind.fixed found) = fixed_thing found
 thing_of_kind _ = plain_thing
 

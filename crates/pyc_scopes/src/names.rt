@@ -207,7 +207,6 @@ fn thing_of_kind(kind: NameKind) -> Thing
     ensures { thing_of result ≡ spec.thing_of_kind (kind_of kind) }
 {
     match kind {
-        NameKind::Module(home) => Thing::Module(home),
         NameKind::Fixed(name) => Thing::Fixed(name),
         _ => Thing::Plain,
     }

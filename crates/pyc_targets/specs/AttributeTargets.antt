@@ -3,8 +3,8 @@
 use Rattle.std.specs.Prelude.{ℕ, Bool, true, false, not, ◌&&◌, codes, if◌then◌else◌}
 use Rattle.std.specs.Prelude.{List, [], ◌∷◌, ◌++◌, Option, None, Some}
 use Rattle.pyc_ast.specs.declared.position.Position.{Position}
-use Rattle.pyc_attributes.specs.AttributeValues.{no_attribute, no_item_attribute, no_module_attribute}
-use Rattle.pyc_attributes.specs.FoundAttributes.{Found, absent, known, member_of, item_attribute}
+use Rattle.pyc_attributes.specs.AttributeValues.{no_attribute, no_item_attribute}
+use Rattle.pyc_attributes.specs.FoundAttributes.{Found, absent, known, member_of, name_with, item_attribute}
 use Rattle.pyc_builtins.specs.declared.members.FoundMember.{FoundMember}
 use Rattle.pyc_builtins.specs.declared.members.Member.{Member}
 use Rattle.pyc_builtins.specs.declared.members.Member.TheVariants as member
@@ -12,18 +12,15 @@ use Rattle.pyc_builtins.specs.Members.{builtin_member, is_dunder}
 use Rattle.pyc_class.specs.declared.builtin_class.BuiltinClass.{BuiltinClass}
 use Rattle.pyc_class.specs.declared.builtin_class.BuiltinClass.TheVariants as class
 use Rattle.pyc_class.specs.Class.{Id, builtin_of, name_of}
-use Rattle.pyc_names.specs.declared.fixed.FixedModule.{FixedModule}
-use Rattle.pyc_names.specs.FixedModules.{fixed_module}
-use Rattle.pyc_obligations.specs.Asking.{asked_name}
-use Rattle.pyc_obligations.specs.Values.{Thing, Value, module_thing}
-use Rattle.pyc_reading.specs.Answers.{NameAnswer, NameKind, no_name, function_name, class_name, module_name}
+use Rattle.pyc_obligations.specs.Values.{Value}
+use Rattle.pyc_reading.specs.Answers.{NameKind, function_name, class_name, module_name}
 use Rattle.pyc_reading.specs.declared.answer.MemberKind.{MemberKind}
 use Rattle.pyc_reading.specs.declared.answer.MemberKind.TheVariants as kind
 use Rattle.pyc_reading.specs.Desks.{Step}
 use Rattle.pyc_reading.specs.Readings.{Done, Tell, and_then}
 use Rattle.pyc_report.specs.declared.message.Code.TheVariants.{Misc}
 use Rattle.pyc_report.specs.Message.{error_at}
-use Rattle.pyc_type_forms.specs.Types.{Ty, any, instance, class_object, list, dict, tuple, tuple_of, union}
+use Rattle.pyc_type_forms.specs.Types.{Ty, instance, class_object, list, dict, tuple, tuple_of, union}
 use Rattle.pyc_type_forms.specs.Unions.{items_of, union_of}
 
 -- ---- what is told
@@ -62,6 +59,15 @@ is_method_of n None = false
 unfoldable pub is_builtin_method : Ty → List ℕ → Bool
 is_builtin_method owner n = is_method_of n (builtin_class_of owner)
 
+-- ---- names of modules
+
+-- a name of a module, by its kind: a function, a class or a module takes anything
+abbrev pub name_want : NameKind → Ty → Option Ty
+name_want function_name ty = None
+name_want class_name ty = None
+name_want (module_name m) ty = None
+name_want _ ty = Some ty
+
 -- ---- members
 
 -- a property that has no setter: nothing is known of it through the class object
@@ -93,6 +99,7 @@ abbrev pub found_want : (at inside : Position) → Ty → Ty → List ℕ → Fo
 found_want at inside whole item n absent = absent_want inside whole item n
 found_want at inside whole item n (known ty) = Done (known_want (is_builtin_method item n) ty)
 found_want at inside whole item n (member_of home form ty) = member_want at item n home form ty
+found_want at inside whole item n (name_with found) = Done (name_want found.kind found.ty)
 
 unfoldable pub item_want : (at inside : Position) → Ty → List ℕ → Ty → Step (Option Ty)
 item_want at inside whole n item = and_then (item_attribute item n) (found_want at inside whole item n)
@@ -125,35 +132,9 @@ unfoldable pub type_want : (at inside : Position) → Ty → List ℕ → Step (
 type_want at inside ty n =
     and_then (more_wants at inside ty n no_wants (items_of ty)) (λ found. Done (want_of found))
 
--- ---- modules
-
-unfoldable pub no_module_want : Position → List ℕ → Step (Option Ty)
-no_module_want at n = and_then (no_module_attribute at n) (λ found. Done (Some found.ty))
-
--- a name of a module, by its kind: a function, a class or a module takes anything
-abbrev pub answered_want : Position → List ℕ → NameAnswer → NameKind → Step (Option Ty)
-answered_want at n found no_name = no_module_want at n
-answered_want at n found function_name = Done None
-answered_want at n found class_name = Done None
-answered_want at n found (module_name m) = Done None
-answered_want at n found _ = Done (Some found.ty)
-
-abbrev pub asked_want : Position → List (List ℕ) → List ℕ → Option FixedModule → Step (Option Ty)
-asked_want at m n (Some found) = Done (Some any)
-asked_want at m n None =
-    and_then (asked_name (record { home = m; name = n })) (λ found. answered_want at n found found.kind)
-
--- Any where two underscores stand at both ends
-unfoldable pub module_want : Position → List (List ℕ) → List ℕ → Step (Option Ty)
-module_want at m n = if is_dunder n then Done (Some any) else asked_want at m n (fixed_module m)
-
 -- ---- the whole
-
-abbrev pub thing_want : (at inside : Position) → Ty → List ℕ → Thing → Step (Option Ty)
-thing_want at inside ty n (module_thing m) = module_want inside m n
-thing_want at inside ty n _ = type_want at inside ty n
 
 -- the type that an attribute of a value takes, none where it takes anything; the target begins at the first position,
 -- its parentheses included
 abbrev pub attribute_want : (at inside : Position) → Value → List ℕ → Step (Option Ty)
-attribute_want at inside owner n = thing_want at inside owner.ty n owner.thing
+attribute_want at inside owner n = type_want at inside owner.ty n

@@ -3,16 +3,17 @@
 ghost use Rattle.std.specs.Prelude.{◌≡◌, IfOk, OnOk, map, option_map};
 ghost use Rattle.pyc_attributes.specs.FoundView.{found_in};
 ghost use Rattle.pyc_obligations.specs.ValueView.{value_of};
+ghost use Rattle.pyc_reading.specs.AnswerView.{kind_of};
 ghost use Rattle.pyc_reading.specs.Desks.{Performs};
 ghost use Rattle.pyc_targets.specs.AttributeTargets as spec;
 ghost use Rattle.pyc_targets.specs.Views.{wants_in};
 ghost use Rattle.pyc_type_forms.specs.TypeView.{ty_of};
 
 use crate::members::{is_builtin_method, member_want};
-use crate::module_targets::module_want;
 use pyc_ast::{Position, Text};
 use pyc_attributes::{FoundAttribute, item_attribute, no_attribute, no_item_attribute};
-use pyc_obligations::{Judge, Thing, Value};
+use pyc_obligations::{Judge, Value};
+use pyc_reading::{NameAnswer, NameKind};
 use pyc_type_forms::{Ty, items_of, union_of};
 use std::alloc::{AllocError, Global};
 
@@ -37,10 +38,7 @@ pub fn attribute_want<N: Judge>(
     ensures { Performs (option_map ty_of) (spec.attribute_want at inside (value_of owner.now) name.now)
         (N.desk notes.old) result (N.desk notes.new) }
 {
-    match &owner.thing {
-        Thing::Module(home) => module_want(alloc, notes, inside, home, name),
-        _ => type_want(alloc, notes, at, inside, &owner.ty, name.as_str()),
-    }
+    type_want(alloc, notes, at, inside, &owner.ty, name.as_str())
 }
 
 /// What an attribute of a value of a type takes.
@@ -151,6 +149,7 @@ fn found_want<N: Judge>(
         FoundAttribute::Member(home, kind, ty) => {
             member_want(alloc, notes, at, item, name, &home, kind, ty)
         }
+        FoundAttribute::Name(found) => Ok(name_want(found)),
     }
 }
 
@@ -159,6 +158,18 @@ fn known_want(is_method: bool, ty: Ty) -> Option<Ty>
     ensures { option_map ty_of result ≡ spec.known_want is_method (ty_of ty) }
 {
     if is_method { None } else { Some(ty) }
+}
+
+/// What a name of a module takes.
+fn name_want(found: NameAnswer) -> Option<Ty>
+    ensures { option_map ty_of result ≡ spec.name_want (kind_of found.kind) (ty_of found.ty) }
+{
+    match &found.kind {
+        NameKind::Function => None,
+        NameKind::Class => None,
+        NameKind::Module(_) => None,
+        _ => Some(found.ty),
+    }
 }
 
 /// What an attribute takes that is not there.

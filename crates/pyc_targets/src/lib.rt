@@ -5,7 +5,6 @@ mod attribute_targets;
 mod item_targets;
 mod members;
 mod messages;
-mod module_targets;
 mod name_targets;
 mod slot;
 

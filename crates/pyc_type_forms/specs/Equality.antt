@@ -1,6 +1,7 @@
 -- When two types are one (typing specification, "Type system concepts": equality by structure).
 use Rattle.std.specs.Prelude.{ℕ, List, Bool, true, false, ◌&&◌, bytes_eq, Option, None, Some}
 use Rattle.std.specs.Bool.{beq}
+use Rattle.std.specs.Cmp.Lexicographic.{pointwise}
 use Rattle.pyc_class.specs.Class.{same_class}
 use Rattle.pyc_type_forms.specs.TypeView.{ParamView}
 use Rattle.pyc_type_forms.specs.Types.{Kind, plain, star, keyword_only, double_star, Slot}
@@ -31,7 +32,7 @@ abbrev mutual
   pub same_type : Ty → Ty → Bool
   same_type any any = true
   same_type none none = true
-  same_type module_type module_type = true
+  same_type (module_type m) (module_type n) = pointwise bytes_eq m n
   same_type (instance c) (instance d) = same_class c d
   same_type (class_object c) (class_object d) = same_class c d
   same_type (list x) (list y) = same_type x y

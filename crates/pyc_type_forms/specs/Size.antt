@@ -9,7 +9,7 @@ abbrev mutual
   pub size : Ty → ℕ
   size any = 1
   size none = 1
-  size module_type = 1
+  size (module_type m) = 1
   size (instance c) = 1
   size (class_object c) = 1
   size (list x) = suc (size x)

@@ -38,7 +38,7 @@ abbrev mutual
   pub text_of : Ty → List ℕ
   text_of any = codes "Any"
   text_of none = codes "None"
-  text_of module_type = codes "Module"
+  text_of (module_type parts) = codes "Module"
   text_of (instance class) = name_of class
   text_of (class_object class) = codes "type[" ++ (name_of class ++ codes "]")
   text_of (list item) = codes "list[" ++ (text_of item ++ codes "]")

@@ -50,7 +50,7 @@ listed_of (p ∷ ps) = param p.slot p.ty (listed_of ps)
 abbrev pub ty_step : Ty-F Params Ty DictView ParamView SignatureView → Ty
 ty_step layer.Any = any
 ty_step layer.None = none
-ty_step layer.Module = module_type
+ty_step (layer.Module parts) = module_type parts.value.items
 ty_step (layer.Instance class) = instance class
 ty_step (layer.Class class) = class_object class
 ty_step (layer.List item) = list item.value

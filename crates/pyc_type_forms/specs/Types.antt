@@ -19,7 +19,7 @@ mutual
   pub data Ty : Type 0 where
     any : Ty
     none : Ty
-    module_type : Ty
+    module_type : List (List ℕ) → Ty
     instance : Id → Ty
     class_object : Id → Ty
     list : Ty → Ty

@@ -15,7 +15,7 @@ pub fn same_type(ty: &Ty, other: &Ty) -> bool
     match ty {
         Ty::Any => matches!(other, Ty::Any),
         Ty::None => matches!(other, Ty::None),
-        Ty::Module => matches!(other, Ty::Module),
+        Ty::Module(parts) => matches!(other, Ty::Module(own) if parts.as_slice() == own.as_slice()),
         Ty::Instance(class) => matches!(other, Ty::Instance(own) if class == own),
         Ty::Class(class) => matches!(other, Ty::Class(own) if class == own),
         Ty::List(item) => matches!(other, Ty::List(own) if same_type(item, own)),

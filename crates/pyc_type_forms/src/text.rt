@@ -25,7 +25,7 @@ fn write_type(out: &mut String, ty: &Ty) -> Result<(), AllocError>
     match ty {
         Ty::Any => out.push_str("Any"),
         Ty::None => out.push_str("None"),
-        Ty::Module => out.push_str("Module"),
+        Ty::Module(_) => out.push_str("Module"),
         Ty::Instance(class) => out.push_str(class.name()),
         Ty::Class(class) => {
             out.push_str("type[")?;

@@ -16,8 +16,8 @@ pub enum Ty {
     Any,
     /// The type of `None`.
     None,
-    /// A module.
-    Module,
+    /// A module, by the parts of its dotted name.
+    Module(Rc<Vec<Text>>),
     /// The instances of a class; those of list, dict and tuple have forms of their own.
     Instance(ClassId),
     /// `type[C]`, the class object itself.
@@ -92,7 +92,7 @@ impl Clone for Ty {
         Ok(match self {
             Ty::Any => Ty::Any,
             Ty::None => Ty::None,
-            Ty::Module => Ty::Module,
+            Ty::Module(parts) => Ty::Module(parts.clone()?),
             Ty::Instance(class) => Ty::Instance(class.clone()?),
             Ty::Class(class) => Ty::Class(class.clone()?),
             Ty::List(item) => Ty::List(item.clone()?),

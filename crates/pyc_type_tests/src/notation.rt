@@ -26,7 +26,8 @@ fn made(alloc: Global, word: &str, stack: &mut Vec<Ty>) -> Result<Ty, Fail> {
     match word {
         "Any" => Ok(Ty::Any),
         "None" => Ok(Ty::None),
-        "Module" => Ok(Ty::Module),
+        "Module" => module(alloc, "m"),
+        "OtherModule" => module(alloc, "other"),
         "list_of" => Ok(Ty::List(shared(alloc, stack)?)),
         "tuple_of" => Ok(Ty::TupleOf(shared(alloc, stack)?)),
         "dict_of" => dict(alloc, stack),
@@ -58,6 +59,12 @@ fn made_otherwise(alloc: Global, word: &str, stack: &mut Vec<Ty>) -> Result<Ty, 
 
 fn n(alloc: Global) -> Result<Text, AllocError> {
     Text::new(alloc, "n")
+}
+
+/// The module of this name.
+fn module(alloc: Global, name: &str) -> Result<Ty, Fail> {
+    let parts = vec![in alloc; Text::new(alloc, name)?]?;
+    Ok(Ty::Module(Rc::new(alloc, parts)?))
 }
 
 fn taken(stack: &mut Vec<Ty>) -> Result<Ty, Fail> {

@@ -149,6 +149,7 @@ const PARTS: &[(&str, &str, bool)] = &[
     ("int list_of", "int None or list_of", false),
     ("Module", "object", true),
     ("Module", "Module", false),
+    ("Module", "OtherModule", false),
 ];
 
 #[test]

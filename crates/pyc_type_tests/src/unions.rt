@@ -92,6 +92,8 @@ const UNIONS: &[(&str, &str, &str)] = &[
     ("int None or", "str None or", "int | None | str"),
     ("Any list_of", "Any list_of", "list[Any]"),
     ("int int pair", "int single", "tuple[int, int] | tuple[int]"),
+    ("Module", "Module", "Module"),
+    ("Module", "OtherModule", "Module | Module"),
 ];
 
 #[test]

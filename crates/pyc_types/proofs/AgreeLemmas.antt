@@ -15,7 +15,7 @@ mutual
   turned_on : (o p : Orders) (t : Ty) → AgreeOn o p t → AgreeOn p o t
   turned_on o p any h = tt
   turned_on o p none h = tt
-  turned_on o p module_type h = tt
+  turned_on o p (module_type m) h = tt
   turned_on o p (instance c) h = sym h
   turned_on o p (class_object c) h = sym h
   turned_on o p (list x) h = turned_on o p x h

@@ -68,7 +68,7 @@ goes_there : (o : Orders) (a y : Ty) (ys : Tys) → is_union a ≡ false → (wa
 goes_there o any y ys plain = refl
 goes_there o (union xs) y ys plain = absurd (false≢true (sym plain))
 goes_there o none y ys plain = or-false _ ∙ items_there o none none_rule (cons y ys)
-goes_there o module_type y ys plain = or-false _ ∙ items_there o module_type (λ b. both false false) (cons y ys)
+goes_there o (module_type m) y ys plain = or-false _ ∙ items_there o (module_type m) (λ b. both false false) (cons y ys)
 goes_there o (instance c) y ys plain =
     let items = into_items o (instance c) (instance_rule o c) (cons y ys) in
     let simple : (is_unknown (o c) || false) ≡ true → items.there ≡ true = λ h. or_left _ _ (simple_there o (instance c) y (or_right (is_any y) _ (or_left (is_unknown (o c)) (is_object y) (sym (or-false _) ∙ h)))) in
@@ -115,7 +115,7 @@ back_of o x xs (union ys) plain = absurd (false≢true (sym plain))
 back_of o x xs (instance d) plain =
     absorbed _ (is_unknown (o d)) (λ h. or_left _ _ (simple_back o (instance d) x (or_right (is_any x) _ (or_left (is_unknown (o d)) (is_object x) h))))
 back_of o x xs none plain = refl
-back_of o x xs module_type plain = refl
+back_of o x xs (module_type m) plain = refl
 back_of o x xs (class_object d) plain = refl
 back_of o x xs (list y) plain = refl
 back_of o x xs (dict l w) plain = refl

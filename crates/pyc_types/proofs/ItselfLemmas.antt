@@ -33,7 +33,7 @@ module _ (o : Orders) (x : Ty) (ys : Tys) (among : (a : Ty) → Assignable o a x
     widen : (a : Ty) → Assignable o a x → Assignable o a (union ys)
     widen any p = some_item refl (among any p)
     widen none p = some_item refl (among none p)
-    widen module_type p = some_item refl (among module_type p)
+    widen (module_type m) p = some_item refl (among (module_type m) p)
     widen (instance c) p = some_item refl (among (instance c) p)
     widen (class_object c) p = some_item refl (among (class_object c) p)
     widen (list t) p = some_item refl (among (list t) p)
@@ -64,7 +64,7 @@ module _ (o : Orders) (holds : HoldsItself o) where
     itself : (t : Ty) → IsRegular t → Assignable o t t
     itself any h = from_any
     itself none h = nothing
-    itself module_type h = absurd h
+    itself (module_type m) h = absurd h
     itself (instance c) h = itself_instance c
     itself (class_object c) h = itself_class c
     itself (list x) h = lists (itself x h) (itself x h)

@@ -1,5 +1,5 @@
 -- Where the test answers yes, both ways, the rules lead.
-use Rattle.std.proofs.Common.{◌≡◌, ℕ, zero, suc, true, false, ◌&&◌, ◌||◌, Some, inl, inr, refl, subst}
+use Rattle.std.proofs.Common.{◌≡◌, ℕ, List, zero, suc, true, false, ◌&&◌, ◌||◌, Some, inl, inr, refl, subst}
 use Rattle.std.proofs.lemmas.Bool.{false≢true, or_cases, or_right, and_parts}
 use Rattle.pyc_class.specs.declared.class_id.InstanceForm.{InstanceForm}
 use Rattle.pyc_class.specs.declared.class_id.InstanceForm.TheVariants as form
@@ -27,7 +27,7 @@ IsSound o a = (b : Ty) → Shows o a b (ways o a b)
 any_source : (o : Orders) (a b : Ty) → is_any a ≡ true → Assignable o a b
 any_source o any b h = from_any
 any_source o none b h = absurd (false≢true h)
-any_source o module_type b h = absurd (false≢true h)
+any_source o (module_type m) b h = absurd (false≢true h)
 any_source o (instance c) b h = absurd (false≢true h)
 any_source o (class_object c) b h = absurd (false≢true h)
 any_source o (list x) b h = absurd (false≢true h)
@@ -40,7 +40,7 @@ any_source o (callable ps r) b h = absurd (false≢true h)
 any_target : (o : Orders) (a b : Ty) → is_any b ≡ true → Assignable o a b
 any_target o a any h = to_any
 any_target o a none h = absurd (false≢true h)
-any_target o a module_type h = absurd (false≢true h)
+any_target o a (module_type m) h = absurd (false≢true h)
 any_target o a (instance d) h = absurd (false≢true h)
 any_target o a (class_object d) h = absurd (false≢true h)
 any_target o a (list y) h = absurd (false≢true h)
@@ -53,7 +53,7 @@ any_target o a (callable qs s) h = absurd (false≢true h)
 unknown_source : (o : Orders) (a b : Ty) → is_unknown_instance o a ≡ true → Assignable o a b
 unknown_source o any b h = absurd (false≢true h)
 unknown_source o none b h = absurd (false≢true h)
-unknown_source o module_type b h = absurd (false≢true h)
+unknown_source o (module_type m) b h = absurd (false≢true h)
 unknown_source o (instance c) b h = of_unknown h
 unknown_source o (class_object c) b h = absurd (false≢true h)
 unknown_source o (list x) b h = absurd (false≢true h)
@@ -66,7 +66,7 @@ unknown_source o (callable ps r) b h = absurd (false≢true h)
 object_target : (o : Orders) (a b : Ty) → is_object b ≡ true → Assignable o a b
 object_target o a any h = absurd (false≢true h)
 object_target o a none h = absurd (false≢true h)
-object_target o a module_type h = absurd (false≢true h)
+object_target o a (module_type m) h = absurd (false≢true h)
 object_target o a (instance d) h = to_object h
 object_target o a (class_object d) h = absurd (false≢true h)
 object_target o a (list y) h = absurd (false≢true h)
@@ -97,7 +97,7 @@ module _ (o : Orders) (a : Ty) (plain : is_union a ≡ false) (rule : Ty → Way
     pub into_sound : (b : Ty) → Shows o a b (into o a rule b)
     into_sound any = with_sound o a any (rule any) (sound_rule any)
     into_sound none = with_sound o a none (rule none) (sound_rule none)
-    into_sound module_type = with_sound o a module_type (rule module_type) (sound_rule module_type)
+    into_sound (module_type m) = with_sound o a (module_type m) (rule (module_type m)) (sound_rule (module_type m))
     into_sound (instance d) = with_sound o a (instance d) (rule (instance d)) (sound_rule (instance d))
     into_sound (class_object d) = with_sound o a (class_object d) (rule (class_object d)) (sound_rule (class_object d))
     into_sound (list y) = with_sound o a (list y) (rule (list y)) (sound_rule (list y))
@@ -128,7 +128,7 @@ module _ (o : Orders) (a : Ty) (plain : is_union a ≡ false) (rule : Ty → Way
 none_sound : (o : Orders) (b : Ty) → Shows o none b (none_rule b)
 none_sound o any = (λ e. absurd (false≢true e), λ e. absurd (false≢true e))
 none_sound o none = (λ h. nothing, λ h. nothing)
-none_sound o module_type = (λ e. absurd (false≢true e), λ e. absurd (false≢true e))
+none_sound o (module_type m) = (λ e. absurd (false≢true e), λ e. absurd (false≢true e))
 none_sound o (instance d) = (λ e. absurd (false≢true e), λ e. absurd (false≢true e))
 none_sound o (class_object d) = (λ e. absurd (false≢true e), λ e. absurd (false≢true e))
 none_sound o (list y) = (λ e. absurd (false≢true e), λ e. absurd (false≢true e))
@@ -138,7 +138,7 @@ none_sound o (tuple_of y) = (λ e. absurd (false≢true e), λ e. absurd (false�
 none_sound o (union ys) = (λ e. absurd (false≢true e), λ e. absurd (false≢true e))
 none_sound o (callable qs s) = (λ e. absurd (false≢true e), λ e. absurd (false≢true e))
 
-module_sound : (o : Orders) (b : Ty) → Shows o module_type b (both false false)
+module_sound : {m : List (List ℕ)} (o : Orders) (b : Ty) → Shows o (module_type m) b (both false false)
 module_sound o b = (λ e. absurd (false≢true e), λ e. absurd (false≢true e))
 
 goes_sound : (o : Orders) (c d : Id) → instance_goes o c d ≡ true → Assignable o (instance c) (instance d)
@@ -153,7 +153,7 @@ goes_sound o c d h =
 instance_sound : (o : Orders) (c : Id) (b : Ty) → Shows o (instance c) b (instance_rule o c b)
 instance_sound o c any = (λ e. absurd (false≢true e), λ e. absurd (false≢true e))
 instance_sound o c none = (λ e. absurd (false≢true e), λ e. absurd (false≢true e))
-instance_sound o c module_type = (λ e. absurd (false≢true e), λ e. absurd (false≢true e))
+instance_sound o c (module_type m) = (λ e. absurd (false≢true e), λ e. absurd (false≢true e))
 instance_sound o c (instance d) = (goes_sound o c d, goes_sound o d c)
 instance_sound o c (class_object d) = (λ e. absurd (false≢true e), λ e. absurd (false≢true e))
 instance_sound o c (list y) = (λ e. absurd (false≢true e), λ e. absurd (false≢true e))
@@ -170,7 +170,7 @@ invariant_parts w h = and_parts w.there w.back h
 list_sound : (o : Orders) (x : Ty) → IsSound o x → (b : Ty) → Shows o (list x) b (list_rule (ways o x) b)
 list_sound o x sx any = (λ e. absurd (false≢true e), λ e. absurd (false≢true e))
 list_sound o x sx none = (λ e. absurd (false≢true e), λ e. absurd (false≢true e))
-list_sound o x sx module_type = (λ e. absurd (false≢true e), λ e. absurd (false≢true e))
+list_sound o x sx (module_type m) = (λ e. absurd (false≢true e), λ e. absurd (false≢true e))
 list_sound o x sx (instance d) = (λ e. absurd (false≢true e), λ e. absurd (false≢true e))
 list_sound o x sx (class_object d) = (λ e. absurd (false≢true e), λ e. absurd (false≢true e))
 list_sound o x sx (list y) = (
@@ -186,7 +186,7 @@ list_sound o x sx (callable qs s) = (λ e. absurd (false≢true e), λ e. absurd
 dict_sound : (o : Orders) (k v : Ty) → IsSound o k → IsSound o v → (b : Ty) → Shows o (dict k v) b (dict_rule (ways o k) (ways o v) b)
 dict_sound o k v sk sv any = (λ e. absurd (false≢true e), λ e. absurd (false≢true e))
 dict_sound o k v sk sv none = (λ e. absurd (false≢true e), λ e. absurd (false≢true e))
-dict_sound o k v sk sv module_type = (λ e. absurd (false≢true e), λ e. absurd (false≢true e))
+dict_sound o k v sk sv (module_type m) = (λ e. absurd (false≢true e), λ e. absurd (false≢true e))
 dict_sound o k v sk sv (instance d) = (λ e. absurd (false≢true e), λ e. absurd (false≢true e))
 dict_sound o k v sk sv (class_object d) = (λ e. absurd (false≢true e), λ e. absurd (false≢true e))
 dict_sound o k v sk sv (list y) = (λ e. absurd (false≢true e), λ e. absurd (false≢true e))
@@ -251,7 +251,7 @@ places_back o (cons x xs) sxs (cons y ys) h =
 tuple_sound : (o : Orders) (xs : Tys) → AreSound o xs → (b : Ty) → Shows o (tuple xs) b (tuple_rule (ways_of o xs) b)
 tuple_sound o xs sxs any = (λ e. absurd (false≢true e), λ e. absurd (false≢true e))
 tuple_sound o xs sxs none = (λ e. absurd (false≢true e), λ e. absurd (false≢true e))
-tuple_sound o xs sxs module_type = (λ e. absurd (false≢true e), λ e. absurd (false≢true e))
+tuple_sound o xs sxs (module_type m) = (λ e. absurd (false≢true e), λ e. absurd (false≢true e))
 tuple_sound o xs sxs (instance d) = (λ e. absurd (false≢true e), λ e. absurd (false≢true e))
 tuple_sound o xs sxs (class_object d) = (λ e. absurd (false≢true e), λ e. absurd (false≢true e))
 tuple_sound o xs sxs (list y) = (λ e. absurd (false≢true e), λ e. absurd (false≢true e))
@@ -264,7 +264,7 @@ tuple_sound o xs sxs (callable qs s) = (λ e. absurd (false≢true e), λ e. abs
 tuple_of_sound : (o : Orders) (x : Ty) → IsSound o x → (b : Ty) → Shows o (tuple_of x) b (tuple_of_rule (ways o x) b)
 tuple_of_sound o x sx any = (λ e. absurd (false≢true e), λ e. absurd (false≢true e))
 tuple_of_sound o x sx none = (λ e. absurd (false≢true e), λ e. absurd (false≢true e))
-tuple_of_sound o x sx module_type = (λ e. absurd (false≢true e), λ e. absurd (false≢true e))
+tuple_of_sound o x sx (module_type m) = (λ e. absurd (false≢true e), λ e. absurd (false≢true e))
 tuple_of_sound o x sx (instance d) = (λ e. absurd (false≢true e), λ e. absurd (false≢true e))
 tuple_of_sound o x sx (class_object d) = (λ e. absurd (false≢true e), λ e. absurd (false≢true e))
 tuple_of_sound o x sx (list y) = (λ e. absurd (false≢true e), λ e. absurd (false≢true e))
@@ -287,7 +287,7 @@ made_sound o form.Plain c b h = (into_sound o (instance c) refl (instance_rule o
 class_sound : (o : Orders) (c : Id) (b : Ty) → Shows o (class_object c) b (class_rule o c b)
 class_sound o c any = (λ e. absurd (false≢true e), λ e. absurd (false≢true e))
 class_sound o c none = (λ e. absurd (false≢true e), λ e. absurd (false≢true e))
-class_sound o c module_type = (λ e. absurd (false≢true e), λ e. absurd (false≢true e))
+class_sound o c (module_type m) = (λ e. absurd (false≢true e), λ e. absurd (false≢true e))
 class_sound o c (instance d) = (λ e. absurd (false≢true e), λ e. absurd (false≢true e))
 class_sound o c (class_object d) = (λ h. class_objects h, λ h. class_objects h)
 class_sound o c (list y) = (λ e. absurd (false≢true e), λ e. absurd (false≢true e))
@@ -328,7 +328,7 @@ callables_sound o (listed ps) sps r sr (listed qs) s = (
 callable_sound : (o : Orders) (ps : Params) → ParamsSound o ps → (r : Ty) → IsSound o r → (b : Ty) → Shows o (callable ps r) b (callable_rule o ps (params_ways_of o ps) (ways o r) b)
 callable_sound o ps sps r sr any = (λ e. absurd (false≢true e), λ e. absurd (false≢true e))
 callable_sound o ps sps r sr none = (λ e. absurd (false≢true e), λ e. absurd (false≢true e))
-callable_sound o ps sps r sr module_type = (λ e. absurd (false≢true e), λ e. absurd (false≢true e))
+callable_sound o ps sps r sr (module_type m) = (λ e. absurd (false≢true e), λ e. absurd (false≢true e))
 callable_sound o ps sps r sr (instance d) = (λ h. absurd (false≢true h), λ h. with_call h)
 callable_sound o ps sps r sr (class_object d) = (λ h. absurd (false≢true h), λ h. makes ((sr (instance_of d)).1 h))
 callable_sound o ps sps r sr (list y) = (λ e. absurd (false≢true e), λ e. absurd (false≢true e))
@@ -345,7 +345,7 @@ module _ (o : Orders) (xs : Tys) (sxs : AreSound o xs) where
     back_to_sound : (b : Ty) → back_to o (ways_of o xs) b ≡ true → Assignable o b (union xs)
     back_to_sound any h = from_any
     back_to_sound none h = some_item refl (gathered_some o xs sxs none h)
-    back_to_sound module_type h = some_item refl (gathered_some o xs sxs module_type h)
+    back_to_sound (module_type m) h = some_item refl (gathered_some o xs sxs (module_type m) h)
     back_to_sound (instance d) h =
         elim (or_cases (gathered (ways_of o xs) (instance d)).back (is_unknown (o d)) h) [
           | inl some ↦ some_item refl (gathered_some o xs sxs (instance d) some)
@@ -382,7 +382,7 @@ mutual
   pub sound : (o : Orders) (a : Ty) → IsSound o a
   sound o any = any_sound o
   sound o none = into_sound o none refl none_rule (none_sound o)
-  sound o module_type = into_sound o module_type refl (λ b. both false false) (module_sound o)
+  sound o (module_type m) = into_sound o (module_type m) refl (λ b. both false false) (module_sound o)
   sound o (instance c) = into_sound o (instance c) refl (instance_rule o c) (instance_sound o c)
   sound o (class_object c) = into_sound o (class_object c) refl (class_rule o c) (class_sound o c)
   sound o (list x) = into_sound o (list x) refl (list_rule (ways o x)) (list_sound o x (sound o x))

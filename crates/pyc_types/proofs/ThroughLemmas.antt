@@ -1,5 +1,5 @@
 -- What goes to a type goes to all that this one goes to.
-use Rattle.std.proofs.Common.{◌≡◌, true, false, ◌||◌, not, map, ◌⊎◌, IsTrue, inl, inr, refl, sym, ◌∙◌, subst}
+use Rattle.std.proofs.Common.{◌≡◌, true, false, ◌||◌, not, map, ◌⊎◌, ℕ, List, IsTrue, inl, inr, refl, sym, ◌∙◌, subst}
 use Rattle.std.proofs.lemmas.Bool.{false≢true, or_cases, or_left, not-true, both_ways}
 use Rattle.std.specs.List.{list_any}
 use Rattle.pyc_class.specs.declared.builtin_class.BuiltinClass.{BuiltinClass}
@@ -65,7 +65,7 @@ direct_none sa (of_unknown u) q = of_unknown u
 direct_none sa (each_item every) q = no_union sa
 direct_none sa nothing q = q
 
-direct_module : {o : Orders} {a c : Ty} → is_union a ≡ false → Assignable o a module_type → Assignable o module_type c → Assignable o a c
+direct_module : {o : Orders} {a c : Ty} {m : List (List ℕ)} → is_union a ≡ false → Assignable o a (module_type m) → Assignable o (module_type m) c → Assignable o a c
 direct_module sa from_any q = from_any
 direct_module sa (of_unknown u) q = of_unknown u
 direct_module sa (each_item every) q = no_union sa
@@ -207,7 +207,7 @@ module _ (o : Orders) (b : Ty) (single : is_union b ≡ false) (known : IsPlain 
       right : (c : Ty) → IsPlain o c → Assignable o b c → Assignable o a c
       right any pc q = to_any
       right none pc q = direct a none sa refl pa pc p q
-      right module_type pc q = direct a module_type sa refl pa pc p q
+      right (module_type m) pc q = direct a (module_type m) sa refl pa pc p q
       right (instance e) pc q = direct a (instance e) sa refl pa pc p q
       right (class_object e) pc q = direct a (class_object e) sa refl pa pc p q
       right (list z) pc q = direct a (list z) sa refl pa pc p q
@@ -226,7 +226,7 @@ module _ (o : Orders) (b : Ty) (single : is_union b ≡ false) (known : IsPlain 
     left : (a c : Ty) → IsPlain o a → IsPlain o c → Assignable o a b → Assignable o b c → Assignable o a c
     left any c pa pc p q = from_any
     left none c pa pc p q = right none refl pa p c pc q
-    left module_type c pa pc p q = right module_type refl pa p c pc q
+    left (module_type m) c pa pc p q = right (module_type m) refl pa p c pc q
     left (instance e) c pa pc p q = right (instance e) refl pa p c pc q
     left (class_object e) c pa pc p q = right (class_object e) refl pa p c pc q
     left (list z) c pa pc p q = right (list z) refl pa p c pc q
@@ -252,7 +252,7 @@ module _ (o : Orders) (ys : Tys) (each : ThroughEach o ys) where
     from_each : (a c : Ty) → IsPlain o a → IsPlain o c → Assignable o a (union ys) → Every o ys c → Assignable o a c
     from_each any c pa pc p every = from_any
     from_each none c pa pc p every = through_some ys each none c pa pc (some_of refl pa p) every
-    from_each module_type c pa pc p every = through_some ys each module_type c pa pc (some_of refl pa p) every
+    from_each (module_type m) c pa pc p every = through_some ys each (module_type m) c pa pc (some_of refl pa p) every
     from_each (instance e) c pa pc p every = through_some ys each (instance e) c pa pc (some_of refl pa p) every
     from_each (class_object e) c pa pc p every = through_some ys each (class_object e) c pa pc (some_of refl pa p) every
     from_each (list z) c pa pc p every = through_some ys each (list z) c pa pc (some_of refl pa p) every
@@ -273,7 +273,7 @@ module _ (o : Orders) (orderly : AreOrderly o) where
     through : (b : Ty) → IsPlain o b → Through o b
     through any h = absurd h
     through none h = left o none refl h (λ a c sa sc pa pc p q. direct_none sa p q)
-    through module_type h = left o module_type refl h (λ a c sa sc pa pc p q. direct_module sa p q)
+    through (module_type m) h = left o (module_type m) refl h (λ a c sa sc pa pc p q. direct_module sa p q)
     through (instance d) h = left o (instance d) refl h (λ a c sa sc pa pc p q. direct_instance orderly d h sa sc pa pc p q)
     through (class_object d) h = left o (class_object d) refl h (λ a c sa sc pa pc p q. direct_class orderly.0 d h sa sc pa pc p q)
     through (list y) h = left o (list y) refl h (λ a c sa sc pa pc p q. direct_list y (through y h) sa sc pa pc p q)

@@ -20,7 +20,7 @@ module _ (o : Orders) (a : Ty) (rule : Ty → Ways) where
   pub into_there : (b : Ty) → is_simple o a b ≡ true → (into o a rule b).there ≡ true
   into_there any h = or_right _ _ h
   into_there none h = or_right _ _ h
-  into_there module_type h = or_right _ _ h
+  into_there (module_type m) h = or_right _ _ h
   into_there (instance d) h = or_right _ _ h
   into_there (class_object d) h = or_right _ _ h
   into_there (list y) h = or_right _ _ h
@@ -34,7 +34,7 @@ module _ (o : Orders) (a : Ty) (rule : Ty → Ways) where
   pub into_back : (b : Ty) → is_simple o b a ≡ true → (into o a rule b).back ≡ true
   into_back any h = or_right _ _ h
   into_back none h = or_right _ _ h
-  into_back module_type h = or_right _ _ h
+  into_back (module_type m) h = or_right _ _ h
   into_back (instance d) h = or_right _ _ h
   into_back (class_object d) h = or_right _ _ h
   into_back (list y) h = or_right _ _ h
@@ -58,7 +58,7 @@ module _ (o : Orders) (a : Ty) (rule : Ty → Ways) where
   pub into_other : (b : Ty) → is_union b ≡ false → into o a rule b ≡ with_simple o a b (rule b)
   into_other any other = refl
   into_other none other = refl
-  into_other module_type other = refl
+  into_other (module_type m) other = refl
   into_other (instance d) other = refl
   into_other (class_object d) other = refl
   into_other (list y) other = refl
@@ -76,7 +76,7 @@ into_union o a rule b bs is = rw is refl
 abbrev pub is_whole : Ty → Bool
 is_whole any = false
 is_whole none = true
-is_whole module_type = true
+is_whole (module_type m) = true
 is_whole (instance c) = true
 is_whole (class_object c) = true
 is_whole (list x) = true
@@ -90,7 +90,7 @@ is_whole (callable ps r) = true
 pub ways_whole : (o : Orders) (a : Ty) → is_whole a ≡ true → ways o a ≡ into o a (own_rule o a)
 ways_whole o any whole = absurd (false≢true whole)
 ways_whole o none whole = refl
-ways_whole o module_type whole = refl
+ways_whole o (module_type m) whole = refl
 ways_whole o (instance c) whole = refl
 ways_whole o (class_object c) whole = refl
 ways_whole o (list x) whole = refl
@@ -105,7 +105,7 @@ pub simple_there : (o : Orders) (a b : Ty) → is_simple o a b ≡ true → (way
 simple_there o any b h = refl
 simple_there o (union xs) b h = or_right _ _ h
 simple_there o none b h = into_there o none none_rule b h
-simple_there o module_type b h = into_there o module_type (λ b. both false false) b h
+simple_there o (module_type m) b h = into_there o (module_type m) (λ b. both false false) b h
 simple_there o (instance c) b h = into_there o (instance c) (instance_rule o c) b h
 simple_there o (class_object c) b h = into_there o (class_object c) (class_rule o c) b h
 simple_there o (list x) b h = into_there o (list x) (list_rule (ways o x)) b h
@@ -119,7 +119,7 @@ back_to_simple : (o : Orders) (ys : Tys) (a : Ty) → is_simple o a (union ys) �
 back_to_simple o ys any h = refl
 back_to_simple o ys (instance c) h = elim (or_cases (is_unknown (o c)) false h) [ inl u ↦ or_right _ _ u | inr n ↦ absurd (false≢true n) ]
 back_to_simple o ys none h = absurd (false≢true h)
-back_to_simple o ys module_type h = absurd (false≢true h)
+back_to_simple o ys (module_type m) h = absurd (false≢true h)
 back_to_simple o ys (class_object c) h = absurd (false≢true h)
 back_to_simple o ys (list x) h = absurd (false≢true h)
 back_to_simple o ys (dict k v) h = absurd (false≢true h)
@@ -133,7 +133,7 @@ pub simple_back : (o : Orders) (a b : Ty) → is_simple o a b ≡ true → (ways
 simple_back o a any h = refl
 simple_back o a (union ys) h = back_to_simple o ys a h
 simple_back o a none h = into_back o none none_rule a h
-simple_back o a module_type h = into_back o module_type (λ b. both false false) a h
+simple_back o a (module_type m) h = into_back o (module_type m) (λ b. both false false) a h
 simple_back o a (instance c) h = into_back o (instance c) (instance_rule o c) a h
 simple_back o a (class_object c) h = into_back o (class_object c) (class_rule o c) a h
 simple_back o a (list x) h = into_back o (list x) (list_rule (ways o x)) a h
@@ -152,7 +152,7 @@ pub union_back : (o : Orders) (b : Ty) (xs : Tys) → all_back (ways o b) xs ≡
 union_back o any bs h = refl
 union_back o (union ys) bs h = backs_to o ys bs ∙ h
 union_back o none bs h = or_left _ _ (items_back o none none_rule bs ∙ h)
-union_back o module_type bs h = or_left _ _ (items_back o module_type (λ b. both false false) bs ∙ h)
+union_back o (module_type m) bs h = or_left _ _ (items_back o (module_type m) (λ b. both false false) bs ∙ h)
 union_back o (instance c) bs h = or_left _ _ (items_back o (instance c) (instance_rule o c) bs ∙ h)
 union_back o (class_object c) bs h = or_left _ _ (items_back o (class_object c) (class_rule o c) bs ∙ h)
 union_back o (list x) bs h = or_left _ _ (items_back o (list x) (list_rule (ways o x)) bs ∙ h)
@@ -166,7 +166,7 @@ pub union_there : (o : Orders) (a : Ty) (ys : Tys) → is_union a ≡ false → 
 union_there o any ys plain h = refl
 union_there o (union xs) ys plain h = absurd (false≢true (sym plain))
 union_there o none ys plain h = or_left _ _ (items_there o none none_rule ys ∙ h)
-union_there o module_type ys plain h = or_left _ _ (items_there o module_type (λ b. both false false) ys ∙ h)
+union_there o (module_type m) ys plain h = or_left _ _ (items_there o (module_type m) (λ b. both false false) ys ∙ h)
 union_there o (instance c) ys plain h = or_left _ _ (items_there o (instance c) (instance_rule o c) ys ∙ h)
 union_there o (class_object c) ys plain h = or_left _ _ (items_there o (class_object c) (class_rule o c) ys ∙ h)
 union_there o (list x) ys plain h = or_left _ _ (items_there o (list x) (list_rule (ways o x)) ys ∙ h)
@@ -181,7 +181,7 @@ some_back o any ys plain h = refl
 some_back o (instance c) ys plain h = or_left _ _ h
 some_back o (union xs) ys plain h = absurd (false≢true (sym plain))
 some_back o none ys plain h = h
-some_back o module_type ys plain h = h
+some_back o (module_type m) ys plain h = h
 some_back o (class_object c) ys plain h = h
 some_back o (list x) ys plain h = h
 some_back o (dict k v) ys plain h = h

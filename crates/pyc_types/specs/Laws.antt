@@ -1,5 +1,5 @@
 -- Laws of assignability (typing specification, "The gradual guarantee").
-use Rattle.std.specs.Prelude.{◌≡◌, IsTrue}
+use Rattle.std.specs.Prelude.{ℕ, ◌≡◌, List, IsTrue}
 use Rattle.pyc_class.specs.Class.{Id}
 use Rattle.pyc_class.specs.Order.{Orders}
 use Rattle.pyc_type_forms.specs.Types.{Slot, Ty, Tys, Params, Listed, any, none, module_type, instance, class_object}
@@ -12,7 +12,7 @@ mutual
   pub data WithAny : Ty → Ty → Type 0 where
     replaced : {t : Ty} → WithAny t any
     same_none : WithAny none none
-    same_module : WithAny module_type module_type
+    same_module : {m : List (List ℕ)} → WithAny (module_type m) (module_type m)
     same_instance : {c : Id} → WithAny (instance c) (instance c)
     same_class_object : {c : Id} → WithAny (class_object c) (class_object c)
     in_list : {x x' : Ty} → WithAny x x' → WithAny (list x) (list x')
@@ -52,7 +52,7 @@ abbrev mutual
   pub AgreeOn : Orders → Orders → Ty → Type 0
   AgreeOn o p any = Unit
   AgreeOn o p none = Unit
-  AgreeOn o p module_type = Unit
+  AgreeOn o p (module_type m) = Unit
   AgreeOn o p (instance c) = o c ≡ p c
   AgreeOn o p (class_object c) = o c ≡ p c
   AgreeOn o p (list x) = AgreeOn o p x

@@ -51,7 +51,7 @@ abbrev mutual
   pub IsRegular : Ty → Type 0
   IsRegular any = Unit
   IsRegular none = Unit
-  IsRegular module_type = ⊥
+  IsRegular (module_type m) = ⊥
   IsRegular (instance c) = Unit
   IsRegular (class_object c) = Unit
   IsRegular (list x) = IsRegular x
@@ -91,7 +91,7 @@ abbrev mutual
   pub IsPlain : Orders → Ty → Type 0
   IsPlain orders any = ⊥
   IsPlain orders none = Unit
-  IsPlain orders module_type = Unit
+  IsPlain orders (module_type m) = Unit
   IsPlain orders (instance c) = IsTrue (not (is_unknown (orders c)))
   IsPlain orders (class_object c) = IsTrue (not (is_unknown (orders c)))
   IsPlain orders (list x) = IsPlain orders x

@@ -114,7 +114,7 @@ abbrev mutual
   pub into : Orders → Ty → (Ty → Ways) → Ty → Ways
   into orders a rule any = with_simple orders a any (rule any)
   into orders a rule none = with_simple orders a none (rule none)
-  into orders a rule module_type = with_simple orders a module_type (rule module_type)
+  into orders a rule (module_type m) = with_simple orders a (module_type m) (rule (module_type m))
   into orders a rule (instance d) = with_simple orders a (instance d) (rule (instance d))
   into orders a rule (class_object d) = with_simple orders a (class_object d) (rule (class_object d))
   into orders a rule (list b) = with_simple orders a (list b) (rule (list b))
@@ -172,7 +172,7 @@ abbrev mutual
   pub back_to : Orders → List (Ty → Ways) → Ty → Bool
   back_to orders items any = true
   back_to orders items none = (gathered items none).back
-  back_to orders items module_type = (gathered items module_type).back
+  back_to orders items (module_type m) = (gathered items (module_type m)).back
   back_to orders items (instance d) = (gathered items (instance d)).back || is_unknown (orders d)
   back_to orders items (class_object d) = (gathered items (class_object d)).back
   back_to orders items (list b) = (gathered items (list b)).back
@@ -197,7 +197,7 @@ abbrev mutual
   pub ways : Orders → Ty → Ty → Ways
   ways orders any = any_ways
   ways orders none = into orders none none_rule
-  ways orders module_type = into orders module_type (λ b. both false false)
+  ways orders (module_type m) = into orders (module_type m) (λ b. both false false)
   ways orders (instance c) = instance_ways orders c
   ways orders (class_object c) = into orders (class_object c) (class_rule orders c)
   ways orders (list x) = into orders (list x) (list_rule (ways orders x))
@@ -224,7 +224,7 @@ abbrev mutual
 abbrev pub own_rule : Orders → Ty → Ty → Ways
 own_rule orders any = any_ways
 own_rule orders none = none_rule
-own_rule orders module_type = λ b. both false false
+own_rule orders (module_type m) = λ b. both false false
 own_rule orders (instance c) = instance_rule orders c
 own_rule orders (class_object c) = class_rule orders c
 own_rule orders (list x) = list_rule (ways orders x)

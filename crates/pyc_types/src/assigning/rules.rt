@@ -20,7 +20,7 @@ pub(super) fn own_rule<L: Lins>(lins: &L, got: &Ty, want: &Ty) -> Ways
     match got {
         Ty::Any => Ways::each(),
         Ty::None => none_rule(want),
-        Ty::Module => Ways::neither(),
+        Ty::Module(_) => Ways::neither(),
         Ty::Instance(class) => instance_rule(lins, class, want),
         Ty::Class(class) => class_rule(lins, class, want),
         Ty::List(item) => list_rule(lins, item, want),

@@ -2,7 +2,7 @@ use Rattle.std.proofs.Common.{◌≡◌, ◌++◌, [], map, take, drop}
 use Rattle.pyc_bindings.specs.BindingView.{binding_of}
 use Rattle.pyc_bindings.specs.Redefinitions.{redefinitions_after}
 use Rattle.pyc_bindings.specs.RedefinitionView.{redefinition_of}
-use Rattle.pyc_bindings.proofs.defined_again.redefinitions.Given as goal
+use Rattle.pyc_bindings.proofs.defined_again.redefinitions_at.Given as goal
 
 -- what was found so far, with what the bindings that are left define again, is all
 abbrev pub invariant-loop-i : goal.invariant-loop-i

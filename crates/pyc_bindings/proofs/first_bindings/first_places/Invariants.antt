@@ -3,7 +3,7 @@ use Rattle.std.specs.List.{position_from}
 use Rattle.indexmap.specs.IndexMap.{get_by}
 use Rattle.pyc_bindings.specs.Bindings.{Binding}
 use Rattle.pyc_bindings.specs.BindingView.{binding_of}
-use Rattle.pyc_names.proofs.source_file.places_of.Given as goal
+use Rattle.pyc_bindings.proofs.first_bindings.first_places.Given as goal
 
 -- the names of the bindings from this one on are placed
 abbrev pub invariant-loop-left : goal.invariant-loop-left

@@ -1,7 +1,7 @@
 use Rattle.std.proofs.Common.{arith, ap, sym, ◌∙◌}
 use Rattle.pyc_bindings.specs.declared.binding.Binding.{Binding}
-use Rattle.pyc_names.proofs.PlaceLemmas.{binding_more}
-use Rattle.pyc_names.proofs.source_file.places_of.Goals as goal
+use Rattle.pyc_bindings.proofs.PlaceLemmas.{binding_more}
+use Rattle.pyc_bindings.proofs.first_bindings.first_places.Goals as goal
 
 pub loop-left-preserved : goal.loop-left-preserved
 loop-left-preserved c =

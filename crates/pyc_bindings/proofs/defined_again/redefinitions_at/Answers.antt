@@ -1,0 +1,8 @@
+use Rattle.pyc_bindings.proofs.AgainLemmas.{again_more}
+use Rattle.pyc_bindings.proofs.defined_again.redefinitions_at.Goals as goal
+
+-- what a binding defines again is found
+pub loop-i-preserved : goal.loop-i-preserved
+loop-i-preserved c =
+    again_more c.args.bindings.now c.loop-i.i c.index-bindings-i.result _ _ _ _ c.loop-i-test.true c.index-bindings-i.is
+    c.declaration_before-earlier.ensures c.in_ok-push_redefinition.ensures c.loop-i.invariant
