@@ -13,7 +13,7 @@ use Rattle.pyc_places.specs.States.{State, unreachable, reachable}
 use Rattle.pyc_reading.specs.Answers.{Answer}
 use Rattle.pyc_reading.specs.Desks.{Step}
 use Rattle.pyc_reading.specs.Keys.{Key}
-use Rattle.pyc_reading.specs.Readings.{Reading, Done, Ask, Tell, and_then, result_of}
+use Rattle.pyc_reading.specs.Readings.{Done, Ask, Tell, and_then, result_of}
 use Rattle.pyc_type_forms.specs.Types.{Ty}
 
 module _ (answers : Key → Answer) where

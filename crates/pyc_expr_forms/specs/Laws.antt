@@ -2,7 +2,7 @@
 use Rattle.std.specs.Prelude.{◌≡◌, Option}
 use Rattle.pyc_ast.specs.declared.operator.BooleanOperator.{BooleanOperator}
 use Rattle.pyc_ast.specs.Exprs.{Expr}
-use Rattle.pyc_expr_forms.specs.Choices.{Chain, chained, goes_on}
+use Rattle.pyc_expr_forms.specs.Choices.{chained, goes_on}
 use Rattle.pyc_expr_forms.specs.Contexts.{Parts, looked_by}
 use Rattle.pyc_narrowing.specs.Splitting.{split}
 use Rattle.pyc_places.specs.States.{State}

@@ -119,6 +119,7 @@ fn chained<N: Judge, P: Parts<N>>(
     }
 }
 
+/// Whether two operators of Booleans are the same one.
 fn same_operator(operator: BooleanOperator, other: BooleanOperator) -> bool
     ensures { result ≡ spec.same_operator operator other }
 {
