@@ -3,15 +3,18 @@
 
 The libraries that the crates stand on are those that `rt ci` left in FOLDER/NAME/out; FOLDER is `crates` where it is not
 named. With `--follow` that `rt ci` still runs and writes LOG: the edits of a crate are tried once LOG says that it is proved,
-and count as failed where it is not. The prover must refuse each edit `crates/NAME/must-fail/*.edit`. `rt must-fail NAME` tries them one by one, each with
-a load of the whole crate. Here several edits of one crate stand in one check, at most one to a function, and the check asks
-for the edited functions alone. A proof reads what other functions promise and not their bodies, so an edit of one body leaves
-the proof of another as it was: an edit counts as refused in such a check only where the prover says of that very function
-that it is not proved. One whose function is still proved is tried alone, in a check of the whole crate. One of whose function
-the prover says nothing, since it calls another edited one, is tried in the next check, at last alone; with `--once`, as the gate
-calls this, it is passed over, and counts for nothing. An edit of what is stated, or of what several functions read, has a line
-`refuses: FUNCTION`: it is tried in a check of that function, with others of such a line where no function of theirs reads a
-file that another of them changes. A check takes at most 12 edits, so that those of a crate with many are tried side by side.
+and count as failed where it is not.
+
+The prover must refuse each edit `crates/NAME/must-fail/*.edit`. `rt must-fail NAME` tries them one by one, each with a load of
+the whole crate. Here several edits of one crate stand in one check, at most one to a function, and the check asks for the
+edited functions alone, with the proofs of the others left open. A proof reads what other functions promise and not their
+bodies, so an edit of one body leaves the proof of another as it was, and wants none of it: an edit counts as refused in such a
+check only where the prover says of that very function that it is not proved. One whose function is still proved is tried alone,
+in a check of the whole crate. One of whose function the prover says nothing, since it calls another edited one, is tried in the
+next check, at last alone; with `--once`, as the gate calls this, it is passed over, and counts for nothing. An edit of what is
+stated, or of what several functions read, has a line `refuses: FUNCTION`: it is tried in a check of that function, with others
+of such a line where no function of theirs reads a file that another of them changes. A check takes at most 16 edits, so that
+those of a crate with many are tried side by side.
 
 `RT_JOBS` says how many checks run side by side, 4 where it is not set. The last line is `edits: N passed, M failed`."""
 
@@ -37,7 +40,7 @@ UNREAD = (
 )
 PARTS = ("src", "specs", "proofs")
 # The most edits in one check, and the most checks beside an `rt ci` that still runs, for the memory that they take.
-TOGETHER = 12
+TOGETHER = 16
 BESIDE = 2
 
 
@@ -176,9 +179,10 @@ def words(known, name, built):
 class Trial:
     """The trial of some edits of one crate, with the folder where all checks of that crate keep what they proved."""
 
-    def __init__(self, command, name, edits, room):
+    def __init__(self, command, name, edits, room, built):
         self.words, self.name, self.edits, self.kept = command, name, edits, f"{room}/{name}"
         self.folder, self.room, self.checks = ROOT / "crates" / name, room, 0
+        self.library = built / name / "out" / "rlib" / f"{name}.rlib"
 
     def check(self, edits, only):
         """Checks a copy of the crate with these edits, and returns the status and what the prover said."""
@@ -189,8 +193,9 @@ class Trial:
                 shutil.copytree(self.folder / part, copy / part)
         for it in edits:
             it.applied(copy)
+        holes = leave_open(self.library, self.name, copy, only) if only else []
         asked = [word for it in sorted(only) for word in ("--only", it)]
-        command = [*self.words, "--incremental", self.kept, *asked]
+        command = [*self.words, "--incremental", self.kept, *asked, *holes]
         how = {"stdin": subprocess.DEVNULL, "stdout": subprocess.PIPE, "stderr": subprocess.STDOUT, "errors": "replace"}
         ran = subprocess.run(command, cwd=copy, **how)
         if ran.returncode < 0:
@@ -255,6 +260,60 @@ class Trial:
         tried = len(self.edits) - len(self.left)
         print(f"edits: {self.name}: {tried} of {len(self.edits)} in {self.checks} checks, {took:.0f} s", flush=True)
         return tried - self.failed, self.failed
+
+
+def leave_open(library, name, copy, edited):
+    """Has a copy of a crate leave the proof of each function open but those that are edited, and of each cycle of calls but
+    theirs: what is tried of an edited function is its own proof, by what the others promise. Returns the words that a check of
+    it wants. The library as it was built tells which functions and cycles there are; where there is none, nothing is left open."""
+    listed = library / "toolchain" / "checked.json"
+    if not listed.is_file():
+        return []
+    made = re.findall(rf'"part/Rattle-{name}-proofs\.([^"]+)\.(TheLink|Code)"', listed.read_text(encoding="utf-8"))
+    cycles = cycles_of(copy)
+    found = [it for it in made if is_left_open(*it, cycles, edited)]
+    for path, part in found:
+        last = path.rpartition(".")[2]
+        folder = copy / "proofs" / path.replace(".", "/")
+        folder.mkdir(parents=True, exist_ok=True)
+        for it in ("Answers", "Invariants"):
+            (folder / f"{it}.antt").unlink(missing_ok=True)
+        of = path if part == "Code" else f"{path}.Statement"
+        text = f"use Rattle.{name}.proofs.{of}.{{statement}}\n\npub {last}_spec : {{M : Type 1}} → statement M\n{last}_spec = ?\n"
+        (folder / "Proof.antt").write_text(text, encoding="utf-8")
+    return ["--allow-holes"] if found else []
+
+
+def is_left_open(path, part, cycles, edited):
+    """Returns whether a proof that a library has, of a function or of a cycle of calls, says nothing of an edited function."""
+    named, last = path.replace(".", "::"), path.rpartition(".")[2]
+    if part == "Code":
+        members = [it for it, cycle in cycles.items() if cycle and f"+{cycle}" == last]
+        return bool(members) and not any(ends_alike(it, one) for it in members for one in edited)
+    return named in cycles and cycles[named] is None and not any(ends_alike(named, one) for one in edited)
+
+
+def ends_alike(one, other):
+    """Returns whether one of two paths ends in the other."""
+    longer, shorter = sorted((one.split("::"), other.split("::")), key=len, reverse=True)
+    return longer[len(longer) - len(shorter) :] == shorter
+
+
+def cycles_of(folder):
+    """Returns the name of the cycle of calls that each function of a crate is in, or None."""
+    found = {}
+    for file in sorted(folder.glob("src/**/*.rt")):
+        text = file.read_text(encoding="utf-8")
+        module = [it for it in file.relative_to(folder / "src").with_suffix("").parts if it not in ("lib", "main", "mod")]
+        lines, traits = text.split("\n"), re.findall(r"(?m)^\s*(?:pub )?trait (\w+)", text)
+        for begin, end, path in functions(str(file.relative_to(folder)), text):
+            if path.split("::")[-2:-1] and path.split("::")[-2] in traits:
+                # (what a trait promises has no proof)
+                continue
+            named = re.search(r"#\[cycle\((\w+)\)\]", "\n".join(lines[begin - 1 : end]))
+            whole = path if path.split("::")[: len(module)] == module else "::".join([*module, path])
+            found[whole] = named and named[1]
+    return found
 
 
 def verdict(edit, said):
@@ -366,7 +425,7 @@ def main():
     begun = []
     with tempfile.TemporaryDirectory(prefix="edits-") as room:
         trials = [
-            Trial(words(known, it, built), it, share, room)
+            Trial(words(known, it, built), it, share, room, built)
             for it in given.crates or known
             for share in shares(edits_of(it))
         ]
