@@ -115,10 +115,10 @@ fn made_with(
     requires item_target_is { is_item_target ≡ targets.is_item_target (tree_of expr) }
     ensures { Makes (λ b. tree_of b.expr.value) (tree_of expr) result }
 {
+    let expr = boxed(alloc, expr)?;
     if height > MAX_HEIGHT {
         return Err(ParseError::Refused);
     }
-    let expr = boxed(alloc, expr)?;
     Ok(Built {
         expr,
         height,
