@@ -95,6 +95,22 @@ pub fn call(alloc: Global, callee: Expr, arguments: Vec<Argument>) -> Result<Exp
     Ok(begun(at, Form::Call { callee, arguments }))
 }
 
+/// A call whose parenthesis stands here, with the arguments that its items are.
+pub fn called(
+    alloc: Global,
+    callee: Expr,
+    here: Position,
+    items: &Pieces,
+    found: Vec<Argument>,
+) -> Result<Expr, AllocError>
+    ensures { IfOk result (λ e. expr_of e
+        ≡ spec.following (expr_of callee) (plain.call (expr_of callee) (plain.arguments
+        (spec.only_or here (pieces_of items.now) (map argument_of found.items))))) }
+{
+    let found = only_or(alloc, here, items, found)?;
+    call(alloc, callee, found)
+}
+
 /// A subscript of an object.
 pub fn subscript(alloc: Global, value: Expr, index: Index) -> Result<Expr, AllocError>
     ensures { IfOk result (λ e. expr_of e

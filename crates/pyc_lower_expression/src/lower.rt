@@ -7,6 +7,7 @@ ghost use Rattle.pyc_ast.specs.ExprView.{comparison_of, index_of};
 ghost use Rattle.pyc_lower_expression.specs.Expressions as spec;
 ghost use Rattle.pyc_ast.specs.Exprs as plain;
 ghost use Rattle.pyc_lower_atom.specs.Constants as constants;
+ghost use Rattle.pyc_lower_atom.specs.Operators as operators;
 ghost use Rattle.pyc_lower_atom.specs.Origins.{name_at, position_at, text_at};
 ghost use Rattle.pyc_lower_expression.specs.Forms.{is_atom, is_operation};
 ghost use Rattle.pyc_lower_atom.specs.OriginView.{origin_of};
@@ -19,7 +20,7 @@ use pyc_lower_atom::{
     Names, Origin, Quotes, Role, comparison_operator, comprehension, is_plain, number_constant,
     strings_constant, unary_operator, word_constant,
 };
-use pyc_token::Token;
+use pyc_token::{Kind, Token};
 use pyc_tree::{DisplayKind, Expr as Tree, Link, Pieces};
 use std::alloc::{AllocError, Global};
 
@@ -90,6 +91,16 @@ impl<Q: Quotes> Lowering<'_, Q> {
         }
         let constant = strings_constant(first.kind, more);
         Ok(build::constant(self.origin.position(first), constant))
+    }
+
+    /// An attribute of an object.
+    fn attribute(&self, value: Expr, name: Token, names: &mut Names) -> Result<Expr, AllocError>
+        ensures { IfOk result (λ e. expr_of e
+            ≡ spec.following (expr_of value)
+            (plain.attribute (expr_of value) (name_at (origin_of self.now.origin) name))) }
+    {
+        let name = names.shared(self.alloc, self.origin.text(name))?;
+        build::attribute(self.alloc, value, name)
     }
 
     /// The expression that a tree is; the only error is that memory runs out.
@@ -176,20 +187,15 @@ impl<Q: Quotes> Lowering<'_, Q> {
         match expr {
             Tree::Attribute(value, _, name) => {
                 let value = self.expr(value, role, names)?;
-                let name = names.shared(self.alloc, self.origin.text(*name))?;
-                build::attribute(self.alloc, value, name)
+                self.attribute(value, *name, names)
             }
             Tree::Call(callee, opening, items, _) => {
                 let callee = self.expr(callee, role, names)?;
-                let found = self.arguments(items, role, names)?;
-                let at = self.origin.position(*opening);
-                let found = build::only_or(self.alloc, at, items, found)?;
-                build::call(self.alloc, callee, found)
+                self.call(items, *opening, callee, role, names)
             }
             Tree::Subscript(value, _, items, _) => {
                 let value = self.expr(value, role, names)?;
-                let index = self.subscript(items, role, names)?;
-                build::subscript(self.alloc, value, index)
+                self.subscripted(items, value, role, names)
             }
             Tree::Await(word, operand) => {
                 let operand = self.expr(operand, role, names)?;
@@ -202,18 +208,16 @@ impl<Q: Quotes> Lowering<'_, Q> {
             }
             Tree::Binary(left, sign, right) => {
                 let left = self.expr(left, role, names)?;
-                let right = self.expr(right, role, names)?;
-                build::binary(self.alloc, left, sign.kind, right)
+                self.binary(right, left, sign.kind, role, names)
             }
             Tree::Compare(left, links) => {
                 let left = self.expr(left, role, names)?;
-                build::compare(self.alloc, left, self.comparisons(links, role, names)?)
+                self.compared(links, left, role, names)
             }
             Tree::Conditional(body, _, test, _, orelse) => {
                 let body = self.expr(body, role, names)?;
                 let test = self.expr(test, role, names)?;
-                let orelse = self.expr(orelse, role, names)?;
-                build::conditional(self.alloc, test, body, orelse)
+                self.conditional(orelse, test, body, role, names)
             }
             Tree::Yield(word, value) => {
                 let value = self.optional(value, role, names)?;
@@ -225,6 +229,105 @@ impl<Q: Quotes> Lowering<'_, Q> {
             }
             _ => self.item(expr, role, names),
         }
+    }
+
+    /// A call of a callee with the arguments that its items are.
+    #[cycle(lower)]
+    fn call(
+        &self,
+        items: &Pieces,
+        opening: Token,
+        callee: Expr,
+        role: Role,
+        names: &mut Names,
+    ) -> Result<Expr, AllocError>
+        ensures { IfOk result (λ e. expr_of e
+            ≡ (let o = origin_of self.now.origin in
+            let p = pieces_of items.now in
+            spec.following (expr_of callee) (plain.call (expr_of callee) (plain.arguments
+            (spec.only_or (position_at o opening) p
+            (spec.arguments_in (Q.spelled self.now.quotes.now) o (spec.first_role role p) role p)))))) }
+    {
+        let found = self.arguments(items, role, names)?;
+        build::called(
+            self.alloc,
+            callee,
+            self.origin.position(opening),
+            items,
+            found,
+        )
+    }
+
+    /// A subscript of an object by what its items are.
+    #[cycle(lower)]
+    fn subscripted(
+        &self,
+        items: &Pieces,
+        value: Expr,
+        role: Role,
+        names: &mut Names,
+    ) -> Result<Expr, AllocError>
+        ensures { IfOk result (λ e. expr_of e
+            ≡ (let p = pieces_of items.now in
+            spec.following (expr_of value) (plain.subscript (expr_of value) (spec.subscript_of p
+            (spec.indices_in (Q.spelled self.now.quotes.now) (origin_of self.now.origin) role p))))) }
+    {
+        let index = self.subscript(items, role, names)?;
+        build::subscript(self.alloc, value, index)
+    }
+
+    /// An operator between a left operand and what the right one is.
+    #[cycle(lower)]
+    fn binary(
+        &self,
+        right: &Tree,
+        left: Expr,
+        sign: Kind,
+        role: Role,
+        names: &mut Names,
+    ) -> Result<Expr, AllocError>
+        ensures { IfOk result (λ e. expr_of e
+            ≡ spec.following (expr_of left) (operators.operation sign (expr_of left)
+            (spec.expr_in (Q.spelled self.now.quotes.now) (origin_of self.now.origin) role (tree_of right.now)))) }
+    {
+        let right = self.expr(right, role, names)?;
+        build::binary(self.alloc, left, sign, right)
+    }
+
+    /// A chain of the comparisons that links are, after its first operand.
+    #[cycle(lower)]
+    fn compared(
+        &self,
+        links: &[Link],
+        left: Expr,
+        role: Role,
+        names: &mut Names,
+    ) -> Result<Expr, AllocError>
+        ensures { IfOk result (λ e. expr_of e
+            ≡ spec.following (expr_of left) (plain.compare (expr_of left) (plain.comparisons
+            (spec.comparisons_in (Q.spelled self.now.quotes.now) (origin_of self.now.origin) role
+            (links_before links.now tree.unlinked))))) }
+    {
+        let rest = self.comparisons(links, role, names)?;
+        build::compare(self.alloc, left, rest)
+    }
+
+    /// A choice of a value or of what the other one is.
+    #[cycle(lower)]
+    fn conditional(
+        &self,
+        orelse: &Tree,
+        test: Expr,
+        body: Expr,
+        role: Role,
+        names: &mut Names,
+    ) -> Result<Expr, AllocError>
+        ensures { IfOk result (λ e. expr_of e
+            ≡ spec.following (expr_of body) (plain.conditional (expr_of test) (expr_of body)
+            (spec.expr_in (Q.spelled self.now.quotes.now) (origin_of self.now.origin) role (tree_of orelse.now)))) }
+    {
+        let orelse = self.expr(orelse, role, names)?;
+        build::conditional(self.alloc, test, body, orelse)
     }
 
     /// The value of an item.
