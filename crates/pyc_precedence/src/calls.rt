@@ -63,7 +63,11 @@ impl<F: Fn(Global, &mut Cursor<'_>, usize, u8) -> Result<Built, ParseError>> Exp
             Expr::Argument(element) => {
                 self.generator_in(tokens, callee, opening, element, height - 1)
             }
-            _ => Err(ParseError::Refused),
+            // Dropped as a whole, which is proved at once where its variants one by one take long.
+            other => {
+                drop(other);
+                Err(ParseError::Refused)
+            }
         }
     }
 
