@@ -5,11 +5,13 @@ mod modules;
 mod outcomes;
 mod precedence;
 mod refused;
+mod shapes;
 mod trees;
 
-use pyc_parse::{Expr, Line, Separated, SimpleStatement, What, parse_line};
+use lines::{EXPRESSIONS, HEADERS, STATEMENTS};
+use pyc_parse::{Line, What, parse_line};
+use refused::{NO_LINES, NO_STATEMENTS, OUTSIDE};
 use std::alloc::Global;
-use std::process::Abort;
 use std::test::Fail;
 
 /// The tree of the first line of a source, or what is wrong with it.
@@ -29,35 +31,22 @@ fn refusal(alloc: Global, source: &str) -> Result<Option<What>, Fail> {
     Ok(parsed(alloc, source)?.err())
 }
 
-/// Asserts that each of these lines has a tree, or that this is wrong with it.
-fn assert_refusals(
-    rt: &impl Abort,
-    alloc: Global,
-    sources: &[&str],
-    want: Option<What>,
-) -> Result<(), Fail> {
-    for source in sources {
-        assert_eq!(rt; refusal(alloc, source)?, want, "{source}");
+/// Lines, with what is wrong with each, or nothing where they are of the language.
+const LINES: &[(&[&str], Option<What>)] = &[
+    (STATEMENTS, None),
+    (HEADERS, None),
+    (EXPRESSIONS, None),
+    (NO_STATEMENTS, Some(What::Line)),
+    (NO_LINES, Some(What::Line)),
+    (OUTSIDE, Some(What::OutsideProfile)),
+];
+
+#[test]
+fn lines_with_and_without_trees(rt: HostRuntime) -> Result<(), Fail> {
+    for (sources, want) in LINES {
+        for source in *sources {
+            assert_eq!(rt; refusal(rt.alloc(), source)?, *want, "{source}");
+        }
     }
     Ok(())
-}
-
-/// The only statement of a line.
-fn statement(alloc: Global, source: &str) -> Result<Box<SimpleStatement>, Fail> {
-    let Ok(line) = parsed(alloc, source)? else {
-        return Err("no tree".into());
-    };
-    let Line::Simple(statements) = line else {
-        return Err("no simple line".into());
-    };
-    let Separated { each: _, last } = statements;
-    Ok(last.ok_or("no statement")?)
-}
-
-/// The expression that a line is.
-fn expression(alloc: Global, source: &str) -> Result<Box<Expr>, Fail> {
-    match Box::into_inner(statement(alloc, source)?) {
-        SimpleStatement::Expression(found) => Ok(found),
-        _ => Err("no expression".into()),
-    }
 }

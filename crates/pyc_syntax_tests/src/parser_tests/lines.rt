@@ -1,12 +1,12 @@
 //! Lines that are of the language.
 
-use super::{assert_refusals, refusal};
+use super::refusal;
 use pyc_parse::What;
 use std::alloc::Global;
 use std::test::Fail;
 
 /// Simple statements.
-const STATEMENTS: &[&str] = &[
+pub(super) const STATEMENTS: &[&str] = &[
     "x",
     "x = 1",
     "x = y = 1",
@@ -42,13 +42,8 @@ const STATEMENTS: &[&str] = &[
     "x = 1; y = 2;",
 ];
 
-#[test]
-fn statements_have_trees(rt: HostRuntime) -> Result<(), Fail> {
-    assert_refusals(&rt, rt.alloc(), STATEMENTS, None)
-}
-
 /// Headers of compound statements, and lines that begin with a soft keyword.
-const HEADERS: &[&str] = &[
+pub(super) const HEADERS: &[&str] = &[
     "if x: y = 1; z = 2",
     "elif x:",
     "else: pass",
@@ -78,13 +73,8 @@ const HEADERS: &[&str] = &[
     "type = case",
 ];
 
-#[test]
-fn headers_have_trees(rt: HostRuntime) -> Result<(), Fail> {
-    assert_refusals(&rt, rt.alloc(), HEADERS, None)
-}
-
 /// Expressions.
-const EXPRESSIONS: &[&str] = &[
+pub(super) const EXPRESSIONS: &[&str] = &[
     "match[x]",
     "a or b and not c",
     "a < b <= c != d",
@@ -119,11 +109,6 @@ const EXPRESSIONS: &[&str] = &[
     "a = *b, c",
     "1 if (yield) else 2",
 ];
-
-#[test]
-fn expressions_have_trees(rt: HostRuntime) -> Result<(), Fail> {
-    assert_refusals(&rt, rt.alloc(), EXPRESSIONS, None)
-}
 
 /// What is wrong with an assignment of so many of a text and a number, or nothing.
 fn refusal_of(alloc: Global, text: &str, count: usize) -> Result<Option<What>, Fail> {

@@ -2,8 +2,8 @@
 
 use pyc_lex::Codes;
 use pyc_parse::{Module, Outcome, outcome};
-use std::alloc::Global;
-use std::process::Abort;
+use std::alloc::{AllocError, Global};
+use std::fmt::Write;
 use std::test::Fail;
 
 /// The first fault of a source: its line, and what is told.
@@ -15,53 +15,32 @@ fn told(alloc: Global, source: &[u8]) -> Result<Option<(usize, &'static str)>, F
     })
 }
 
-/// Asserts that each of these sources has its fault in its line.
-fn assert_faults(
-    rt: &impl Abort,
-    alloc: Global,
-    sources: &[(&str, usize, &str)],
-) -> Result<(), Fail> {
-    for (source, line, text) in sources {
-        let found = told(alloc, source.as_bytes())?;
-        assert_eq!(rt; found, Some((*line, *text)), "{source}");
-    }
-    Ok(())
-}
-
-/// The tree of a source.
-fn tree(alloc: Global, source: &str) -> Result<Module, Fail> {
-    match outcome(alloc, source.as_bytes()).ok().ok_or("no memory")? {
-        Outcome::Tree(found) => Ok(found),
-        Outcome::Fault(_) => Err("no tree".into()),
-    }
-}
-
-/// So many of a text, one after another.
-fn repeated(alloc: Global, text: &str, count: usize) -> Result<String, Fail> {
-    let mut repeated = String::new(alloc);
-    for _turn in 0..count {
-        repeated.push_str(text)?;
-    }
-    Ok(repeated)
-}
-
 /// So many headers, each deeper than the one before, with `y` below the last.
-fn nested(alloc: Global, levels: usize) -> Result<String, Fail> {
+fn nested(alloc: Global, levels: usize) -> Result<String, AllocError> {
     let mut source = String::new(alloc);
     for level in 0..levels {
-        source.push_str(repeated(alloc, " ", level)?.as_str())?;
+        for _ in 0..level {
+            source.push(' ')?;
+        }
         source.push_str("if x:\n")?;
     }
-    source.push_str(repeated(alloc, " ", levels)?.as_str())?;
+    for _ in 0..levels {
+        source.push(' ')?;
+    }
     source.push_str("y\n")?;
     Ok(source)
 }
 
 /// A number in so many parentheses.
-fn enclosed(alloc: Global, levels: usize) -> Result<String, Fail> {
-    let mut source = repeated(alloc, "(", levels)?;
-    source.push_str("1")?;
-    source.push_str(repeated(alloc, ")", levels)?.as_str())?;
+fn enclosed(alloc: Global, levels: usize) -> Result<String, AllocError> {
+    let mut source = String::new(alloc);
+    for _ in 0..levels {
+        source.push('(')?;
+    }
+    source.push('1')?;
+    for _ in 0..levels {
+        source.push(')')?;
+    }
     Ok(source)
 }
 
@@ -91,11 +70,6 @@ const LEXICAL: &[(&str, usize, &str)] = &[
         "Inconsistent use of tabs and spaces in indentation",
     ),
 ];
-
-#[test]
-fn lexical_faults(rt: HostRuntime) -> Result<(), Fail> {
-    assert_faults(&rt, rt.alloc(), LEXICAL)
-}
 
 #[test]
 fn bytes_that_are_no_text(rt: HostRuntime) -> Result<(), Fail> {
@@ -146,11 +120,6 @@ const OF_LINES_AND_BLOCKS: &[(&str, usize, &str)] = &[
     ("def f(a, /): pass\n", 1, "Outside the profile"),
 ];
 
-#[test]
-fn faults_of_lines_and_blocks(rt: HostRuntime) -> Result<(), Fail> {
-    assert_faults(&rt, rt.alloc(), OF_LINES_AND_BLOCKS)
-}
-
 /// Sources with several faults.
 const SEVERAL: &[(&str, usize, &str)] = &[
     ("x = = 1\ny = $\n", 2, "Invalid character"),
@@ -164,55 +133,56 @@ const SEVERAL: &[(&str, usize, &str)] = &[
     ("if x:\ny\nif z:\nw\n", 1, "Unexpected or missing block"),
 ];
 
+/// The tables of sources with a fault.
+const FAULTS: &[&[(&str, usize, &str)]] = &[LEXICAL, OF_LINES_AND_BLOCKS, SEVERAL];
+
 #[test]
-fn first_fault_of_the_first_kind(rt: HostRuntime) -> Result<(), Fail> {
-    assert_faults(&rt, rt.alloc(), SEVERAL)
+fn first_faults(rt: HostRuntime) -> Result<(), Fail> {
+    for sources in FAULTS {
+        for (source, line, text) in *sources {
+            let found = told(rt.alloc(), source.as_bytes())?;
+            assert_eq!(rt; found, Some((*line, *text)), "{source}");
+        }
+    }
+    Ok(())
 }
 
-/// How many statements the tree of a source has, and whether an ignore comment silences the file.
-fn statements_of(alloc: Global, source: &str) -> Result<(usize, bool), Fail> {
-    let found = tree(alloc, source)?;
-    Ok((found.statements.len(), found.whole_file))
+/// How many statements a tree has, its ignore comments, each as its line with `*` where it has no codes, and `!` where
+/// one silences the file.
+fn shown(alloc: Global, module: &Module) -> Result<String, Fail> {
+    let mut shown = String::new(alloc);
+    write!(shown, "{}", module.statements.len())?;
+    for ignore in &module.ignores {
+        write!(shown, " #{}", ignore.line)?;
+        shown.push_str(if matches!(ignore.codes, Codes::All) {
+            "*"
+        } else {
+            ""
+        })?;
+    }
+    shown.push_str(if module.whole_file { "!" } else { "" })?;
+    Ok(shown)
 }
 
-/// How many ignore comments the tree of a source has.
-fn ignores_of(alloc: Global, source: &str) -> Result<usize, Fail> {
-    Ok(tree(alloc, source)?.ignores.len())
+/// The same of the tree of a source.
+fn tree_shown(alloc: Global, source: &str) -> Result<String, Fail> {
+    match outcome(alloc, source.as_bytes()).ok().ok_or("no memory")? {
+        Outcome::Tree(found) => shown(alloc, &found),
+        Outcome::Fault(_) => Err("no tree".into()),
+    }
 }
 
-/// The line of the first ignore comment of a source, and whether it has no codes.
-fn first_ignore(alloc: Global, source: &str) -> Result<(usize, bool), Fail> {
-    let found = tree(alloc, source)?;
-    let ignore = found.ignores.first().ok_or("no ignore")?;
-    Ok((ignore.line, matches!(ignore.codes, Codes::All)))
-}
-
-/// A source with an ignore comment after a statement.
-const ONE: &str = "x: int = \"a\"\ny = 1  # type: ignore\n";
-
-/// Sources, with how many statements they have, and whether an ignore comment silences the file.
-const STATEMENTS: &[(&str, usize, bool)] = &[
-    (ONE, 2, false),
-    ("\u{feff}# type: ignore\nx = 1\n", 1, true),
-    ("", 0, false),
+/// Sources, with their statements and ignore comments.
+const TREES: &[(&str, &str)] = &[
+    ("x: int = \"a\"\ny = 1  # type: ignore\n", "2 #2*"),
+    ("\u{feff}# type: ignore\nx = 1\n", "1 #1*!"),
+    ("", "0"),
 ];
-
-/// Sources, with how many ignore comments they have.
-const IGNORES: &[(&str, usize)] = &[(ONE, 1), ("", 0)];
 
 #[test]
 fn trees_with_ignore_comments(rt: HostRuntime) -> Result<(), Fail> {
-    let alloc = rt.alloc();
-    for (source, count, is_silenced) in STATEMENTS {
-        let (found, whole_file) = statements_of(alloc, source)?;
-        assert_eq!(rt; found, *count, "{source}");
-        assert_eq!(rt; whole_file, *is_silenced, "{source}");
+    for (source, want) in TREES {
+        assert_eq!(rt; tree_shown(rt.alloc(), source)?.as_str(), *want, "{source}");
     }
-    for (source, count) in IGNORES {
-        assert_eq!(rt; ignores_of(alloc, source)?, *count, "{source}");
-    }
-    let (line, has_no_codes) = first_ignore(alloc, ONE)?;
-    assert_eq!(rt; line, 2);
-    assert!(rt; has_no_codes);
     Ok(())
 }

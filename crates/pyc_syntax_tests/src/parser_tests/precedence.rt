@@ -1,60 +1,46 @@
 //! Which of two neighbouring operators binds tighter, by the shape of the tree (Python reference 3.13, "Operator
 //! precedence").
 
-use super::expression;
-use pyc_parse::Expr;
+use super::parsed;
+use super::shapes::{expression, part};
+use pyc_parse::{Expr, Line};
 use std::alloc::Global;
-use std::process::Abort;
 use std::test::Fail;
-
-/// The operands of an operator that have one themselves.
-#[derive(Clone, Copy, Debug, PartialEq, Eq)]
-enum Nested {
-    Neither,
-    Left,
-    Right,
-    Both,
-}
 
 /// Whether an operand has an operator.
 fn has_operator(operand: &Expr) -> bool {
     !matches!(operand, Expr::Name(_))
 }
 
-/// Which operands of the outermost operator have one themselves; one before its only operand has a right one.
-fn nested_operands(alloc: Global, source: &str) -> Result<Nested, Fail> {
-    let tree = expression(alloc, source)?;
-    let (left, right) = match &*tree {
-        Expr::Binary(left, _, right) => (has_operator(left), has_operator(right)),
-        Expr::Compare(left, links) => {
-            let link = links.first().ok_or("no comparison")?;
-            (has_operator(left), has_operator(&link.right))
-        }
-        Expr::Conditional(value, _, _, _, other) => (has_operator(value), has_operator(other)),
-        Expr::Unary(_, operand) | Expr::Await(_, operand) | Expr::Lambda(_, _, _, operand) => {
-            (false, has_operator(operand))
-        }
-        _ => return Err("no operator".into()),
+/// Which operands of an operator have one themselves; one before its only operand has a right one.
+fn nested(tree: &Expr) -> &'static str {
+    let (left, right) = match (part(tree, 0), part(tree, 1)) {
+        (Some(left), Some(right)) => (has_operator(left), has_operator(right)),
+        (Some(operand), None) => (false, has_operator(operand)),
+        (None, _) => return "no operator",
     };
-    Ok(match (left, right) {
-        (false, false) => Nested::Neither,
-        (true, false) => Nested::Left,
-        (false, true) => Nested::Right,
-        (true, true) => Nested::Both,
-    })
+    match (left, right) {
+        (false, false) => "neither",
+        (true, false) => "left",
+        (false, true) => "right",
+        (true, true) => "both",
+    }
 }
 
-/// Asserts which operands of the outermost operator of each source have one themselves.
-fn assert_nested(
-    rt: &impl Abort,
-    alloc: Global,
-    sources: &[&str],
-    want: Nested,
-) -> Result<(), Fail> {
-    for source in sources {
-        assert_eq!(rt; nested_operands(alloc, source)?, want, "{source}");
+/// The same of the outermost operator of a line.
+fn nested_in(line: &Line) -> &'static str {
+    match expression(line) {
+        Some(tree) => nested(tree),
+        None => "no expression",
     }
-    Ok(())
+}
+
+/// The same of the outermost operator of a source.
+fn nested_operands(alloc: Global, source: &str) -> Result<&'static str, Fail> {
+    match parsed(alloc, source)? {
+        Ok(line) => Ok(nested_in(&line)),
+        Err(_) => Ok("no tree"),
+    }
 }
 
 /// Expressions of which the operator on the right binds tighter.
@@ -75,11 +61,6 @@ const TIGHTER_ON_THE_RIGHT: &[&str] = &[
     "a ** await b",
 ];
 
-#[test]
-fn the_tighter_operator_stands_below_on_the_right(rt: HostRuntime) -> Result<(), Fail> {
-    assert_nested(&rt, rt.alloc(), TIGHTER_ON_THE_RIGHT, Nested::Right)
-}
-
 /// Expressions of which the operator on the left binds tighter.
 const TIGHTER_ON_THE_LEFT: &[&str] = &[
     "a or b if c else d",
@@ -94,11 +75,6 @@ const TIGHTER_ON_THE_LEFT: &[&str] = &[
     "-a * b",
     "await a ** b",
 ];
-
-#[test]
-fn the_tighter_operator_stands_below_on_the_left(rt: HostRuntime) -> Result<(), Fail> {
-    assert_nested(&rt, rt.alloc(), TIGHTER_ON_THE_LEFT, Nested::Left)
-}
 
 /// Expressions with operators of one precedence.
 const OF_ONE_PRECEDENCE: &[&str] = &[
@@ -121,11 +97,6 @@ const OF_ONE_PRECEDENCE: &[&str] = &[
     "a // b % c",
 ];
 
-#[test]
-fn operators_of_one_precedence_group_to_the_left(rt: HostRuntime) -> Result<(), Fail> {
-    assert_nested(&rt, rt.alloc(), OF_ONE_PRECEDENCE, Nested::Left)
-}
-
 /// Expressions that group to the right.
 const TO_THE_RIGHT: &[&str] = &[
     "a ** b ** c",
@@ -137,11 +108,6 @@ const TO_THE_RIGHT: &[&str] = &[
     "- -a",
 ];
 
-#[test]
-fn powers_and_conditionals_group_to_the_right(rt: HostRuntime) -> Result<(), Fail> {
-    assert_nested(&rt, rt.alloc(), TO_THE_RIGHT, Nested::Right)
-}
-
 /// Chains of comparisons.
 const COMPARISONS: &[&str] = &[
     "a == b < c",
@@ -150,7 +116,21 @@ const COMPARISONS: &[&str] = &[
     "a in b is c >= d <= e > f",
 ];
 
+/// These expressions, with the operands of the outermost operator that have one themselves.
+const NEIGHBOURS: &[(&[&str], &str)] = &[
+    (TIGHTER_ON_THE_RIGHT, "right"),
+    (TIGHTER_ON_THE_LEFT, "left"),
+    (OF_ONE_PRECEDENCE, "left"),
+    (TO_THE_RIGHT, "right"),
+    (COMPARISONS, "neither"),
+];
+
 #[test]
-fn comparisons_are_one_node(rt: HostRuntime) -> Result<(), Fail> {
-    assert_nested(&rt, rt.alloc(), COMPARISONS, Nested::Neither)
+fn operators_bind_by_their_precedence(rt: HostRuntime) -> Result<(), Fail> {
+    for (sources, want) in NEIGHBOURS {
+        for source in *sources {
+            assert_eq!(rt; nested_operands(rt.alloc(), source)?, *want, "{source}");
+        }
+    }
+    Ok(())
 }

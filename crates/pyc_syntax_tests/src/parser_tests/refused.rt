@@ -1,11 +1,7 @@
 //! Lines that are none of the language, or of a form that is left out.
 
-use super::assert_refusals;
-use pyc_parse::What;
-use std::test::Fail;
-
 /// Lines that look like statements and are none.
-const NO_STATEMENTS: &[&str] = &[
+pub(super) const NO_STATEMENTS: &[&str] = &[
     "a b",
     "x =",
     "x = *a",
@@ -37,13 +33,8 @@ const NO_STATEMENTS: &[&str] = &[
     "lambda a: int: 1",
 ];
 
-#[test]
-fn statements_without_trees(rt: HostRuntime) -> Result<(), Fail> {
-    assert_refusals(&rt, rt.alloc(), NO_STATEMENTS, Some(What::Line))
-}
-
 /// Lines of other forms that are none of the language.
-const NO_LINES: &[&str] = &[
+pub(super) const NO_LINES: &[&str] = &[
     "lambda (a): 1",
     "def f(a, *b, *c): pass",
     "raise from x",
@@ -85,13 +76,8 @@ const NO_LINES: &[&str] = &[
     "try x: pass",
 ];
 
-#[test]
-fn lines_without_trees(rt: HostRuntime) -> Result<(), Fail> {
-    assert_refusals(&rt, rt.alloc(), NO_LINES, Some(What::Line))
-}
-
 /// Lines of forms that are left out.
-const OUTSIDE: &[&str] = &[
+pub(super) const OUTSIDE: &[&str] = &[
     "x = (y := 1)",
     "if (n := 1): pass",
     "y := 1",
@@ -105,8 +91,3 @@ const OUTSIDE: &[&str] = &[
     "match x",
     "type x",
 ];
-
-#[test]
-fn lines_outside_the_profile(rt: HostRuntime) -> Result<(), Fail> {
-    assert_refusals(&rt, rt.alloc(), OUTSIDE, Some(What::OutsideProfile))
-}

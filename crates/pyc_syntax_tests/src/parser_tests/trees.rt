@@ -1,150 +1,92 @@
 //! The trees of lines.
 
-use super::{expression, parsed, statement};
+use super::parsed;
+use super::shapes::{statement, write_items, write_tree};
 use pyc_parse::{Expr, Header, Line, SimpleStatement};
+use std::alloc::Global;
 use std::test::Fail;
 
-#[test]
-fn a_power_stands_below_the_sign_before_it(rt: HostRuntime) -> Result<(), Fail> {
-    let tree = expression(rt.alloc(), "-2 ** -x")?;
-    let Expr::Unary(_, power) = &*tree else {
-        return Err("no sign".into());
-    };
-    let Expr::Binary(left, _, right) = &**power else {
-        return Err("no power".into());
-    };
-    assert!(rt; matches!(&**left, Expr::Number(_)));
-    assert!(rt; matches!(&**right, Expr::Unary(_, _)));
-    Ok(())
+/// Writes the items of a tuple or a display, with their commas, or the shape of any other expression.
+fn write_target(target: &Expr, shown: &mut String) -> Result<(), Fail> {
+    match target {
+        Expr::Bare(items) | Expr::Display(_, _, items, _) => write_items(items, shown),
+        other => write_tree(other, shown),
+    }
 }
 
-#[test]
-fn powers_group_to_the_right(rt: HostRuntime) -> Result<(), Fail> {
-    let tree = expression(rt.alloc(), "a ** b ** c")?;
-    let Expr::Binary(left, _, right) = &*tree else {
-        return Err("no power".into());
-    };
-    assert!(rt; matches!(&**left, Expr::Name(_)));
-    assert!(rt; matches!(&**right, Expr::Binary(_, _, _)));
-    Ok(())
+/// Writes the shape of an expression, or the targets of an assignment, each with `=` after it, and its value.
+fn write_statement(statement: &SimpleStatement, shown: &mut String) -> Result<(), Fail> {
+    match statement {
+        SimpleStatement::Expression(found) => write_tree(found, shown),
+        SimpleStatement::Assign(targets, value) => {
+            for assigned in targets {
+                write_target(&assigned.target, shown)?;
+                shown.push('=')?;
+            }
+            write_target(value, shown)
+        }
+        _ => Ok(shown.push_str("other")?),
+    }
 }
 
-#[test]
-fn differences_group_to_the_left(rt: HostRuntime) -> Result<(), Fail> {
-    let tree = expression(rt.alloc(), "a - b - c")?;
-    let Expr::Binary(left, _, right) = &*tree else {
-        return Err("no difference".into());
-    };
-    assert!(rt; matches!(&**left, Expr::Binary(_, _, _)));
-    assert!(rt; matches!(&**right, Expr::Name(_)));
-    Ok(())
+/// Writes the shape of the last statement of a line, or the items in the parentheses of its `with`.
+fn write_line(line: &Line, shown: &mut String) -> Result<(), Fail> {
+    if let Line::Header(header, _, _) = line {
+        return match &**header {
+            Header::WithEnclosed(_, _, _, items, _) => write_items(items, shown),
+            _ => Ok(shown.push_str("header")?),
+        };
+    }
+    match statement(line) {
+        Some(found) => write_statement(found, shown),
+        None => Ok(shown.push_str("nothing")?),
+    }
 }
 
-#[test]
-fn comparisons_chain(rt: HostRuntime) -> Result<(), Fail> {
-    let tree = expression(rt.alloc(), "a < b < c")?;
-    let Expr::Compare(left, links) = &*tree else {
-        return Err("no comparison".into());
-    };
-    assert!(rt; matches!(&**left, Expr::Name(_)));
-    assert_eq!(rt; links.len(), 2);
-    let tree = expression(rt.alloc(), "not a == b")?;
-    let Expr::Unary(_, operand) = &*tree else {
-        return Err("no negation".into());
-    };
-    assert!(rt; matches!(&**operand, Expr::Compare(_, _)));
-    Ok(())
+/// The shape of a line.
+fn shown(alloc: Global, line: &Line) -> Result<String, Fail> {
+    let mut shown = String::new(alloc);
+    write_line(line, &mut shown)?;
+    Ok(shown)
 }
 
-#[test]
-fn parentheses_are_nodes(rt: HostRuntime) -> Result<(), Fail> {
-    assert!(rt; matches!(&*expression(rt.alloc(), "a")?, Expr::Name(_)));
-    let tree = expression(rt.alloc(), "(a)")?;
-    let Expr::Parenthesized(_, inner, _) = &*tree else {
-        return Err("no parentheses".into());
-    };
-    assert!(rt; matches!(&**inner, Expr::Name(_)));
-    let tree = expression(rt.alloc(), "(a,)")?;
-    let Expr::Display(_, _, items, _) = &*tree else {
-        return Err("no tuple".into());
-    };
-    assert_eq!(rt; items.each.len(), 1);
-    assert!(rt; items.last.is_none());
-    Ok(())
+/// The shape of the first line of a source.
+fn shape_of(alloc: Global, source: &str) -> Result<String, Fail> {
+    match parsed(alloc, source)? {
+        Ok(line) => shown(alloc, &line),
+        Err(_) => Err("no tree".into()),
+    }
 }
 
-#[test]
-fn the_parentheses_of_a_with_are_its_own(rt: HostRuntime) -> Result<(), Fail> {
-    let Ok(line) = parsed(rt.alloc(), "with (a, b): pass")? else {
-        return Err("no tree".into());
-    };
-    let Line::Header(header, _, _) = &line else {
-        return Err("no header".into());
-    };
-    let Header::WithEnclosed(_, _, _, items, _) = &**header else {
-        return Err("no with".into());
-    };
-    assert_eq!(rt; items.each.len(), 1);
-    assert!(rt; items.last.is_some());
-    Ok(())
-}
+/// Lines, with their shapes.
+const SHAPES: &[(&str, &str)] = &[
+    // a power stands below the sign before it, and powers group to the right
+    ("-2 ** -x", "unary[binary[number][unary]]"),
+    ("a ** b ** c", "binary[name][binary[name][name]]"),
+    // differences group to the left
+    ("a - b - c", "binary[binary[name][name]][name]"),
+    // comparisons chain, below a `not`
+    ("a < b < c", "compare[name][name][name]"),
+    ("not a == b", "unary[compare[name][name]]"),
+    // parentheses are nodes, and a comma in them makes a tuple
+    ("a", "name"),
+    ("(a)", "parentheses[name]"),
+    ("(a,)", "display[name]"),
+    ("x = (a,)", "name=name,"),
+    // the parentheses of a `with` are its own
+    ("with (a, b): pass", "other,other"),
+    // a lambda takes all that follows
+    ("lambda: a if b else c", "lambda[conditional[name][name]]"),
+    // targets, arguments and slices by their forms
+    ("*a, b = c", "starred,name=name"),
+    ("f(*a, k=1, **d)", "call[starred][keyword][double starred]"),
+    ("x[1:2, ::3]", "subscript[slice][stride]"),
+];
 
 #[test]
-fn a_lambda_takes_all_that_follows(rt: HostRuntime) -> Result<(), Fail> {
-    let tree = expression(rt.alloc(), "lambda: a if b else c")?;
-    let Expr::Lambda(_, parameters, _, body) = &*tree else {
-        return Err("no lambda".into());
-    };
-    assert!(rt; parameters.last.is_none());
-    assert!(rt; matches!(&**body, Expr::Conditional(_, _, _, _, _)));
-    Ok(())
-}
-
-#[test]
-fn a_starred_target(rt: HostRuntime) -> Result<(), Fail> {
-    let tree = statement(rt.alloc(), "*a, b = c")?;
-    let SimpleStatement::Assign(targets, value) = &*tree else {
-        return Err("no assignment".into());
-    };
-    assert!(rt; matches!(&**value, Expr::Name(_)));
-    let first = targets.first().ok_or("no target")?;
-    let Expr::Bare(items) = &*first.target else {
-        return Err("no tuple".into());
-    };
-    let starred = items.each.first().ok_or("no item")?;
-    assert!(rt; matches!(&*starred.value, Expr::Starred(_, _)));
-    assert!(rt; items.last.is_some());
-    Ok(())
-}
-
-#[test]
-fn arguments_by_their_forms(rt: HostRuntime) -> Result<(), Fail> {
-    let tree = expression(rt.alloc(), "f(*a, k=1, **d)")?;
-    let Expr::Call(_, _, arguments, _) = &*tree else {
-        return Err("no call".into());
-    };
-    let starred = arguments.each.first().ok_or("no first argument")?;
-    assert!(rt; matches!(&*starred.value, Expr::Starred(_, _)));
-    let keyword = arguments.each.get(1).ok_or("no second argument")?;
-    assert!(rt; matches!(&*keyword.value, Expr::Keyword(_, _, _)));
-    let Some(last) = &arguments.last else {
-        return Err("no last argument".into());
-    };
-    assert!(rt; matches!(&**last, Expr::DoubleStarred(_, _)));
-    Ok(())
-}
-
-#[test]
-fn slices_by_their_colons(rt: HostRuntime) -> Result<(), Fail> {
-    let tree = expression(rt.alloc(), "x[1:2, ::3]")?;
-    let Expr::Subscript(_, _, indices, _) = &*tree else {
-        return Err("no subscript".into());
-    };
-    let slice = indices.each.first().ok_or("no slice")?;
-    assert!(rt; matches!(&*slice.value, Expr::Slice(Some(_), _, Some(_))));
-    let Some(stride) = &indices.last else {
-        return Err("no stride".into());
-    };
-    assert!(rt; matches!(&**stride, Expr::Stride(None, _, None, _, Some(_))));
+fn lines_have_their_shapes(rt: HostRuntime) -> Result<(), Fail> {
+    for (source, want) in SHAPES {
+        assert_eq!(rt; shape_of(rt.alloc(), source)?.as_str(), *want, "{source}");
+    }
     Ok(())
 }
