@@ -50,7 +50,7 @@ impl Read for ShortReads<'_> {
 }
 
 /// How a writer stops.
-#[derive(Clone, Copy, Debug, PartialEq, Eq)]
+#[derive(Clone, Copy)]
 pub(crate) enum Stop {
     Fault,
     Zero,

@@ -1,8 +1,8 @@
 //! Scopes, with their bindings.
 
-use pyc_ast::{Outcome, Text};
+use crate::sources::tree_of;
+use pyc_ast::Text;
 use pyc_bindings::{Binding, BindingForm, scope_bindings};
-use pyc_lower::read;
 use std::alloc::Global;
 use std::fmt::Write;
 use std::test::Fail;
@@ -60,10 +60,8 @@ fn shown(alloc: Global, bindings: &[Binding]) -> Result<String, Fail> {
 
 /// The bindings of the top level of a source.
 fn bindings_of(alloc: Global, source: &str) -> Result<String, Fail> {
-    match read(alloc, source.as_bytes())? {
-        Outcome::Tree(module) => shown(alloc, &scope_bindings(alloc, &module.statements)?),
-        Outcome::Fault(_) => Err("no tree".into()),
-    }
+    let module = tree_of(alloc, source)?;
+    shown(alloc, &scope_bindings(alloc, &module.statements)?)
 }
 
 /// Imports, assignments, deletions, definitions and compound statements, with what they bind.

@@ -19,9 +19,8 @@ const OPTIONS: Options = Options {
     turns: 1_000_000,
 };
 
-/// These messages, each as its line, column, code and text, and ended by a `;`.
-fn shown(alloc: Global, messages: &[Message]) -> Result<String, Fail> {
-    let mut shown = String::new(alloc);
+/// Writes messages, each as its line, column, code and text, and ended by a `;`.
+fn write_messages(messages: &[Message], shown: &mut String) -> Result<(), Fail> {
     for message in messages {
         let line = message.line;
         let column = message.column;
@@ -29,67 +28,98 @@ fn shown(alloc: Global, messages: &[Message]) -> Result<String, Fail> {
         let text = message.text.as_str();
         write!(shown, "{line}:{column} {code}: {text};")?;
     }
+    Ok(())
+}
+
+/// Writes the lines of messages, each with a space after it.
+fn write_lines(messages: &[Message], shown: &mut String) -> Result<(), Fail> {
+    for message in messages {
+        let line = message.line;
+        write!(shown, "{line} ")?;
+    }
+    Ok(())
+}
+
+/// The only file of a world, and what it is looked at with.
+struct Setting<'a> {
+    alloc: Global,
+    builtins: &'a Builtins,
+    world: &'a World,
+    file: &'a SourceFile,
+}
+
+/// Writes what is found in a unit of a file.
+fn write_unit(setting: &Setting<'_>, unit: Unit<'_>, shown: &mut String) -> Result<(), Fail> {
+    let Setting {
+        alloc,
+        builtins,
+        world,
+        file,
+    } = *setting;
+    write_messages(&found(alloc, builtins, OPTIONS, world, file, unit)?, shown)
+}
+
+/// Writes what is found in these units of a file.
+fn write_units(
+    setting: &Setting<'_>,
+    units: &[Unit<'_>],
+    shown: &mut String,
+) -> Result<(), Fail> {
+    for unit in units {
+        write_unit(setting, *unit, shown)?;
+    }
+    Ok(())
+}
+
+/// Writes the lines of what is told of a file, or what is found in its units.
+fn write_file(setting: &Setting<'_>, is_told: bool, shown: &mut String) -> Result<(), Fail> {
+    let Setting {
+        alloc,
+        builtins,
+        world,
+        file,
+    } = *setting;
+    if is_told {
+        write_lines(&unsilenced(alloc, builtins, OPTIONS, world, file)?, shown)
+    } else {
+        write_units(setting, &file_units(alloc, file.outcome())?, shown)
+    }
+}
+
+/// The same, as text.
+fn file_shown(setting: &Setting<'_>, is_told: bool) -> Result<String, Fail> {
+    let mut shown = String::new(setting.alloc);
+    write_file(setting, is_told, &mut shown)?;
     Ok(shown)
 }
 
-/// What is found in a unit of a file of a world.
-fn found_in_unit(
+/// The same of the file of a world.
+fn shown_in(
     alloc: Global,
     world: &World,
     file: &SourceFile,
-    unit: Unit<'_>,
+    is_told: bool,
 ) -> Result<String, Fail> {
     let builtins = Builtins::new(alloc)?;
-    shown(alloc, &found(alloc, &builtins, OPTIONS, world, file, unit)?)
+    let setting = Setting {
+        alloc,
+        builtins: &builtins,
+        world,
+        file,
+    };
+    file_shown(&setting, is_told)
 }
 
-/// What is found in these units of a file of a world.
-fn found_in_units(
-    alloc: Global,
-    world: &World,
-    file: &SourceFile,
-    units: &[Unit<'_>],
-) -> Result<String, Fail> {
-    let mut messages = String::new(alloc);
-    for unit in units {
-        messages.push_str(found_in_unit(alloc, world, file, *unit)?.as_str())?;
-    }
-    Ok(messages)
+/// The same of a file that is the only one there is.
+fn shown_alone(alloc: Global, file: &Rc<SourceFile>, is_told: bool) -> Result<String, Fail> {
+    let world = World::build(alloc, slice::from_ref(file))?;
+    shown_in(alloc, &world, file, is_told)
 }
 
-/// What is found in the units of a file of a world.
-fn found_in_file(alloc: Global, world: &World, file: &SourceFile) -> Result<String, Fail> {
-    found_in_units(alloc, world, file, &file_units(alloc, file.outcome())?)
-}
-
-/// What is found in the units of a file of this source, the only one there is.
-fn found_in(alloc: Global, source: &[u8]) -> Result<String, Fail> {
+/// The same of a file of this source.
+fn shown(alloc: Global, source: &[u8], is_told: bool) -> Result<String, Fail> {
     let file = Rc::new(alloc, file_of(alloc, "a.py", source)?)?;
-    let world = World::build(alloc, slice::from_ref(&file))?;
-    found_in_file(alloc, &world, &file)
-}
-
-/// The lines of these messages, each with a space after it.
-fn lines_of(alloc: Global, messages: &[Message]) -> Result<String, Fail> {
-    let mut lines = String::new(alloc);
-    for message in messages {
-        let line = message.line;
-        write!(lines, "{line} ")?;
-    }
-    Ok(lines)
-}
-
-/// The lines of what is told of a file of a world.
-fn lines_in(alloc: Global, world: &World, file: &SourceFile) -> Result<String, Fail> {
-    let builtins = Builtins::new(alloc)?;
-    lines_of(alloc, &unsilenced(alloc, &builtins, OPTIONS, world, file)?)
-}
-
-/// The lines of what is told of a source, each with a space after it.
-fn lines_told(alloc: Global, source: &[u8]) -> Result<String, Fail> {
-    let file = Rc::new(alloc, file_of(alloc, "a.py", source)?)?;
-    let world = World::build(alloc, slice::from_ref(&file))?;
-    lines_in(alloc, &world, &file)
+    shown_alone(alloc, &file, is_told)
 }
 
 /// Sources with annotated values, and sources that have no tree, with what is found in them.
@@ -142,14 +172,6 @@ const SOURCES: &[(&[u8], &str)] = &[
     (b"x: int = 1\ny = (1 +\n", "2:1 syntax: Unmatched bracket;"),
 ];
 
-#[test]
-fn reports_what_is_found(rt: HostRuntime) -> Result<(), Fail> {
-    for (source, want) in SOURCES {
-        assert_eq!(rt; found_in(rt.alloc(), source)?.as_str(), *want);
-    }
-    Ok(())
-}
-
 /// Sources with ignore comments, with the lines that are told.
 const IGNORED: &[(&[u8], &str)] = &[
     (
@@ -166,10 +188,16 @@ const IGNORED: &[(&[u8], &str)] = &[
     (b"# type: ignore\nx = = 1 # type: ignore[syntax]\n", "2 "),
 ];
 
+/// These tables, with whether what is told is looked at, or what is found.
+const TABLES: &[(bool, &[(&[u8], &str)])] = &[(false, SOURCES), (true, IGNORED)];
+
 #[test]
-fn ignores_silence(rt: HostRuntime) -> Result<(), Fail> {
-    for (source, want) in IGNORED {
-        assert_eq!(rt; lines_told(rt.alloc(), source)?.as_str(), *want);
+fn what_is_found_and_told(rt: HostRuntime) -> Result<(), Fail> {
+    for (is_told, sources) in TABLES {
+        for (source, want) in *sources {
+            let shown = shown(rt.alloc(), source, *is_told)?;
+            assert_eq!(rt; shown.as_str(), *want);
+        }
     }
     Ok(())
 }

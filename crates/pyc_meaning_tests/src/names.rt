@@ -24,37 +24,36 @@ fn table_of(alloc: Global, sources: &[(&str, &str)]) -> Result<Table, AllocError
     Table::build(alloc, &files_of(alloc, sources)?)
 }
 
-/// Whether this is the word for what a name stands for in a table.
-fn is_word(
+/// Writes the word for what a name stands for in a table, and whether it is on a ring there.
+fn write_followed(
     alloc: Global,
     table: &Table,
     name: &QualifiedName,
-    want: &str,
-) -> Result<bool, AllocError> {
-    Ok(word(&table.follow(alloc, name)?) == want)
+    shown: &mut String,
+) -> Result<(), AllocError> {
+    shown.push_str(word(&table.follow(alloc, name)?))?;
+    if table.is_on_ring(alloc, name)? {
+        shown.push_str(" on a ring")?;
+    }
+    Ok(())
 }
 
-/// Whether this is the word for what a name of a module stands for in these files.
-fn is_followed(
+/// The same, as text.
+fn followed_in(alloc: Global, table: &Table, name: &QualifiedName) -> Result<String, AllocError> {
+    let mut shown = String::new(alloc);
+    write_followed(alloc, table, name, &mut shown)?;
+    Ok(shown)
+}
+
+/// The same of a name of a module in these files.
+fn followed(
     alloc: Global,
     sources: &[(&str, &str)],
     home: &str,
     name: &str,
-    want: &str,
-) -> Result<bool, AllocError> {
-    let name = name_of(alloc, home, name)?;
-    is_word(alloc, &table_of(alloc, sources)?, &name, want)
-}
-
-/// Whether a name of a module is on a ring in these files.
-fn on_ring(
-    alloc: Global,
-    sources: &[(&str, &str)],
-    home: &str,
-    name: &str,
-) -> Result<bool, AllocError> {
-    let name = name_of(alloc, home, name)?;
-    table_of(alloc, sources)?.is_on_ring(alloc, &name)
+) -> Result<String, AllocError> {
+    let table = table_of(alloc, sources)?;
+    followed_in(alloc, &table, &name_of(alloc, home, name)?)
 }
 
 /// Three files in a ring, one that leads into it, and one that leads away from all.
@@ -65,26 +64,6 @@ const RING: &[(&str, &str)] = &[
     ("d.py", "from a import x\n"),
     ("e.py", "from f import x\n"),
 ];
-
-/// Names of their modules, with whether they are on a ring.
-const RING_NAMES: &[(&[(&str, &str)], &str, &str, bool)] = &[
-    (RING, "a", "x", true),
-    (RING, "b", "x", true),
-    (RING, "c", "y", true),
-    (RING, "d", "x", false),
-    (RING, "e", "x", false),
-    (RING, "c", "x", false),
-    (PACKAGES, "pkg", "m", false),
-];
-
-#[test]
-fn rings_are_cycles(rt: HostRuntime) -> Result<(), Fail> {
-    for (sources, home, name, want) in RING_NAMES {
-        let is_on_ring = on_ring(rt.alloc(), sources, home, name)?;
-        assert_eq!(rt; is_on_ring, *want, "{home}:{name}");
-    }
-    Ok(())
-}
 
 /// Files in which imports end: at a declaration, at a name and a module that are not there, and at a file with a fault.
 const CHAINS: &[(&str, &str)] = &[
@@ -125,11 +104,11 @@ const FIXED: &[(&str, &str)] = &[
     ),
 ];
 
-/// Names of the modules of these files, with words for what they stand for.
+/// Names of the modules of these files, with words for what they stand for, and which of them are on a ring.
 const FOLLOWED: &[(&[(&str, &str)], &str, &str, &str)] = &[
-    (RING, "a", "x", "cycle"),
-    (RING, "b", "x", "cycle"),
-    (RING, "c", "y", "cycle"),
+    (RING, "a", "x", "cycle on a ring"),
+    (RING, "b", "x", "cycle on a ring"),
+    (RING, "c", "y", "cycle on a ring"),
     (RING, "d", "x", "cycle"),
     (RING, "e", "x", "no module"),
     (RING, "c", "x", "no name"),
@@ -166,8 +145,8 @@ const FOLLOWED: &[(&[(&str, &str)], &str, &str, &str)] = &[
 #[test]
 fn names_are_followed(rt: HostRuntime) -> Result<(), Fail> {
     for (sources, home, name, want) in FOLLOWED {
-        let is_followed = is_followed(rt.alloc(), sources, home, name, want)?;
-        assert!(rt; is_followed, "{home}:{name}");
+        let found = followed(rt.alloc(), sources, home, name)?;
+        assert_eq!(rt; found.as_str(), *want, "{home}:{name}");
     }
     Ok(())
 }

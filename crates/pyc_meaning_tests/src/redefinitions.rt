@@ -1,23 +1,14 @@
 //! Decorators, the declarations of names, and names that are defined again.
 
-use crate::sources::file_of;
-use pyc_ast::{Expr, Module, Outcome, Stmt, StmtForm, Text};
+use crate::sources::{file_of, tree_of};
+use pyc_ast::{Expr, Stmt, StmtForm, Text};
 use pyc_bindings::{
     Binding, Decorator, Redefinition, declaration, decorator_of, has_other, has_setter,
     is_decorated, redefinitions,
 };
-use pyc_lower::read;
 use std::alloc::{AllocError, Global};
 use std::fmt::Write;
 use std::test::Fail;
-
-/// The tree of a source.
-fn module_of(alloc: Global, source: &str) -> Result<Module, Fail> {
-    match read(alloc, source.as_bytes())? {
-        Outcome::Tree(module) => Ok(module),
-        Outcome::Fault(_) => Err("no tree".into()),
-    }
-}
 
 /// The decorators of the first statement, where it is a function.
 fn decorators(statements: &[Stmt]) -> &[Expr] {
@@ -32,21 +23,18 @@ fn decorators(statements: &[Stmt]) -> &[Expr] {
     }
 }
 
-/// What the first decorator of a function is.
-fn first_of(alloc: Global, source: &str) -> Result<Option<Decorator>, Fail> {
-    let module = module_of(alloc, source)?;
-    Ok(
-        decorators(&module.statements)
-            .first()
-            .map(|found| decorator_of(found)),
-    )
+/// What the first of some decorators is; whether one is an unknown one, and whether one makes a setter.
+fn marks(found: &[Expr]) -> (Option<Decorator>, (bool, bool)) {
+    let first = match found.first() {
+        Some(first) => Some(decorator_of(first)),
+        None => None,
+    };
+    (first, (has_other(found), has_setter(found)))
 }
 
-/// Whether one decorator of a function is an unknown one, and whether one makes a setter.
-fn marks_of(alloc: Global, source: &str) -> Result<(bool, bool), Fail> {
-    let module = module_of(alloc, source)?;
-    let found = decorators(&module.statements);
-    Ok((has_other(found), has_setter(found)))
+/// The same of the decorators of the function that a source begins with.
+fn decorated(alloc: Global, source: &str) -> Result<(Option<Decorator>, (bool, bool)), Fail> {
+    Ok(marks(decorators(&tree_of(alloc, source)?.statements)))
 }
 
 /// Functions: what the first of their decorators is; whether one is an unknown one, and whether one makes a setter.
@@ -132,8 +120,8 @@ const DECORATED: &[(&str, Option<Decorator>, (bool, bool))] = &[
 #[test]
 fn decorators_by_their_spelling(rt: HostRuntime) -> Result<(), Fail> {
     for (source, first, marks) in DECORATED {
-        assert!(rt; first_of(rt.alloc(), source)? == *first, "{source}");
-        assert!(rt; marks_of(rt.alloc(), source)? == *marks, "{source}");
+        let found = decorated(rt.alloc(), source)?;
+        assert!(rt; found == (*first, *marks), "{source}");
     }
     Ok(())
 }

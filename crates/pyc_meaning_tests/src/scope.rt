@@ -1,20 +1,12 @@
 //! Modules, with the lines of their parts and of their units.
 
-use pyc_ast::{Module, Outcome, Stmt, StmtForm};
+use crate::sources::tree_of;
+use pyc_ast::{Stmt, StmtForm};
 use pyc_bindings::{Part, PartForm, scope_parts};
 use pyc_body::unit_definitions;
-use pyc_lower::read;
 use std::alloc::Global;
 use std::fmt::Write;
 use std::test::Fail;
-
-/// The tree of a source.
-fn module_of(alloc: Global, source: &str) -> Result<Module, Fail> {
-    match read(alloc, source.as_bytes())? {
-        Outcome::Tree(module) => Ok(module),
-        Outcome::Fault(_) => Err("no tree".into()),
-    }
-}
 
 /// How a part of a scope is marked before its line: `d` for a function or a class, `t` for what a `for` or a `with`
 /// assigns to, `n` for the name that an `except` binds.
@@ -31,7 +23,7 @@ fn mark(form: PartForm<'_>) -> &str {
 
 /// The lines of the parts of a source with their marks, and `?` after those inside an `if` or a `try`.
 fn parts_of(alloc: Global, source: &str) -> Result<String, Fail> {
-    let module = module_of(alloc, source)?;
+    let module = tree_of(alloc, source)?;
     parts_shown(alloc, &scope_parts(alloc, &module.statements)?)
 }
 
@@ -48,7 +40,7 @@ fn parts_shown(alloc: Global, parts: &[Part<'_>]) -> Result<String, Fail> {
 
 /// The lines of the definitions among the units of a source.
 fn units_of(alloc: Global, source: &str) -> Result<String, Fail> {
-    let module = module_of(alloc, source)?;
+    let module = tree_of(alloc, source)?;
     lines_of(alloc, &unit_definitions(alloc, &module.statements)?)
 }
 

@@ -1,10 +1,19 @@
 //! Files, modules and names for the tests.
 
-use pyc_ast::Text;
+use pyc_ast::{Module, Outcome, Text};
 use pyc_lower::read;
 use pyc_names::{ModuleName, QualifiedName, SourceFile, joined};
 use std::alloc::{AllocError, Global};
 use std::rc::Rc;
+use std::test::Fail;
+
+/// The tree of a source.
+pub(crate) fn tree_of(alloc: Global, source: &str) -> Result<Module, Fail> {
+    match read(alloc, source.as_bytes())? {
+        Outcome::Tree(module) => Ok(module),
+        Outcome::Fault(_) => Err("no tree".into()),
+    }
+}
 
 /// A file of this path and source, as names see it.
 pub(crate) fn file_of(alloc: Global, path: &str, source: &[u8]) -> Result<SourceFile, AllocError> {

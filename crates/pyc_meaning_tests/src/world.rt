@@ -218,31 +218,33 @@ fn names_are_declared(rt: HostRuntime) -> Result<(), Fail> {
 
 /// The types of the annotation and of the value of a statement of a file.
 fn types_at(file: &SourceFile, statement: &Stmt) -> (Option<Builtin>, Option<Builtin>) {
-    match &statement.form {
-        StmtForm::Annotate(found) => (
-            annotation_builtin(file.bindings(), &found.annotation),
-            found.value.as_ref().and_then(|value| literal_type(value)),
-        ),
-        _ => (None, None),
+    let StmtForm::Annotate(found) = &statement.form else {
+        return (None, None);
+    };
+    let value = match &found.value {
+        Some(value) => literal_type(value),
+        None => None,
+    };
+    (annotation_builtin(file, &found.annotation), value)
+}
+
+/// The same of the first statement of a file.
+fn first_types(file: &SourceFile) -> (Option<Builtin>, Option<Builtin>) {
+    let Outcome::Tree(module) = file.outcome() else {
+        return (None, None);
+    };
+    match module.statements.first() {
+        Some(statement) => types_at(file, statement),
+        None => (None, None),
     }
 }
 
-/// The types of the annotation and of the value of the first statement of a source, in the file that it is.
-fn types_of(alloc: Global, source: &str) -> Result<(Option<Builtin>, Option<Builtin>), Fail> {
-    let file = file_of(alloc, "a.py", source.as_bytes())?;
-    let Outcome::Tree(Module { statements, .. }) = file.outcome() else {
-        return Err("no tree".into());
-    };
-    let Some(first) = statements.first() else {
-        return Err("no statement".into());
-    };
-    let StmtForm::Annotate(found) = &first.form else {
-        return Err("no annotation".into());
-    };
-    Ok((
-        annotation_builtin(&file, &found.annotation),
-        found.value.as_ref().and_then(|value| literal_type(value)),
-    ))
+/// The same of the first statement of the file of a source.
+fn types_of(
+    alloc: Global,
+    source: &str,
+) -> Result<(Option<Builtin>, Option<Builtin>), AllocError> {
+    Ok(first_types(&file_of(alloc, "a.py", source.as_bytes())?))
 }
 
 /// Annotated names: the types of the annotation and of the value, where they have one.
@@ -267,7 +269,7 @@ const TYPES: &[(&str, Option<Builtin>, Option<Builtin>)] = &[
 fn types_of_annotations_and_literals(rt: HostRuntime) -> Result<(), Fail> {
     for (source, annotation, value) in TYPES {
         let found = types_of(rt.alloc(), source)?;
-        assert!(rt; found == Some((*annotation, *value)), "{source}");
+        assert!(rt; found == (*annotation, *value), "{source}");
     }
     Ok(())
 }

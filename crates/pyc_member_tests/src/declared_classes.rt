@@ -1,21 +1,23 @@
 //! Modules, with the classes that they declare.
 
 use crate::sources::module_of;
+use pyc_ast::Stmt;
 use pyc_bindings::scope_bindings;
 use pyc_members::{DeclaredClass, declared_classes};
-use std::alloc::Global;
+use std::alloc::{AllocError, Global};
 use std::fmt::Write;
 use std::rc::Rc;
 use std::test::Fail;
 
+/// The classes that the statements of a module declare.
+fn classes_in(alloc: Global, statements: &[Stmt]) -> Result<Vec<Rc<DeclaredClass>>, AllocError> {
+    declared_classes(alloc, statements, &scope_bindings(alloc, statements)?)
+}
+
 /// The classes that a source declares, each as its name, its line, and how many names its body binds.
 fn classes_of(alloc: Global, source: &str) -> Result<String, Fail> {
     let module = module_of(alloc, source)?;
-    let bindings = scope_bindings(alloc, &module.statements)?;
-    shown(
-        alloc,
-        &declared_classes(alloc, &module.statements, &bindings)?,
-    )
+    shown(alloc, &classes_in(alloc, &module.statements)?)
 }
 
 /// These classes, one after another.

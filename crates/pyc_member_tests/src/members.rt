@@ -2,7 +2,7 @@
 
 use crate::sources::{answered, class_of};
 use pyc_ast::Text;
-use pyc_class::{BuiltinClass, ClassId};
+use pyc_class::ClassId;
 use pyc_iface::{Key, MemberName};
 use std::alloc::Global;
 use std::test::Fail;
@@ -59,11 +59,6 @@ fn member_of(alloc: Global, class: ClassId, name: &str) -> Result<String, Fail> 
 /// What the class of this name in a module has under another name.
 fn member_at(alloc: Global, home: &str, class: &str, name: &str) -> Result<String, Fail> {
     member_of(alloc, class_of(alloc, home, class)?, name)
-}
-
-/// What a builtin class has under a name.
-fn builtin_member(alloc: Global, class: BuiltinClass, name: &str) -> Result<String, Fail> {
-    member_of(alloc, ClassId::builtin(class), name)
 }
 
 /// Modules, classes and names, with the members of those names.
@@ -129,54 +124,40 @@ const MEMBERS: &[(&str, &str, &str, &str)] = &[
     ("gone", "K", "x", "absent"),
 ];
 
-/// The first class of the order that binds a name or annotates it comes before each that assigns it. The annotations of
-/// a class are read in its file. A class whose order is not known has its own members alone.
-#[test]
-fn members_of_classes(rt: HostRuntime) -> Result<(), Fail> {
-    let a = rt.alloc();
-    for (home, class, name, want) in MEMBERS {
-        assert_eq!(rt;
-            member_at(a, home, class, name)?.as_str(),
-            *want,
-            "{home}:{class}:{name}"
-        );
-    }
-    Ok(())
-}
-
 /// Builtin classes and names, with the members of those names.
-const OF_BUILTIN_CLASSES: &[(BuiltinClass, &str, &str)] = &[
+const OF_BUILTIN_CLASSES: &[(&str, &str, &str, &str)] = &[
+    ("", "KeyError", "args", "Variable of BaseException: Any"),
+    ("", "bool", "imag", "Variable of int: Any"),
+    ("", "str", "count", "Method of str: Callable[..., int]"),
     (
-        BuiltinClass::KeyError,
-        "args",
-        "Variable of BaseException: Any",
-    ),
-    (BuiltinClass::Bool, "imag", "Variable of int: Any"),
-    (
-        BuiltinClass::Str,
-        "count",
-        "Method of str: Callable[..., int]",
-    ),
-    (
-        BuiltinClass::List,
+        "",
+        "list",
         "append",
         "Method of list: Callable[[Any], None]",
     ),
     (
-        BuiltinClass::Dict,
+        "",
+        "dict",
         "popitem",
         "Method of dict: Callable[..., tuple[Any, Any]]",
     ),
-    (BuiltinClass::Object, "args", "absent"),
-    (BuiltinClass::Str, "__init__", "absent"),
+    ("", "object", "args", "absent"),
+    ("", "str", "__init__", "absent"),
 ];
 
-/// A builtin class is asked like any other.
+/// The tables of members.
+const TABLES: &[&[(&str, &str, &str, &str)]] = &[MEMBERS, OF_BUILTIN_CLASSES];
+
+/// The first class of the order that binds a name or annotates it comes before each that assigns it. The annotations of
+/// a class are read in its file. A class whose order is not known has its own members alone. A builtin class is asked
+/// like any other.
 #[test]
-fn members_of_builtin_classes(rt: HostRuntime) -> Result<(), Fail> {
-    let a = rt.alloc();
-    for (class, name, want) in OF_BUILTIN_CLASSES {
-        assert_eq!(rt; builtin_member(a, *class, name)?.as_str(), *want, "{name}");
+fn members_of_classes(rt: HostRuntime) -> Result<(), Fail> {
+    for table in TABLES {
+        for (home, class, name, want) in *table {
+            let member = member_at(rt.alloc(), home, class, name)?;
+            assert_eq!(rt; member.as_str(), *want, "{home}:{class}:{name}");
+        }
     }
     Ok(())
 }

@@ -20,7 +20,10 @@ fn shown(alloc: Global, methods: &[Method<'_>]) -> Result<String, Fail> {
         let name = method.head.name.as_str();
         let line = method.at.line;
         let kind = method_kind(&method.head.decorators);
-        let own = self_name(method.head).map_or("-", |own| own.as_str());
+        let own = match self_name(method.head) {
+            Some(own) => own.as_str(),
+            None => "-",
+        };
         write!(shown, "{name} {line} {kind:?} {own}; ")?;
     }
     Ok(shown)

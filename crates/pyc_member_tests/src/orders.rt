@@ -1,7 +1,7 @@
 //! Classes, with their orders and whether their instances can be called.
 
 use crate::sources::{answered, class_of, order_shown, world_of};
-use pyc_class::{BuiltinClass, ClassId, Lins};
+use pyc_class::{ClassId, Lins};
 use pyc_iface::Key;
 use std::alloc::Global;
 use std::test::Fail;
@@ -32,25 +32,21 @@ fn known(alloc: Global, class: &ClassId) -> Result<String, Fail> {
     order_shown(alloc, lin.classes, lin.unknown, lin.has_call)
 }
 
-/// The order of the class of this name in a module, as the world knows it.
-fn known_at(alloc: Global, home: &str, class: &str) -> Result<String, Fail> {
-    let class = class_of(alloc, home, class)?;
-    known(alloc, &class)
+/// The order of a class, as the world answers it or knows it.
+fn order_of(alloc: Global, is_asked: bool, class: ClassId) -> Result<String, Fail> {
+    if is_asked {
+        answered(alloc, FILES, &Key::Class(class))
+    } else {
+        known(alloc, &class)
+    }
 }
 
-/// The order of the class of this name in a module, as the world answers it.
-fn answered_at(alloc: Global, home: &str, class: &str) -> Result<String, Fail> {
-    let key = Key::Class(class_of(alloc, home, class)?);
-    answered(alloc, FILES, &key)
+/// The order of the class of this name in a module, as the world answers it or knows it.
+fn order_at(alloc: Global, is_asked: bool, home: &str, class: &str) -> Result<String, Fail> {
+    order_of(alloc, is_asked, class_of(alloc, home, class)?)
 }
 
-/// The order of a builtin class, as the world knows it.
-fn builtin_order(alloc: Global, class: BuiltinClass) -> Result<String, Fail> {
-    let class = ClassId::builtin(class);
-    known(alloc, &class)
-}
-
-/// Modules and classes, with their orders or why these are not known, and whether their instances can be called.
+/// Modules and classes, builtin ones without a module, with their orders or why these are not known, and whether their instances can be called.
 const ORDERS: &[(&str, &str, &str)] = &[
     ("m", "A", "A O object known"),
     ("m", "C", "C A B O object known"),
@@ -80,32 +76,19 @@ const ORDERS: &[(&str, &str, &str)] = &[
     ("c", "G", "G base called"),
     ("c", "H", "H object known"),
     ("c", "I", "I Exception BaseException object known"),
+    ("", "object", "object known"),
+    ("", "bool", "bool int object known"),
+    ("", "list", "list object known"),
 ];
 
 /// A world and its answers tell the same order of each class.
 #[test]
 fn orders_of_classes(rt: HostRuntime) -> Result<(), Fail> {
-    let a = rt.alloc();
-    for (home, class, want) in ORDERS {
-        let found = known_at(a, home, class)?;
-        assert_eq!(rt; found.as_str(), *want, "{home}:{class}");
-        let found = answered_at(a, home, class)?;
-        assert_eq!(rt; found.as_str(), *want, "{home}:{class}");
-    }
-    Ok(())
-}
-
-/// Builtin classes, with their orders.
-const BUILTIN_ORDERS: &[(BuiltinClass, &str)] = &[
-    (BuiltinClass::Object, "object known"),
-    (BuiltinClass::Bool, "bool int object known"),
-    (BuiltinClass::List, "list object known"),
-];
-
-#[test]
-fn orders_of_builtin_classes(rt: HostRuntime) -> Result<(), Fail> {
-    for (class, want) in BUILTIN_ORDERS {
-        assert_eq!(rt; builtin_order(rt.alloc(), *class)?.as_str(), *want);
+    for is_asked in [false, true] {
+        for (home, class, want) in ORDERS {
+            let order = order_at(rt.alloc(), is_asked, home, class)?;
+            assert_eq!(rt; order.as_str(), *want, "{home}:{class}");
+        }
     }
     Ok(())
 }

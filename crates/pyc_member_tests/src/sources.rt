@@ -5,7 +5,7 @@ use pyc_class::{ClassId, UnknownOrder};
 use pyc_iface::{Answer, Key, MemberAnswer, World};
 use pyc_lower::read;
 use pyc_names::{ModuleName, SourceFile};
-use pyc_types::show;
+use pyc_types::{BuiltinName, builtin_name, show};
 use std::alloc::{AllocError, Global};
 use std::rc::Rc;
 use std::test::Fail;
@@ -18,22 +18,41 @@ pub(crate) fn module_of(alloc: Global, source: &str) -> Result<Module, Fail> {
     }
 }
 
-/// The world of files, each of its path and source.
-pub(crate) fn world_of(alloc: Global, sources: &[(&str, &str)]) -> Result<World, AllocError> {
-    let mut files = Vec::new(alloc);
-    for (path, source) in sources {
-        let name = ModuleName::of_path(alloc, path)?;
-        let outcome = read(alloc, source.as_bytes())?;
-        files.push(Rc::new(alloc, SourceFile::new(alloc, path, name, outcome)?)?)?;
-    }
-    World::build(alloc, &files)
+/// A file of this path and source, shared.
+fn file_of(alloc: Global, path: &str, source: &str) -> Result<Rc<SourceFile>, AllocError> {
+    let name = ModuleName::of_path(alloc, path)?;
+    let outcome = read(alloc, source.as_bytes())?;
+    Rc::new(alloc, SourceFile::new(alloc, path, name, outcome)?)
 }
 
-/// The class of this name in the module of one name.
+/// Files, each of its path and source.
+fn files_of(
+    alloc: Global,
+    sources: &[(&str, &str)],
+) -> Result<Vec<Rc<SourceFile>>, AllocError> {
+    let mut files = Vec::new(alloc);
+    for (path, source) in sources {
+        files.push(file_of(alloc, path, source)?)?;
+    }
+    Ok(files)
+}
+
+/// The world of files, each of its path and source.
+pub(crate) fn world_of(alloc: Global, sources: &[(&str, &str)]) -> Result<World, AllocError> {
+    World::build(alloc, &files_of(alloc, sources)?)
+}
+
+/// The one part of the name of a module.
+fn parts(alloc: Global, name: &str) -> Result<Vec<Text>, AllocError> {
+    Ok(vec![in alloc; Text::new(alloc, name)?]?)
+}
+
+/// The class of this name in the module of one name, or the builtin class of this name where no module is given.
 pub(crate) fn class_of(alloc: Global, home: &str, name: &str) -> Result<ClassId, AllocError> {
-    let mut parts = Vec::new(alloc);
-    parts.push(Text::new(alloc, home)?)?;
-    ClassId::user(alloc, parts, Text::new(alloc, name)?)
+    match builtin_name(name) {
+        Some(BuiltinName::Class(class)) if home.is_empty() => Ok(ClassId::builtin(class)),
+        _ => ClassId::user(alloc, parts(alloc, home)?, Text::new(alloc, name)?),
+    }
 }
 
 /// What the world of these files answers to a key.

@@ -1,24 +1,30 @@
 //! Annotations, with what they are written as.
 
 use crate::sources::module_of;
-use pyc_ast::{AnnotatedAssignment, Expr, StmtForm, Text};
+use pyc_ast::{AnnotatedAssignment, Expr, Stmt, StmtForm, Text};
 use pyc_type_exprs::{ArgumentShape, TypeArgument, TypeExpr, dotted_names, innermost, type_expr};
 use std::alloc::Global;
 use std::fmt::Write;
 use std::rc::Rc;
 use std::test::Fail;
 
+/// The annotated assignment that the statements of a module begin with.
+fn first_annotated(statements: &[Stmt]) -> Result<Rc<AnnotatedAssignment>, Fail> {
+    match statements.first() {
+        Some(
+            Stmt {
+                form: StmtForm::Annotate(found),
+                ..
+            },
+        ) => Ok(found.clone()?),
+        _ => Err("no annotation".into()),
+    }
+}
+
 /// The assignment `x: ANNOTATION` with this annotation.
 fn annotated(alloc: Global, annotation: &str) -> Result<Rc<AnnotatedAssignment>, Fail> {
     let source = format!(in alloc; "x: {annotation}\n")?;
-    let module = module_of(alloc, source.as_str())?;
-    let Some(first) = module.statements.first() else {
-        return Err("no statement".into());
-    };
-    match &first.form {
-        StmtForm::Annotate(found) => Ok(found.clone()?),
-        _ => Err("no annotation".into()),
-    }
+    first_annotated(&module_of(alloc, source.as_str())?.statements)
 }
 
 /// Writes names with dots between them.

@@ -1,30 +1,11 @@
 //! The members of the builtin classes, and their types.
 
-use pyc_ast::Text;
+use crate::notation::type_of;
 use pyc_builtins::*;
-use pyc_class::{BuiltinClass, ClassId};
-use pyc_type_forms::{DictTypes, Ty, show};
+use pyc_class::BuiltinClass;
+use pyc_type_forms::{Ty, show};
 use std::alloc::{AllocError, Global};
-use std::rc::Rc;
 use std::test::Fail;
-
-fn of(class: BuiltinClass) -> Ty {
-    Ty::Instance(ClassId::builtin(class))
-}
-
-/// `list[int]`
-fn ints(alloc: Global) -> Result<Ty, AllocError> {
-    Ok(Ty::List(Rc::new(alloc, of(BuiltinClass::Int))?))
-}
-
-/// `dict[str, float]`
-fn prices(alloc: Global) -> Result<Ty, AllocError> {
-    let types = DictTypes {
-        key: of(BuiltinClass::Str),
-        value: of(BuiltinClass::Float),
-    };
-    Ok(Ty::Dict(Rc::new(alloc, types)?))
-}
 
 /// The text of the type of a member of a builtin class, where it has one, on an instance of this type.
 fn text_of(
@@ -37,6 +18,16 @@ fn text_of(
         Some(found) => show(alloc, &member_type(alloc, owner, found.member)?),
         None => String::from_str(alloc, "absent"),
     }
+}
+
+/// The same on an instance of the type that words spell.
+fn member_text(
+    alloc: Global,
+    class: BuiltinClass,
+    words: &str,
+    name: &str,
+) -> Result<String, Fail> {
+    Ok(text_of(alloc, class, &type_of(alloc, words)?, name)?)
 }
 
 /// The methods of `str`, with what they give.
@@ -154,99 +145,142 @@ const FOUND_IN: &[(BuiltinClass, &str, Option<BuiltinClass>)] = &[
     (BuiltinClass::Object, "real", None),
 ];
 
+/// The class that has the member of a builtin class under a name.
+fn home_of(class: BuiltinClass, name: &str) -> Option<BuiltinClass> {
+    Some(builtin_member(class, name)?.class)
+}
+
 #[test]
 fn members_are_found_up_the_order(rt: HostRuntime) -> Result<(), Fail> {
     for (class, name, expected) in FOUND_IN {
-        let found = builtin_member(*class, name);
-        let found_in = found.map(|found| found.class);
-        assert!(rt; found_in == *expected, "{class:?}.{name}");
+        assert!(rt; home_of(*class, name) == *expected, "{class:?}.{name}");
     }
     Ok(())
 }
 
-/// Builtin classes and names, with the types of the members of those names.
-const TYPES: &[(BuiltinClass, &str, &str)] = &[
-    (BuiltinClass::Str, "upper", "Callable[..., str]"),
-    (BuiltinClass::Str, "find", "Callable[..., int]"),
-    (BuiltinClass::Str, "isdigit", "Callable[..., bool]"),
-    (BuiltinClass::Str, "encode", "Callable[..., bytes]"),
-    (BuiltinClass::Str, "split", "Callable[..., list[str]]"),
+/// Builtin classes, the types of instances, and names, with the types of the members of those names.
+const TYPES: &[(BuiltinClass, &str, &str, &str)] = &[
+    (BuiltinClass::Str, "str", "upper", "Callable[..., str]"),
+    (BuiltinClass::Str, "str", "find", "Callable[..., int]"),
+    (BuiltinClass::Str, "str", "isdigit", "Callable[..., bool]"),
+    (BuiltinClass::Str, "str", "encode", "Callable[..., bytes]"),
     (
         BuiltinClass::Str,
+        "str",
+        "split",
+        "Callable[..., list[str]]",
+    ),
+    (
+        BuiltinClass::Str,
+        "str",
         "partition",
         "Callable[..., tuple[str, str, str]]",
     ),
-    (BuiltinClass::Str, "maketrans", "Callable[..., Any]"),
-    (BuiltinClass::Bool, "real", "Any"),
-    (BuiltinClass::Bytes, "decode", "Any"),
-    (BuiltinClass::Bytes, "__len__", "absent"),
-    (BuiltinClass::KeyError, "args", "Any"),
-    (BuiltinClass::Tuple, "index", "Callable[..., int]"),
-    (BuiltinClass::Object, "real", "absent"),
+    (BuiltinClass::Str, "str", "maketrans", "Callable[..., Any]"),
+    (BuiltinClass::Bool, "bool", "real", "Any"),
+    (BuiltinClass::Bytes, "bytes", "decode", "Any"),
+    (BuiltinClass::Bytes, "bytes", "__len__", "absent"),
+    (BuiltinClass::KeyError, "KeyError", "args", "Any"),
+    (BuiltinClass::Tuple, "tuple", "index", "Callable[..., int]"),
+    (BuiltinClass::Object, "object", "real", "absent"),
 ];
+
+/// Types of lists and of a class below a list, and names, with the types of those members.
+const LIST_TYPES: &[(BuiltinClass, &str, &str, &str)] = &[
+    (
+        BuiltinClass::List,
+        "int list_of",
+        "append",
+        "Callable[[int], None]",
+    ),
+    (
+        BuiltinClass::List,
+        "int list_of",
+        "sort",
+        "Callable[..., None]",
+    ),
+    (
+        BuiltinClass::List,
+        "int list_of",
+        "pop",
+        "Callable[..., int]",
+    ),
+    (
+        BuiltinClass::List,
+        "int list_of",
+        "count",
+        "Callable[..., int]",
+    ),
+    (
+        BuiltinClass::List,
+        "int list_of",
+        "copy",
+        "Callable[..., list[int]]",
+    ),
+    (BuiltinClass::List, "int list_of", "push", "absent"),
+    (
+        BuiltinClass::List,
+        "m.Stack",
+        "append",
+        "Callable[[Any], None]",
+    ),
+    (BuiltinClass::List, "m.Stack", "sort", "Callable[..., None]"),
+    (BuiltinClass::List, "m.Stack", "pop", "Callable[..., Any]"),
+    (BuiltinClass::List, "m.Stack", "count", "Callable[..., int]"),
+    (
+        BuiltinClass::List,
+        "m.Stack",
+        "copy",
+        "Callable[..., list[Any]]",
+    ),
+    (BuiltinClass::List, "m.Stack", "push", "absent"),
+];
+
+/// Names, with the types of those members of `dict[str, float]`.
+const DICT_TYPES: &[(BuiltinClass, &str, &str, &str)] = &[
+    (
+        BuiltinClass::Dict,
+        "str float dict_of",
+        "get",
+        "Callable[..., Any]",
+    ),
+    (
+        BuiltinClass::Dict,
+        "str float dict_of",
+        "setdefault",
+        "Callable[..., float]",
+    ),
+    (
+        BuiltinClass::Dict,
+        "str float dict_of",
+        "popitem",
+        "Callable[..., tuple[str, float]]",
+    ),
+    (
+        BuiltinClass::Dict,
+        "str float dict_of",
+        "update",
+        "Callable[..., None]",
+    ),
+    (
+        BuiltinClass::Dict,
+        "str float dict_of",
+        "copy",
+        "Callable[..., dict[str, float]]",
+    ),
+    (BuiltinClass::Dict, "str float dict_of", "append", "absent"),
+];
+
+/// The tables of types of members.
+const TABLES: &[&[(BuiltinClass, &str, &str, &str)]] = &[TYPES, LIST_TYPES, DICT_TYPES];
 
 #[test]
 fn types_of_members(rt: HostRuntime) -> Result<(), Fail> {
-    for (class, name, expected) in TYPES {
-        let text = text_of(rt.alloc(), *class, &of(*class), name)?;
-        assert_eq!(rt; text.as_str(), *expected);
-    }
-    Ok(())
-}
-
-/// The text of the type of a member of `list[int]`.
-fn of_ints(alloc: Global, name: &str) -> Result<String, AllocError> {
-    text_of(alloc, BuiltinClass::List, &ints(alloc)?, name)
-}
-
-/// The text of the type of a member of a class below a list.
-fn of_derived(alloc: Global, name: &str) -> Result<String, AllocError> {
-    let class = ClassId::user(alloc, Vec::new(alloc), Text::new(alloc, "Stack")?)?;
-    text_of(alloc, BuiltinClass::List, &Ty::Instance(class), name)
-}
-
-/// Names, with the types of those members of `list[int]`, and of a class below a list.
-const LIST_TYPES: &[(&str, &str, &str)] = &[
-    ("append", "Callable[[int], None]", "Callable[[Any], None]"),
-    ("sort", "Callable[..., None]", "Callable[..., None]"),
-    ("pop", "Callable[..., int]", "Callable[..., Any]"),
-    ("count", "Callable[..., int]", "Callable[..., int]"),
-    (
-        "copy",
-        "Callable[..., list[int]]",
-        "Callable[..., list[Any]]",
-    ),
-    ("push", "absent", "absent"),
-];
-
-#[test]
-fn types_with_the_parts_of_a_list(rt: HostRuntime) -> Result<(), Fail> {
-    for (name, with_ints, with_any) in LIST_TYPES {
-        assert_eq!(rt; of_ints(rt.alloc(), name)?.as_str(), *with_ints);
-        assert_eq!(rt; of_derived(rt.alloc(), name)?.as_str(), *with_any);
-    }
-    Ok(())
-}
-
-/// The text of the type of a member of `dict[str, float]`.
-fn of_prices(alloc: Global, name: &str) -> Result<String, AllocError> {
-    text_of(alloc, BuiltinClass::Dict, &prices(alloc)?, name)
-}
-
-/// Names, with the types of those members of `dict[str, float]`.
-const DICT_TYPES: &[(&str, &str)] = &[
-    ("get", "Callable[..., Any]"),
-    ("setdefault", "Callable[..., float]"),
-    ("popitem", "Callable[..., tuple[str, float]]"),
-    ("update", "Callable[..., None]"),
-    ("copy", "Callable[..., dict[str, float]]"),
-    ("append", "absent"),
-];
-
-#[test]
-fn types_with_the_parts_of_a_dict(rt: HostRuntime) -> Result<(), Fail> {
-    for (name, expected) in DICT_TYPES {
-        assert_eq!(rt; of_prices(rt.alloc(), name)?.as_str(), *expected);
+    for table in TABLES {
+        for (class, words, name, expected) in *table {
+            let text = member_text(rt.alloc(), *class, words, name)?;
+            assert_eq!(rt; text.as_str(), *expected, "{name} of {words}");
+        }
     }
     Ok(())
 }

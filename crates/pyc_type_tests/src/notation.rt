@@ -6,19 +6,38 @@ use std::alloc::{AllocError, Global};
 use std::rc::Rc;
 use std::test::Fail;
 
-/// The type that words spell: each puts a type on a stack, for which it takes its parts off it.
-pub(crate) fn type_of(alloc: Global, words: &str) -> Result<Ty, Fail> {
+/// The types that words spell: each puts a type on a stack, for which it takes its parts off it.
+pub(crate) fn types_of(alloc: Global, words: &str) -> Result<Vec<Ty>, Fail> {
     let mut stack = Vec::new(alloc);
     for word in words.split(' ') {
         let made = made(alloc, word, &mut stack)?;
         stack.push(made)?;
     }
-    taken(&mut stack)
+    Ok(stack)
 }
 
-/// An instance of a builtin class.
-pub(crate) fn of(class: BuiltinClass) -> Ty {
-    Ty::Instance(ClassId::builtin(class))
+/// The last of the types that words spell.
+pub(crate) fn type_of(alloc: Global, words: &str) -> Result<Ty, Fail> {
+    taken(&mut types_of(alloc, words)?)
+}
+
+/// The builtin class of this name.
+fn class_of(name: &str) -> Result<BuiltinClass, Fail> {
+    match builtin_name(name) {
+        Some(BuiltinName::Class(class)) => Ok(class),
+        _ => Err("no word for a type")?,
+    }
+}
+
+/// The builtin classes of these names.
+pub(crate) fn classes_of(alloc: Global, names: &str) -> Result<Vec<ClassId>, Fail> {
+    let mut classes = Vec::new(alloc);
+    for name in names.split(' ') {
+        if let Some(BuiltinName::Class(class)) = builtin_name(name) {
+            classes.push(ClassId::builtin(class))?;
+        }
+    }
+    Ok(classes)
 }
 
 /// The type that a word stands for, by the types before it.
@@ -26,35 +45,56 @@ fn made(alloc: Global, word: &str, stack: &mut Vec<Ty>) -> Result<Ty, Fail> {
     match word {
         "Any" => Ok(Ty::Any),
         "None" => Ok(Ty::None),
-        "Module" => module(alloc, "m"),
-        "OtherModule" => module(alloc, "other"),
+        "Module" => Ok(module(alloc, "m")?),
+        "OtherModule" => Ok(module(alloc, "other")?),
         "list_of" => Ok(Ty::List(shared(alloc, stack)?)),
         "tuple_of" => Ok(Ty::TupleOf(shared(alloc, stack)?)),
         "dict_of" => dict(alloc, stack),
+        "nothing" => tuple(alloc, 0, stack),
         "single" => tuple(alloc, 1, stack),
         "pair" => tuple(alloc, 2, stack),
         "or" => either(alloc, stack),
-        "type" => class_object(taken(stack)?),
         "dots" => dots(alloc, taken(stack)?),
         "takes_nothing" => callable(alloc, Vec::new(alloc)),
         _ => made_otherwise(alloc, word, stack),
     }
 }
 
-/// A function of one parameter, or the instance of a builtin class.
+/// A function of one parameter, a class of a source as `m.C`, a class as an object as `type:int`, or the instance of a
+/// builtin class.
 fn made_otherwise(alloc: Global, word: &str, stack: &mut Vec<Ty>) -> Result<Ty, Fail> {
-    match word {
-        "takes" => unary(alloc, ParamKind::Plain(None), false, stack),
-        "may_take" => unary(alloc, ParamKind::Plain(None), true, stack),
-        "takes_n" => unary(alloc, ParamKind::Plain(Some(n(alloc)?)), false, stack),
-        "takes_only_n" => unary(alloc, ParamKind::KeywordOnly(n(alloc)?), false, stack),
-        "takes_each" => unary(alloc, ParamKind::Star, false, stack),
-        "takes_words" => unary(alloc, ParamKind::DoubleStar, false, stack),
-        _ => match builtin_name(word) {
-            Some(BuiltinName::Class(class)) => Ok(of(class)),
-            _ => Err("no word for a type")?,
-        },
+    if let Some(kind) = kind_of(alloc, word)? {
+        return unary(alloc, kind, word == "may_take", stack);
     }
+    if let Some((home, name)) = word.split_once('.') {
+        return Ok(Ty::Instance(class_at(alloc, home, name)?));
+    }
+    match word.strip_prefix("type:") {
+        Some(name) => Ok(Ty::Class(ClassId::builtin(class_of(name)?))),
+        None => Ok(Ty::Instance(ClassId::builtin(class_of(word)?))),
+    }
+}
+
+/// The kind of the one parameter of the function that a word stands for.
+fn kind_of(alloc: Global, word: &str) -> Result<Option<ParamKind>, AllocError> {
+    Ok(match word {
+        "takes" | "may_take" => Some(ParamKind::Plain(None)),
+        "takes_n" => Some(ParamKind::Plain(Some(n(alloc)?))),
+        "takes_only_n" => Some(ParamKind::KeywordOnly(n(alloc)?)),
+        "takes_each" => Some(ParamKind::Star),
+        "takes_words" => Some(ParamKind::DoubleStar),
+        _ => None,
+    })
+}
+
+/// The class of this name in the module of one name.
+pub(crate) fn class_at(alloc: Global, home: &str, name: &str) -> Result<ClassId, AllocError> {
+    ClassId::user(alloc, parts(alloc, home)?, Text::new(alloc, name)?)
+}
+
+/// The one part of the name of a module.
+fn parts(alloc: Global, name: &str) -> Result<Vec<Text>, AllocError> {
+    Ok(vec![in alloc; Text::new(alloc, name)?]?)
 }
 
 fn n(alloc: Global) -> Result<Text, AllocError> {
@@ -62,9 +102,8 @@ fn n(alloc: Global) -> Result<Text, AllocError> {
 }
 
 /// The module of this name.
-fn module(alloc: Global, name: &str) -> Result<Ty, Fail> {
-    let parts = vec![in alloc; Text::new(alloc, name)?]?;
-    Ok(Ty::Module(Rc::new(alloc, parts)?))
+fn module(alloc: Global, name: &str) -> Result<Ty, AllocError> {
+    Ok(Ty::Module(Rc::new(alloc, parts(alloc, name)?)?))
 }
 
 fn taken(stack: &mut Vec<Ty>) -> Result<Ty, Fail> {
@@ -100,13 +139,6 @@ fn tuple(alloc: Global, count: usize, stack: &mut Vec<Ty>) -> Result<Ty, Fail> {
 /// A union as it is written, of two types.
 fn either(alloc: Global, stack: &mut Vec<Ty>) -> Result<Ty, Fail> {
     Ok(Ty::Union(Rc::new(alloc, last(alloc, 2, stack)?)?))
-}
-
-fn class_object(instance: Ty) -> Result<Ty, Fail> {
-    match instance {
-        Ty::Instance(class) => Ok(Ty::Class(class)),
-        _ => Err("no class")?,
-    }
 }
 
 fn dots(alloc: Global, gives: Ty) -> Result<Ty, Fail> {

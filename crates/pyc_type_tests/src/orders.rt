@@ -1,8 +1,9 @@
 //! Orders of some tables.
 
 use pyc_class::UnknownOrder;
-use pyc_mro::{Base, Orders};
+use pyc_mro::{Base, Order, Orders};
 use std::alloc::{AllocError, Global};
+use std::fmt::Write;
 use std::test::Fail;
 
 /// The table of classes with these bases. The only error is that memory runs out.
@@ -18,41 +19,33 @@ fn table(alloc: Global, rows: &[&[usize]]) -> Result<Vec<Vec<Base>>, AllocError>
     Ok(bases)
 }
 
-/// The classes in the order of a class of the table with these rows. The only error is that memory runs out.
-fn order_of(alloc: Global, rows: &[&[usize]], class: usize) -> Result<Vec<usize>, AllocError> {
-    let orders = Orders::build(alloc, &table(alloc, rows)?)?;
-    Vec::from_slice(alloc, orders.order(class).classes)
+/// The classes of an order, and why it is not known.
+fn shown(alloc: Global, order: &Order<'_>) -> Result<String, Fail> {
+    let mut shown = String::new(alloc);
+    for class in order.classes {
+        write!(shown, "{class} ")?;
+    }
+    shown.push_str(match order.unknown {
+        Some(UnknownOrder::Base) => "base",
+        Some(UnknownOrder::Cycle) => "cycle",
+        Some(UnknownOrder::Merge) => "merge",
+        None => "known",
+    })?;
+    Ok(shown)
 }
 
-/// Why the order of a class of the table with these rows is not known. The only error is that memory runs out.
-fn unknown_of(
-    alloc: Global,
-    rows: &[&[usize]],
-    class: usize,
-) -> Result<Option<UnknownOrder>, AllocError> {
-    let orders = Orders::build(alloc, &table(alloc, rows)?)?;
-    Ok(orders.order(class).unknown)
+/// The orders of the table with these rows. The only error is that memory runs out.
+fn orders_of(alloc: Global, rows: &[&[usize]]) -> Result<Orders, AllocError> {
+    Orders::build(alloc, &table(alloc, rows)?)
+}
+
+/// The order of a class of the table with these rows.
+fn order_of(alloc: Global, rows: &[&[usize]], class: usize) -> Result<String, Fail> {
+    shown(alloc, &orders_of(alloc, rows)?.order(class))
 }
 
 /// O; F(O), E(O), D(O); C(D, F), B(D, E); A(B, C)
 const FIRST: &[&[usize]] = &[&[], &[0], &[0], &[0], &[3, 1], &[3, 2], &[5, 4]];
-
-/// Classes of the first example, with their orders.
-const FIRST_ORDERS: &[(usize, &[usize])] = &[(4, &[4, 3, 1, 0]), (6, &[6, 5, 4, 3, 2, 1, 0])];
-
-/// Classes of the first example, with why their orders are not known.
-const FIRST_UNKNOWN: &[(usize, Option<UnknownOrder>)] = &[(6, None), (7, Some(UnknownOrder::Base))];
-
-#[test]
-fn orders_of_the_first_worked_example(rt: HostRuntime) -> Result<(), Fail> {
-    for (class, want) in FIRST_ORDERS {
-        assert_eq!(rt; order_of(rt.alloc(), FIRST, *class)?.as_slice(), *want);
-    }
-    for (class, want) in FIRST_UNKNOWN {
-        assert_eq!(rt; unknown_of(rt.alloc(), FIRST, *class)?, *want);
-    }
-    Ok(())
-}
 
 /// O; F(O), E(O), D(O); C(D, F), B(E, D); A(B, C)
 const SECOND: &[&[usize]] = &[&[], &[0], &[0], &[0], &[3, 1], &[2, 3], &[5, 4]];
@@ -71,19 +64,6 @@ const THIRD: &[&[usize]] = &[
     &[6, 7, 8],
 ];
 
-#[test]
-fn orders_of_the_second_and_the_third_worked_example(rt: HostRuntime) -> Result<(), Fail> {
-    assert_eq!(rt;
-        order_of(rt.alloc(), SECOND, 6)?.as_slice(),
-        [6, 5, 2, 4, 3, 1, 0].as_slice()
-    );
-    assert_eq!(rt;
-        order_of(rt.alloc(), THIRD, 9)?.as_slice(),
-        [9, 6, 7, 8, 4, 1, 2, 3, 5, 0].as_slice()
-    );
-    Ok(())
-}
-
 /// O; F(O); E(F); G(F, E); A(O), B(O); X(A, B), Y(B, A); Z(X, Y); P(Q), Q(P); R(Q); S on no class of the table
 const NOT_KNOWN: &[&[usize]] = &[
     &[],
@@ -101,25 +81,28 @@ const NOT_KNOWN: &[&[usize]] = &[
     &[99],
 ];
 
-/// Classes of that table, with why their orders are not known.
-const WHY: &[(usize, Option<UnknownOrder>)] = &[
-    (3, Some(UnknownOrder::Merge)),
-    (7, None),
-    (8, Some(UnknownOrder::Merge)),
-    (9, Some(UnknownOrder::Cycle)),
-    (10, Some(UnknownOrder::Cycle)),
-    (11, Some(UnknownOrder::Base)),
-    (12, Some(UnknownOrder::Base)),
+/// Tables and classes, with their orders or why these are not known.
+const ORDERS: &[(&[&[usize]], usize, &str)] = &[
+    (FIRST, 4, "4 3 1 0 known"),
+    (FIRST, 6, "6 5 4 3 2 1 0 known"),
+    (FIRST, 7, "base"),
+    (SECOND, 6, "6 5 2 4 3 1 0 known"),
+    (THIRD, 9, "9 6 7 8 4 1 2 3 5 0 known"),
+    (NOT_KNOWN, 3, "3 merge"),
+    (NOT_KNOWN, 7, "7 5 4 0 known"),
+    (NOT_KNOWN, 8, "8 merge"),
+    (NOT_KNOWN, 9, "9 cycle"),
+    (NOT_KNOWN, 10, "10 cycle"),
+    (NOT_KNOWN, 11, "11 base"),
+    (NOT_KNOWN, 12, "12 base"),
 ];
 
+/// The first three tables are the worked examples.
 #[test]
-fn orders_that_are_not_known(rt: HostRuntime) -> Result<(), Fail> {
-    for (class, want) in WHY {
-        assert_eq!(rt; unknown_of(rt.alloc(), NOT_KNOWN, *class)?, *want);
+fn orders_of_tables(rt: HostRuntime) -> Result<(), Fail> {
+    for (rows, class, want) in ORDERS {
+        let order = order_of(rt.alloc(), rows, *class)?;
+        assert_eq!(rt; order.as_str(), *want);
     }
-    assert_eq!(rt;
-        order_of(rt.alloc(), NOT_KNOWN, 8)?.as_slice(),
-        [8].as_slice()
-    );
     Ok(())
 }

@@ -1,135 +1,44 @@
 //! Pairs of types, by the rule that decides; names of builtins; printed types.
 
-use crate::notation::{of, type_of};
-use pyc_ast::Text;
+use crate::notation::{class_at, type_of};
 use pyc_types::*;
 use std::alloc::{AllocError, Global};
-use std::rc::Rc;
+use std::process::Abort;
 use std::test::Fail;
 
-fn list(alloc: Global, item: Ty) -> Result<Ty, AllocError> {
-    Ok(Ty::List(Rc::new(alloc, item)?))
-}
-
-fn either(alloc: Global, first: Ty, second: Ty) -> Result<Ty, AllocError> {
-    Ok(Ty::Union(Rc::new(alloc, vec![in alloc; first, second]?)?))
-}
-
-/// Whether one type goes to another by the builtin orders.
-fn is_assignable(alloc: Global, got: &Ty, want: &Ty) -> Result<bool, AllocError> {
-    let builtins = Builtins::new(alloc)?;
-    Ok(assignable(&builtins, got, want))
-}
-
-/// Whether one type goes to another, each spelled in words.
-fn goes(alloc: Global, got: &str, want: &str) -> Result<bool, Fail> {
+/// Whether one type goes to another by the builtin orders, each spelled in words.
+fn goes(alloc: Global, builtins: &Builtins, got: &str, want: &str) -> Result<bool, Fail> {
     let got = type_of(alloc, got)?;
     let want = type_of(alloc, want)?;
-    Ok(is_assignable(alloc, &got, &want)?)
+    Ok(assignable(builtins, &got, &want))
 }
 
-/// Whether instances of one builtin class go to another.
-fn instance_goes(alloc: Global, got: BuiltinClass, want: BuiltinClass) -> Result<bool, AllocError> {
-    is_assignable(alloc, &of(got), &of(want))
-}
-
-/// A builtin class as an object.
-fn object_of(class: BuiltinClass) -> Ty {
-    Ty::Class(ClassId::builtin(class))
-}
-
-/// Whether one builtin class goes to another as an object.
-fn class_goes(alloc: Global, got: BuiltinClass, want: BuiltinClass) -> Result<bool, AllocError> {
-    is_assignable(alloc, &object_of(got), &object_of(want))
-}
-
-/// Builtin classes: whether instances of the first go to the second.
-const INSTANCES: &[(BuiltinClass, BuiltinClass, bool)] = &[
-    (BuiltinClass::Bool, BuiltinClass::Int, true),
-    (BuiltinClass::Int, BuiltinClass::Bool, false),
-    (BuiltinClass::Bool, BuiltinClass::Float, true),
-    (BuiltinClass::Int, BuiltinClass::Float, true),
-    (BuiltinClass::Float, BuiltinClass::Int, false),
-    (BuiltinClass::Str, BuiltinClass::Bytes, false),
-    (BuiltinClass::Str, BuiltinClass::Object, true),
-    (BuiltinClass::Object, BuiltinClass::Str, false),
-    (BuiltinClass::KeyError, BuiltinClass::Exception, true),
-    (BuiltinClass::Exception, BuiltinClass::KeyError, false),
-    (
-        BuiltinClass::RecursionError,
-        BuiltinClass::RuntimeError,
-        true,
-    ),
-    (
-        BuiltinClass::OverflowError,
-        BuiltinClass::BaseException,
-        true,
-    ),
-    (BuiltinClass::IndexError, BuiltinClass::KeyError, false),
+/// Classes: whether instances of the first go to the second.
+const INSTANCES: &[(&str, &str, bool)] = &[
+    ("bool", "int", true),
+    ("int", "bool", false),
+    ("bool", "float", true),
+    ("int", "float", true),
+    ("float", "int", false),
+    ("str", "bytes", false),
+    ("str", "object", true),
+    ("object", "str", false),
+    ("KeyError", "Exception", true),
+    ("Exception", "KeyError", false),
+    ("RecursionError", "RuntimeError", true),
+    ("OverflowError", "BaseException", true),
+    ("IndexError", "KeyError", false),
+    // the order of a class of a source is not known here
+    ("app.int", "str", true),
+    ("int", "app.int", false),
 ];
 
 /// Builtin classes: whether the first goes to the second as an object.
-const CLASS_OBJECTS: &[(BuiltinClass, BuiltinClass, bool)] = &[
-    (BuiltinClass::Bool, BuiltinClass::Int, true),
-    (BuiltinClass::Int, BuiltinClass::Bool, false),
-    (BuiltinClass::Int, BuiltinClass::Float, false),
+const CLASS_OBJECTS: &[(&str, &str, bool)] = &[
+    ("type:bool", "type:int", true),
+    ("type:int", "type:bool", false),
+    ("type:int", "type:float", false),
 ];
-
-#[test]
-fn instances(rt: HostRuntime) -> Result<(), Fail> {
-    for (got, want, expected) in INSTANCES {
-        let answer = instance_goes(rt.alloc(), *got, *want)?;
-        assert_eq!(rt; answer, *expected, "{got:?} to {want:?}");
-    }
-    for (got, want, expected) in CLASS_OBJECTS {
-        let answer = class_goes(rt.alloc(), *got, *want)?;
-        assert_eq!(rt; answer, *expected, "{got:?} to {want:?}");
-    }
-    Ok(())
-}
-
-/// One type of each form.
-const SINGLE: &[&str] = &[
-    "Any",
-    "None",
-    "object",
-    "int",
-    "bool",
-    "float",
-    "str",
-    "bool type",
-    "Module",
-    "int dots",
-];
-
-/// Each of these types, with `y` for each of them that it goes to.
-const GOES: &[(&str, &str)] = &[
-    ("Any", "y y y y y y y y y y"),
-    ("None", "y y y - - - - - - -"),
-    ("object", "y - y - - - - - - -"),
-    ("int", "y - y y - y - - - -"),
-    ("bool", "y - y y y y - - - -"),
-    ("float", "y - y - - y - - - -"),
-    ("str", "y - y - - - y - - -"),
-    ("bool type", "y - y - - - - y - y"),
-    ("Module", "y - y - - - - - - -"),
-    ("int dots", "y - y - - - - - - y"),
-];
-
-/// Each type against each, got by got: `y` where it goes. Any goes both ways and all go to object; None goes to None;
-/// the order of bool leads to int, and int to float; a class object is a callable that gives its instances; a module
-/// goes nowhere else.
-#[test]
-fn types_against_types(rt: HostRuntime) -> Result<(), Fail> {
-    for (got, row) in GOES {
-        let mut marks = row.split(' ');
-        for want in SINGLE {
-            let answer = goes(rt.alloc(), got, want)?;
-            assert_eq!(rt; answer, marks.next() == Some("y"), "{got} to {want}");
-        }
-    }
-    Ok(())
-}
 
 /// Types with parts: whether the first goes to the second.
 const PARTS: &[(&str, &str, bool)] = &[
@@ -152,15 +61,6 @@ const PARTS: &[(&str, &str, bool)] = &[
     ("Module", "OtherModule", false),
 ];
 
-#[test]
-fn parts_decide(rt: HostRuntime) -> Result<(), Fail> {
-    for (got, want, expected) in PARTS {
-        let answer = goes(rt.alloc(), got, want)?;
-        assert_eq!(rt; answer, *expected, "{got} to {want}");
-    }
-    Ok(())
-}
-
 /// Functions: whether the first goes to the second.
 const CALLABLES: &[(&str, &str, bool)] = &[
     ("int dots", "float dots", true),
@@ -173,130 +73,198 @@ const CALLABLES: &[(&str, &str, bool)] = &[
     ("int takes_words", "bool takes_only_n", true),
     ("int takes", "int may_take", false),
     ("int takes", "takes_nothing", false),
-    ("bool type", "float dots", true),
-    ("int type", "str dots", false),
-    ("list type", "None list_of dots", true),
+    ("type:bool", "float dots", true),
+    ("type:int", "str dots", false),
+    ("type:list", "None list_of dots", true),
     ("int", "Any dots", false),
 ];
 
-#[test]
-fn callables_decide(rt: HostRuntime) -> Result<(), Fail> {
-    for (got, want, expected) in CALLABLES {
-        let answer = goes(rt.alloc(), got, want)?;
-        assert_eq!(rt; answer, *expected, "{got} to {want}");
+/// The tables of pairs.
+const PAIRS: &[&[(&str, &str, bool)]] = &[INSTANCES, CLASS_OBJECTS, PARTS, CALLABLES];
+
+/// Asserts whether the first of each of these pairs goes to the second.
+fn assert_pairs(rt: &impl Abort, alloc: Global, builtins: &Builtins) -> Result<(), Fail> {
+    for pairs in PAIRS {
+        for (got, want, expected) in *pairs {
+            let answer = goes(alloc, builtins, got, want)?;
+            assert!(rt; answer == *expected, "{got} to {want}");
+        }
     }
     Ok(())
+}
+
+#[test]
+fn pairs_of_types(rt: HostRuntime) -> Result<(), Fail> {
+    assert_pairs(&rt, rt.alloc(), &Builtins::new(rt.alloc())?)
+}
+
+/// One type of each form.
+const SINGLE: &[&str] = &[
+    "Any",
+    "None",
+    "object",
+    "int",
+    "bool",
+    "float",
+    "str",
+    "type:bool",
+    "Module",
+    "int dots",
+];
+
+/// Each of these types, with `y` for each of them that it goes to.
+const GOES: &[(&str, &str)] = &[
+    ("Any", "y y y y y y y y y y"),
+    ("None", "y y y - - - - - - -"),
+    ("object", "y - y - - - - - - -"),
+    ("int", "y - y y - y - - - -"),
+    ("bool", "y - y y y y - - - -"),
+    ("float", "y - y - - y - - - -"),
+    ("str", "y - y - - - y - - -"),
+    ("type:bool", "y - y - - - - y - y"),
+    ("Module", "y - y - - - - - - -"),
+    ("int dots", "y - y - - - - - - y"),
+];
+
+/// Asserts of each of these types to which of them it goes.
+fn assert_each(rt: &impl Abort, alloc: Global, builtins: &Builtins) -> Result<(), Fail> {
+    for (got, row) in GOES {
+        let mut marks = row.split(' ');
+        for want in SINGLE {
+            let answer = goes(alloc, builtins, got, want)?;
+            assert!(rt; answer == (marks.next() == Some("y")), "{got} to {want}");
+        }
+    }
+    Ok(())
+}
+
+/// Each type against each, got by got: `y` where it goes. Any goes both ways and all go to object; None goes to None;
+/// the order of bool leads to int, and int to float; a class object is a callable that gives its instances; a module
+/// goes nowhere else.
+#[test]
+fn types_against_types(rt: HostRuntime) -> Result<(), Fail> {
+    assert_each(&rt, rt.alloc(), &Builtins::new(rt.alloc())?)
+}
+
+/// Whether the class of this name in a module is none of the builtins, and its order is not known.
+fn is_of_a_source(alloc: Global, builtins: &Builtins, name: &str) -> Result<bool, AllocError> {
+    let own = class_at(alloc, "app", name)?;
+    Ok(own != ClassId::builtin(BuiltinClass::Int) && builtins.lin(&own).is_unknown())
 }
 
 #[test]
 fn classes_of_a_source_are_not_known(rt: HostRuntime) -> Result<(), Fail> {
-    let a = rt.alloc();
-    let builtins = Builtins::new(a)?;
-    let home = vec![in a; Text::new(a, "app")?]?;
-    let own = ClassId::user(a, home, Text::new(a, "int")?)?;
-    assert!(rt; own != ClassId::builtin(BuiltinClass::Int));
-    assert!(rt; builtins.lin(&own).is_unknown());
-    let own = Ty::Instance(own);
-    assert_eq!(rt; show(a, &own)?.as_str(), "int");
-    assert!(rt; assignable(&builtins, &own, &of(BuiltinClass::Str)));
-    assert!(rt; !assignable(&builtins, &of(BuiltinClass::Int), &own));
+    let builtins = Builtins::new(rt.alloc())?;
+    assert!(rt; is_of_a_source(rt.alloc(), &builtins, "int")?);
     Ok(())
 }
 
-/// A type in 900 lists.
-fn in_lists(alloc: Global, item: Ty) -> Result<Ty, AllocError> {
-    let mut ty = item;
-    for _ in 0..900 {
-        ty = list(alloc, ty)?;
+/// Words that stand so often around a word: some before it, and some after it.
+fn nested(
+    alloc: Global,
+    levels: usize,
+    (before, word, after): (&str, &str, &str),
+) -> Result<String, AllocError> {
+    let mut words = String::new(alloc);
+    for _ in 0..levels {
+        words.push_str(before)?;
     }
-    Ok(ty)
+    words.push_str(word)?;
+    for _ in 0..levels {
+        words.push_str(after)?;
+    }
+    Ok(words)
 }
 
-/// Whether a builtin class in 900 lists goes to another one in as many.
-fn deep_goes(alloc: Global, got: BuiltinClass, want: BuiltinClass) -> Result<bool, AllocError> {
-    let got = in_lists(alloc, of(got))?;
-    let want = in_lists(alloc, of(want))?;
-    is_assignable(alloc, &got, &want)
+/// A deep type: how many levels it has, and what stands before a word and after it at each.
+type Deep = (&'static str, &'static str, &'static str);
+
+/// Levels and two deep types, with whether the first goes to the second: lists, and lists of unions with None.
+const DEEP: &[(usize, Deep, Deep, bool)] = &[
+    (
+        900,
+        ("", "bool", " list_of"),
+        ("", "bool", " list_of"),
+        true,
+    ),
+    (
+        900,
+        ("", "bool", " list_of"),
+        ("", "int", " list_of"),
+        false,
+    ),
+    (
+        480,
+        ("", "int", " None or list_of"),
+        ("", "int", " None or list_of"),
+        true,
+    ),
+    (
+        480,
+        ("", "int", " None or list_of"),
+        ("None ", "int", " or list_of"),
+        true,
+    ),
+    (
+        480,
+        ("", "int", " None or list_of"),
+        ("", "bool", " None or list_of"),
+        false,
+    ),
+];
+
+/// Whether one deep type goes to another.
+fn deep_goes(
+    alloc: Global,
+    builtins: &Builtins,
+    levels: usize,
+    got: Deep,
+    want: Deep,
+) -> Result<bool, Fail> {
+    let got = nested(alloc, levels, got)?;
+    let want = nested(alloc, levels, want)?;
+    goes(alloc, builtins, got.as_str(), want.as_str())
 }
 
-/// Whether a type goes to itself.
-fn goes_to_itself(alloc: Global, ty: &Ty) -> Result<bool, AllocError> {
-    is_assignable(alloc, ty, &ty.clone()?)
-}
-
-/// Whether a builtin class in 900 lists goes to itself.
-fn deep_goes_to_itself(alloc: Global, class: BuiltinClass) -> Result<bool, AllocError> {
-    goes_to_itself(alloc, &in_lists(alloc, of(class))?)
+/// Asserts whether the first of each of these deep pairs goes to the second.
+fn assert_deep(rt: &impl Abort, alloc: Global, builtins: &Builtins) -> Result<(), Fail> {
+    for (levels, got, want, expected) in DEEP {
+        let answer = deep_goes(alloc, builtins, *levels, *got, *want)?;
+        assert!(rt; answer == *expected, "{got:?} to {want:?}");
+    }
+    Ok(())
 }
 
 #[test]
 fn deep_types_are_answered(rt: HostRuntime) -> Result<(), Fail> {
-    assert!(rt; deep_goes_to_itself(rt.alloc(), BuiltinClass::Bool)?);
-    assert!(rt; !deep_goes(rt.alloc(), BuiltinClass::Bool, BuiltinClass::Int)?);
-    Ok(())
-}
-
-/// A type in 480 lists, in each as a union with None after it.
-fn before_none(alloc: Global, item: Ty) -> Result<Ty, AllocError> {
-    let mut ty = item;
-    for _ in 0..480 {
-        ty = list(alloc, either(alloc, ty, Ty::None)?)?;
-    }
-    Ok(ty)
-}
-
-/// A type in 480 lists, in each as a union with None before it.
-fn after_none(alloc: Global, item: Ty) -> Result<Ty, AllocError> {
-    let mut ty = item;
-    for _ in 0..480 {
-        ty = list(alloc, either(alloc, Ty::None, ty)?)?;
-    }
-    Ok(ty)
-}
-
-/// Whether int before None in such unions goes to itself.
-fn deep_union_goes_to_itself(alloc: Global) -> Result<bool, AllocError> {
-    goes_to_itself(alloc, &before_none(alloc, of(BuiltinClass::Int))?)
-}
-
-/// Whether int before None in such unions goes to another type.
-fn deep_union_goes(alloc: Global, want: Ty) -> Result<bool, AllocError> {
-    is_assignable(alloc, &before_none(alloc, of(BuiltinClass::Int))?, &want)
-}
-
-#[test]
-fn deep_unions_are_answered(rt: HostRuntime) -> Result<(), Fail> {
-    let a = rt.alloc();
-    assert!(rt; deep_union_goes_to_itself(a)?);
-    assert!(rt; deep_union_goes(a, after_none(a, of(BuiltinClass::Int))?)?);
-    assert!(rt; !deep_union_goes(a, before_none(a, of(BuiltinClass::Bool))?)?);
-    Ok(())
+    assert_deep(&rt, rt.alloc(), &Builtins::new(rt.alloc())?)
 }
 
 /// Types, with how they print.
 const PRINTED: &[(&str, &str)] = &[
+    ("nothing", "tuple[()]"),
+    ("app.int", "int"),
     ("int None pair", "tuple[int, None]"),
     ("str tuple_of", "tuple[str, ...]"),
     ("str int None or dict_of", "dict[str, int | None]"),
     ("int may_take", "Callable[[int], None]"),
     ("int takes_each", "Callable[..., None]"),
     ("Any list_of dots", "Callable[..., list[Any]]"),
-    ("KeyError type", "type[KeyError]"),
+    ("type:KeyError", "type[KeyError]"),
 ];
 
-/// How the type that words spell prints.
-fn printed(alloc: Global, words: &str) -> Result<String, Fail> {
-    Ok(show(alloc, &type_of(alloc, words)?)?)
+/// How a copy of a type prints.
+fn copy_shown(alloc: Global, ty: &Ty) -> Result<String, AllocError> {
+    show(alloc, &ty.clone()?)
 }
 
-/// How a tuple without items prints.
-fn empty_tuple(alloc: Global) -> Result<String, AllocError> {
-    show(alloc, &Ty::Tuple(Rc::new(alloc, Vec::new(alloc))?))
+/// How a copy of the type that words spell prints.
+fn printed(alloc: Global, words: &str) -> Result<String, Fail> {
+    Ok(copy_shown(alloc, &type_of(alloc, words)?)?)
 }
 
 #[test]
 fn types_print(rt: HostRuntime) -> Result<(), Fail> {
-    assert_eq!(rt; empty_tuple(rt.alloc())?.as_str(), "tuple[()]");
     for (words, expected) in PRINTED {
         assert_eq!(rt; printed(rt.alloc(), words)?.as_str(), *expected);
     }
