@@ -41,6 +41,7 @@ fn write_lines(messages: &[Message], shown: &mut String) -> Result<(), Fail> {
 }
 
 /// The only file of a world, and what it is looked at with.
+#[derive(Drop)]
 struct Setting<'a> {
     alloc: Global,
     builtins: &'a Builtins,
@@ -60,11 +61,7 @@ fn write_unit(setting: &Setting<'_>, unit: Unit<'_>, shown: &mut String) -> Resu
 }
 
 /// Writes what is found in these units of a file.
-fn write_units(
-    setting: &Setting<'_>,
-    units: &[Unit<'_>],
-    shown: &mut String,
-) -> Result<(), Fail> {
+fn write_units(setting: &Setting<'_>, units: &[Unit<'_>], shown: &mut String) -> Result<(), Fail> {
     for unit in units {
         write_unit(setting, *unit, shown)?;
     }

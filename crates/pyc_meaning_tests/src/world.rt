@@ -240,10 +240,7 @@ fn first_types(file: &SourceFile) -> (Option<Builtin>, Option<Builtin>) {
 }
 
 /// The same of the first statement of the file of a source.
-fn types_of(
-    alloc: Global,
-    source: &str,
-) -> Result<(Option<Builtin>, Option<Builtin>), AllocError> {
+fn types_of(alloc: Global, source: &str) -> Result<(Option<Builtin>, Option<Builtin>), AllocError> {
     Ok(first_types(&file_of(alloc, "a.py", source.as_bytes())?))
 }
 

@@ -22,14 +22,11 @@ pub(crate) fn module_of(alloc: Global, source: &str) -> Result<Module, Fail> {
 fn file_of(alloc: Global, path: &str, source: &str) -> Result<Rc<SourceFile>, AllocError> {
     let name = ModuleName::of_path(alloc, path)?;
     let outcome = read(alloc, source.as_bytes())?;
-    Rc::new(alloc, SourceFile::new(alloc, path, name, outcome)?)
+    Ok(Rc::new(alloc, SourceFile::new(alloc, path, name, outcome)?)?)
 }
 
 /// Files, each of its path and source.
-fn files_of(
-    alloc: Global,
-    sources: &[(&str, &str)],
-) -> Result<Vec<Rc<SourceFile>>, AllocError> {
+fn files_of(alloc: Global, sources: &[(&str, &str)]) -> Result<Vec<Rc<SourceFile>>, AllocError> {
     let mut files = Vec::new(alloc);
     for (path, source) in sources {
         files.push(file_of(alloc, path, source)?)?;
