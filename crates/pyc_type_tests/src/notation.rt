@@ -6,13 +6,19 @@ use std::alloc::{AllocError, Global};
 use std::rc::Rc;
 use std::test::Fail;
 
-/// The types that words spell: each puts a type on a stack, for which it takes its parts off it.
-pub(crate) fn types_of(alloc: Global, words: &str) -> Result<Vec<Ty>, Fail> {
-    let mut stack = Vec::new(alloc);
+/// Puts the types that words spell on a stack: each word puts one, for which it takes its parts off it.
+pub(crate) fn push_types(alloc: Global, words: &str, stack: &mut Vec<Ty>) -> Result<(), Fail> {
     for word in words.split(' ') {
-        let made = made(alloc, word, &mut stack)?;
+        let made = made(alloc, word, stack)?;
         stack.push(made)?;
     }
+    Ok(())
+}
+
+/// The types that words spell.
+pub(crate) fn types_of(alloc: Global, words: &str) -> Result<Vec<Ty>, Fail> {
+    let mut stack = Vec::new(alloc);
+    push_types(alloc, words, &mut stack)?;
     Ok(stack)
 }
 

@@ -1,6 +1,7 @@
 //! Pairs of types, by the rule that decides; names of builtins; printed types.
 
-use crate::notation::{class_at, type_of};
+use crate::notation::{class_at, push_types, type_of, types_of};
+use crate::unions::assert_split;
 use pyc_types::*;
 use std::alloc::{AllocError, Global};
 use std::process::Abort;
@@ -8,9 +9,12 @@ use std::test::Fail;
 
 /// Whether one type goes to another by the builtin orders, each spelled in words.
 fn goes(alloc: Global, builtins: &Builtins, got: &str, want: &str) -> Result<bool, Fail> {
-    let got = type_of(alloc, got)?;
-    let want = type_of(alloc, want)?;
-    Ok(assignable(builtins, &got, &want))
+    let mut types = types_of(alloc, got)?;
+    push_types(alloc, want, &mut types)?;
+    match types.as_slice() {
+        [got, want] => Ok(assignable(builtins, got, want)),
+        _ => Err("not two types".into()),
+    }
 }
 
 /// Classes: whether instances of the first go to the second.
@@ -93,11 +97,6 @@ fn assert_pairs(rt: &impl Abort, alloc: Global, builtins: &Builtins) -> Result<(
     Ok(())
 }
 
-#[test]
-fn pairs_of_types(rt: HostRuntime) -> Result<(), Fail> {
-    assert_pairs(&rt, rt.alloc(), &Builtins::new(rt.alloc())?)
-}
-
 /// One type of each form.
 const SINGLE: &[&str] = &[
     "Any",
@@ -126,7 +125,9 @@ const GOES: &[(&str, &str)] = &[
     ("int dots", "y - y - - - - - - y"),
 ];
 
-/// Asserts of each of these types to which of them it goes.
+/// Asserts of each of these types to which of them it goes. Any goes both ways and all go to object; None goes to None;
+/// the order of bool leads to int, and int to float; a class object is a callable that gives its instances; a module
+/// goes nowhere else.
 fn assert_each(rt: &impl Abort, alloc: Global, builtins: &Builtins) -> Result<(), Fail> {
     for (got, row) in GOES {
         let mut marks = row.split(' ');
@@ -138,25 +139,10 @@ fn assert_each(rt: &impl Abort, alloc: Global, builtins: &Builtins) -> Result<()
     Ok(())
 }
 
-/// Each type against each, got by got: `y` where it goes. Any goes both ways and all go to object; None goes to None;
-/// the order of bool leads to int, and int to float; a class object is a callable that gives its instances; a module
-/// goes nowhere else.
-#[test]
-fn types_against_types(rt: HostRuntime) -> Result<(), Fail> {
-    assert_each(&rt, rt.alloc(), &Builtins::new(rt.alloc())?)
-}
-
 /// Whether the class of this name in a module is none of the builtins, and its order is not known.
 fn is_of_a_source(alloc: Global, builtins: &Builtins, name: &str) -> Result<bool, AllocError> {
     let own = class_at(alloc, "app", name)?;
     Ok(own != ClassId::builtin(BuiltinClass::Int) && builtins.lin(&own).is_unknown())
-}
-
-#[test]
-fn classes_of_a_source_are_not_known(rt: HostRuntime) -> Result<(), Fail> {
-    let builtins = Builtins::new(rt.alloc())?;
-    assert!(rt; is_of_a_source(rt.alloc(), &builtins, "int")?);
-    Ok(())
 }
 
 /// Words that stand so often around a word: some before it, and some after it.
@@ -235,9 +221,21 @@ fn assert_deep(rt: &impl Abort, alloc: Global, builtins: &Builtins) -> Result<()
     Ok(())
 }
 
+/// Asserts what the builtin orders decide: of pairs of types, of deep ones, of what tests leave of types, and that they
+/// do not know the class of a source.
+fn assert_decided(rt: &impl Abort, alloc: Global, builtins: &Builtins) -> Result<(), Fail> {
+    assert_pairs(rt, alloc, builtins)?;
+    assert_each(rt, alloc, builtins)?;
+    assert_deep(rt, alloc, builtins)?;
+    assert_split(rt, alloc, builtins)?;
+    assert!(rt; is_of_a_source(alloc, builtins, "int")?);
+    Ok(())
+}
+
+/// One test makes the builtin orders, as each function that owns them is long to prove.
 #[test]
-fn deep_types_are_answered(rt: HostRuntime) -> Result<(), Fail> {
-    assert_deep(&rt, rt.alloc(), &Builtins::new(rt.alloc())?)
+fn what_the_builtin_orders_decide(rt: HostRuntime) -> Result<(), Fail> {
+    assert_decided(&rt, rt.alloc(), &Builtins::new(rt.alloc())?)
 }
 
 /// Types, with how they print.

@@ -161,17 +161,16 @@ const SPLIT: &[(&str, &str, &str)] = &[
 ];
 
 /// Asserts what `isinstance` leaves of each of these types, and what it does not take.
-fn assert_split(rt: &impl Abort, alloc: Global, builtins: &Builtins) -> Result<(), Fail> {
+pub(crate) fn assert_split(
+    rt: &impl Abort,
+    alloc: Global,
+    builtins: &Builtins,
+) -> Result<(), Fail> {
     for (words, names, want) in SPLIT {
         let shown = split_by(alloc, builtins, words, names)?;
         assert_eq!(rt; shown.as_str(), *want, "{words} by {names}");
     }
     Ok(())
-}
-
-#[test]
-fn isinstance_splits(rt: HostRuntime) -> Result<(), Fail> {
-    assert_split(&rt, rt.alloc(), &Builtins::new(rt.alloc())?)
 }
 
 /// What is left of a type without None.
