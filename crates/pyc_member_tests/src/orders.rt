@@ -46,7 +46,8 @@ fn order_at(alloc: Global, is_asked: bool, home: &str, class: &str) -> Result<St
     order_of(alloc, is_asked, class_of(alloc, home, class)?)
 }
 
-/// Modules and classes, builtin ones without a module, with their orders or why these are not known, and whether their instances can be called.
+/// Modules and classes, builtin ones without a module, with their orders or why these are not known, and whether their
+/// instances can be called.
 const ORDERS: &[(&str, &str, &str)] = &[
     ("m", "A", "A O object known"),
     ("m", "C", "C A B O object known"),
