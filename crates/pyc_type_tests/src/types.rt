@@ -139,10 +139,15 @@ fn assert_each(rt: &impl Abort, alloc: Global, builtins: &Builtins) -> Result<()
     Ok(())
 }
 
-/// Whether the class of this name in a module is none of the builtins, and its order is not known.
+/// Whether a class is not another, and its order is not known.
+fn is_own(builtins: &Builtins, class: &ClassId, other: &ClassId) -> bool {
+    *class != *other && builtins.lin(class).is_unknown()
+}
+
+/// Whether the class of this name in a module is not the builtin `int`, and its order is not known.
 fn is_of_a_source(alloc: Global, builtins: &Builtins, name: &str) -> Result<bool, AllocError> {
-    let own = class_at(alloc, "app", name)?;
-    Ok(own != ClassId::builtin(BuiltinClass::Int) && builtins.lin(&own).is_unknown())
+    let class = class_at(alloc, "app", name)?;
+    Ok(is_own(builtins, &class, &ClassId::builtin(BuiltinClass::Int)))
 }
 
 /// Words that stand so often around a word: some before it, and some after it.
