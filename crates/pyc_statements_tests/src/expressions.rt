@@ -50,6 +50,17 @@ const LITERALS_AND_DISPLAYS: &[(&str, &str)] = &[
     ),
 ];
 
+#[test]
+fn literals_and_displays(rt: HostRuntime) -> Result<(), Fail> {
+    for (source, want) in LITERALS_AND_DISPLAYS {
+        assert_eq!(rt;
+            all_told(rt.alloc(), &OF_EXPRESSIONS, source)?.as_str(),
+            *want
+        );
+    }
+    Ok(())
+}
+
 /// Sources, each with what is told of it.
 const NAMES_AND_ATTRIBUTES: &[(&str, &str)] = &[
     ("reveal_type(n)", "note: Revealed type is \"int\";"),
@@ -81,6 +92,17 @@ const NAMES_AND_ATTRIBUTES: &[(&str, &str)] = &[
     ("reveal_type(any.gone)", "note: Revealed type is \"Any\";"),
     ("reveal_type((c).x)", "note: Revealed type is \"int\";"),
 ];
+
+#[test]
+fn names_and_attributes(rt: HostRuntime) -> Result<(), Fail> {
+    for (source, want) in NAMES_AND_ATTRIBUTES {
+        assert_eq!(rt;
+            all_told(rt.alloc(), &OF_EXPRESSIONS, source)?.as_str(),
+            *want
+        );
+    }
+    Ok(())
+}
 
 /// Sources, each with what is told of it.
 const OPERATORS: &[(&str, &str)] = &[
@@ -121,6 +143,17 @@ const OPERATORS: &[(&str, &str)] = &[
     ),
 ];
 
+#[test]
+fn operators(rt: HostRuntime) -> Result<(), Fail> {
+    for (source, want) in OPERATORS {
+        assert_eq!(rt;
+            all_told(rt.alloc(), &OF_EXPRESSIONS, source)?.as_str(),
+            *want
+        );
+    }
+    Ok(())
+}
+
 /// Sources, each with what is told of it.
 const SUBSCRIPTS: &[(&str, &str)] = &[
     ("reveal_type(ls[0])", "note: Revealed type is \"int\";"),
@@ -149,6 +182,17 @@ const SUBSCRIPTS: &[(&str, &str)] = &[
         "index: Invalid index type \"tuple[int, int]\" for \"dict[str, int]\"; expected type \"str\";",
     ),
 ];
+
+#[test]
+fn subscripts(rt: HostRuntime) -> Result<(), Fail> {
+    for (source, want) in SUBSCRIPTS {
+        assert_eq!(rt;
+            all_told(rt.alloc(), &OF_EXPRESSIONS, source)?.as_str(),
+            *want
+        );
+    }
+    Ok(())
+}
 
 /// Sources, each with what is told of it.
 const CHOICES: &[(&str, &str)] = &[
@@ -195,6 +239,17 @@ const CHOICES: &[(&str, &str)] = &[
         "note: Revealed type is \"tuple[int | None, C | D] | int\";",
     ),
 ];
+
+#[test]
+fn choices(rt: HostRuntime) -> Result<(), Fail> {
+    for (source, want) in CHOICES {
+        assert_eq!(rt;
+            all_told(rt.alloc(), &OF_EXPRESSIONS, source)?.as_str(),
+            *want
+        );
+    }
+    Ok(())
+}
 
 /// Sources, each with what is told of it.
 const CALLS: &[(&str, &str)] = &[
@@ -259,23 +314,13 @@ const CALLS: &[(&str, &str)] = &[
     ),
 ];
 
-/// The tables of expressions.
-const TABLES: &[&[(&str, &str)]] = &[
-    LITERALS_AND_DISPLAYS,
-    NAMES_AND_ATTRIBUTES,
-    OPERATORS,
-    SUBSCRIPTS,
-    CHOICES,
-    CALLS,
-];
-
 #[test]
-fn what_is_told_of_expressions(rt: HostRuntime) -> Result<(), Fail> {
-    for table in TABLES {
-        for (source, want) in *table {
-            let told = all_told(rt.alloc(), &OF_EXPRESSIONS, source)?;
-            assert_eq!(rt; told.as_str(), *want, "{source}");
-        }
+fn calls(rt: HostRuntime) -> Result<(), Fail> {
+    for (source, want) in CALLS {
+        assert_eq!(rt;
+            all_told(rt.alloc(), &OF_EXPRESSIONS, source)?.as_str(),
+            *want
+        );
     }
     Ok(())
 }

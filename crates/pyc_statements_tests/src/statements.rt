@@ -65,6 +65,17 @@ const ASSIGNMENTS_TO_NAMES: &[(&str, &str)] = &[
     ),
 ];
 
+#[test]
+fn assignments_to_names(rt: HostRuntime) -> Result<(), Fail> {
+    for (source, want) in ASSIGNMENTS_TO_NAMES {
+        assert_eq!(rt;
+            all_told(rt.alloc(), &OF_STATEMENTS, source)?.as_str(),
+            *want
+        );
+    }
+    Ok(())
+}
+
 /// Sources, each with what is told of it.
 const ANNOTATED_ASSIGNMENTS: &[(&str, &str)] = &[
     (
@@ -111,6 +122,17 @@ const ANNOTATED_ASSIGNMENTS: &[(&str, &str)] = &[
         "name-defined: Name \"gone\" is not defined;",
     ),
 ];
+
+#[test]
+fn annotated_assignments(rt: HostRuntime) -> Result<(), Fail> {
+    for (source, want) in ANNOTATED_ASSIGNMENTS {
+        assert_eq!(rt;
+            all_told(rt.alloc(), &OF_STATEMENTS, source)?.as_str(),
+            *want
+        );
+    }
+    Ok(())
+}
 
 /// Sources, each with what is told of it.
 const UNPACKING: &[(&str, &str)] = &[
@@ -193,6 +215,17 @@ const UNPACKING: &[(&str, &str)] = &[
         "assignment: Incompatible types in assignment (expression has type \"str\", variable has type \"int\");",
     ),
 ];
+
+#[test]
+fn unpacking(rt: HostRuntime) -> Result<(), Fail> {
+    for (source, want) in UNPACKING {
+        assert_eq!(rt;
+            all_told(rt.alloc(), &OF_STATEMENTS, source)?.as_str(),
+            *want
+        );
+    }
+    Ok(())
+}
 
 /// Sources, each with what is told of it.
 const ATTRIBUTES: &[(&str, &str)] = &[
@@ -300,6 +333,17 @@ const ATTRIBUTES: &[(&str, &str)] = &[
     ),
 ];
 
+#[test]
+fn attributes(rt: HostRuntime) -> Result<(), Fail> {
+    for (source, want) in ATTRIBUTES {
+        assert_eq!(rt;
+            all_told(rt.alloc(), &OF_STATEMENTS, source)?.as_str(),
+            *want
+        );
+    }
+    Ok(())
+}
+
 /// Sources, each with what is told of it.
 const SUBSCRIPTS: &[(&str, &str)] = &[
     ("ls[0] = 2", ""),
@@ -381,6 +425,17 @@ const SUBSCRIPTS: &[(&str, &str)] = &[
     ),
 ];
 
+#[test]
+fn subscripts(rt: HostRuntime) -> Result<(), Fail> {
+    for (source, want) in SUBSCRIPTS {
+        assert_eq!(rt;
+            all_told(rt.alloc(), &OF_STATEMENTS, source)?.as_str(),
+            *want
+        );
+    }
+    Ok(())
+}
+
 /// Sources, each with what is told of it.
 const STATES: &[(&str, &str)] = &[
     (
@@ -405,6 +460,17 @@ const STATES: &[(&str, &str)] = &[
         "union-attr: Item \"None\" of \"C | None\" has no attribute \"x\";",
     ),
 ];
+
+#[test]
+fn states(rt: HostRuntime) -> Result<(), Fail> {
+    for (source, want) in STATES {
+        assert_eq!(rt;
+            all_told(rt.alloc(), &OF_STATEMENTS, source)?.as_str(),
+            *want
+        );
+    }
+    Ok(())
+}
 
 /// Sources, each with what is told of it.
 const EXPRESSIONS: &[(&str, &str)] = &[
@@ -435,24 +501,13 @@ const EXPRESSIONS: &[(&str, &str)] = &[
     ),
 ];
 
-/// The tables of statements.
-const TABLES: &[&[(&str, &str)]] = &[
-    ASSIGNMENTS_TO_NAMES,
-    ANNOTATED_ASSIGNMENTS,
-    UNPACKING,
-    ATTRIBUTES,
-    SUBSCRIPTS,
-    STATES,
-    EXPRESSIONS,
-];
-
 #[test]
-fn what_is_told_of_statements(rt: HostRuntime) -> Result<(), Fail> {
-    for table in TABLES {
-        for (source, want) in *table {
-            let told = all_told(rt.alloc(), &OF_STATEMENTS, source)?;
-            assert_eq!(rt; told.as_str(), *want, "{source}");
-        }
+fn expressions(rt: HostRuntime) -> Result<(), Fail> {
+    for (source, want) in EXPRESSIONS {
+        assert_eq!(rt;
+            all_told(rt.alloc(), &OF_STATEMENTS, source)?.as_str(),
+            *want
+        );
     }
     Ok(())
 }

@@ -16,22 +16,11 @@ mod operators;
 mod strings;
 mod tables;
 
-use pyc_lex::{Codes, Ignore, LexFault, Scan, Token};
+use pyc_lex::{Codes, Ignore, LexFault, Scan, Token, scan};
 use std::alloc::Global;
 use std::fmt::Write;
 use std::str;
 use std::test::Fail;
-
-/// The text of a source from one byte to another.
-fn text_between(bytes: &[u8], start: usize, end: usize) -> Result<&str, Fail> {
-    if start > end || end > bytes.len() {
-        return Err("a span outside the source")?;
-    }
-    match str::from_utf8(&bytes[start..end]) {
-        Ok(text) => Ok(text),
-        Err(_) => Err("no text")?,
-    }
-}
 
 /// A token as its line, column, kind and text.
 fn write_token(shown: &mut String, bytes: &[u8], token: &Token) -> Result<(), Fail> {
@@ -41,7 +30,12 @@ fn write_token(shown: &mut String, bytes: &[u8], token: &Token) -> Result<(), Fa
         line,
         column,
     } = *token;
-    let text = text_between(bytes, span.start, span.end)?;
+    if span.start > span.end || span.end > bytes.len() {
+        return Err("a span outside the source")?;
+    }
+    let text = str::from_utf8(&bytes[span.start..span.end])
+        .ok()
+        .ok_or("no text")?;
     write!(shown, "[{line}:{column} {kind:?} {text}]")?;
     Ok(())
 }
@@ -51,7 +45,12 @@ fn write_ignore(shown: &mut String, bytes: &[u8], ignore: &Ignore) -> Result<(),
     write!(shown, "#{}", ignore.line)?;
     if let Codes::Listed(spans) = &ignore.codes {
         for span in spans {
-            let code = text_between(bytes, span.start, span.end)?;
+            if span.start > span.end || span.end > bytes.len() {
+                return Err("a span outside the source")?;
+            }
+            let code = str::from_utf8(&bytes[span.start..span.end])
+                .ok()
+                .ok_or("no text")?;
             write!(shown, " {code}")?;
         }
     }
@@ -76,6 +75,13 @@ fn shown(alloc: Global, bytes: &[u8], lines: &Scan) -> Result<String, Fail> {
         shown.push('!')?;
     }
     Ok(shown)
+}
+
+/// The lines and ignore comments of a source without a fault.
+fn lines_of(alloc: Global, source: &str) -> Result<String, Fail> {
+    let bytes = source.as_bytes();
+    let lines = scan(alloc, bytes).ok().ok_or("a fault")?;
+    shown(alloc, bytes, &lines)
 }
 
 /// Sources, with their lines and ignore comments.
@@ -120,6 +126,14 @@ const LINES: &[(&str, &str)] = &[
     ("# only", ""),
 ];
 
+#[test]
+fn gives_lines_of_tokens(rt: HostRuntime) -> Result<(), Fail> {
+    for (source, want) in LINES {
+        assert_eq!(rt; lines_of(rt.alloc(), source)?.as_str(), *want);
+    }
+    Ok(())
+}
+
 /// Sources, with their first fault.
 const FAULTS: &[(&[u8], LexFault)] = &[
     (b"\n'a\n'", LexFault::OpenString(2)),
@@ -144,3 +158,10 @@ const FAULTS: &[(&[u8], LexFault)] = &[
     ),
     (b"((\n)", LexFault::Bracket(1)),
 ];
+
+#[test]
+fn tells_the_first_fault(rt: HostRuntime) {
+    for (source, want) in FAULTS {
+        assert_eq!(rt; scan(rt.alloc(), source).err(), Some(*want));
+    }
+}
