@@ -41,7 +41,7 @@ UNREAD = (
 PARTS = ("src", "specs", "proofs")
 # The most edits in one check, and the most checks beside an `rt ci` that still runs, for the memory that they take.
 TOGETHER = 16
-BESIDE = 2
+BESIDE = 3
 
 
 class Edit:
