@@ -1,3 +1,5 @@
+pub mod Locals
+pub mod Points
 pub mod Reads
 pub mod Singles
 pub mod Unpacking

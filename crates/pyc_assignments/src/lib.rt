@@ -4,7 +4,9 @@
 mod annotated;
 mod assigning;
 mod assignments;
+mod locals;
 mod messages;
+mod points;
 mod reading;
 mod singles;
 mod storing;
@@ -13,4 +15,7 @@ mod unpacking;
 pub use annotated::annotated_assignment;
 pub use assigning::assigned;
 pub use assignments::assignment;
-pub use reading::AssignmentReader;
+pub use locals::{Local, LocalType, declare_local, local_named, local_type};
+pub use points::Point;
+pub use reading::{AssignmentReader, Met};
+pub use storing::renarrowed;
