@@ -1,9 +1,10 @@
 -- Blocks of statements (Python reference 3.13, "Compound statements"; typing specification, "Type narrowing"): what is
 -- asked and told, and what is known after them. What no run comes to is not read.
 use Rattle.std.specs.Prelude.{ℕ, Bool, true, false, if◌then◌else◌, List, [], ◌∷◌, ◌++◌, map, Option, None, Some}
+use Rattle.std.specs.List.{list_any}
 use Rattle.pyc_assignments.specs.Assignments.{assigned}
 use Rattle.pyc_assignments.specs.Locals.{declared, bound}
-use Rattle.pyc_assignments.specs.Points.{Point, in_state}
+use Rattle.pyc_assignments.specs.Points.{Point, in_state, with_declared}
 use Rattle.pyc_ast.specs.declared.position.Position.{Position}
 use Rattle.pyc_ast.specs.Exprs.{Expr, expr, Form, Elements, no_element, another_element, element, at_of}
 use Rattle.pyc_ast.specs.Exprs as form
@@ -15,9 +16,9 @@ use Rattle.pyc_ast.specs.Targets as to
 use Rattle.pyc_class.specs.Class.{Id}
 use Rattle.pyc_expr.specs.Values.{infer_type}
 use Rattle.pyc_flow.specs.AssignedPlaces.{assigned_places, dropped_all, places_in}
-use Rattle.pyc_flow.specs.Bodies.{Body, BodyKind, module_body, body_context, body_reads, declares}
+use Rattle.pyc_flow.specs.Bodies.{Body, body_context, body_reads, declares}
 use Rattle.pyc_flow.specs.Flows.{Flow, at_point, with_state, ended, name_bound, joined_all}
-use Rattle.pyc_flow.specs.Imports.{modules_imported, names_imported, import_binds}
+use Rattle.pyc_flow.specs.Imports.{import_read}
 use Rattle.pyc_flow.specs.Simple.{expression_read, tested, assignment_read, annotated_read, augmented_read, deleted}
 use Rattle.pyc_flow.specs.Simple.{returned, raised, asserted, broken}
 use Rattle.pyc_iface.specs.declared.options.Options.{Options}
@@ -27,14 +28,10 @@ use Rattle.pyc_places.specs.Places.{Place}
 use Rattle.pyc_places.specs.States.{State, unreachable, reachable, is_reachable, with_place, dropped_at, joined_states}
 use Rattle.pyc_reading.specs.Desks.{Step}
 use Rattle.pyc_reading.specs.Readings.{Done, and_then}
-use Rattle.pyc_type_forms.specs.Types.{Ty, any, instance, class_object}
+use Rattle.pyc_type_forms.specs.Types.{Ty, Tys, nil, cons, any, instance, class_object, tuple}
 use Rattle.pyc_type_forms.specs.Unions.{union_of}
 
 -- ---- simple statements
-
--- an import in the body of a module was read in the file's header: here it binds its names
-abbrev pub import_read : Body → Position → StmtForm → Flow → Step Flow
-import_read body at found f = imports_by body body.kind at found f
 
 -- a simple statement or a definition that begins at a position, where these places are assigned on the way out of the
 -- loop around it
@@ -75,6 +72,14 @@ caught_instances _ = any ∷ []
 abbrev pub row_instances : Tys → List Ty
 row_instances nil = []
 row_instances (cons ty rest) = caught_instances ty ++ row_instances rest
+
+abbrev pub is_any : Ty → Bool
+is_any any = true
+is_any _ = false
+
+-- one item that is no class object says nothing of the others
+abbrev pub union_or_any : List Ty → Ty
+union_or_any items = if list_any is_any items then any else union_of items
 
 abbrev pub in_display : Bool → Ty → Ty
 in_display true (tuple items) = union_or_any (row_instances items)

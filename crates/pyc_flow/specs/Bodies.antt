@@ -9,8 +9,11 @@ use Rattle.pyc_ast.specs.declared.position.Position.{Position}
 use Rattle.pyc_ast.specs.Exprs.{Expr, Index}
 use Rattle.pyc_attributes.specs.Binding.{through_class}
 use Rattle.pyc_class.specs.Class.{Id}
+use Rattle.pyc_ast.specs.Targets.{Target, target, TargetForm}
+use Rattle.pyc_ast.specs.Targets as to
 use Rattle.pyc_expr_forms.specs.Contexts.{Context, scope_context}
 use Rattle.pyc_expr.specs.Values.{infer, infer_index}
+use Rattle.pyc_iface.specs.declared.options.Options.{Options}
 use Rattle.pyc_names.specs.SourceFiles.{SourceFile}
 use Rattle.pyc_obligations.specs.Asking.{asked_member}
 use Rattle.pyc_obligations.specs.Values.{Value, plain_value}
@@ -19,14 +22,16 @@ use Rattle.pyc_reading.specs.Desks.{Step}
 use Rattle.pyc_reading.specs.Readings.{Done, and_then}
 use Rattle.pyc_scopes.specs.NamedValues.{named}
 use Rattle.pyc_scopes.specs.Scopes.{Scope}
-use Rattle.pyc_targets.specs.NameTargets.{declared_type}
+use Rattle.pyc_targets.specs.NameTargets.{declared_type, declares_at, same_position}
 use Rattle.pyc_targets.specs.Slots.{plain_slot}
 use Rattle.pyc_type_exprs.specs.TypeExprs.{type_expr}
 use Rattle.pyc_type_forms.specs.Types.{Ty, any}
 
--- a name that the body of a class binds, and whether an import, a function or a class declares it there
+-- a name that the body of a class binds, where it is declared there, and whether an import, a function or a class is
+-- its declaration
 pub record OwnName : Type 0 where
   pub name : List ℕ
+  pub at : Position
   pub is_definition : Bool
 
 -- the body of a class: the class where its statement declares it, and the names that the body binds
@@ -41,8 +46,9 @@ pub data BodyKind : Type 0 where
   -- of a function that gives values of a type
   function_body : Ty → BodyKind
 
--- where statements stand
+-- where statements stand, and the options of the session
 pub record Body : Type 0 where
+  pub options : Options
   pub file : SourceFile
   pub kind : BodyKind
 
@@ -133,3 +139,23 @@ body_reads body =
       met = name_met body;
       annotated = (body_context body []).annotated;
     }
+
+-- ---- annotated assignments
+
+abbrev pub own_declared : Position → Option Id → Option OwnName → Bool
+own_declared at (Some c) (Some o) = same_position o.at at
+own_declared at c o = false
+
+-- whether the declaration of a name is the annotated assignment that begins at a position: at the top level of a file,
+-- or in the body of a class that its statement declares
+abbrev pub name_declared : Body → BodyKind → Position → List ℕ → Bool
+name_declared body module_body at x = declares_at body.file at x
+name_declared body (class_body own) at x = own_declared at own.class (own_name own x)
+name_declared body (function_body result) at x = false
+
+abbrev pub form_declared : Body → Position → TargetForm → Bool
+form_declared body at (to.name x) = name_declared body body.kind at x
+form_declared body at form = false
+
+abbrev pub declares : Body → Position → Target → Bool
+declares body at (target out inside form) = form_declared body at form

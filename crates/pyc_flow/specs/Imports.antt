@@ -1,14 +1,18 @@
 -- What is told of imports in the body of a function or a class, and what they bind (Python reference 3.13, "The import
 -- statement"; mypy's documentation, "Missing imports").
-use Rattle.std.specs.Prelude.{ℕ, is_some, if◌then◌else◌, List, [], ◌∷◌, Option, None, Some}
+use Rattle.std.specs.Prelude.{ℕ, false, is_some, if◌then◌else◌, List, [], ◌∷◌, Option, None, Some}
 use Rattle.pyc_assignments.specs.Locals.{bound}
 use Rattle.pyc_ast.specs.declared.position.Position.{Position}
 use Rattle.pyc_ast.specs.declared.stmt.Alias.{Alias}
 use Rattle.pyc_ast.specs.Statements.{ImportedModule, ImportFrom}
-use Rattle.pyc_bindings.specs.Bindings.{bound_name}
+use Rattle.pyc_ast.specs.Statements.{StmtForm}
+use Rattle.pyc_ast.specs.Statements as plain
+use Rattle.pyc_bindings.specs.Bindings.{Binding, bound_name, statement_bindings}
+use Rattle.pyc_bindings.specs.Scopes.{placed}
 use Rattle.pyc_flow.specs.Flows.{Flow, name_bound}
 use Rattle.pyc_iface.specs.declared.options.Options.{Options}
-use Rattle.pyc_imports.specs.ImportReadings.{missing, name_told, written_module}
+use Rattle.pyc_flow.specs.Bodies.{Body, BodyKind, module_body, class_body, function_body}
+use Rattle.pyc_imports.specs.ImportReadings.{import_reading, missing, name_told, written_module}
 use Rattle.pyc_names.specs.FixedModules.{fixed_module}
 use Rattle.pyc_names.specs.Imports.{named_module}
 use Rattle.pyc_names.specs.SourceFiles.{SourceFile}
@@ -77,3 +81,28 @@ names_imported options file at from [] f = Done f
 names_imported options file at from (alias ∷ rest) f =
     and_then (alias_imported options file at from alias)
     (λ ty. names_imported options file at from rest (name_bound (bound_name alias.name alias.alias) (bound ty) f))
+
+-- ---- by where the import stands
+
+-- names that are bound, in turn: nothing is known of them
+abbrev pub all_bound : List Binding → Flow → Flow
+all_bound [] f = f
+all_bound (b ∷ rest) f = all_bound rest (name_bound b.name (bound any) f)
+
+abbrev pub import_bound : Position → StmtForm → Flow → Flow
+import_bound at found f = all_bound (statement_bindings (placed at false) found) f
+
+abbrev pub function_import : Body → Position → StmtForm → Flow → Step Flow
+function_import body at (plain.import modules) f = modules_imported body.options at modules f
+function_import body at (plain.import_from from) f = names_imported body.options body.file at from from.names f
+function_import body at _ f = Done f
+
+-- the imports of a module are read in its file's header
+abbrev pub imports_by : Body → BodyKind → Position → StmtForm → Flow → Step Flow
+imports_by body module_body at found f = Done (import_bound at found f)
+imports_by body (class_body own) at found f =
+    and_then (import_reading body.options body.file at found) (λ u. Done (import_bound at found f))
+imports_by body (function_body result) at found f = function_import body at found f
+
+abbrev pub import_read : Body → Position → StmtForm → Flow → Step Flow
+import_read body at found f = imports_by body body.kind at found f

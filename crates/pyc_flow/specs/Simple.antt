@@ -10,16 +10,17 @@ use Rattle.pyc_assignments.specs.Storing.{stored}
 use Rattle.pyc_ast.specs.declared.operator.Operator.{Operator}
 use Rattle.pyc_ast.specs.declared.operator.Operator.TheVariants as o
 use Rattle.pyc_ast.specs.declared.position.Position.{Position}
-use Rattle.pyc_ast.specs.Exprs.{Expr, expr, at_of}
-use Rattle.pyc_ast.specs.Exprs as form
+use Rattle.pyc_ast.specs.Exprs.{Expr, Index, at_of}
 use Rattle.pyc_ast.specs.Statements.{AnnotatedAssignment, AugmentedAssignment}
-use Rattle.pyc_ast.specs.Targets.{Target, target, TargetForm, name, attribute, subscript, unpacking}
+use Rattle.pyc_ast.specs.Targets.{Target, target, TargetForm, name, unpacking}
+use Rattle.pyc_ast.specs.Targets as to
+use Rattle.pyc_attributes.specs.AttributeValues.{attribute}
 use Rattle.pyc_ast.specs.Targets.{TargetElements, no_target, another_target, target_element}
 use Rattle.pyc_calls.specs.Methods.{method_called}
 use Rattle.pyc_class.specs.Class.{Id, builtin, user}
 use Rattle.pyc_expr.specs.Values.{infer_type, read_by, condition}
 use Rattle.pyc_flow.specs.AssignedPlaces.{dropped_all, if_place}
-use Rattle.pyc_flow.specs.Bodies.{Body, BodyKind, module_body, class_body, function_body, body_context, body_reads}
+use Rattle.pyc_flow.specs.Bodies.{Body, BodyKind, function_body, body_context, body_name, body_reads}
 use Rattle.pyc_flow.specs.Flows.{Flow, at_point, with_state, ended, left_in}
 use Rattle.pyc_narrowing.specs.SplitStates.{States}
 use Rattle.pyc_obligations.specs.Asking.{asked_member, is_unknown_class}
@@ -27,7 +28,8 @@ use Rattle.pyc_obligations.specs.Telling.{owed}
 use Rattle.pyc_operators.specs.Binary.{binary}
 use Rattle.pyc_operators.specs.Operations.{in_place_method}
 use Rattle.pyc_places.specs.Places.{Place}
-use Rattle.pyc_places.specs.States.{State, dropped_at}
+use Rattle.pyc_places.specs.States.{State, narrowed_type}
+use Rattle.pyc_items.specs.Subscripts.{subscript}
 use Rattle.pyc_places.specs.TargetPlaces.{target_place}
 use Rattle.pyc_reading.specs.Answers.{MemberAnswer}
 use Rattle.pyc_reading.specs.Desks.{Step}
@@ -63,17 +65,45 @@ unfoldable pub annotated_read : Body → Bool → AnnotatedAssignment → Flow �
 annotated_read body declares found f =
     and_then (annotated_assignment (body_reads body) declares found f.point) (λ p. Done (at_point f p))
 
+-- ---- targets that are read
+
+abbrev pub named_type : Body → Point → Position → List ℕ → Option Ty → Step Ty
+named_type body p at x (Some ty) = Done ty
+named_type body p at x None = and_then (body_name body p.locals at x) (λ found. Done found.ty)
+
+-- an attribute of what its owner is
+unfoldable pub owner_attribute : Body → Point → Position → Expr → List ℕ → Step Ty
+owner_attribute body p at x n =
+    and_then ((body_reads body).value p x None) (λ owner.
+    and_then (attribute at owner n) (λ found. Done found.ty))
+
+abbrev pub attribute_type : Body → Point → Position → Expr → List ℕ → Option Ty → Step Ty
+attribute_type body p at x n (Some ty) = Done ty
+attribute_type body p at x n None = owner_attribute body p at x n
+
+unfoldable pub item_type : Body → Point → Position → Expr → Index → Step Ty
+item_type body p at x brackets =
+    and_then (type_read (body_reads body) p x None) (λ ty.
+    and_then ((body_reads body).index p brackets) (λ got. subscript at brackets got ty))
+
+-- what is known of a place
+abbrev pub known_at : State → Option Place → Option Ty
+known_at s (Some place) = narrowed_type s place
+known_at s None = None
+
+-- the type of a target that is read before it is assigned or deleted, within its parentheses: what is known of the
+-- place, else what it is as an expression
+abbrev pub form_type : Body → Point → (known : Option Ty) → Position → TargetForm → Step Ty
+form_type body p known at (name x) = named_type body p at x known
+form_type body p known at (to.attribute x n) = attribute_type body p at x n known
+form_type body p known at (to.subscript x brackets) = item_type body p at x brackets
+form_type body p known at (unpacking elements) = Done any
+
+abbrev pub target_type : Body → Point → Target → Step Ty
+target_type body p (target at inside form) =
+    form_type body p (known_at p.state (target_place (target at inside form))) inside form
+
 -- ---- augmented assignments
-
--- a target as the expression that it is spelled as
-abbrev pub target_form_expr : Position → TargetForm → Expr
-target_form_expr inside (name x) = expr inside inside (form.name x)
-target_form_expr inside (attribute value n) = expr inside inside (form.attribute value n)
-target_form_expr inside (subscript value i) = expr inside inside (form.subscript value i)
-target_form_expr inside (unpacking elements) = expr inside inside (form.tuple form.no_element)
-
-abbrev pub target_expr : Target → Expr
-target_expr (target at inside form) = target_form_expr inside form
 
 -- whether an operator is `+`
 abbrev pub is_plus : Operator → Bool
@@ -122,7 +152,7 @@ out_of (target at inside form) = at
 -- the target is read, and then the right side
 unfoldable pub augmented_at : Body → AugmentedAssignment → Point → Step Point
 augmented_at body found p =
-    and_then (type_read (body_reads body) p (target_expr found.target) None) (λ left.
+    and_then (target_type body p found.target) (λ left.
     and_then (type_read (body_reads body) p found.value None) (λ right.
     and_then (in_place found.operator left) (augmented_by body found (out_of found.target) left right p)))
 
@@ -134,8 +164,8 @@ augmented_read body found f = and_then (augmented_at body found f.point) (λ p. 
 -- a target that is no tuple or list of targets: it is read, and what was known of it is dropped
 unfoldable pub single_deleted : Body → Target → Flow → Step Flow
 single_deleted body to f =
-    and_then (expression_read body (target_expr to) f)
-    (λ g. Done (with_state g (dropped_all (if_place (target_place to)) g.point.state)))
+    and_then (target_type body f.point to)
+    (λ ty. Done (with_state f (dropped_all (if_place (target_place to)) f.point.state)))
 
 abbrev mutual
   pub deleted : Body → Target → Flow → Step Flow
