@@ -217,3 +217,58 @@ fn read_for<N: Judge>(
     after_loop(alloc, &left, flow)?;
     Ok(())
 }
+
+/// Reads a `try`: its handlers begin where nothing is known of what its block assigns, and `finally` where nothing is
+/// known of what block, handlers and `else` assign.
+#[cycle(flow)]
+fn read_try<N: Judge>(
+    alloc: Global,
+    notes: &mut N,
+    body: &Body<'_>,
+    passing: &[Place],
+    inside: &Block,
+    handlers: &[Handler],
+    orelse: &Block,
+    finally: &Block,
+    flow: &mut Flow,
+) -> Result<(), AllocError>
+{
+    let found = try_places(alloc, passing, inside, handlers, orelse, finally)?;
+    let lowered = dropped_all(alloc, &found.inside, &flow.point.state)?;
+    read_inside(alloc, notes, body, &found.passing, inside, flow)?;
+    let after = flow.point.state.clone()?;
+    let mut ends = Vec::new(alloc);
+    read_handlers(alloc, notes, body, &found.passing, &lowered, handlers, &mut ends, flow)?;
+    flow.point.state = after;
+    read_inside(alloc, notes, body, &found.passing, orelse, flow)?;
+    let tried = tried(alloc, &found, &flow.point.state, &ends)?;
+    flow.point.state = dropped_all(alloc, &found.arms, &lowered)?;
+    read_inside(alloc, notes, body, passing, finally, flow)?;
+    if flow.point.state.is_reachable() {
+        flow.point.state = tried;
+    }
+    Ok(())
+}
+
+/// Reads handlers in turn, each from one state, and adds the states in which they end.
+#[cycle(flow)]
+fn read_handlers<N: Judge>(
+    alloc: Global,
+    notes: &mut N,
+    body: &Body<'_>,
+    passing: &[Place],
+    from: &State,
+    handlers: &[Handler],
+    ends: &mut Vec<State>,
+    flow: &mut Flow,
+) -> Result<(), AllocError>
+{
+    for handler in handlers {
+        flow.point.state = from.clone()?;
+        let ty = caught_type(alloc, notes, body, handler.caught.as_ref(), flow)?;
+        bind_caught(alloc, handler.name.as_ref(), ty, flow)?;
+        read_inside(alloc, notes, body, passing, &handler.body, flow)?;
+        ends.push(flow.point.state.clone()?)?;
+    }
+    Ok(())
+}
