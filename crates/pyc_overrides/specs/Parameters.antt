@@ -1,6 +1,6 @@
 -- The parameters of a method against those of the method that it overrides (typing specification, "Callables",
 -- "Assignability rules for callables": parameters go the other way round).
-use Rattle.std.specs.Prelude.{ℕ, zero, suc, ◌+◌, Bool, true, false, if◌then◌else◌, Option, None, Some}
+use Rattle.std.specs.Prelude.{ℕ, zero, suc, ◌+◌, Bool, true, false, not, if◌then◌else◌, Option, None, Some}
 use Rattle.std.specs.Option.{option_or}
 use Rattle.pyc_obligations.specs.Judging.{judged}
 use Rattle.pyc_overrides.specs.Messages.{Override, argument_message, signature_message}
@@ -42,7 +42,7 @@ type_at gots place = option_or (plain_at gots place) (star_in gots)
 -- of its type
 abbrev pub is_refused_by : Option Ty → Ty → Step Bool
 is_refused_by None want = Done false
-is_refused_by (Some got) want = and_then (judged want got) (λ goes. Done (if goes then false else true))
+is_refused_by (Some got) want = and_then (judged want got) (λ goes. Done (not goes))
 
 abbrev pub is_refused : Listed → ℕ → Slot → Ty → Step Bool
 is_refused gots place slot want = if is_plain slot.kind then is_refused_by (type_at gots place) want else Done false
