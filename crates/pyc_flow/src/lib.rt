@@ -5,8 +5,6 @@ mod assigned_places;
 mod augmented;
 mod blocks;
 mod bodies;
-mod catching;
-mod class_names;
 mod context;
 mod deleting;
 mod flows;
