@@ -18,4 +18,5 @@ pub use assignments::assignment;
 pub use locals::{Local, LocalType, declare_local, local_named, local_type};
 pub use points::Point;
 pub use reading::{AssignmentReader, Met};
-pub use storing::renarrowed;
+pub use singles::met;
+pub use storing::stored;

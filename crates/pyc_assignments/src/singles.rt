@@ -17,7 +17,7 @@ use pyc_targets::{Slot, attribute_want, item_target};
 use std::alloc::{AllocError, Global};
 
 /// What an assignment to a target meets, whose parts are read at a point.
-pub(crate) fn met<N: Judge, R: AssignmentReader<N>>(
+pub fn met<N: Judge, R: AssignmentReader<N>>(
     alloc: Global,
     notes: &mut N,
     reader: &R,

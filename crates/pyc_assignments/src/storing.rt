@@ -22,7 +22,7 @@ use pyc_type_forms::Ty;
 use std::alloc::{AllocError, Global};
 
 /// Assigns a value of a type that begins at a position to a target that meets this.
-pub(crate) fn stored<N: Judge>(
+pub fn stored<N: Judge>(
     alloc: Global,
     notes: &mut N,
     at: Position,

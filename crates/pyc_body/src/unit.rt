@@ -16,6 +16,8 @@ pub enum Unit<'a> {
     /// The imports at module level, and the names that are defined again.
     Header,
     ModuleBody,
-    /// A function, a class or a method.
+    /// A function or a class.
     Definition(&'a Stmt),
+    /// A method, and the class around it.
+    Method(&'a Stmt, &'a Stmt),
 }

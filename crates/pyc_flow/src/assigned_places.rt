@@ -9,8 +9,11 @@ ghost use Rattle.pyc_bindings.specs.BindingView.{binding_of};
 ghost use Rattle.pyc_bindings.specs.ScopeView.{part_of};
 ghost use Rattle.pyc_flow.specs.AssignedPlaces as spec;
 
-use pyc_ast::{Handler, Stmt, StmtForm, Target, TargetElement, TargetForm};
-use pyc_bindings::{Binding, Part, PartForm, scope_parts, statement_bindings};
+use pyc_ast::{
+    Alias, Block, Handler, ImportedModule, Stmt, StmtForm, Target, TargetElement, TargetForm, Text,
+};
+use std::rc::Rc;
+use pyc_bindings::{Part, PartForm, scope_parts};
 use pyc_places::{Place, name_place, target_place};
 use std::alloc::{AllocError, Global};
 
@@ -21,10 +24,7 @@ pub(crate) fn assigned_places(alloc: Global, statements: &[Stmt]) -> Result<Vec<
         ≡ spec.assigned_places (stmts (map stmt_of statements.now))) }
 {
     let mut places = Vec::new(alloc);
-    let parts = scope_parts(alloc, statements)?;
-    for part in &parts {
-        push_part(alloc, part, &mut places)?;
-    }
+    push_assigned(alloc, statements, &mut places)?;
     Ok(places)
 }
 
@@ -34,22 +34,21 @@ fn push_part(alloc: Global, part: &Part<'_>, places: &mut Vec<Place>) -> Result<
         ≡ map (λ p. p.value) places.old.items ++ spec.places_of_part (part_of part.now)) }
 {
     match part.form {
-        PartForm::Statement(statement) => push_statement(alloc, part, statement, places),
+        PartForm::Statement(statement) => push_statement(alloc, statement, places),
         PartForm::Target(target) => push_target(alloc, target, places),
-        PartForm::Caught(name) => Ok(places.push(name_place(alloc, name)?)?),
+        PartForm::Caught(name) => push_name(alloc, name, places),
     }
 }
 
 /// Adds the places that a simple statement or a definition assigns.
 fn push_statement(
     alloc: Global,
-    part: &Part<'_>,
     statement: &Stmt,
     places: &mut Vec<Place>,
 ) -> Result<(), AllocError>
     ensures { OnOk result (map (λ p. p.value) places.new.items
         ≡ map (λ p. p.value) places.old.items
-        ++ spec.statement_places (part_of part.now).place (stmt_form_of statement.now.form)) }
+        ++ spec.statement_places here (stmt_form_of statement.now.form)) }
 {
     match &statement.form {
         StmtForm::Assign { targets, .. } => push_targets(alloc, targets, places),
@@ -59,21 +58,56 @@ fn push_statement(
         },
         StmtForm::Augment(found) => push_target(alloc, &found.target, places),
         StmtForm::Delete(target) => push_target(alloc, target, places),
-        _ => push_bound(alloc, part, statement, places),
+        form => push_bound(alloc, form, places),
     }
 }
 
 /// Adds the names that an import, a function or a class binds.
-fn push_bound(
+fn push_bound(alloc: Global, form: &StmtForm, places: &mut Vec<Place>) -> Result<(), AllocError>
+{
+    match form {
+        StmtForm::Import(modules) => push_modules(alloc, modules, places),
+        StmtForm::ImportFrom(from) => push_aliases(alloc, &from.names, places),
+        StmtForm::Function { head, .. } => push_name(alloc, &head.name, places),
+        StmtForm::Class { head, .. } => push_name(alloc, &head.name, places),
+        _ => Ok(()),
+    }
+}
+
+/// Adds a name.
+fn push_name(alloc: Global, name: &Text, places: &mut Vec<Place>) -> Result<(), AllocError>
+    ensures { OnOk result (map (λ p. p.value) places.new.items
+        ≡ map (λ p. p.value) places.old.items ++ ((name.now ∷ []) ∷ [])) }
+{
+    places.push(name_place(alloc, name)?)?;
+    Ok(())
+}
+
+/// Adds the names that imports of modules bind.
+fn push_modules(
     alloc: Global,
-    part: &Part<'_>,
-    statement: &Stmt,
+    modules: &[Rc<ImportedModule>],
     places: &mut Vec<Place>,
 ) -> Result<(), AllocError>
 {
-    let bindings = statement_bindings(alloc, part.place, &statement.form)?;
-    for binding in &bindings {
-        places.push(name_place(alloc, &binding.name)?)?;
+    for imported in modules {
+        match (&imported.alias, imported.path.first()) {
+            (Some(name), _) => push_name(alloc, name, places)?,
+            (None, Some(name)) => push_name(alloc, name, places)?,
+            (None, None) => {}
+        }
+    }
+    Ok(())
+}
+
+/// Adds the names that from-imports bind.
+fn push_aliases(alloc: Global, names: &[Alias], places: &mut Vec<Place>) -> Result<(), AllocError>
+{
+    for alias in names {
+        match &alias.alias {
+            Some(name) => push_name(alloc, name, places)?,
+            None => push_name(alloc, &alias.name, places)?,
+        }
     }
     Ok(())
 }
@@ -145,6 +179,30 @@ pub(crate) fn push_handlers(
 {
     for handler in handlers {
         push_handler(alloc, handler, places)?;
+    }
+    Ok(())
+}
+
+/// The places that a handler assigns.
+fn push_handler(alloc: Global, handler: &Handler, places: &mut Vec<Place>) -> Result<(), AllocError>
+{
+    if let Some(name) = &handler.name {
+        push_name(alloc, name, places)?;
+    }
+    let Block::Of(statements) = &handler.body;
+    push_assigned(alloc, statements, places)
+}
+
+/// Adds the places that the statements of a block assign.
+pub(crate) fn push_assigned(
+    alloc: Global,
+    statements: &[Stmt],
+    places: &mut Vec<Place>,
+) -> Result<(), AllocError>
+{
+    let parts = scope_parts(alloc, statements)?;
+    for part in &parts {
+        push_part(alloc, part, places)?;
     }
     Ok(())
 }

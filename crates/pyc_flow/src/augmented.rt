@@ -14,7 +14,7 @@ use crate::target_types::target_type;
 use pyc_assignments::{AssignmentReader, Point, met, stored};
 use pyc_ast::{AugmentedAssignment, Operator};
 use pyc_class::ClassId;
-use pyc_expr::MethodCaller;
+use pyc_expr_forms::MethodCaller;
 use pyc_obligations::{Judge, asked_member, is_unknown_class};
 use pyc_operators::{binary, in_place_method};
 use pyc_type_forms::Ty;
@@ -78,7 +78,7 @@ fn class_in_place<N: Judge>(
 ) -> Result<bool, AllocError>
     ensures { Performs (λ b. b) (spec.class_in_place class.now operator) (N.desk notes.old) result (N.desk notes.new) }
 {
-    if class.is_builtin() || is_unknown_class(alloc, notes, class)? {
+    if class.as_builtin().is_some() || is_unknown_class(alloc, notes, class)? {
         return Ok(false);
     }
     let found = asked_member(alloc, notes, class, in_place_method(operator))?;

@@ -11,12 +11,12 @@ use crate::assigned_places::{assigned_places, push_target};
 use crate::augmented::augmented_read;
 use crate::bodies::Body;
 use crate::deleting::deleted;
-use crate::flows::Flow;
+use crate::flows::{Flow, dropped_all};
 use crate::imports::import_read;
 use crate::loops::{after_loop, enter, exhaust, turn_item};
 use crate::returning::returned;
 use crate::simple::{annotated_read, asserted, assignment_read, expression_read, raised, tested};
-use crate::trying::{caught_type, items_read};
+use crate::trying::{bind_caught, caught_type, items_read, tried, try_places};
 use pyc_assignments::{LocalType, assigned};
 use pyc_ast::{Block, Branch, Expr, For, Handler, Position, Stmt, StmtForm};
 use pyc_obligations::Judge;
@@ -117,11 +117,11 @@ fn read_simple<N: Judge>(
         StmtForm::Assign { targets, value } => assignment_read(alloc, notes, body, targets, value, flow),
         StmtForm::Annotate(found) => annotated_read(alloc, notes, body, at, found, flow),
         StmtForm::Augment(found) => augmented_read(alloc, notes, body, found, flow),
-        StmtForm::Return(value) => returned(alloc, notes, body, at, value.as_ref(), flow),
+        StmtForm::Return(value) => returned(alloc, notes, body, at, value.as_deref(), flow),
         StmtForm::Raise { exception, cause } => {
-            raised(alloc, notes, body, exception.as_ref(), cause.as_ref(), flow)
+            raised(alloc, notes, body, exception.as_deref(), cause.as_deref(), flow)
         }
-        StmtForm::Assert { test, message } => asserted(alloc, notes, body, test, message.as_ref(), flow),
+        StmtForm::Assert { test, message } => asserted(alloc, notes, body, test, message.as_deref(), flow),
         StmtForm::Delete(target) => deleted(alloc, notes, body, target, flow),
         StmtForm::Break => Ok(flow.leave(alloc, passing)?),
         StmtForm::Continue => {

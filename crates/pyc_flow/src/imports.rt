@@ -13,7 +13,7 @@ use crate::flows::Flow;
 use pyc_assignments::LocalType;
 use pyc_ast::{Alias, ImportFrom, ImportedModule, Position, StmtForm, Text};
 use pyc_imports::{import_reading, missing, name_told, written_module};
-use pyc_names::{ModuleName, QualifiedName, fixed_module, named_module};
+use pyc_names::{ModuleName, QualifiedName, fixed_module, joined, named_module};
 use pyc_obligations::{Judge, asked_name};
 use pyc_reading::{Answer, Key, Presence};
 use pyc_type_forms::Ty;
@@ -121,8 +121,8 @@ fn module_imported<N: Judge>(
     if fixed_module(&imported.path).is_some() {
         return Ok(bound_module(alloc, imported)?);
     }
-    let name = ModuleName::of_parts(alloc, &imported.path)?;
-    let answer = notes.ask(alloc, Key::Module(name))?;
+    let key = Key::HasModule(joined(alloc, &[], &imported.path)?);
+    let answer = notes.ask(alloc, key)?;
     match answer {
         Answer::Presence(Presence::NoModule) => {
             let shown = written_module(alloc, 0, &imported.path)?;
@@ -221,7 +221,7 @@ fn name_imported<N: Judge>(
         home: home.clone()?,
         name: name.clone()?,
     };
-    let answer = notes.ask(alloc, Key::Has(asked))?;
+    let answer = notes.ask(alloc, Key::HasName(asked))?;
     name_told(alloc, notes, body.options, at, shown, name, &answer)?;
     let target = QualifiedName {
         home,

@@ -8,6 +8,7 @@ mod bodies;
 mod context;
 mod deleting;
 mod flows;
+mod functions;
 mod imports;
 mod loops;
 mod returning;
@@ -18,3 +19,12 @@ mod trying;
 pub use blocks::read_block;
 pub use bodies::{Body, BodyKind, ClassBody, OwnName};
 pub use flows::Flow;
+pub use functions::{
+    function_bindings, is_checked, read_function_body, read_parameters, read_plain_body,
+};
+
+#[cfg(test)]
+mod tests {
+    #[test]
+    fn nothing() {}
+}

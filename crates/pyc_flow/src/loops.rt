@@ -9,12 +9,12 @@ ghost use Rattle.pyc_reading.specs.Desks.{Performs};
 use crate::bodies::Body;
 use crate::context::BodyContext;
 use crate::flows::{Flow, dropped_all, joined_all};
-use pyc_assignments::assigned;
 use pyc_ast::For;
 use pyc_expr::infer_type;
 use pyc_items::iterated;
 use pyc_obligations::Judge;
 use pyc_places::{Place, State};
+use pyc_type_forms::Ty;
 use std::alloc::{AllocError, Global};
 use std::mem;
 

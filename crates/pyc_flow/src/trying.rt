@@ -11,13 +11,14 @@ ghost use Rattle.pyc_type_forms.specs.TypeView.{ty_of};
 
 use crate::bodies::Body;
 use crate::context::BodyContext;
-use crate::flows::Flow;
+use crate::assigned_places::{assigned_places, push_assigned, push_handlers};
+use crate::flows::{Flow, dropped_all, joined_all};
 use crate::simple::expression_read;
 use pyc_assignments::{LocalType, assigned, declare_local};
-use pyc_ast::{Expr, Form, Position, Target, Text, WithItem};
+use pyc_ast::{Block, Expr, Form, Handler, Position, Target, Text, WithItem};
 use pyc_expr::infer_type;
 use pyc_obligations::Judge;
-use pyc_places::name_place;
+use pyc_places::{Place, State, name_place};
 use pyc_type_forms::{Ty, union_of};
 use std::alloc::{AllocError, Global};
 
@@ -166,4 +167,65 @@ fn item_target_read<N: Judge>(
         Some(target) => assigned(alloc, notes, body, at, target, &Ty::Any, &mut flow.point),
         None => Ok(()),
     }
+}
+
+/// The places that the parts of a `try` assign.
+#[derive(Drop)]
+pub(crate) struct TryPlaces {
+    /// Those of its block.
+    pub inside: Vec<Place>,
+    /// Those of its handlers and its `else`.
+    pub arms: Vec<Place>,
+    /// Those of its `finally`.
+    pub finally: Vec<Place>,
+    /// Those that are assigned on the way out of the loop around its block, its handlers and its `else`.
+    pub passing: Vec<Place>,
+}
+
+/// The places that the parts of a `try` assign.
+pub(crate) fn try_places(
+    alloc: Global,
+    passing: &[Place],
+    inside: &Block,
+    handlers: &[Handler],
+    orelse: &Block,
+    finally: &Block,
+) -> Result<TryPlaces, AllocError>
+{
+    let Block::Of(inside) = inside;
+    let Block::Of(orelse) = orelse;
+    let Block::Of(finally) = finally;
+    let inside = assigned_places(alloc, inside)?;
+    let mut arms = Vec::new(alloc);
+    push_handlers(alloc, handlers, &mut arms)?;
+    push_assigned(alloc, orelse, &mut arms)?;
+    let mut around = Vec::new(alloc);
+    for place in passing {
+        around.push(place.clone()?)?;
+    }
+    push_assigned(alloc, finally, &mut around)?;
+    let finally = assigned_places(alloc, finally)?;
+    Ok(TryPlaces {
+        inside,
+        arms,
+        finally,
+        passing: around,
+    })
+}
+
+/// After a `try`: where its block with its `else` ends, or one of its handlers; what its block and `finally` assign is
+/// not known there.
+pub(crate) fn tried(
+    alloc: Global,
+    places: &TryPlaces,
+    state: &State,
+    ends: &[State],
+) -> Result<State, AllocError>
+    ensures { IfOk result (λ after. state_of after
+        ≡ spec.tried (map (λ p. p.value) places.now.inside.items) (map (λ p. p.value) places.now.finally.items)
+        (state_of state.now) (map state_of ends.now)) }
+{
+    let joined = joined_all(alloc, state, ends)?;
+    let dropped = dropped_all(alloc, &places.inside, &joined)?;
+    dropped_all(alloc, &places.finally, &dropped)
 }

@@ -11,7 +11,7 @@ use Rattle.pyc_type_forms.specs.Types.{Ty}
 
 -- the code of what is told of methods that override others: that of other errors, while there is none of its own
 abbrev pub override_code : Code
-override_code = code.Misc
+override_code = code.Override
 
 -- a name that overrides what an ancestor declares: where that is told, the name, and the name of the ancestor
 pub record Override : Type 0 where

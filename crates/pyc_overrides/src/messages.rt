@@ -14,7 +14,7 @@ use pyc_type_forms::{Ty, show};
 use std::alloc::{AllocError, Global};
 
 /// The code of what is told of methods that override others: that of other errors, while there is none of its own.
-const OVERRIDE: Code = Code::Misc;
+const OVERRIDE: Code = Code::Override;
 
 /// A name that overrides what an ancestor declares: where that is told, the name, and the name of the ancestor.
 #[derive(Clone, Copy)]
