@@ -9,7 +9,7 @@ use Rattle.pyc_report.specs.Message.{Message, error_at}
 use Rattle.pyc_type_forms.specs.Text.{text_of}
 use Rattle.pyc_type_forms.specs.Types.{Ty}
 
--- the code of what is told of methods that override others: that of other errors, while there is none of its own
+-- the code of what is told of methods that override others
 abbrev pub override_code : Code
 override_code = code.Override
 

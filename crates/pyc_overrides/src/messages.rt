@@ -13,7 +13,7 @@ use pyc_report::Code;
 use pyc_type_forms::{Ty, show};
 use std::alloc::{AllocError, Global};
 
-/// The code of what is told of methods that override others: that of other errors, while there is none of its own.
+/// The code of what is told of methods that override others.
 const OVERRIDE: Code = Code::Override;
 
 /// A name that overrides what an ancestor declares: where that is told, the name, and the name of the ancestor.
