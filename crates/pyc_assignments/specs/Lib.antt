@@ -1,5 +1,3 @@
-pub mod Locals
-pub mod Points
 pub mod Reads
 pub mod Singles
 pub mod Unpacking

@@ -1,26 +1,24 @@
 //! Annotated assignments.
 
-ghost use Rattle.std.specs.Prelude.{◌≡◌, option_map, IfOk, OnOk};
+ghost use Rattle.std.specs.Prelude.{option_map};
 ghost use Rattle.pyc_assignments.specs.Assignments as spec;
-ghost use Rattle.pyc_assignments.specs.Reads as reads;
-ghost use Rattle.pyc_assignments.specs.Views.{met_in, point_in};
 ghost use Rattle.pyc_ast.specs.ExprView.{expr_of};
 ghost use Rattle.pyc_ast.specs.StatementView.{annotated_of};
 ghost use Rattle.pyc_ast.specs.TargetView.{target_of};
+ghost use Rattle.pyc_places.specs.StateView.{state_of};
 ghost use Rattle.pyc_reading.specs.Desks.{Performs};
 ghost use Rattle.pyc_type_forms.specs.TypeView.{ty_of};
 
-use crate::points::Point;
-use crate::reading::{AssignmentReader, Met, type_read};
-use crate::singles::met;
+use crate::reading::{AssignmentReader, type_read};
+use crate::singles::slot;
 use crate::storing::{assignment_owed, renarrowed};
 use pyc_ast::{AnnotatedAssignment, Expr, Position, Target, TargetForm, Text};
 use pyc_obligations::Judge;
-use crate::locals::{LocalType, declare_local};
+use pyc_places::State;
 use pyc_type_forms::Ty;
 use std::alloc::{AllocError, Global};
 
-/// Performs an annotated assignment, by whether it declares the name that is its target. The value is read with
+/// The state after an annotated assignment, by whether it declares the name that is its target. The value is read with
 /// the type that the annotation means, and must be of it; where it is not that is told. Without a value the annotation
 /// alone is read. The only error is that memory runs out.
 #[tactic(auto, using(pyc_obligations::proofs::Steps::performing), unfolding(crate::specs::Assignments::annotated_assignment))]
@@ -30,25 +28,25 @@ pub fn annotated_assignment<N: Judge, R: AssignmentReader<N>>(
     reader: &R,
     declares: bool,
     found: &AnnotatedAssignment,
-    point: &mut Point,
-) -> Result<(), AllocError>
+    state: &State,
+) -> Result<State, AllocError>
     requires { R.ready reader.now }
-    ensures { Performs (λ u. point_in point.new)
-        (spec.annotated_assignment (R.reads reader.now) declares (annotated_of found.now) (point_in point.old))
+    ensures { Performs state_of
+        (spec.annotated_assignment (R.reads reader.now) declares (annotated_of found.now) (state_of state.now))
         (N.desk notes.old) result (N.desk notes.new) }
 {
     let want = reader.annotated(alloc, notes, &found.annotation)?;
-    let done = if_value(
+    let state = if_value(
         alloc,
         notes,
         reader,
         declares,
         &found.target,
         found.value.as_ref(),
-        point,
+        state,
         &want,
     )?;
-    Ok(done)
+    Ok(state)
 }
 
 /// The same, once the annotation was read.
@@ -59,18 +57,18 @@ fn if_value<N: Judge, R: AssignmentReader<N>>(
     declares: bool,
     target: &Target,
     value: Option<&Expr>,
-    point: &mut Point,
+    state: &State,
     want: &Ty,
-) -> Result<(), AllocError>
+) -> Result<State, AllocError>
     requires { R.ready reader.now }
-    ensures { Performs (λ u. point_in point.new)
+    ensures { Performs state_of
         (spec.if_value (R.reads reader.now) declares (target_of target.now)
-        (option_map (λ value. expr_of value.now) value.entry) (point_in point.old) (ty_of want.now))
+        (option_map (λ value. expr_of value.now) value.entry) (state_of state.now) (ty_of want.now))
         (N.desk notes.old) result (N.desk notes.new) }
 {
     match value {
-        Some(value) => with_value(alloc, notes, reader, declares, target, want, value, point),
-        None => Ok(target_annotated(want, target, point)?),
+        Some(value) => with_value(alloc, notes, reader, declares, target, want, value, state),
+        None => Ok(state.clone()?),
     }
 }
 
@@ -84,50 +82,55 @@ fn with_value<N: Judge, R: AssignmentReader<N>>(
     target: &Target,
     want: &Ty,
     value: &Expr,
-    point: &mut Point,
-) -> Result<(), AllocError>
+    state: &State,
+) -> Result<State, AllocError>
     requires { R.ready reader.now }
-    ensures { Performs (λ u. point_in point.new)
+    ensures { Performs state_of
         (spec.with_value (R.reads reader.now) declares (target_of target.now) (ty_of want.now) (expr_of value.now)
-        (point_in point.old)) (N.desk notes.old) result (N.desk notes.new) }
+        (state_of state.now)) (N.desk notes.old) result (N.desk notes.new) }
 {
-    let early = early_met(alloc, notes, reader, point, target)?;
-    let done = value_assigned(
-        alloc, notes, reader, declares, target, want, value, point, &early,
+    let early = early_want(alloc, notes, reader, state, target)?;
+    let state = value_assigned(
+        alloc, notes, reader, declares, target, want, value, state, early,
     )?;
-    Ok(done)
+    Ok(state)
 }
 
-/// What an assignment to a target other than a name meets, which is read before the value.
-fn early_met<N: Judge, R: AssignmentReader<N>>(
+/// What a target other than a name takes, which is read before the value.
+fn early_want<N: Judge, R: AssignmentReader<N>>(
     alloc: Global,
     notes: &mut N,
     reader: &R,
-    point: &Point,
+    state: &State,
     target: &Target,
-) -> Result<Met, AllocError>
+) -> Result<Option<Ty>, AllocError>
     requires { R.ready reader.now }
-    ensures { Performs met_in (spec.early_met (R.reads reader.now) (point_in point.now) (target_of target.now))
-        (N.desk notes.old) result (N.desk notes.new) }
+    ensures { Performs (option_map ty_of)
+        (spec.early_want (R.reads reader.now) (state_of state.now) (target_of target.now)) (N.desk notes.old) result
+        (N.desk notes.new) }
 {
     match &target.form {
-        TargetForm::Name(_) => Ok(Met::free()),
-        _ => met(alloc, notes, reader, point, target),
+        TargetForm::Name(_) => Ok(None),
+        _ => slot_want(alloc, notes, reader, state, target),
     }
 }
 
-/// Declares the local that an annotated target is, if it is one that nothing has declared before.
-fn target_annotated(want: &Ty, target: &Target, point: &mut Point) -> Result<(), AllocError>
-    ensures { OnOk result (point_in point.new
-        ≡ spec.target_annotated (ty_of want.now) (target_of target.now) (point_in point.old)) }
+/// What a target takes.
+#[tactic(auto, using(pyc_obligations::proofs::Steps::performing), unfolding(crate::specs::Assignments::slot_want))]
+fn slot_want<N: Judge, R: AssignmentReader<N>>(
+    alloc: Global,
+    notes: &mut N,
+    reader: &R,
+    state: &State,
+    target: &Target,
+) -> Result<Option<Ty>, AllocError>
+    requires { R.ready reader.now }
+    ensures { Performs (option_map ty_of)
+        (spec.slot_want (R.reads reader.now) (state_of state.now) (target_of target.now)) (N.desk notes.old) result
+        (N.desk notes.new) }
 {
-    match &target.form {
-        TargetForm::Name(name) => {
-            let ty = LocalType::Declared(want.clone()?);
-            declare_local(&mut point.locals, name, &ty)
-        }
-        _ => Ok(()),
-    }
+    let found = slot(alloc, notes, reader, state, target)?;
+    Ok(found.want)
 }
 
 /// Reads and assigns the value, once the target was read.
@@ -140,20 +143,20 @@ fn value_assigned<N: Judge, R: AssignmentReader<N>>(
     target: &Target,
     want: &Ty,
     value: &Expr,
-    point: &mut Point,
-    early: &Met,
-) -> Result<(), AllocError>
+    state: &State,
+    early: Option<Ty>,
+) -> Result<State, AllocError>
     requires { R.ready reader.now }
-    ensures { Performs (λ u. point_in point.new)
+    ensures { Performs state_of
         (spec.value_assigned (R.reads reader.now) declares (target_of target.now) (ty_of want.now)
-        (expr_of value.now) (point_in point.old) (met_in early.now)) (N.desk notes.old) result (N.desk notes.new) }
+        (expr_of value.now) (state_of state.now) (option_map ty_of early)) (N.desk notes.old) result
+        (N.desk notes.new) }
 {
-    let got = type_read(alloc, notes, reader, point, value, Some(want))?;
-    target_annotated(want, target, point)?;
-    let done = value_stored(
-        alloc, notes, reader, declares, target, want, early, value.at, &got, point,
+    let got = type_read(alloc, notes, reader, state, value, Some(want))?;
+    let state = value_stored(
+        alloc, notes, reader, declares, target, want, early, value.at, &got, state,
     )?;
-    Ok(done)
+    Ok(state)
 }
 
 /// Assigns a value of a type that begins at a position.
@@ -165,21 +168,21 @@ fn value_stored<N: Judge, R: AssignmentReader<N>>(
     declares: bool,
     target: &Target,
     want: &Ty,
-    early: &Met,
+    early: Option<Ty>,
     at: Position,
     got: &Ty,
-    point: &mut Point,
-) -> Result<(), AllocError>
+    state: &State,
+) -> Result<State, AllocError>
     requires { R.ready reader.now }
-    ensures { Performs (λ u. point_in point.new)
-        (spec.value_stored (R.reads reader.now) declares (target_of target.now) (ty_of want.now) (met_in early.now)
-        at (ty_of got.now) (point_in point.old)) (N.desk notes.old) result (N.desk notes.new) }
+    ensures { Performs state_of
+        (spec.value_stored (R.reads reader.now) declares (target_of target.now) (ty_of want.now)
+        (option_map ty_of early) at (ty_of got.now) (state_of state.now)) (N.desk notes.old) result
+        (N.desk notes.new) }
 {
-    let takes = late_want(alloc, notes, reader, declares, want, point, early, target)?;
+    let declared = late_want(alloc, notes, reader, declares, want, early, target)?;
     assignment_owed(alloc, notes, at, false, got, want)?;
-    let state = renarrowed(alloc, notes, target, takes.as_ref(), got, &point.state)?;
-    point.state = state;
-    Ok(())
+    let state = renarrowed(alloc, notes, target, declared.as_ref(), got, state)?;
+    Ok(state)
 }
 
 /// What a target takes: a name is read after the value.
@@ -189,28 +192,17 @@ fn late_want<N: Judge, R: AssignmentReader<N>>(
     reader: &R,
     declares: bool,
     want: &Ty,
-    point: &Point,
-    early: &Met,
+    early: Option<Ty>,
     target: &Target,
 ) -> Result<Option<Ty>, AllocError>
     requires { R.ready reader.now }
     ensures { Performs (option_map ty_of)
-        (spec.late_want (R.reads reader.now) declares (ty_of want.now) (point_in point.now) (met_in early.now)
+        (spec.late_want (R.reads reader.now) declares (ty_of want.now) (option_map ty_of early)
         (target_of target.now)) (N.desk notes.old) result (N.desk notes.new) }
 {
     match &target.form {
-        TargetForm::Name(name) => name_want(alloc, notes, reader, declares, want, point, name),
-        _ => Ok(want_of(early)?),
-    }
-}
-
-/// The type that is expected of a value for what its target meets, as a copy.
-fn want_of(met: &Met) -> Result<Option<Ty>, AllocError>
-    ensures { IfOk result (λ want. option_map ty_of want ≡ reads.want_of (met_in met.now)) }
-{
-    match met.want() {
-        Some(want) => Ok(Some(want.clone()?)),
-        None => Ok(None),
+        TargetForm::Name(name) => name_want(alloc, notes, reader, declares, want, name),
+        _ => Ok(early),
     }
 }
 
@@ -221,34 +213,16 @@ fn name_want<N: Judge, R: AssignmentReader<N>>(
     reader: &R,
     declares: bool,
     want: &Ty,
-    point: &Point,
     name: &Text,
 ) -> Result<Option<Ty>, AllocError>
     requires { R.ready reader.now }
     ensures { Performs (option_map ty_of)
-        (spec.name_want (R.reads reader.now) declares (ty_of want.now) (point_in point.now) name.now)
-        (N.desk notes.old) result (N.desk notes.new) }
+        (spec.name_want (R.reads reader.now) declares (ty_of want.now) name.now) (N.desk notes.old) result
+        (N.desk notes.new) }
 {
     if declares {
         Ok(Some(want.clone()?))
     } else {
-        asked_want(alloc, notes, reader, point, name)
+        reader.declared(alloc, notes, name)
     }
-}
-
-/// What a name takes where the assignment does not declare it.
-#[tactic(auto, using(pyc_obligations::proofs::Steps::performing), unfolding(crate::specs::Assignments::asked_want))]
-fn asked_want<N: Judge, R: AssignmentReader<N>>(
-    alloc: Global,
-    notes: &mut N,
-    reader: &R,
-    point: &Point,
-    name: &Text,
-) -> Result<Option<Ty>, AllocError>
-    requires { R.ready reader.now }
-    ensures { Performs (option_map ty_of) (spec.asked_want (R.reads reader.now) (point_in point.now) name.now)
-        (N.desk notes.old) result (N.desk notes.new) }
-{
-    let found = reader.met(alloc, notes, point, name)?;
-    Ok(want_of(&found)?)
 }

@@ -18,17 +18,134 @@ ghost use Rattle.pyc_type_forms.specs.Types.{any};
 
 use crate::import_texts::redefinition_text;
 use pyc_annotations::{Base, read_bases};
-use pyc_ast::{ClassDefinition, Position, Text};
-use pyc_bindings::{Binding, Redefinition};
+use pyc_ast::{Block, ClassDefinition, FunctionDefinition, Position, Stmt, StmtForm, Text};
+use pyc_bindings::{Binding, Redefinition, redefinitions, scope_bindings};
 use pyc_class::{ClassId, UnknownOrder};
 use pyc_declarations::own_class;
 use pyc_iface::{Answer, Key, Notes};
 use pyc_names::{SourceFile, fixed_module};
 use pyc_report::{Code, Message};
+use pyc_signatures::read_function;
+use pyc_types::Ty;
 use std::alloc::{AllocError, Global};
 
+/// Reads the signature of a function or a method, or the bases of a class, its order and the names that its body
+/// defines again. The only error is that memory runs out.
+#[tactic(auto, unfolding(crate::specs::DefinitionReadings::definition_reading))]
+pub(crate) fn read_definition<N: Notes>(
+    alloc: Global,
+    notes: &mut N,
+    file: &SourceFile,
+    found: &Stmt,
+) -> Result<(), AllocError>
+    ensures { Performs (λ u. u) (spec.definition_reading (source_in file.now) (stmt_of found.now))
+        (N.desk notes.old) result (N.desk notes.new) }
+{
+    read_form(alloc, notes, file, found.at, &found.form)
+}
+
+/// Reads a definition of this form.
+fn read_form<N: Notes>(
+    alloc: Global,
+    notes: &mut N,
+    file: &SourceFile,
+    at: Position,
+    form: &StmtForm,
+) -> Result<(), AllocError>
+    ensures { Performs (λ u. u) (spec.form_reading (source_in file.now) at (stmt_form_of form.now)) (N.desk notes.old)
+        result (N.desk notes.new) }
+{
+    match form {
+        StmtForm::Function { head, .. } => read_signature(alloc, notes, file, head),
+        StmtForm::Class { head, body } => read_class_statement(alloc, notes, file, at, head, body),
+        _ => Ok(()),
+    }
+}
+
+/// Reads the signature of a function or a method.
+#[tactic(auto, using(crate::proofs::Steps::performing))]
+fn read_signature<N: Notes>(
+    alloc: Global,
+    notes: &mut N,
+    file: &SourceFile,
+    head: &FunctionDefinition,
+) -> Result<(), AllocError>
+    ensures { Performs (λ u. u) (spec.signature_reading (source_in file.now) (function_of head.now)) (N.desk notes.old)
+        result (N.desk notes.new) }
+{
+    read_plain_function(alloc, notes, file, head)?;
+    Ok(())
+}
+
+/// Reads the signature of a function that is called on nothing.
+fn read_plain_function<N: Notes>(
+    alloc: Global,
+    notes: &mut N,
+    file: &SourceFile,
+    head: &FunctionDefinition,
+) -> Result<Ty, AllocError>
+    ensures { Performs ty_of (function_type (source_in file.now) any (function_of head.now)) (N.desk notes.old) result
+        (N.desk notes.new) }
+{
+    read_function(alloc, notes, file, Ty::Any, head)
+}
+
+/// Reads the bases of a class, its order and the names that its body defines again.
+#[tactic(auto, using(crate::proofs::Steps::performing))]
+fn read_class_statement<N: Notes>(
+    alloc: Global,
+    notes: &mut N,
+    file: &SourceFile,
+    at: Position,
+    head: &ClassDefinition,
+    body: &Block,
+) -> Result<(), AllocError>
+    ensures { Performs (λ u. u)
+        (spec.class_statement_reading (source_in file.now) at (class_of head.now) (block_of body.now))
+        (N.desk notes.old) result (N.desk notes.new) }
+{
+    read_class(alloc, notes, file, at, head)?;
+    read_class_body(alloc, notes, head.suspends, body)?;
+    Ok(())
+}
+
+/// Tells the names that the body of a class defines again: a body that suspends is skipped.
+fn read_class_body<N: Notes>(
+    alloc: Global,
+    notes: &mut N,
+    suspends: bool,
+    body: &Block,
+) -> Result<(), AllocError>
+    ensures { Performs (λ u. u) (spec.class_body_reading suspends (block_of body.now)) (N.desk notes.old) result
+        (N.desk notes.new) }
+{
+    if suspends {
+        return Ok(());
+    }
+    let Block::Of(statements) = body;
+    let bindings = scope_bindings(alloc, statements)?;
+    let again = redefinitions(alloc, &bindings)?;
+    tell_redefinitions(alloc, notes, &again)?;
+    Ok(())
+}
+
+/// Tells names that are defined again, in turn.
+fn tell_redefinitions<N: Notes>(
+    alloc: Global,
+    notes: &mut N,
+    again: &[Redefinition],
+) -> Result<(), AllocError>
+    ensures { Performs (λ u. u) (each redefinition_reading (map redefinition_of again.now)) (N.desk notes.old) result
+        (N.desk notes.new) }
+{
+    for found in again {
+        tell_redefinition(alloc, notes, found)?;
+    }
+    Ok(())
+}
+
 /// Tells a name that is defined again.
-pub(crate) fn redefinition_told<N: Notes>(
+fn tell_redefinition<N: Notes>(
     alloc: Global,
     notes: &mut N,
     found: &Redefinition,
@@ -40,27 +157,44 @@ pub(crate) fn redefinition_told<N: Notes>(
     notes.tell(Message::error_at(found.at, Code::NoRedef, text))
 }
 
-/// Reads the bases of a class, and its order where the file declares it, which is answered.
-pub(crate) fn read_class<N: Notes>(
+/// Reads the bases of a class, and its order where the file declares it.
+#[tactic(auto, using(crate::proofs::Steps::performing))]
+fn read_class<N: Notes>(
     alloc: Global,
     notes: &mut N,
     file: &SourceFile,
     at: Position,
     head: &ClassDefinition,
-) -> Result<Option<Vec<ClassId>>, AllocError> {
+) -> Result<(), AllocError>
+    ensures { Performs (λ u. u) (spec.class_reading (source_in file.now) at (class_of head.now))
+        (N.desk notes.old) result (N.desk notes.new) }
+{
     let bases = read_bases(alloc, notes, file, &head.arguments)?;
     if declares(file, at, &head.name) {
-        read_base_orders(alloc, notes, &bases)?;
-        let class = own_class(alloc, file, &head.name)?;
-        let answer = notes.ask(alloc, Key::Class(class))?;
-        let classes = match &answer {
-            Answer::Order(order) => Some(order.classes.clone()?),
-            _ => None,
-        };
-        tell_order(alloc, notes, at, &head.name, answer)?;
-        return Ok(classes);
+        read_declared(alloc, notes, file, at, &head.name, &bases)?;
     }
-    Ok(None)
+    Ok(())
+}
+
+/// Reads the orders of the bases of a class that a file declares, and its own.
+#[tactic(auto, using(crate::proofs::Steps::performing))]
+fn read_declared<N: Notes>(
+    alloc: Global,
+    notes: &mut N,
+    file: &SourceFile,
+    at: Position,
+    name: &Text,
+    bases: &[Base],
+) -> Result<(), AllocError>
+    ensures { Performs (λ u. u)
+        (spec.declared_reading (source_in file.now) at name.now (map base_of bases.now))
+        (N.desk notes.old) result (N.desk notes.new) }
+{
+    read_base_orders(alloc, notes, bases)?;
+    let class = own_class(alloc, file, name)?;
+    let answer = notes.ask(alloc, Key::Class(class))?;
+    tell_order(alloc, notes, at, name, answer)?;
+    Ok(())
 }
 
 /// Reads the orders of bases, in turn.
@@ -163,7 +297,7 @@ fn no_order_text(alloc: Global, name: &Text) -> Result<String, AllocError>
 }
 
 /// Whether a class statement of this name at a position declares a class of the file.
-pub(crate) fn declares(file: &SourceFile, at: Position, name: &Text) -> bool
+fn declares(file: &SourceFile, at: Position, name: &Text) -> bool
     ensures { result ≡ spec.declares (source_in file.now) at name.now }
 {
     fixed_module(file.name().parts()).is_none() && stands_at(file.declaration(name), at)

@@ -1,7 +1,7 @@
 //! What is found in a file: its units, and its messages, with those that no ignore comment silences.
 #![tactic(auto)]
 
-mod bodies;
+mod annotations;
 mod definitions;
 mod found_messages;
 mod header;

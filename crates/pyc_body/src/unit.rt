@@ -16,8 +16,6 @@ pub enum Unit<'a> {
     /// The imports at module level, and the names that are defined again.
     Header,
     ModuleBody,
-    /// A function or a class.
+    /// A function, a class or a method.
     Definition(&'a Stmt),
-    /// A method, and the class around it.
-    Method(&'a Stmt, &'a Stmt),
 }

@@ -48,24 +48,8 @@ fn push_definitions<'a>(
         ≡ map unit_of units.old.items ++ map definition (unit_definitions (stmts (map stmt_of statements.now)))) }
 {
     let definitions = unit_definitions(alloc, statements)?;
-    let mut class: Option<&'a Stmt> = None;
-    let mut left = 0;
     for found in &definitions {
-        let found: &'a Stmt = *found;
-        if left > 0 {
-            left -= 1;
-            if let Some(around) = class {
-                units.push(Unit::Method(around, found))?;
-            }
-        } else {
-            units.push(Unit::Definition(found))?;
-            if let StmtForm::Class { body, .. } = &found.form {
-                class = Some(found);
-                let mut methods = Vec::new(alloc);
-                push_methods(alloc, body, &mut methods)?;
-                left = methods.len();
-            }
-        }
+        units.push(Unit::Definition(found))?;
     }
     Ok(())
 }
