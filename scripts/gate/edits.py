@@ -271,6 +271,11 @@ def leave_open(library, name, copy, edited):
         return []
     made = re.findall(rf'"part/Rattle-{name}-proofs\.([^"]+)\.(TheLink|Code)"', listed.read_text(encoding="utf-8"))
     cycles = cycles_of(copy)
+    # (a function that calls itself is a cycle by itself, which has its name)
+    for path, part in made:
+        own = path.replace("+", "").replace(".", "::")
+        if part == "Code" and path.rpartition(".")[2].startswith("+") and own in cycles and cycles[own] is None:
+            cycles[own] = own.rpartition("::")[2]
     found = [it for it in made if is_left_open(*it, cycles, edited)]
     for path, part in found:
         last = path.rpartition(".")[2]
