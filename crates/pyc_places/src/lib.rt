@@ -7,6 +7,6 @@ mod states;
 mod targets;
 
 pub use joining::join;
-pub use places::{Place, is_at_or_below, place_of};
+pub use places::{Place, is_at_or_below, name_place, place_of};
 pub use states::{Narrowing, State};
 pub use targets::target_place;

@@ -62,7 +62,7 @@ pub fn place_of(alloc: Global, e: &Expr) -> Result<Option<Place>, AllocError>
     ensures { IfOk result (λ place. place ≡ spec.place_of (expr_of e.now)) }
 {
     match &e.form {
-        Form::Name(name) => Ok(Some(named(alloc, name)?)),
+        Form::Name(name) => Ok(Some(name_place(alloc, name)?)),
         Form::Attribute { value, name } => {
             let owner = place_of(alloc, value)?;
             Ok(below(owner, name)?)
@@ -72,7 +72,7 @@ pub fn place_of(alloc: Global, e: &Expr) -> Result<Option<Place>, AllocError>
 }
 
 /// The place that a name is.
-pub(crate) fn named(alloc: Global, name: &Text) -> Result<Place, AllocError>
+pub fn name_place(alloc: Global, name: &Text) -> Result<Place, AllocError>
     ensures { IfOk result (λ place. place ≡ name.now ∷ []) }
 {
     let mut names = Vec::with_capacity(alloc, 1)?;

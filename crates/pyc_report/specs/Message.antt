@@ -4,7 +4,8 @@ use Rattle.pyc_ast.specs.declared.position.Position.{Position}
 use Rattle.pyc_report.specs.declared.message.Code.{Code}
 use Rattle.pyc_report.specs.declared.message.Code.TheVariants.{ArgType, Assignment, AttrDefined, CallArg, DictItem}
 use Rattle.pyc_report.specs.declared.message.Code.TheVariants.{ImportNotFound, Index, ListItem, Misc, NameDefined}
-use Rattle.pyc_report.specs.declared.message.Code.TheVariants.{NoRedef, Operator, Syntax, UnionAttr, ValidType}
+use Rattle.pyc_report.specs.declared.message.Code.TheVariants.{NoRedef, Operator, Override, Return}
+use Rattle.pyc_report.specs.declared.message.Code.TheVariants.{ReturnValue, Syntax, UnionAttr, ValidType}
 use Rattle.pyc_report.specs.declared.message.MessageKind.{MessageKind}
 use Rattle.pyc_report.specs.declared.message.MessageKind.TheVariants.{Error, Note}
 use Rattle.pyc_report.specs.declared.message.Message.{Message as Declared}
@@ -30,6 +31,9 @@ code_name Misc = codes "misc"
 code_name NameDefined = codes "name-defined"
 code_name NoRedef = codes "no-redef"
 code_name Operator = codes "operator"
+code_name Override = codes "override"
+code_name Return = codes "return"
+code_name ReturnValue = codes "return-value"
 code_name Syntax = codes "syntax"
 code_name UnionAttr = codes "union-attr"
 code_name ValidType = codes "valid-type"

@@ -1,0 +1,7 @@
+pub mod Names
+pub mod Places
+pub mod Messages
+pub mod Parameters
+pub mod Ancestors
+pub mod Overrides
+pub mod Views
