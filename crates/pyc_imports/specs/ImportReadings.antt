@@ -1,0 +1,91 @@
+-- What is told of imports: modules and names that are not there (Python reference 3.13, "The import statement"; mypy's
+-- documentation, "Missing imports").
+use Rattle.std.specs.Prelude.{ℕ, zero, suc, is_some, if◌then◌else◌, List, [], ◌∷◌, ◌++◌, codes, Option, None, Some}
+use Rattle.pyc_ast.specs.declared.position.Position.{Position}
+use Rattle.pyc_ast.specs.declared.stmt.Alias.{Alias}
+use Rattle.pyc_ast.specs.Statements.{StmtForm, ImportedModule, ImportFrom}
+use Rattle.pyc_ast.specs.Statements as plain
+use Rattle.pyc_iface.specs.declared.options.Options.{Options}
+use Rattle.pyc_names.specs.FixedModules.{fixed_module}
+use Rattle.pyc_names.specs.Imports.{named_module}
+use Rattle.pyc_names.specs.SourceFiles.{SourceFile}
+use Rattle.pyc_reading.specs.Answers.{Answer, presence_of}
+use Rattle.pyc_reading.specs.declared.answer.Presence.{Presence}
+use Rattle.pyc_reading.specs.declared.answer.Presence.TheVariants as presence
+use Rattle.pyc_reading.specs.Desks.{Step, telling}
+use Rattle.pyc_reading.specs.Keys.{Key, has_module, has_name}
+use Rattle.pyc_reading.specs.Readings.{Done, Ask, and_then, each}
+use Rattle.pyc_report.specs.declared.message.Code.TheVariants as code
+use Rattle.pyc_report.specs.Message.{error_at}
+use Rattle.pyc_report.specs.NameTexts.{joined_names}
+
+-- ---- texts
+
+-- so many dots
+abbrev pub dots : ℕ → List ℕ
+dots zero = []
+dots (suc n) = 46 ∷ dots n
+
+-- a module as it is written: the dots before its name, and its name
+unfoldable pub written_module : ℕ → List (List ℕ) → List ℕ
+written_module n path = dots n ++ joined_names path
+
+unfoldable pub missing_text : List ℕ → List ℕ
+missing_text shown =
+    codes "Cannot find implementation or library stub for module named \"" ++ (shown ++ codes "\"")
+
+unfoldable pub no_attribute_text : List ℕ → List ℕ → List ℕ
+no_attribute_text shown name = codes "Module \"" ++ (shown ++ (codes "\" has no attribute \"" ++ (name ++ codes "\"")))
+
+-- ---- what is asked
+
+-- whether a module or a name is there, as an answer tells it
+abbrev pub presence_in : Answer → Option Presence
+presence_in (presence_of found) = Some found
+presence_in _ = None
+
+abbrev pub asked_presence : Key → Step (Option Presence)
+asked_presence key = Ask key (λ answer. Done (presence_in answer))
+
+-- ---- imports
+
+-- a module that is not there, told unless missing imports are left out
+abbrev pub missing : Options → Position → List ℕ → Step (Unit {0})
+missing options at shown =
+    if options.ignore_missing then Done tt else telling (error_at at code.ImportNotFound (missing_text shown))
+
+-- a module, by whether it is there
+abbrev pub module_told : Options → Position → List ℕ → Option Presence → Step (Unit {0})
+module_told options at shown (Some presence.NoModule) = missing options at shown
+module_told options at shown _ = Done tt
+
+-- a module that is imported; a fixed one is there
+abbrev pub module_reading : Options → Position → ImportedModule → Step (Unit {0})
+module_reading options at m =
+    if is_some (fixed_module m.path) then Done tt
+    else and_then (asked_presence (has_module m.path)) (module_told options at (written_module 0 m.path))
+
+-- a name that is imported from a module, by whether it is there
+abbrev pub name_told : Options → Position → List ℕ → List ℕ → Option Presence → Step (Unit {0})
+name_told options at shown name (Some presence.NoModule) = missing options at shown
+name_told options at shown name (Some presence.NoName) =
+    telling (error_at at code.AttrDefined (no_attribute_text shown name))
+name_told options at shown name _ = Done tt
+
+-- a name that is imported from a module, or from above the root, where nothing is there
+abbrev pub imported_reading : Options → Position → List ℕ → List ℕ → Option (List (List ℕ)) → Step (Unit {0})
+imported_reading options at shown name None = missing options at shown
+imported_reading options at shown name (Some m) =
+    if is_some (fixed_module m) then Done tt
+    else and_then (asked_presence (has_name (record { home = m; name = name }))) (name_told options at shown name)
+
+abbrev pub alias_reading : Options → SourceFile → Position → ImportFrom → Alias → Step (Unit {0})
+alias_reading options file at from alias =
+    imported_reading options at (written_module from.dots from.path) alias.name
+    (named_module file.is_package file.name from.dots from.path)
+
+-- a statement: an import asks for each of its modules or names
+abbrev pub import_reading : Options → SourceFile → Position → StmtForm → Step (Unit {0})
+import_reading options file at (plain.import modules) = each (module_reading options at) modules
+import_reading options file at (plain.import_from from) = each (alias_reading options file at from) from.names
+import_reading options file at _ = Done tt
