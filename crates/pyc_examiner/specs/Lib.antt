@@ -2,3 +2,4 @@ pub mod KeyEquality
 pub mod KeyHash
 pub mod KeptAnswers
 pub mod ExaminerView
+pub mod CheckedView

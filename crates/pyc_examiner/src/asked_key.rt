@@ -30,6 +30,13 @@ impl AskedKey {
         AskedKey { key }
     }
 
+    /// The key, by itself.
+    pub(crate) fn into_key(self) -> Key
+        ensures { key_of result ≡ self }
+    {
+        self.key
+    }
+
     /// The key.
     pub(crate) fn key(&self) -> &Key
         ensures { key_of result.now ≡ self.now }

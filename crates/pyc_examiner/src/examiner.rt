@@ -7,6 +7,7 @@ ghost use Rattle.pyc_iface.specs.WorldView.{world_in};
 ghost use Rattle.pyc_report.specs.Message.{message_in};
 
 use crate::asked_key::AskedKey;
+use crate::checked::{Checked, listed};
 use crate::copies::copy_of;
 use crate::kept::keep;
 use indexmap::IndexMap;
@@ -28,6 +29,7 @@ pub struct Examiner<'a> {
 }
 
 impl<'a> Examiner<'a> {
+    ghost use Rattle.pyc_examiner.specs.CheckedView.{checked_of};
     ghost use Rattle.pyc_examiner.specs.ExaminerView.{desk_of};
 
     /// An examiner over a world, at which nothing was asked or told. It takes no memory.
@@ -46,6 +48,15 @@ impl<'a> Examiner<'a> {
         ensures { map message_in result.items ≡ (desk_of self.entry).messages }
     {
         self.messages
+    }
+
+    /// What was asked and told. The only error is that memory runs out.
+    pub fn into_checked(self, alloc: Global) -> Result<Checked, AllocError>
+        ensures { IfOk result (λ checked. checked_of checked
+            ≡ record { reads = (desk_of self.entry).keys; messages = (desk_of self.entry).messages }) }
+    {
+        let reads = listed(alloc, self.answers)?;
+        Ok(Checked::new(reads, self.messages))
     }
 }
 

@@ -3,8 +3,10 @@
 #![tactic(auto)]
 
 mod asked_key;
+mod checked;
 mod copies;
 mod examiner;
 mod kept;
 
+pub use checked::Checked;
 pub use examiner::Examiner;
