@@ -1,5 +1,6 @@
 pub mod ListLemmas
-pub mod MessageLemmas
-pub mod TextLemmas
+pub mod LiteralLemmas
 pub mod HeaderLemmas
+pub mod BlockLemmas
+pub mod ReadLemmas
 pub mod Steps

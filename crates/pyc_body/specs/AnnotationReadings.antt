@@ -1,6 +1,6 @@
 -- What is told of the annotations of the body of a module, as a reading (Python reference 3.13, "Annotated assignment
 -- statements").
-use Rattle.std.specs.Prelude.{Bool, true, false, if◌then◌else◌, List}
+use Rattle.std.specs.Prelude.{Bool, true, false, if◌then◌else◌}
 use Rattle.pyc_annotations.specs.Annotations.{read_type}
 use Rattle.pyc_ast.specs.Statements.{AnnotatedAssignment, StmtForm, Stmts}
 use Rattle.pyc_ast.specs.Statements as plain

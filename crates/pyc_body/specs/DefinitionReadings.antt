@@ -1,6 +1,6 @@
 -- What is told of a function, a method or a class, as a reading (Python reference 3.13, "Function definitions", "Class
 -- definitions"; "The Python 2.3 method resolution order").
-use Rattle.std.specs.Prelude.{ℕ, Bool, false, not, ◌&&◌, ◌==◌, is_some, if◌then◌else◌, List, [], ◌∷◌, ◌++◌, codes}
+use Rattle.std.specs.Prelude.{ℕ, Bool, false, not, ◌&&◌, ◌==◌, is_some, if◌then◌else◌, List, ◌++◌, codes}
 use Rattle.std.specs.Prelude.{Option, None, Some}
 use Rattle.pyc_annotations.specs.Bases.{Base, class_base, bases}
 use Rattle.pyc_ast.specs.declared.position.Position.{Position}
@@ -11,9 +11,10 @@ use Rattle.pyc_bindings.specs.Redefinitions.{declaration, redefinitions}
 use Rattle.pyc_body.specs.Header.{redefinition_reading}
 use Rattle.pyc_class.specs.declared.order.UnknownOrder.{UnknownOrder}
 use Rattle.pyc_class.specs.declared.order.UnknownOrder.TheVariants as unknown
-use Rattle.pyc_class.specs.Class.{Id, builtin, user}
+use Rattle.pyc_class.specs.Class.{Id, user}
 use Rattle.pyc_names.specs.FixedModules.{fixed_module}
 use Rattle.pyc_names.specs.SourceFiles.{SourceFile}
+use Rattle.pyc_overrides.specs.Overrides.{overrides_read}
 use Rattle.pyc_reading.specs.Answers.{Answer, order_is}
 use Rattle.pyc_reading.specs.Desks.{Step, asking}
 use Rattle.pyc_reading.specs.Keys.{class}
@@ -38,9 +39,11 @@ unknown_told at name (Some unknown.Cycle) = Tell (error_at at Misc (base_cycle_t
 unknown_told at name (Some unknown.Merge) = Tell (error_at at Misc (no_order_text name)) (Done tt)
 unknown_told at name _ = Done tt
 
-abbrev pub order_told : Position → List ℕ → Answer → Step (Unit {0})
-order_told at name (order_is order) = unknown_told at name order.unknown
-order_told at name _ = Done tt
+-- the order that an answer gives, the class itself first: why it is not known is told
+abbrev pub order_reading : Position → List ℕ → Answer → Step (Option (List Id))
+order_reading at name (order_is order) =
+    and_then (unknown_told at name order.unknown) (λ u. Done (Some order.classes))
+order_reading at name _ = Done None
 
 -- the order of a base that is a class of a file
 abbrev pub base_reading : Base → Step (Unit {0})
@@ -58,17 +61,17 @@ abbrev pub declares : SourceFile → Position → List ℕ → Bool
 declares file at name =
     not (is_some (fixed_module file.name)) && stands_at (declaration file.bindings name) at
 
--- the orders of its bases, and its own
-abbrev pub declared_reading : SourceFile → Position → List ℕ → List Base → Step (Unit {0})
+-- the orders of its bases, and its own, which is the answer
+abbrev pub declared_reading : SourceFile → Position → List ℕ → List Base → Step (Option (List Id))
 declared_reading file at name found =
     and_then (each base_reading found)
-    (λ u. and_then (asking (class (user file.name name))) (order_told at name))
+    (λ u. and_then (asking (class (user file.name name))) (order_reading at name))
 
--- a class: its bases, and where it is a class that the file declares its order
-abbrev pub class_reading : SourceFile → Position → ClassDefinition → Step (Unit {0})
+-- a class: its bases, and where it is a class that the file declares its order, which is the answer
+abbrev pub class_reading : SourceFile → Position → ClassDefinition → Step (Option (List Id))
 class_reading file at head =
     and_then (bases file head.arguments)
-    (λ found. if declares file at head.name then declared_reading file at head.name found else Done tt)
+    (λ found. if declares file at head.name then declared_reading file at head.name found else Done None)
 
 -- ---- definitions
 
@@ -81,10 +84,16 @@ class_body_reading suspends body =
 abbrev pub signature_reading : SourceFile → FunctionDefinition → Step (Unit {0})
 signature_reading file head = and_then (function_type file any head) (λ ty. Done tt)
 
--- a class: its bases and its order, and the names that its body defines again
+-- what a class that the file declares, with this order, declares as an ancestor does
+abbrev pub heir_reading : SourceFile → List ℕ → Stmts → Option (List Id) → Step (Unit {0})
+heir_reading file name body None = Done tt
+heir_reading file name body (Some order) = overrides_read file name body order
+
+-- a class: its bases and its order, the names that its body defines again, and those that its ancestors declare as well
 abbrev pub class_statement_reading : SourceFile → Position → ClassDefinition → Stmts → Step (Unit {0})
 class_statement_reading file at head body =
-    and_then (class_reading file at head) (λ u. class_body_reading head.suspends body)
+    and_then (class_reading file at head)
+    (λ order. and_then (class_body_reading head.suspends body) (λ u. heir_reading file head.name body order))
 
 abbrev pub form_reading : SourceFile → Position → StmtForm → Step (Unit {0})
 form_reading file at (plain.function head body) = signature_reading file head

@@ -4,4 +4,5 @@ pub mod UnitView
 pub mod LiteralForms
 pub mod AnnotationReadings
 pub mod DefinitionReadings
+pub mod ModuleBodies
 pub mod FoundMessages

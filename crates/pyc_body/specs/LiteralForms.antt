@@ -1,6 +1,6 @@
 -- The annotated literals of a module: each statement `NAME: TYPE = VALUE` among its parts whose value is one literal,
 -- with no parentheses around the three (Python reference 3.13, "Annotated assignment statements", "Literals").
-use Rattle.std.specs.Prelude.{ℕ, Bool, false, ◌==◌, ◌&&◌, if◌then◌else◌, List, Option, None, Some}
+use Rattle.std.specs.Prelude.{Bool, false, ◌==◌, ◌&&◌, if◌then◌else◌, List, Option, None, Some}
 use Rattle.std.specs.List.{filter_map}
 use Rattle.pyc_ast.specs.declared.position.Position.{Position}
 use Rattle.pyc_ast.specs.Exprs.{Expr, expr, at_of}

@@ -5,9 +5,7 @@ ghost use Rattle.pyc_annotations.specs.Bases.{class_base};
 ghost use Rattle.pyc_annotations.specs.Views.{base_of};
 ghost use Rattle.pyc_ast.specs.StatementView.{block_of, class_of, function_of, stmt_of, stmt_form_of};
 ghost use Rattle.pyc_bindings.specs.BindingView.{binding_of};
-ghost use Rattle.pyc_bindings.specs.RedefinitionView.{redefinition_of};
 ghost use Rattle.pyc_body.specs.DefinitionReadings as spec;
-ghost use Rattle.pyc_body.specs.Header.{redefinition_reading};
 ghost use Rattle.pyc_names.specs.SourceFileView.{source_in};
 ghost use Rattle.pyc_reading.specs.AnswerView.{answer_in};
 ghost use Rattle.pyc_reading.specs.Desks.{Performs};
@@ -16,23 +14,25 @@ ghost use Rattle.pyc_signatures.specs.Signatures.{function_type};
 ghost use Rattle.pyc_type_forms.specs.TypeView.{ty_of};
 ghost use Rattle.pyc_type_forms.specs.Types.{any};
 
-use crate::import_texts::redefinition_text;
+use crate::redefined::tell_redefinitions;
 use pyc_annotations::{Base, read_bases};
 use pyc_ast::{Block, ClassDefinition, FunctionDefinition, Position, Stmt, StmtForm, Text};
-use pyc_bindings::{Binding, Redefinition, redefinitions, scope_bindings};
+use pyc_bindings::{Binding, redefinitions, scope_bindings};
 use pyc_class::{ClassId, UnknownOrder};
 use pyc_declarations::own_class;
 use pyc_iface::{Answer, Key, Notes};
 use pyc_names::{SourceFile, fixed_module};
+use pyc_obligations::Judge;
+use pyc_overrides::read_overrides;
 use pyc_report::{Code, Message};
 use pyc_signatures::read_function;
 use pyc_types::Ty;
 use std::alloc::{AllocError, Global};
 
-/// Reads the signature of a function or a method, or the bases of a class, its order and the names that its body
-/// defines again. The only error is that memory runs out.
+/// Reads the signature of a function or a method, or the bases of a class, its order, the names that its body defines
+/// again and those that its ancestors declare as well. The only error is that memory runs out.
 #[tactic(auto, unfolding(crate::specs::DefinitionReadings::definition_reading))]
-pub(crate) fn read_definition<N: Notes>(
+pub(crate) fn read_definition<N: Judge>(
     alloc: Global,
     notes: &mut N,
     file: &SourceFile,
@@ -45,7 +45,7 @@ pub(crate) fn read_definition<N: Notes>(
 }
 
 /// Reads a definition of this form.
-fn read_form<N: Notes>(
+fn read_form<N: Judge>(
     alloc: Global,
     notes: &mut N,
     file: &SourceFile,
@@ -90,9 +90,10 @@ fn read_plain_function<N: Notes>(
     read_function(alloc, notes, file, Ty::Any, head)
 }
 
-/// Reads the bases of a class, its order and the names that its body defines again.
+/// Reads the bases of a class, its order, the names that its body defines again and those that its ancestors declare as
+/// well.
 #[tactic(auto, using(crate::proofs::Steps::performing))]
-fn read_class_statement<N: Notes>(
+fn read_class_statement<N: Judge>(
     alloc: Global,
     notes: &mut N,
     file: &SourceFile,
@@ -104,9 +105,30 @@ fn read_class_statement<N: Notes>(
         (spec.class_statement_reading (source_in file.now) at (class_of head.now) (block_of body.now))
         (N.desk notes.old) result (N.desk notes.new) }
 {
-    read_class(alloc, notes, file, at, head)?;
+    let order = read_class(alloc, notes, file, at, head)?;
     read_class_body(alloc, notes, head.suspends, body)?;
+    read_heir(alloc, notes, file, &head.name, body, order)?;
     Ok(())
+}
+
+/// Reads what a class of this order, if it has one, declares as an ancestor does.
+fn read_heir<N: Judge>(
+    alloc: Global,
+    notes: &mut N,
+    file: &SourceFile,
+    name: &Text,
+    body: &Block,
+    order: Option<Vec<ClassId>>,
+) -> Result<(), AllocError>
+    ensures { Performs (λ u. u)
+        (spec.heir_reading (source_in file.now) name.now (block_of body.now) (option_map (λ v. v.items) order))
+        (N.desk notes.old) result (N.desk notes.new) }
+{
+    let Block::Of(statements) = body;
+    match order {
+        Some(classes) => read_overrides(alloc, notes, file, name, statements, &classes),
+        None => Ok(()),
+    }
 }
 
 /// Tells the names that the body of a class defines again: a body that suspends is skipped.
@@ -129,34 +151,6 @@ fn read_class_body<N: Notes>(
     Ok(())
 }
 
-/// Tells names that are defined again, in turn.
-fn tell_redefinitions<N: Notes>(
-    alloc: Global,
-    notes: &mut N,
-    again: &[Redefinition],
-) -> Result<(), AllocError>
-    ensures { Performs (λ u. u) (each redefinition_reading (map redefinition_of again.now)) (N.desk notes.old) result
-        (N.desk notes.new) }
-{
-    for found in again {
-        tell_redefinition(alloc, notes, found)?;
-    }
-    Ok(())
-}
-
-/// Tells a name that is defined again.
-fn tell_redefinition<N: Notes>(
-    alloc: Global,
-    notes: &mut N,
-    found: &Redefinition,
-) -> Result<(), AllocError>
-    ensures { Performs (λ u. u) (redefinition_reading (redefinition_of found.now)) (N.desk notes.old) result
-        (N.desk notes.new) }
-{
-    let text = redefinition_text(alloc, found.name.as_str(), found.line)?;
-    notes.tell(Message::error_at(found.at, Code::NoRedef, text))
-}
-
 /// Reads the bases of a class, and its order where the file declares it.
 #[tactic(auto, using(crate::proofs::Steps::performing))]
 fn read_class<N: Notes>(
@@ -165,15 +159,16 @@ fn read_class<N: Notes>(
     file: &SourceFile,
     at: Position,
     head: &ClassDefinition,
-) -> Result<(), AllocError>
-    ensures { Performs (λ u. u) (spec.class_reading (source_in file.now) at (class_of head.now))
+) -> Result<Option<Vec<ClassId>>, AllocError>
+    ensures { Performs (option_map (λ v. v.items)) (spec.class_reading (source_in file.now) at (class_of head.now))
         (N.desk notes.old) result (N.desk notes.new) }
 {
     let bases = read_bases(alloc, notes, file, &head.arguments)?;
     if declares(file, at, &head.name) {
-        read_declared(alloc, notes, file, at, &head.name, &bases)?;
+        read_declared(alloc, notes, file, at, &head.name, &bases)
+    } else {
+        Ok(None)
     }
-    Ok(())
 }
 
 /// Reads the orders of the bases of a class that a file declares, and its own.
@@ -185,16 +180,16 @@ fn read_declared<N: Notes>(
     at: Position,
     name: &Text,
     bases: &[Base],
-) -> Result<(), AllocError>
-    ensures { Performs (λ u. u)
+) -> Result<Option<Vec<ClassId>>, AllocError>
+    ensures { Performs (option_map (λ v. v.items))
         (spec.declared_reading (source_in file.now) at name.now (map base_of bases.now))
         (N.desk notes.old) result (N.desk notes.new) }
 {
     read_base_orders(alloc, notes, bases)?;
     let class = own_class(alloc, file, name)?;
     let answer = notes.ask(alloc, Key::Class(class))?;
-    tell_order(alloc, notes, at, name, answer)?;
-    Ok(())
+    let order = read_order(alloc, notes, at, name, answer)?;
+    Ok(order)
 }
 
 /// Reads the orders of bases, in turn.
@@ -240,20 +235,24 @@ fn read_class_order<N: Notes>(
     }
 }
 
-/// Tells why the order of a class is not known.
-fn tell_order<N: Notes>(
+/// The order that an answer gives; why it is not known is told.
+#[tactic(auto, using(crate::proofs::Steps::performing))]
+fn read_order<N: Notes>(
     alloc: Global,
     notes: &mut N,
     at: Position,
     name: &Text,
     answer: Answer,
-) -> Result<(), AllocError>
-    ensures { Performs (λ u. u) (spec.order_told at name.now (answer_in answer)) (N.desk notes.old) result
-        (N.desk notes.new) }
+) -> Result<Option<Vec<ClassId>>, AllocError>
+    ensures { Performs (option_map (λ v. v.items)) (spec.order_reading at name.now (answer_in answer))
+        (N.desk notes.old) result (N.desk notes.new) }
 {
     match answer {
-        Answer::Order(order) => tell_unknown(alloc, notes, at, name, order.unknown),
-        _ => Ok(()),
+        Answer::Order(order) => {
+            tell_unknown(alloc, notes, at, name, order.unknown)?;
+            Ok(Some(order.classes))
+        }
+        _ => Ok(None),
     }
 }
 

@@ -1,7 +1,7 @@
 //! Sources with the messages that are found in them.
 
 use crate::sources::file_of;
-use pyc_body::{Unit, file_units, found, unsilenced};
+use pyc_body::{Unit, check_unit, file_units, unsilenced};
 use pyc_iface::{Options, World};
 use pyc_names::SourceFile;
 use pyc_report::Message;
@@ -57,7 +57,8 @@ fn write_unit(setting: &Setting<'_>, unit: Unit<'_>, shown: &mut String) -> Resu
         world,
         file,
     } = *setting;
-    write_messages(&found(alloc, builtins, OPTIONS, world, file, unit)?, shown)
+    let checked = check_unit(alloc, builtins, OPTIONS, world, file, unit)?;
+    write_messages(checked.messages(), shown)
 }
 
 /// Writes what is found in these units of a file.

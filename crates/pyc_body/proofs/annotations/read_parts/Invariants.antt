@@ -1,4 +1,4 @@
-use Rattle.std.proofs.Common.{◌≡◌, map, drop}
+use Rattle.std.proofs.Common.{map, drop}
 use Rattle.pyc_bindings.specs.ScopeView.{part_of}
 use Rattle.pyc_body.specs.AnnotationReadings.{part_reading}
 use Rattle.pyc_names.specs.SourceFileView.{source_in}

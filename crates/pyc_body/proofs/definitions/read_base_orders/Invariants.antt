@@ -1,4 +1,4 @@
-use Rattle.std.proofs.Common.{◌≡◌, map, drop}
+use Rattle.std.proofs.Common.{map, drop}
 use Rattle.pyc_annotations.specs.Views.{base_of}
 use Rattle.pyc_body.specs.DefinitionReadings.{base_reading}
 use Rattle.pyc_reading.specs.Desks.{Going}

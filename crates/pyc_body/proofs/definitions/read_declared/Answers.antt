@@ -1,6 +1,6 @@
-use Rattle.std.proofs.Common.{◌≡◌, map, sym, ap, ◌∙◌}
+use Rattle.std.proofs.Common.{map, sym, ap, ◌∙◌}
 use Rattle.pyc_annotations.specs.Views.{base_of}
-use Rattle.pyc_body.specs.DefinitionReadings.{base_reading, order_told}
+use Rattle.pyc_body.specs.DefinitionReadings.{base_reading, order_reading}
 use Rattle.pyc_class.specs.Class.{Id, user}
 use Rattle.pyc_names.specs.SourceFileView.{source_in}
 use Rattle.pyc_reading.proofs.RunLemmas.{after, grown_trans}
@@ -19,7 +19,7 @@ returns g c =
     let asked = sym (ap (λ (found : Id). run (asking (class found)) middle) c.in_ok-class.ensures) ∙ c.in_ok-answer.ensures.done in
     record {
       done =
-          after (each base_reading (map base_of c.args.bases.now)) (λ u. and_then (asking key) (order_told c.args.at name)) start _ _ _ _ c.in_ok-read_base_orders.ensures.done
-          (after (asking key) (order_told c.args.at name) middle _ _ _ _ asked c.in_ok-tell_order.ensures.done);
-      grown = grown_trans c.read_base_orders.ensures.grown (grown_trans c.ask.ensures.grown c.tell_order.ensures.grown);
+          after (each base_reading (map base_of c.args.bases.now)) (λ u. and_then (asking key) (order_reading c.args.at name)) start _ _ _ _ c.in_ok-read_base_orders.ensures.done
+          (after (asking key) (order_reading c.args.at name) middle _ _ _ _ asked c.in_ok-order.ensures.done);
+      grown = grown_trans c.read_base_orders.ensures.grown (grown_trans c.ask.ensures.grown c.read_order.ensures.grown);
     }

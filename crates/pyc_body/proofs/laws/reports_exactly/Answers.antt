@@ -1,5 +1,5 @@
 use Rattle.pyc_types.proofs.Rules.{meets_the_rules}
-use Rattle.pyc_body.proofs.MessageLemmas.{reports_exactly}
+use Rattle.pyc_body.proofs.LiteralLemmas.{reports_exactly}
 use Rattle.pyc_body.proofs.laws.reports_exactly.Goals as goal
 
 pub returns : goal.returns

@@ -1,4 +1,4 @@
-use Rattle.std.proofs.Common.{map, sym}
+use Rattle.std.proofs.Common.{sym}
 use Rattle.pyc_bindings.specs.Scopes.{Part}
 use Rattle.pyc_bindings.specs.ScopeView.{part_of}
 use Rattle.pyc_body.specs.LiteralForms.{part_literal}

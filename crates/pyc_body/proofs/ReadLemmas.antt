@@ -1,0 +1,69 @@
+-- What was asked and told at a desk where nothing was before, and what depends on that.
+use Rattle.std.proofs.Common.{◌≡◌, Bool, true, false, ◌||◌, List, [], ◌∷◌, ◌++◌, if◌then◌else◌, refl, sym, ap, ◌∙◌}
+use Rattle.std.specs.List.{list_any}
+use Rattle.std.proofs.lemmas.Bool.{false≢true}
+use Rattle.pyc_body.specs.FoundMessages.{UnitsHaveTheirReads, unit_reading}
+use Rattle.pyc_examiner.specs.KeyEquality.{keys_are}
+use Rattle.pyc_iface.specs.Answers.{answer_of}
+use Rattle.pyc_reading.proofs.RunLemmas.{frame, runs_are_folds}
+use Rattle.pyc_reading.specs.Answers.{Answer}
+use Rattle.pyc_reading.specs.Desks.{Step, Desk, run, desk_after, with_key, with_keys}
+use Rattle.pyc_reading.specs.Frames.{Agree, nothing_asked, one_more}
+use Rattle.pyc_reading.specs.Keys.{Key, same_key}
+use Rattle.pyc_reading.specs.Readings.{asked, told}
+
+-- ---- a desk where nothing was before
+
+module _ (r : Step (Unit {0})) (desk after : Desk) (answers : Key → Answer) (u : Unit {0}) (new : desk ≡ record { answers = answers; keys = []; messages = [] })
+    (done : run r desk ≡ (u, after)) where
+  is_after : after ≡ desk_after r (record { answers = answers; keys = []; messages = [] })
+  is_after =
+      sym (ap (λ (found : Unit {0} × Desk). found.1) done) ∙ ap (λ (found : Unit {0} × Desk). found.1) (runs_are_folds r desk)
+      ∙ ap (desk_after r) new
+
+  pub told_there : after.messages ≡ told answers r
+  told_there = ap (λ (d : Desk). d.messages) is_after
+
+  pub read_there : after.keys ≡ with_keys [] (asked answers r)
+  read_there = ap (λ (d : Desk). d.keys) is_after
+
+-- ---- keys, each once
+
+module _ (answers others : Key → Answer) where
+  -- a key that is the first of some, or one of those after it
+  agree_at : (b : Bool) (first : Key) (keys : List Key) (key : Key) → same_key first key ≡ b → answers first ≡ others first
+      → (list_any (λ other. same_key other key) keys ≡ true → answers key ≡ others key)
+      → b || list_any (λ other. same_key other key) keys ≡ true → answers key ≡ others key
+  agree_at true first keys key is same later among = ap answers (sym (keys_are first key is)) ∙ same ∙ ap others (keys_are first key is)
+  agree_at false first keys key is same later among = later among
+
+  -- a key that is one of those of which both give the same answer
+  agree_on : (keys : List Key) (key : Key) → Agree answers others keys → list_any (λ other. same_key other key) keys ≡ true → answers key ≡ others key
+  agree_on [] key agree among = absurd (false≢true among)
+  agree_on (first ∷ keys) key (one_more same agree) among = agree_at (same_key first key) first keys key refl same (agree_on keys key agree) among
+
+  -- of some keys and one more
+  agree_before : (keys : List Key) (key : Key) → Agree answers others (keys ++ (key ∷ [])) → Agree answers others keys × (answers key ≡ others key)
+  agree_before [] key (one_more same agree) = (nothing_asked, same)
+  agree_before (first ∷ keys) key (one_more same agree) =
+      let before = agree_before keys key agree in (one_more same before.0, before.1)
+
+  agree_with : (b : Bool) (keys : List Key) (key : Key) → list_any (λ other. same_key other key) keys ≡ b
+      → Agree answers others (if b then keys else keys ++ (key ∷ [])) → Agree answers others keys × (answers key ≡ others key)
+  agree_with true keys key among agree = (agree, agree_on keys key agree among)
+  agree_with false keys key among agree = agree_before keys key agree
+
+  -- of keys that are kept once
+  agree_on_all : (keys more : List Key) → Agree answers others (with_keys keys more) → Agree answers others keys × Agree answers others more
+  agree_on_all keys [] agree = (agree, nothing_asked)
+  agree_on_all keys (key ∷ more) agree =
+      let later = agree_on_all (with_key keys key) more agree in
+      let found = agree_with (list_any (λ other. same_key other key) keys) keys key refl later.0 in
+      (found.0, one_more found.1 later.1)
+
+-- what is found in a unit, and its reads, depend on the answers to its reads alone
+pub units_have_their_reads : UnitsHaveTheirReads
+units_have_their_reads options files others file unit agree =
+    let r = unit_reading options file unit in
+    let same = frame (answer_of files) (answer_of others) r (agree_on_all (answer_of files) (answer_of others) [] (asked (answer_of files) r) agree).1 in
+    (same.1, ap (with_keys []) same.0)

@@ -1,7 +1,0 @@
-use Rattle.std.proofs.Common.{◌≡◌, string_bytes}
-use Rattle.pyc_body.specs.Header.{dots}
-use Rattle.pyc_body.proofs.import_texts.dots_text.Given as goal
-
--- as many dots as turns
-abbrev pub invariant-loop-dot : goal.invariant-loop-dot
-invariant-loop-dot l = string_bytes l.text ≡ dots l.dot
