@@ -1,9 +1,11 @@
 #!/usr/bin/env bash
-# The gate: proves, builds and tests every crate by `rt ci`, tries the must-fail edits, looks at the layout and at the names in
-# the documents, then runs the built program by the other scripts.
+# The gate: runs the tests, proves and builds every crate by `rt ci`, tries the must-fail edits, looks at the layout and at the
+# names in the documents, then runs the built program by the other scripts.
 # The crates are proved and built in a copy without the edits: `rt ci` would try these one by one, each with a load of its
 # crate, after it had proved each crate a second time; scripts/gate/edits.py tries several in one check, each crate's once
 # `rt ci` has proved it, on the processors that the proofs leave free.
+# The crates of tests are left out of that copy: `rt ci` would prove that each step of a test is safe, a fifth of its work, which
+# says nothing of what is tested. scripts/gate/tests.py runs them. (`rt ci` at the top of the repository proves them too.)
 # Its last line is `gate: N passed, M failed`, the sum of all, and its status is 1 if anything failed.
 set -u
 cd "$(dirname "${BASH_SOURCE[0]}")/.." || exit 1
@@ -11,7 +13,9 @@ cd "$(dirname "${BASH_SOURCE[0]}")/.." || exit 1
 log=$(mktemp) proofs=$(mktemp) tried=$(mktemp) || exit 1
 tree=$(mktemp -d) && chmod 755 "$tree" || exit 1
 trap 'rm -rf "$log" "$proofs" "$tried" "$tree"' EXIT
-tar -c --exclude=./.git --exclude='./crates/*/out' --exclude='./crates/*/must-fail' . | tar -x -C "$tree" || exit 1
+left_out=(--no-wildcards-match-slash --exclude=./.git --exclude='./crates/*/out' --exclude='./crates/*/must-fail' --exclude='./crates/*tests')
+tar -c "${left_out[@]}" . | tar -x -C "$tree" || exit 1
+sed -i '/^[a-z_]*tests:/d' "$tree/crates.txt" || exit 1
 passed=0
 failed=0
 
@@ -52,6 +56,7 @@ judge() {
 export RT_JOBS="${RT_JOBS:-4}"
 run python3 scripts/gate/check_layout.py
 run python3 scripts/gate/check_names.py
+run python3 scripts/gate/tests.py
 nice -n 19 python3 scripts/gate/edits.py --libraries "$tree/crates" --once --follow "$proofs" > "$tried" 2>&1 &
 edits=$!
 env -C "$tree" rt ci 2>&1 | tee "$proofs"
