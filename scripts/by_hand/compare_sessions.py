@@ -16,8 +16,9 @@ is run at. PROGRAM is `dmypy`, built; without it, `rt try` builds and runs it, w
   checked once.
 
 At its stage 6 the reference leaves out what it is to tell later and the program tells already: names that nothing
-defines in signatures, in bases and in annotations inside blocks, names that the body of a class defines again, and
-statements of the top level that hold `yield` or `await`. It is led to tell these too.
+defines in signatures, in bases and in annotations inside blocks, names that the body of a class defines again, those that
+its ancestors declare with types to which its own do not go, and statements of the top level that hold `yield` or `await`.
+It is led to tell these too.
 
 A session passes where all that is printed and the status are the same. Decorators in parentheses are not among the
 random lines: the reference reads them in another way. With `--keep` the sessions stay in that folder: `NAME` what is
@@ -398,8 +399,12 @@ def lead_on(stages, body):
 
     def whole_head(self, unit):
         head(self, unit)
+        info, own = unit.cls, (self.own, unit.cls.name)
         if not suspends(unit.node.body):
-            self.check_redefinitions(unit.cls.bindings, unit.cls.decl)
+            self.check_redefinitions(info.bindings, info.decl)
+        if info.declares:
+            self.state = {}
+            self.overrides(info, own, self.class_answer(own)[0])
 
     def whole_top_level(self, stage):
         body.suspends = lambda statement: False
