@@ -10,6 +10,8 @@ mod literal_forms;
 #[cfg(test)]
 mod names;
 #[cfg(test)]
+mod reads;
+#[cfg(test)]
 mod redefinitions;
 #[cfg(test)]
 mod report;
