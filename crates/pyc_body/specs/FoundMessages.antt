@@ -1,8 +1,8 @@
 -- What is found in the units of a file: in its header, what is told of imports and definitions; in the body of its
--- module, what is told of annotations and annotated literals in its blocks, and of the expressions and assignments outside
--- blocks; in a function or method what is told of its signature, in a class what is told of its bases, its order, the names
--- that its body defines again and those that its ancestors declare as well. Each unit is one reading, and its reads are the
--- keys that this asks.
+-- module, what is told of annotations and annotated literals in its blocks, and of the expressions and assignments
+-- outside blocks; in a function or method what is told of its signature, in a class what is told of its bases, its
+-- order, the names that its body defines again and those that its ancestors declare as well. Each unit is one reading,
+-- and its reads are the keys that this asks.
 use Rattle.std.specs.Prelude.{◌≡◌, List, [], ◌∷◌, flat_map}
 use Rattle.pyc_ast.specs.Modules.{Outcome, tree, fault}
 use Rattle.pyc_ast.specs.Statements.{Stmts}

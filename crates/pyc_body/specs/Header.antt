@@ -56,7 +56,8 @@ cycle_told at name _ = Done tt
 abbrev pub cycle_reading : SourceFile → Binding → Step (Unit {0})
 cycle_reading file b =
     if is_some (fixed_module file.name) then Done tt
-    else and_then (asked_presence (has_name (record { home = file.name; name = b.name }))) (cycle_told b.place.at b.name)
+    else and_then (asked_presence (has_name (record { home = file.name; name = b.name })))
+    (cycle_told b.place.at b.name)
 
 -- a binding after earlier ones: a from-import that declares its name
 abbrev pub binding_reading : SourceFile → List Binding → Binding → Step (Unit {0})

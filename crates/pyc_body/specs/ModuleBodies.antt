@@ -1,6 +1,6 @@
 -- What is told of the body of a module, as a reading: of the annotations in its blocks, and of each annotated literal
--- there that is not assignable to its annotation; and of the expressions and assignments outside blocks (Python reference
--- 3.13, "Annotated assignment statements", "Compound statements").
+-- there that is not assignable to its annotation; and of the expressions and assignments outside blocks (Python
+-- reference 3.13, "Annotated assignment statements", "Compound statements").
 use Rattle.std.specs.Prelude.{ℕ, Bool, true, false, List, ◌++◌, if◌then◌else◌, codes}
 use Rattle.pyc_ast.specs.Modules.{Outcome, tree, fault}
 use Rattle.pyc_ast.specs.Statements.{Stmt, StmtForm, Stmts, no_stmt, another_stmt}

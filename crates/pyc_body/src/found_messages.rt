@@ -63,12 +63,12 @@ fn found_in_units(
     Ok(messages)
 }
 
-/// Examines a unit of a file of a world. Its messages are: of its header, what is told of imports and definitions, or its
-/// fault; of the body of its module, what is told of the annotations and the annotated literals in its blocks, and of the
-/// expressions and assignments outside blocks; of a function or a method, what is told of its signature; of a class, what
-/// is told of its bases, its order, the names that its body defines again and those that its ancestors declare as well.
-/// Its reads are the keys that were asked for that, each once and in the order in which they were first asked. The only
-/// error is that memory runs out.
+/// Examines a unit of a file of a world. Its messages are: of its header, what is told of imports and definitions, or
+/// its fault; of the body of its module, what is told of the annotations and the annotated literals in its blocks, and
+/// of the expressions and assignments outside blocks; of a function or a method, what is told of its signature; of a
+/// class, what is told of its bases, its order, the names that its body defines again and those that its ancestors
+/// declare as well. Its reads are the keys that were asked for that, each once and in the order in which they were
+/// first asked. The only error is that memory runs out.
 pub fn check_unit(
     alloc: Global,
     builtins: &Builtins,

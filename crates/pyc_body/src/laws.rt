@@ -8,8 +8,8 @@ pub fn reports_exactly()
     ensures { ReportsExactly }
 {}
 
-/// What is found in a unit depends on its file, the options and the answers to its reads, and on nothing else: where the
-/// files of another world give the same answers to them, the same is found, and the same is read.
+/// What is found in a unit depends on its file, the options and the answers to its reads, and on nothing else: where
+/// the files of another world give the same answers to them, the same is found, and the same is read.
 pub fn units_have_their_reads()
     ensures { UnitsHaveTheirReads }
 {}

@@ -22,8 +22,8 @@ use pyc_types::{Builtins, Ty, assignable, show};
 use std::alloc::{AllocError, Global};
 use std::slice;
 
-/// Reads the body of a module: first what stands in its blocks, then the expressions and assignments outside blocks. The
-/// only error is that memory runs out.
+/// Reads the body of a module: first what stands in its blocks, then the expressions and assignments outside blocks.
+/// The only error is that memory runs out.
 pub(crate) fn read_module_body<N: Judge>(
     alloc: Global,
     notes: &mut N,

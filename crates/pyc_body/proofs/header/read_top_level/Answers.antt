@@ -21,8 +21,8 @@ returns g c =
     let again = each redefinition_reading file.again in
     let start = g.N.Notes.desk c.args.notes.now in
     let first = ap (λ (ps : List Part). run (each read ps) start)
-        (sym (ap (map part_of) c.deref-2.ensures.value ∙ c.in_ok-parts.ensures ∙ ap (λ (l : List StmtOf). parts_of (stmts (map stmt_of l)) false) c.deref.ensures.value))
-        ∙ c.in_ok-read_parts.ensures.done in
+    (sym (ap (map part_of) c.deref-2.ensures.value ∙ c.in_ok-parts.ensures ∙ ap (λ (l : List StmtOf). parts_of (stmts (map stmt_of l)) false) c.deref.ensures.value))
+    ∙ c.in_ok-read_parts.ensures.done in
     let third = ap (λ (rs : List Redefinition). run (each redefinition_reading rs) (g.N.Notes.desk c.read_cycles.new.notes)) (sym c.redefinitions.ensures) ∙ c.in_ok-tell_redefinitions.ensures.done in
     record {
       done =
