@@ -4,7 +4,7 @@
 # The crates are proved and built in a copy without the edits: `rt ci` would try these one by one, each with a load of its
 # crate, after it had proved each crate a second time; scripts/gate/edits.py tries several in one check, each crate's once
 # `rt ci` has proved it, on the processors that the proofs leave free.
-# The crates of tests are left out of that copy: `rt ci` would prove that each step of a test is safe, a fifth of its work, which
+# The crates of tests are left out of that copy: `rt ci` would prove that each step of a test is safe, a quarter of its work, which
 # says nothing of what is tested. scripts/gate/tests.py runs them. (`rt ci` at the top of the repository takes them in.)
 # Its last line is `gate: N passed, M failed`, the sum of all, and its status is 1 if anything failed.
 set -u

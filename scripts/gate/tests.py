@@ -4,7 +4,7 @@
     scripts/gate/tests.py [CRATE..]
 
 What a test compares is settled by running it. `rt ci` would first prove that each of its steps is safe, which says nothing of
-the crates that it tests and took a fifth of the gate's time.
+the crates that it tests and took a sixth of the gate's time.
 
 `RT_JOBS` says how many crates run side by side, 4 where it is not set. The last line is `tests: P passed, F failed`, over the
 tests; a crate whose run has another end than passed tests counts as one that failed.
