@@ -49,7 +49,7 @@ fn asked_meaning<N: Notes>(
         name: name.clone()?,
     });
     let answer = notes.ask(alloc, key)?;
-    Ok(answer_meaning(answer))
+    answer_meaning(answer)
 }
 
 /// What a name of the own module means, by whether that binds it.
@@ -232,7 +232,7 @@ fn attribute_of_kind<N: Notes>(
 {
     match &found.kind {
         NameKind::NoName => no_attribute(alloc, notes, at, name),
-        _ => Ok(kind_meaning(found.kind, found.ty)),
+        _ => kind_meaning(found.kind, &found.ty),
     }
 }
 

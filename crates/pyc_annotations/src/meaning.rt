@@ -1,6 +1,6 @@
 //! What names mean where types and bases are written.
 
-ghost use Rattle.std.specs.Prelude.{◌≡◌};
+ghost use Rattle.std.specs.Prelude.{◌≡◌, IfOk};
 ghost use Rattle.pyc_annotations.specs.Annotations as rule;
 ghost use Rattle.pyc_annotations.specs.Meanings as spec;
 ghost use Rattle.pyc_annotations.specs.Views.{meaning_of};
@@ -12,6 +12,7 @@ use pyc_class::ClassId;
 use pyc_names::{FixedName, ModuleName};
 use pyc_reading::{Answer, NameKind};
 use pyc_type_forms::Ty;
+use std::alloc::AllocError;
 
 /// What a name means where a type is written.
 #[derive(Drop)]
@@ -63,12 +64,12 @@ fn is_any(ty: &Ty) -> bool
 }
 
 /// The class whose class object a type is.
-fn class_in(ty: Ty) -> Meaning
-    ensures { meaning_of result ≡ spec.class_in (ty_of ty) }
+fn class_in(ty: &Ty) -> Result<Meaning, AllocError>
+    ensures { IfOk result (λ meant. meaning_of meant ≡ spec.class_in (ty_of ty.now)) }
 {
     match ty {
-        Ty::Class(class) => Meaning::Class(class),
-        _ => Meaning::Any,
+        Ty::Class(class) => Ok(Meaning::Class(class.clone()?)),
+        _ => Ok(Meaning::Any),
     }
 }
 
@@ -84,27 +85,27 @@ fn unannotated(is_any: bool) -> Meaning
 }
 
 /// What a thing of this kind and type means.
-pub(crate) fn kind_meaning(kind: NameKind, ty: Ty) -> Meaning
-    ensures { meaning_of result ≡ spec.kind_meaning (kind_of kind) (ty_of ty) }
+pub(crate) fn kind_meaning(kind: NameKind, ty: &Ty) -> Result<Meaning, AllocError>
+    ensures { IfOk result (λ meant. meaning_of meant ≡ spec.kind_meaning (kind_of kind) (ty_of ty.now)) }
 {
-    match kind {
-        NameKind::AnnotatedVariable => Meaning::Variable(is_any(&ty)),
-        NameKind::Variable => unannotated(is_any(&ty)),
-        NameKind::Function => Meaning::Function(is_any(&ty)),
-        NameKind::Class => class_in(ty),
+    Ok(match kind {
+        NameKind::AnnotatedVariable => Meaning::Variable(is_any(ty)),
+        NameKind::Variable => unannotated(is_any(ty)),
+        NameKind::Function => Meaning::Function(is_any(ty)),
+        NameKind::Class => class_in(ty)?,
         NameKind::Module(home) => Meaning::Module(home),
         NameKind::Fixed(name) => Meaning::Fixed(name),
         _ => Meaning::Any,
-    }
+    })
 }
 
 /// What the answer to a key of a name means.
-pub(crate) fn answer_meaning(answer: Answer) -> Meaning
-    ensures { meaning_of result ≡ spec.answer_meaning (answer_in answer) }
+pub(crate) fn answer_meaning(answer: Answer) -> Result<Meaning, AllocError>
+    ensures { IfOk result (λ meant. meaning_of meant ≡ spec.answer_meaning (answer_in answer)) }
 {
     match answer {
-        Answer::Name(found) => kind_meaning(found.kind, found.ty),
-        Answer::Presence(_) | Answer::Order(_) | Answer::Member(_) => Meaning::Any,
+        Answer::Name(found) => kind_meaning(found.kind, &found.ty),
+        Answer::Presence(_) | Answer::Order(_) | Answer::Member(_) => Ok(Meaning::Any),
     }
 }
 

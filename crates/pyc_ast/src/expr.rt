@@ -7,16 +7,27 @@ use crate::text::Text;
 
 /// An expression: where it begins, its parentheses included, where it begins within them, and what it is.
 #[cycle(expr)]
-#[derive(Drop)]
 pub struct Expr {
     pub at: Position,
     pub inside: Position,
     pub form: Form,
 }
 
+/// Written out: the crates above call it, where what `derive` writes would be made and proved in each of them.
+impl Drop for Expr {
+    #[cycle(expr)]
+    fn drop(self) {
+        let Expr {
+            at: _,
+            inside: _,
+            form,
+        } = self;
+        drop(form);
+    }
+}
+
 /// What an expression is.
 #[cycle(expr)]
-#[derive(Drop)]
 pub enum Form {
     Name(Text),
     Constant(Constant),
@@ -67,6 +78,66 @@ pub enum Form {
     Await(Box<Expr>),
     Yield(OptionalExpr),
     YieldFrom(Box<Expr>),
+}
+
+/// Written out: the crates above call it, where what `derive` writes would be made and proved in each of them.
+impl Drop for Form {
+    #[cycle(expr)]
+    fn drop(self) {
+        match self {
+            Form::Name(part) => drop(part),
+            Form::Quoted(part) => drop(part),
+            Form::Tuple(part) => drop(part),
+            Form::List(part) => drop(part),
+            Form::Set(part) => drop(part),
+            Form::Dict(part) => drop(part),
+            Form::Attribute { value, name } => {
+                drop(value);
+                drop(name);
+            }
+            Form::Call { callee, arguments } => {
+                drop(callee);
+                drop(arguments);
+            }
+            Form::Subscript { value, index } => {
+                drop(value);
+                drop(index);
+            }
+            Form::Unary {
+                operator: _,
+                operand,
+            } => drop(operand),
+            Form::Binary {
+                operator: _,
+                left,
+                right,
+            } => {
+                drop(left);
+                drop(right);
+            }
+            Form::Boolean {
+                operator: _,
+                left,
+                right,
+            } => {
+                drop(left);
+                drop(right);
+            }
+            Form::Compare { left, rest } => {
+                drop(left);
+                drop(rest);
+            }
+            Form::Conditional { test, body, orelse } => {
+                drop(test);
+                drop(body);
+                drop(orelse);
+            }
+            Form::Await(part) => drop(part),
+            Form::Yield(part) => drop(part),
+            Form::YieldFrom(part) => drop(part),
+            Form::Constant(_) | Form::Opaque(_) => {}
+        }
+    }
 }
 
 /// An expression, or none.

@@ -5,12 +5,25 @@ use crate::text::Text;
 
 /// A module: its statements, whether a `yield` or `await` stands in them outside functions, classes and lambdas, its
 /// ignore comments, and whether one of them silences the whole file.
-#[derive(Drop)]
 pub struct Module {
     pub statements: Vec<Stmt>,
     pub suspends: bool,
     pub ignores: Vec<Ignore>,
     pub whole_file: bool,
+}
+
+/// Written out: the crates above call it, where what `derive` writes would be made and proved in each of them.
+impl Drop for Module {
+    fn drop(self) {
+        let Module {
+            statements,
+            suspends: _,
+            ignores,
+            whole_file: _,
+        } = self;
+        drop(statements);
+        drop(ignores);
+    }
 }
 
 /// An ignore comment with its physical line, counted from 1.

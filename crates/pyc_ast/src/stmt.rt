@@ -10,15 +10,22 @@ use std::rc::Rc;
 
 /// A statement and where it begins; a function or class under decorators begins at its own first word.
 #[cycle(stmt)]
-#[derive(Drop)]
 pub struct Stmt {
     pub at: Position,
     pub form: StmtForm,
 }
 
+/// Written out: the crates above call it, where what `derive` writes would be made and proved in each of them.
+impl Drop for Stmt {
+    #[cycle(stmt)]
+    fn drop(self) {
+        let Stmt { at: _, form } = self;
+        drop(form);
+    }
+}
+
 /// What a statement is. Whatever a binding speaks of is shared, so that it may be kept apart from its tree.
 #[cycle(stmt)]
-#[derive(Drop)]
 pub enum StmtForm {
     Expression(Expr),
     /// The targets from left to right, and the value.
@@ -82,11 +89,92 @@ pub enum StmtForm {
     },
 }
 
+/// Written out: the crates above call it, where what `derive` writes would be made and proved in each of them.
+impl Drop for StmtForm {
+    #[cycle(stmt)]
+    fn drop(self) {
+        match self {
+            StmtForm::Expression(part) => drop(part),
+            StmtForm::Assign { targets, value } => {
+                drop(targets);
+                drop(value);
+            }
+            StmtForm::Annotate(part) => drop(part),
+            StmtForm::Augment(part) => drop(part),
+            StmtForm::Return(part) => drop(part),
+            StmtForm::Raise { exception, cause } => {
+                drop(exception);
+                drop(cause);
+            }
+            StmtForm::Assert { test, message } => {
+                drop(test);
+                drop(message);
+            }
+            StmtForm::Delete(part) => drop(part),
+            StmtForm::Global(part) => drop(part),
+            StmtForm::Nonlocal(part) => drop(part),
+            StmtForm::Import(part) => drop(part),
+            StmtForm::ImportFrom(part) => drop(part),
+            StmtForm::If { branches, orelse } => {
+                drop(branches);
+                drop(orelse);
+            }
+            StmtForm::While { test, body, orelse } => {
+                drop(test);
+                drop(body);
+                drop(orelse);
+            }
+            StmtForm::For { head, body, orelse } => {
+                drop(head);
+                drop(body);
+                drop(orelse);
+            }
+            StmtForm::Try {
+                body,
+                handlers,
+                orelse,
+                finally,
+            } => {
+                drop(body);
+                drop(handlers);
+                drop(orelse);
+                drop(finally);
+            }
+            StmtForm::With {
+                is_async: _,
+                items,
+                body,
+            } => {
+                drop(items);
+                drop(body);
+            }
+            StmtForm::Function { head, body } => {
+                drop(head);
+                drop(body);
+            }
+            StmtForm::Class { head, body } => {
+                drop(head);
+                drop(body);
+            }
+            StmtForm::Pass | StmtForm::Break | StmtForm::Continue => {}
+        }
+    }
+}
+
 /// Statements one after another.
 #[cycle(stmt)]
-#[derive(Drop)]
 pub enum Block {
     Of(Vec<Stmt>),
+}
+
+/// Written out: the crates above call it, where what `derive` writes would be made and proved in each of them.
+impl Drop for Block {
+    #[cycle(stmt)]
+    fn drop(self) {
+        match self {
+            Block::Of(part) => drop(part),
+        }
+    }
 }
 
 /// `if` or `elif`, its test and its block.
@@ -109,11 +197,24 @@ pub struct Handler {
 }
 
 /// `target: annotation`, perhaps with `= value`.
-#[derive(Drop)]
 pub struct AnnotatedAssignment {
     pub target: Target,
     pub annotation: Expr,
     pub value: Option<Expr>,
+}
+
+/// Written out: the crates above call it, where what `derive` writes would be made and proved in each of them.
+impl Drop for AnnotatedAssignment {
+    fn drop(self) {
+        let AnnotatedAssignment {
+            target,
+            annotation,
+            value,
+        } = self;
+        drop(target);
+        drop(annotation);
+        drop(value);
+    }
 }
 
 /// `target += value` and its like.
@@ -125,10 +226,19 @@ pub struct AugmentedAssignment {
 }
 
 /// A module that is imported: the parts of its name, and the name that is bound in place of the first.
-#[derive(Debug, Drop)]
+#[derive(Debug)]
 pub struct ImportedModule {
     pub path: Vec<Text>,
     pub alias: Option<Text>,
+}
+
+/// Written out: the crates above call it, where what `derive` writes would be made and proved in each of them.
+impl Drop for ImportedModule {
+    fn drop(self) {
+        let ImportedModule { path, alias } = self;
+        drop(path);
+        drop(alias);
+    }
 }
 
 /// A name that is imported, and the name that is bound in its place.
@@ -139,11 +249,24 @@ pub struct Alias {
 }
 
 /// Names imported from a module: how many dots stand before its name, the parts of its name, and what is imported.
-#[derive(Debug, Drop)]
+#[derive(Debug)]
 pub struct ImportFrom {
     pub dots: usize,
     pub path: Vec<Text>,
     pub names: Vec<Alias>,
+}
+
+/// Written out: the crates above call it, where what `derive` writes would be made and proved in each of them.
+impl Drop for ImportFrom {
+    fn drop(self) {
+        let ImportFrom {
+            dots: _,
+            path,
+            names,
+        } = self;
+        drop(path);
+        drop(names);
+    }
 }
 
 /// The head of a `for`: what is assigned at each turn, and what is iterated.
@@ -163,7 +286,6 @@ pub struct WithItem {
 
 /// The head of a function. It suspends if a `yield` or `await` stands in its body, outside nested functions, classes
 /// and lambdas.
-#[derive(Drop)]
 pub struct FunctionDefinition {
     pub decorators: Vec<Expr>,
     pub is_async: bool,
@@ -173,11 +295,43 @@ pub struct FunctionDefinition {
     pub suspends: bool,
 }
 
+/// Written out: the crates above call it, where what `derive` writes would be made and proved in each of them.
+impl Drop for FunctionDefinition {
+    fn drop(self) {
+        let FunctionDefinition {
+            decorators,
+            is_async: _,
+            name,
+            parameters,
+            returns,
+            suspends: _,
+        } = self;
+        drop(decorators);
+        drop(name);
+        drop(parameters);
+        drop(returns);
+    }
+}
+
 /// The head of a class: its bases and keywords as they are written. It suspends as a function does.
-#[derive(Drop)]
 pub struct ClassDefinition {
     pub decorators: Vec<Expr>,
     pub name: Text,
     pub arguments: Vec<Argument>,
     pub suspends: bool,
+}
+
+/// Written out: the crates above call it, where what `derive` writes would be made and proved in each of them.
+impl Drop for ClassDefinition {
+    fn drop(self) {
+        let ClassDefinition {
+            decorators,
+            name,
+            arguments,
+            suspends: _,
+        } = self;
+        drop(decorators);
+        drop(name);
+        drop(arguments);
+    }
 }

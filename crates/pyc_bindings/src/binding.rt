@@ -8,15 +8,26 @@ use pyc_ast::{
 use std::rc::Rc;
 
 /// A binding: its name, where it stands, and what it binds the name to. Its parts of the tree are shared with it.
-#[derive(Drop)]
 pub struct Binding {
     pub name: Text,
     pub place: Place,
     pub form: BindingForm,
 }
 
+/// Written out: the crates above call it, where what `derive` writes would be made and proved in each of them.
+impl Drop for Binding {
+    fn drop(self) {
+        let Binding {
+            name,
+            place: _,
+            form,
+        } = self;
+        drop(name);
+        drop(form);
+    }
+}
+
 /// What a binding binds its name to.
-#[derive(Drop)]
 pub enum BindingForm {
     /// `import a.b as c`: the module.
     Import(Rc<ImportedModule>),
@@ -31,4 +42,23 @@ pub enum BindingForm {
     Assigned(Rc<Expr>),
     /// An item of a value, or any other thing.
     Other,
+}
+
+/// Written out: the crates above call it, where what `derive` writes would be made and proved in each of them.
+impl Drop for BindingForm {
+    fn drop(self) {
+        match self {
+            BindingForm::Import(part) => drop(part),
+            BindingForm::ImportFirst(part) => drop(part),
+            BindingForm::ImportFrom(part0, part1) => {
+                drop(part0);
+                drop(part1);
+            }
+            BindingForm::Function(part) => drop(part),
+            BindingForm::Class(part) => drop(part),
+            BindingForm::Annotated(part) => drop(part),
+            BindingForm::Assigned(part) => drop(part),
+            BindingForm::Other => {}
+        }
+    }
 }

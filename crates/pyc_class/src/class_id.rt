@@ -13,9 +13,17 @@ use std::rc::Rc;
 
 /// A class: a builtin one, or one of a source. To make, copy or compare a builtin class takes no memory. Contracts see
 /// where a class is defined and its name there.
-#[derive(Debug, Drop)]
+#[derive(Debug)]
 pub struct ClassId {
     named: Named,
+}
+
+/// Written out: the crates above call it, where what `derive` writes would be made and proved in each of them.
+impl Drop for ClassId {
+    fn drop(self) {
+        let ClassId { named } = self;
+        drop(named);
+    }
 }
 
 /// How a class is named.

@@ -34,14 +34,11 @@ pub fn begun(at: Position, form: Form) -> Expr
 }
 
 /// An expression in parentheses.
-pub fn enclosed(at: Position, expr: Expr) -> Expr
+pub fn enclosed(at: Position, mut expr: Expr) -> Expr
     ensures { expr_of result ≡ spec.enclosed at (expr_of expr) }
 {
-    Expr {
-        at,
-        inside: expr.inside,
-        form: expr.form,
-    }
+    expr.at = at;
+    expr
 }
 
 /// What stands where no well-formed tree has an expression.

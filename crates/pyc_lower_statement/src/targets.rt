@@ -28,14 +28,11 @@ fn begun(at: Position, form: TargetForm) -> Target
 }
 
 /// A target in parentheses.
-fn enclosed(at: Position, target: Target) -> Target
+fn enclosed(at: Position, mut target: Target) -> Target
     ensures { target_of result ≡ spec.enclosed at (target_of target) }
 {
-    Target {
-        at,
-        inside: target.inside,
-        form: target.form,
-    }
+    target.at = at;
+    target
 }
 
 /// What stands where no well-formed tree has a target.

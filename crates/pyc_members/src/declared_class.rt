@@ -19,12 +19,26 @@ use std::rc::Rc;
 type FirstPlaces = HashMap<Text, Position>;
 
 /// A class that is the declaration of its name: the name, where the statement begins, its head, and what it binds.
-#[derive(Drop)]
 pub struct DeclaredClass {
     pub name: Text,
     pub at: Position,
     pub head: Rc<ClassDefinition>,
     pub body: ClassBody,
+}
+
+/// Written out: the crates above call it, where what `derive` writes would be made and proved in each of them.
+impl Drop for DeclaredClass {
+    fn drop(self) {
+        let DeclaredClass {
+            name,
+            at: _,
+            head,
+            body,
+        } = self;
+        drop(name);
+        drop(head);
+        drop(body);
+    }
 }
 
 /// The classes among these statements that are the declarations of their names among these bindings, in text order,

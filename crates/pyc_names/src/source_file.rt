@@ -25,7 +25,6 @@ use std::rc::Rc;
 
 /// A file as names see it: its path, the module that it is, what its source is, the bindings of its top level, the
 /// names that they define again and the classes that it declares, which are made once, with the file.
-#[derive(Drop)]
 pub struct SourceFile {
     path: String,
     name: ModuleName,
@@ -38,6 +37,29 @@ pub struct SourceFile {
     classes: Vec<Rc<DeclaredClass>>,
     ghost places_are: { (n : List ℕ) → get_by (bytes_eq n) places
         ≡ declaration_place (map binding_of bindings.items) n },
+}
+
+/// Written out: the crates above call it, where what `derive` writes would be made and proved in each of them.
+impl Drop for SourceFile {
+    fn drop(self) {
+        let SourceFile {
+            path,
+            name,
+            is_package: _,
+            outcome,
+            bindings,
+            places,
+            again,
+            classes,
+        } = self;
+        drop(path);
+        drop(name);
+        drop(outcome);
+        drop(bindings);
+        drop(places);
+        drop(again);
+        drop(classes);
+    }
 }
 
 impl SourceFile {

@@ -21,12 +21,22 @@ pub struct Narrowing {
 }
 
 /// What is known at a point of a body.
-#[derive(Debug, Drop)]
+#[derive(Debug)]
 pub enum State {
     /// No run comes here.
     Unreachable,
     /// These places are narrowed, each once. They are shared, so that a copy costs a reference count for each.
     Reachable(Vec<Rc<Narrowing>>),
+}
+
+/// Written out: the crates above call it, where what `derive` writes would be made and proved in each of them.
+impl Drop for State {
+    fn drop(self) {
+        match self {
+            State::Reachable(part) => drop(part),
+            State::Unreachable => {}
+        }
+    }
 }
 
 impl Clone for State {

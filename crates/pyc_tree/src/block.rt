@@ -22,7 +22,6 @@ pub struct Decorator {
 
 /// A statement of a block.
 #[cycle(block)]
-#[derive(Drop)]
 pub enum Stmt {
     /// Simple statements on one line.
     Simple(Separated<SimpleStatement>),
@@ -30,23 +29,61 @@ pub enum Stmt {
     Compound(Vec<Decorator>, Box<CompoundClause>, Vec<CompoundClause>),
 }
 
+/// Written out: the crates above call it, where what `derive` writes would be made and proved in each of them.
+impl Drop for Stmt {
+    #[cycle(block)]
+    fn drop(self) {
+        match self {
+            Stmt::Simple(part) => drop(part),
+            Stmt::Compound(part0, part1, part2) => {
+                drop(part0);
+                drop(part1);
+                drop(part2);
+            }
+        }
+    }
+}
+
 /// A header, its colon, and what it heads.
 #[cycle(block)]
-#[derive(Drop)]
 pub struct CompoundClause {
     pub header: Box<Header>,
     pub colon: Token,
     pub suite: Suite,
 }
 
+/// Written out: the crates above call it, where what `derive` writes would be made and proved in each of them.
+impl Drop for CompoundClause {
+    #[cycle(block)]
+    fn drop(self) {
+        let CompoundClause {
+            header,
+            colon: _,
+            suite,
+        } = self;
+        drop(header);
+        drop(suite);
+    }
+}
+
 /// What a header heads.
 #[cycle(block)]
-#[derive(Drop)]
 pub enum Suite {
     /// Simple statements on the header's line.
     Inline(Separated<SimpleStatement>),
     /// The statements of a deeper block.
     Block(Vec<Stmt>),
+}
+
+/// Written out: the crates above call it, where what `derive` writes would be made and proved in each of them.
+impl Drop for Suite {
+    #[cycle(block)]
+    fn drop(self) {
+        match self {
+            Suite::Inline(part) => drop(part),
+            Suite::Block(part) => drop(part),
+        }
+    }
 }
 
 /// Which clause a header begins.

@@ -5,7 +5,6 @@ use crate::tree::{Expr, Pieces, Tail};
 use pyc_token::Token;
 
 /// A header without its colon.
-#[derive(Drop)]
 pub enum Header {
     /// `if`, `elif` or `while`, and a condition.
     Condition(Token, Box<Expr>),
@@ -27,6 +26,39 @@ pub enum Header {
     Class(Token, Token),
     /// The same with bases and keywords in parentheses.
     ClassOf(Token, Token, Token, Pieces, Token),
+}
+
+/// Written out: the crates above call it, where what `derive` writes would be made and proved in each of them.
+impl Drop for Header {
+    fn drop(self) {
+        match self {
+            Header::Condition(_, part1) => drop(part1),
+            Header::For(part0, _, part2, _, part4) => {
+                drop(part0);
+                drop(part2);
+                drop(part4);
+            }
+            Header::ExceptOf(_, part1, part2) => {
+                drop(part1);
+                drop(part2);
+            }
+            Header::With(part0, _, part2) => {
+                drop(part0);
+                drop(part2);
+            }
+            Header::WithEnclosed(part0, _, _, part3, _) => {
+                drop(part0);
+                drop(part3);
+            }
+            Header::Def(part0, _, _, _, part4, _, part6) => {
+                drop(part0);
+                drop(part4);
+                drop(part6);
+            }
+            Header::ClassOf(_, _, _, part3, _) => drop(part3),
+            Header::Word(_) | Header::Except(_) | Header::Class(_, _) => {}
+        }
+    }
 }
 
 /// The tree of a logical line.

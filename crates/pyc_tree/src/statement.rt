@@ -78,7 +78,6 @@ pub struct ImportFrom {
 }
 
 /// A simple statement.
-#[derive(Drop)]
 pub enum SimpleStatement {
     /// An expression, a tuple without brackets or a `yield`.
     Expression(Box<Expr>),
@@ -104,4 +103,40 @@ pub enum SimpleStatement {
     Import(Token, Box<Separated<ImportedModule>>),
     /// Names of a module.
     ImportFrom(Box<ImportFrom>),
+}
+
+/// Written out: the crates above call it, where what `derive` writes would be made and proved in each of them.
+impl Drop for SimpleStatement {
+    fn drop(self) {
+        match self {
+            SimpleStatement::Expression(part) => drop(part),
+            SimpleStatement::Assign(part0, part1) => {
+                drop(part0);
+                drop(part1);
+            }
+            SimpleStatement::Annotate(part0, _, part2, part3) => {
+                drop(part0);
+                drop(part2);
+                drop(part3);
+            }
+            SimpleStatement::Augment(part0, _, part2) => {
+                drop(part0);
+                drop(part2);
+            }
+            SimpleStatement::Return(_, part1) => drop(part1),
+            SimpleStatement::Raise(_, part1, part2) => {
+                drop(part1);
+                drop(part2);
+            }
+            SimpleStatement::Assert(_, part1, part2) => {
+                drop(part1);
+                drop(part2);
+            }
+            SimpleStatement::Delete(_, part1) => drop(part1),
+            SimpleStatement::Declare(_, part1) => drop(part1),
+            SimpleStatement::Import(_, part1) => drop(part1),
+            SimpleStatement::ImportFrom(part) => drop(part),
+            SimpleStatement::Word(_) => {}
+        }
+    }
 }

@@ -11,7 +11,6 @@ pub struct DottedName {
 
 /// An annotation as it is written.
 #[cycle(type_expr)]
-#[derive(Drop)]
 pub enum TypeExpr {
     /// `None`
     None,
@@ -34,6 +33,30 @@ pub enum TypeExpr {
     },
     /// Any other expression.
     Wrong(Position),
+}
+
+/// Written out: the crates above call it, where what `derive` writes would be made and proved in each of them.
+impl Drop for TypeExpr {
+    #[cycle(type_expr)]
+    fn drop(self) {
+        match self {
+            TypeExpr::Name { at: _, name } => drop(name),
+            TypeExpr::Union { left, right } => {
+                drop(left);
+                drop(right);
+            }
+            TypeExpr::Subscript {
+                at: _,
+                name,
+                is_nested: _,
+                arguments,
+            } => {
+                drop(name);
+                drop(arguments);
+            }
+            TypeExpr::None | TypeExpr::Wrong(_) => {}
+        }
+    }
 }
 
 /// An argument in brackets: what it is as a type, and its shape.

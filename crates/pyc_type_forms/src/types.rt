@@ -10,7 +10,7 @@ use std::rc::Rc;
 
 /// A type. Its parts are shared, so that a copy costs a reference count.
 #[cycle(ty)]
-#[derive(Debug, Drop)]
+#[derive(Debug)]
 pub enum Ty {
     /// Not known: assignable both ways to every type.
     Any,
@@ -36,6 +36,25 @@ pub enum Ty {
     Callable(Rc<Signature>),
 }
 
+/// Written out: the crates above call it, where what `derive` writes would be made and proved in each of them.
+impl Drop for Ty {
+    #[cycle(ty)]
+    fn drop(self) {
+        match self {
+            Ty::Module(part) => drop(part),
+            Ty::Instance(part) => drop(part),
+            Ty::Class(part) => drop(part),
+            Ty::List(part) => drop(part),
+            Ty::Dict(part) => drop(part),
+            Ty::Tuple(part) => drop(part),
+            Ty::TupleOf(part) => drop(part),
+            Ty::Union(part) => drop(part),
+            Ty::Callable(part) => drop(part),
+            Ty::Any | Ty::None => {}
+        }
+    }
+}
+
 /// The types of the keys and values of a dictionary.
 #[cycle(ty)]
 #[derive(Debug, Drop)]
@@ -46,15 +65,25 @@ pub struct DictTypes {
 
 /// What a call takes and gives.
 #[cycle(ty)]
-#[derive(Debug, Drop)]
+#[derive(Debug)]
 pub struct Signature {
     pub params: Params,
     pub result: Ty,
 }
 
+/// Written out: the crates above call it, where what `derive` writes would be made and proved in each of them.
+impl Drop for Signature {
+    #[cycle(ty)]
+    fn drop(self) {
+        let Signature { params, result } = self;
+        drop(params);
+        drop(result);
+    }
+}
+
 /// What a call takes.
 #[cycle(ty)]
-#[derive(Debug, Drop)]
+#[derive(Debug)]
 pub enum Params {
     /// `...`: any arguments.
     Dots,
@@ -62,13 +91,38 @@ pub enum Params {
     Listed(Vec<Param>),
 }
 
+/// Written out: the crates above call it, where what `derive` writes would be made and proved in each of them.
+impl Drop for Params {
+    #[cycle(ty)]
+    fn drop(self) {
+        match self {
+            Params::Listed(part) => drop(part),
+            Params::Dots => {}
+        }
+    }
+}
+
 /// A parameter: its kind with its name, its type, and whether a call may leave it out.
 #[cycle(ty)]
-#[derive(Debug, Drop)]
+#[derive(Debug)]
 pub struct Param {
     pub kind: ParamKind,
     pub ty: Ty,
     pub is_optional: bool,
+}
+
+/// Written out: the crates above call it, where what `derive` writes would be made and proved in each of them.
+impl Drop for Param {
+    #[cycle(ty)]
+    fn drop(self) {
+        let Param {
+            kind,
+            ty,
+            is_optional: _,
+        } = self;
+        drop(kind);
+        drop(ty);
+    }
 }
 
 /// The kind of a parameter, with its name.
