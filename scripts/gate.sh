@@ -57,7 +57,7 @@ export RT_JOBS="${RT_JOBS:-4}"
 run python3 scripts/gate/check_layout.py
 run python3 scripts/gate/check_names.py
 run python3 scripts/gate/tests.py
-nice -n 19 python3 scripts/gate/edits.py --libraries "$tree/crates" --once --follow "$proofs" > "$tried" 2>&1 &
+nice -n 19 python3 scripts/gate/edits.py --libraries "$tree/crates" --follow "$proofs" > "$tried" 2>&1 &
 edits=$!
 env -C "$tree" rt ci 2>&1 | tee "$proofs"
 status=${PIPESTATUS[0]}

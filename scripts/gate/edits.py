@@ -1,5 +1,5 @@
 #!/usr/bin/env python3
-"""Tries must-fail edits: `edits.py [--libraries FOLDER] [--once] [--follow LOG] [CRATE..]`.
+"""Tries must-fail edits: `edits.py [--libraries FOLDER] [--follow LOG] [CRATE..]`.
 
 The libraries that the crates stand on are those that `rt ci` left in FOLDER/NAME/out; FOLDER is `crates` where it is not
 named. With `--follow` that `rt ci` still runs and writes LOG: the edits of a crate are tried once LOG says that it is proved,
@@ -11,10 +11,10 @@ edited functions alone, with the proofs of the others left open. A proof reads w
 bodies, so an edit of one body leaves the proof of another as it was, and wants none of it: an edit counts as refused in such a
 check only where the prover says of that very function that it is not proved. One whose function is still proved is tried alone,
 in a check of the whole crate. One of whose function the prover says nothing, since it calls another edited one, is tried in the
-next check, at last alone; with `--once`, as the gate calls this, it is passed over, and counts for nothing. An edit of what is
-stated, or of what several functions read, has a line `refuses: FUNCTION`: it is tried in a check of that function, with others
-of such a line where no function of theirs reads a file that another of them changes. A check takes at most 16 edits, so that
-those of a crate with many are tried side by side.
+next check, at last alone. An edit of what is stated, or of what several functions read, has a line `refuses: FUNCTION`: it is
+tried in a check of that function, with others of such a line where no function of theirs reads a file that another of them
+changes. The checks of a crate run one after another over what the earlier ones kept, so that the first alone reads what is
+stated in it.
 
 `RT_JOBS` says how many checks run side by side, 4 where it is not set. The last line is `edits: N passed, M failed`."""
 
@@ -39,8 +39,7 @@ UNREAD = (
     r".*(is not in scope|has no field|is no name|operand is missing|expected the end|cannot continue)"
 )
 PARTS = ("src", "specs", "proofs")
-# The most edits in one check, and the most checks beside an `rt ci` that still runs, for the memory that they take.
-TOGETHER = 16
+# The most checks beside an `rt ci` that still runs, for the memory that they take.
 BESIDE = 3
 
 
@@ -177,7 +176,7 @@ def words(known, name, built):
 
 
 class Trial:
-    """The trial of some edits of one crate, with the folder where all checks of that crate keep what they proved."""
+    """The trial of the edits of one crate, with the folder where its checks keep what they proved."""
 
     def __init__(self, command, name, edits, room, built):
         self.words, self.name, self.edits, self.kept = command, name, edits, f"{room}/{name}"
@@ -211,9 +210,6 @@ class Trial:
         status, said = self.check(edits, {it.place[3] for it in edits})
         if status == 2:
             print(f"edits: {self.name}: {said.rstrip().splitlines()[-1]}", flush=True)
-        tried = [it for it in edits if status in (0, 1) and verdict(it, said)]
-        # (where the check said nothing of any of them, each is tried alone)
-        self.passed_over = [it for it in self.left if tried and it not in tried and it.place and not it.refuses]
         return {it: why for it in edits if status == 1 and (why := refusal(it, said, files_read(it) if it.refuses else ()))}
 
     def alone(self, edit):
@@ -238,28 +234,27 @@ class Trial:
         self.failed += why is None
         self.said.append(f"{self.name}/{edit.path.name}: {'NOT REFUSED' if why is None else 'refused: ' + why[:160]}")
 
-    def run(self, once):
-        """Tries all, or those that stand in one check, and returns how many were refused and how many were not."""
+    def run(self):
+        """Tries all, and returns how many were refused and how many were not."""
         if self.words is None:
             return 0, len(self.edits)
-        begun, self.left, self.said, self.failed, self.passed_over = time.monotonic(), [*self.edits], [], 0, []
+        begun, self.left, self.said, self.failed = time.monotonic(), [*self.edits], [], 0
         for it in [it for it in self.left if it.fault]:
             self.judge(it, None)
             self.said.append(f"{self.name}/{it.path.name}: BAD EDIT: {it.fault}")
-        for it, why in self.together([it for it in self.left if len(self.left) > 1 and it.refuses]).items():
-            self.judge(it, why)
+        for part in apart([it for it in self.left if it.refuses]):
+            for it, why in self.together(part).items() if len(part) > 1 else ():
+                self.judge(it, why)
         while refused := self.together(one_a_function(self.left)):
             for it, why in refused.items():
                 self.judge(it, why)
-            if once:
-                break
-        for it in [it for it in self.left if not (once and it in self.passed_over)]:
+        for it in [*self.left]:
             self.judge(it, self.alone(it))
+        shutil.rmtree(self.kept, ignore_errors=True)
         took = time.monotonic() - begun
         print("\n".join(self.said), flush=True)
-        tried = len(self.edits) - len(self.left)
-        print(f"edits: {self.name}: {tried} of {len(self.edits)} in {self.checks} checks, {took:.0f} s", flush=True)
-        return tried - self.failed, self.failed
+        print(f"edits: {self.name}: {len(self.edits)} in {self.checks} checks, {took:.0f} s", flush=True)
+        return len(self.edits) - self.failed, self.failed
 
 
 def leave_open(library, name, copy, edited):
@@ -352,17 +347,6 @@ def one_a_function(edits):
     return [*found.values()]
 
 
-def shares(edits):
-    """Returns the edits in parts that are tried each by itself: those of bodies at most so many together, and at most one to a
-    function where that can be, and each other alone."""
-    bodies, of_function = [it for it in edits if it.is_body and it.place and not it.fault], {}
-    for it in bodies:
-        of_function.setdefault(it.place[3], []).append(it)
-    number = max(-(-len(bodies) // TOGETHER), *map(len, of_function.values()), 0) if bodies else 0
-    in_turn = [it for found in sorted(of_function.values(), key=len, reverse=True) for it in found]
-    return [in_turn[at::number] for at in range(number)] + apart([it for it in edits if it not in bodies])
-
-
 def apart(edits):
     """Returns edits of what is stated in parts, in each of which no function reads what another edit changes."""
     parts = []
@@ -370,7 +354,7 @@ def apart(edits):
         is_stated = it.refuses and it.place and not it.fault and not it.file.startswith("src/")
         read = files_read(it) if is_stated else None
         beside = lambda one, other: read and other and it.file not in other and one.file not in read
-        found = next((part for part in parts if len(part) < TOGETHER and all(beside(*one) for one in part)), None)
+        found = next((part for part in parts if all(beside(*one) for one in part)), None)
         if found is None:
             parts.append(found := [])
         found.append((it, read))
@@ -422,7 +406,6 @@ def as_they_are_proved(trials, log, begun):
 def main():
     given = argparse.ArgumentParser(description="Tries must-fail edits.")
     given.add_argument("--libraries", type=Path, default=ROOT / "crates", help="where the crates were built")
-    given.add_argument("--once", action="store_true", help="pass over what stands in no common check")
     given.add_argument("--follow", type=Path, help="the log of the `rt ci` that builds the libraries")
     given.add_argument("crates", nargs="*", help="the crates, all where none is named")
     given = given.parse_args()
@@ -430,16 +413,16 @@ def main():
     begun = []
     with tempfile.TemporaryDirectory(prefix="edits-") as room:
         trials = [
-            Trial(words(known, it, built), it, share, room, built)
+            Trial(words(known, it, built), it, found, room, built)
             for it in given.crates or known
-            for share in shares(edits_of(it))
+            if (found := edits_of(it))
         ]
         # (those with the most to do begin first)
         trials.sort(key=lambda it: -len(it.edits) * (8 + len(below(known, it.name))))
         ready = as_they_are_proved(trials, given.follow, begun) if given.follow else trials
         with concurrent.futures.ThreadPoolExecutor(int(os.environ.get("RT_JOBS", "4"))) as pool:
             for it in ready:
-                begun.append(pool.submit(it.run, given.once))
+                begun.append(pool.submit(it.run))
         passed, failed = (sum(done.result()[at] for done in begun) for at in (0, 1))
     print(f"edits: {passed} passed, {failed} failed")
     return 1 if failed else 0
