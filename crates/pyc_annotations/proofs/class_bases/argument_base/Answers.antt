@@ -1,6 +1,7 @@
-use Rattle.std.proofs.Common.{ap, refl, ◌∙◌, Option, Some}
+use Rattle.pyc_annotations.proofs.Steps.{performing}
+use Rattle.std.proofs.Common.{ap, refl, ◌∙◌, Option, Some, arith, rules}
 use Rattle.pyc_annotations.proofs.BaseArguments.{base_of_parts}
-use Rattle.pyc_annotations.specs.Bases.{Base, argument_base, base, invalid_base, unnamed}
+use Rattle.pyc_annotations.specs.Bases.{Base, argument_base, base, invalid_base, unnamed, base_of_argument}
 use Rattle.pyc_ast.specs.ExprView.{expr_of}
 use Rattle.pyc_names.specs.SourceFileView.{source_in}
 use Rattle.pyc_reading.proofs.RunLemmas.{after}
@@ -31,3 +32,11 @@ returns-in_ok-found-in-Starred g c =
           ∙ after (invalid_base x.at unnamed) (λ found. Done (Some found)) desk _ _ _ _ c.in_ok-found-in-Starred.ensures.done refl;
       grown = c.invalid_base.ensures.grown;
     }
+
+pub returns-in_err-found-in-Positional : goal.returns-in_err-found-in-Positional
+unfolding base_of_argument
+returns-in_err-found-in-Positional g c = first_of (grind (arith, performing), search rules)
+
+pub returns-in_err-found-in-Starred : goal.returns-in_err-found-in-Starred
+unfolding base_of_argument
+returns-in_err-found-in-Starred g c = first_of (grind (arith, performing), search rules)

@@ -1,4 +1,6 @@
-use Rattle.std.proofs.Common.{◌∙◌, map}
+use Rattle.pyc_annotations.specs.Bases.{more_bases}
+use Rattle.pyc_annotations.proofs.Steps.{performing}
+use Rattle.std.proofs.Common.{◌∙◌, map, arith, rules}
 use Rattle.pyc_annotations.proofs.Turns.{base_turn}
 use Rattle.pyc_annotations.specs.Views.{base_of}
 use Rattle.pyc_names.specs.SourceFileView.{source_in}
@@ -12,3 +14,15 @@ loop-argument-preserved g c = record {
       ∙ c.loop-argument.invariant.same;
   grown = grown_trans c.loop-argument.invariant.grown c.argument_base.ensures.grown;
 }
+
+pub returns-in_err-found : goal.returns-in_err-found
+unfolding more_bases
+returns-in_err-found g c = first_of (grind (arith, performing), search rules)
+
+pub returns-in_err-base : goal.returns-in_err-base
+unfolding more_bases
+returns-in_err-base g c = first_of (grind (arith, performing), search rules)
+
+pub returns-in_err-push_base : goal.returns-in_err-push_base
+unfolding more_bases
+returns-in_err-push_base g c = first_of (grind (arith, performing), search rules)

@@ -1,4 +1,5 @@
-use Rattle.std.proofs.Common.{List, ℕ, length, ap, ◌∙◌}
+use Rattle.pyc_annotations.proofs.Steps.{performing}
+use Rattle.std.proofs.Common.{List, ℕ, length, ap, ◌∙◌, arith, rules}
 use Rattle.std.specs.List.{between}
 use Rattle.pyc_annotations.proofs.Names.{first_and_rest}
 use Rattle.pyc_annotations.specs.Annotations.{dotted_meaning, attributes}
@@ -20,3 +21,15 @@ returns-in_ok-meaning-in-len1-up g c =
           ∙ after (own_name file c.args.at c.first-item.result) (attributes c.args.role c.args.at rest) (g.N.Notes.desk c.args.notes.now) _ _ _ _ c.in_ok-found-in-len1-up.ensures.done c.in_ok-meaning-in-len1-up.ensures.done;
       grown = grown_trans c.own_name.ensures.grown c.attributes.ensures.grown;
     }
+
+pub returns-in_err-found-in-len1-up : goal.returns-in_err-found-in-len1-up
+unfolding dotted_meaning
+returns-in_err-found-in-len1-up g c = first_of (grind (arith, performing), search rules)
+
+pub returns-in_err-meaning-in-len1-up : goal.returns-in_err-meaning-in-len1-up
+unfolding dotted_meaning
+returns-in_err-meaning-in-len1-up g c = first_of (grind (arith, performing), search rules)
+
+pub returns-in-empty : goal.returns-in-empty
+unfolding dotted_meaning
+returns-in-empty g c = first_of (grind (arith, performing), search rules)

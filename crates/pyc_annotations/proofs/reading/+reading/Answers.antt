@@ -2,9 +2,9 @@ use Rattle.std.proofs.Common.{◌≡◌, ◌∷◌, ◌∙◌, [], ◌<◌, ◌�
 use Rattle.std.proofs.lemmas.List.{map_push}
 use Rattle.pyc_annotations.proofs.Arguments.{readings_of, length_readings, form_taken, form_not_taken, callable_two, callable_other, tuple_other}
 use Rattle.pyc_annotations.proofs.Sizes.{arguments_below}
-use Rattle.pyc_annotations.proofs.Steps.{performs_same}
+use Rattle.pyc_annotations.proofs.Steps.{performs_same, performing}
 use Rattle.pyc_annotations.proofs.Turns.{argument_turn, type_turn}
-use Rattle.pyc_annotations.specs.Annotations.{Annotation, of_type, plain_callable, more_types, type_readings, read_type, callable_of, shape_reading, takes, subscripted_rule, union_rule}
+use Rattle.pyc_annotations.specs.Annotations.{Annotation, of_type, plain_callable, more_types, type_readings, read_type, callable_of, shape_reading, takes, subscripted_rule, union_rule, subscript_rule, built_rule}
 use Rattle.pyc_annotations.specs.Views.{annotation_in, subscripted_of}
 use Rattle.pyc_names.specs.SourceFileView.{source_in}
 use Rattle.pyc_reading.proofs.RunLemmas.{after, grown_trans}
@@ -117,3 +117,101 @@ pub read_type-read_subscript-requires : goal.read_type-read_subscript-requires
 read_type-read_subscript-requires g t c κs within =
     let h : most size-TypeArgument c.deref-in-Subscript.result.now < size-TypeExpr c.args.written.now = rw (c.in-Subscript.is, c.deref-in-Subscript.ensures.value) (arguments_below _ _ _ _) in
     (omega (arith, h, c.decreases), search rules)
+
+pub read_type-returns-in_err-left-in-Union : goal.read_type-returns-in_err-left-in-Union
+unfolding union_rule
+read_type-returns-in_err-left-in-Union g t c = first_of (grind (arith, performing), search rules)
+
+pub read_type-returns-in_err-union-in-Union : goal.read_type-returns-in_err-union-in-Union
+unfolding union_rule
+read_type-returns-in_err-union-in-Union g t c = first_of (grind (arith, performing), search rules)
+
+pub read_subscript-returns-in_err-meaning : goal.read_subscript-returns-in_err-meaning
+unfolding subscript_rule
+read_subscript-returns-in_err-meaning g t c = first_of (grind (arith, performing), search rules)
+
+pub read_subscript-returns-in_err-found : goal.read_subscript-returns-in_err-found
+unfolding subscript_rule
+read_subscript-returns-in_err-found g t c = first_of (grind (arith, performing), search rules)
+
+pub read_subscript-returns : goal.read_subscript-returns
+unfolding subscript_rule
+read_subscript-returns g t c = first_of (grind (arith, performing), search rules)
+
+pub read_right-returns-in_err-right : goal.read_right-returns-in_err-right
+read_right-returns-in_err-right g t c = first_of (grind (arith, performing), search rules)
+
+pub read_right-returns-in_err-union : goal.read_right-returns-in_err-union
+read_right-returns-in_err-union g t c = first_of (grind (arith, performing), search rules)
+
+pub read_right-returns : goal.read_right-returns
+read_right-returns g t c = first_of (grind (arith, performing), search rules)
+
+pub read_built-returns-in_err-types : goal.read_built-returns-in_err-types
+unfolding built_rule
+read_built-returns-in_err-types g t c = first_of (grind (arith, performing), search rules)
+
+pub read_built-returns-in_err-ty : goal.read_built-returns-in_err-ty
+unfolding built_rule
+read_built-returns-in_err-ty g t c = first_of (grind (arith, performing), search rules)
+
+pub read_built-returns : goal.read_built-returns
+unfolding built_rule
+read_built-returns g t c = first_of (grind (arith, performing), search rules)
+
+pub read_object-returns-in_err-found : goal.read_object-returns-in_err-found
+read_object-returns-in_err-found g t c = first_of (grind (arith, performing), search rules)
+
+pub read_object-returns : goal.read_object-returns
+read_object-returns g t c = first_of (grind (arith, performing), search rules)
+
+pub read_any_length-returns-in_err-found : goal.read_any_length-returns-in_err-found
+read_any_length-returns-in_err-found g t c = first_of (grind (arith, performing), search rules)
+
+pub read_any_length-returns-in_err-ty : goal.read_any_length-returns-in_err-ty
+read_any_length-returns-in_err-ty g t c = first_of (grind (arith, performing), search rules)
+
+pub read_any_length-returns : goal.read_any_length-returns
+read_any_length-returns g t c = first_of (grind (arith, performing), search rules)
+
+pub read_any_callable-returns-in_err-found : goal.read_any_callable-returns-in_err-found
+read_any_callable-returns-in_err-found g t c = first_of (grind (arith, performing), search rules)
+
+pub read_any_callable-returns-in_err-ty : goal.read_any_callable-returns-in_err-ty
+read_any_callable-returns-in_err-ty g t c = first_of (grind (arith, performing), search rules)
+
+pub read_any_callable-returns : goal.read_any_callable-returns
+read_any_callable-returns g t c = first_of (grind (arith, performing), search rules)
+
+pub read_plain_callable-returns-in_err-found : goal.read_plain_callable-returns-in_err-found
+read_plain_callable-returns-in_err-found g t c = first_of (grind (arith, performing), search rules)
+
+pub read_plain_callable-returns-in_err-ty : goal.read_plain_callable-returns-in_err-ty
+read_plain_callable-returns-in_err-ty g t c = first_of (grind (arith, performing), search rules)
+
+pub read_plain_callable-returns : goal.read_plain_callable-returns
+read_plain_callable-returns g t c = first_of (grind (arith, performing), search rules)
+
+pub argument_types-returns-in_err-types : goal.argument_types-returns-in_err-types
+unfolding more_types
+argument_types-returns-in_err-types g t c = first_of (grind (arith, performing), search rules)
+
+pub argument_types-returns-in_err-found : goal.argument_types-returns-in_err-found
+unfolding more_types
+argument_types-returns-in_err-found g t c = first_of (grind (arith, performing), search rules)
+
+pub argument_types-returns-in_err-push : goal.argument_types-returns-in_err-push
+unfolding more_types
+argument_types-returns-in_err-push g t c = first_of (grind (arith, performing), search rules)
+
+pub listed_types-returns-in_err-types : goal.listed_types-returns-in_err-types
+unfolding more_types
+listed_types-returns-in_err-types g t c = first_of (grind (arith, performing), search rules)
+
+pub listed_types-returns-in_err-found : goal.listed_types-returns-in_err-found
+unfolding more_types
+listed_types-returns-in_err-found g t c = first_of (grind (arith, performing), search rules)
+
+pub listed_types-returns-in_err-push : goal.listed_types-returns-in_err-push
+unfolding more_types
+listed_types-returns-in_err-push g t c = first_of (grind (arith, performing), search rules)

@@ -1,4 +1,6 @@
-use Rattle.std.proofs.Common.{◌≡◌, ◌+◌, ap, ◌∙◌, arith}
+use Rattle.pyc_arguments.specs.Matched.{arguments_matched}
+use Rattle.pyc_obligations.proofs.Steps.{performing}
+use Rattle.std.proofs.Common.{◌≡◌, ◌+◌, ap, ◌∙◌, arith, rules}
 use Rattle.pyc_arguments.proofs.Parts.{places_at_most}
 use Rattle.pyc_arguments.proofs.Turns.{matched_turn}
 use Rattle.pyc_arguments.specs.Arguments.{places_of}
@@ -20,3 +22,7 @@ loop-argument-preserved g c =
       },
       omega (arith, c.loop-argument.invariant.1, c.places_of-number.ensures, places_at_most (given_in c.given_by.result)),
     )
+
+pub returns-in_err-take_read : goal.returns-in_err-take_read
+unfolding arguments_matched
+returns-in_err-take_read g c = first_of (grind (arith, performing), search rules)

@@ -1,10 +1,10 @@
-use Rattle.std.proofs.Common.{◌≡◌, Option, ap, sym, ◌∙◌}
+use Rattle.std.proofs.Common.{◌≡◌, Option, ap, sym, ◌∙◌, arith, rules}
 use Rattle.pyc_arguments.proofs.Parts.{view_unread}
 use Rattle.pyc_arguments.specs.Matched.{argument_owed, argument_read, refused, wanted}
 use Rattle.pyc_arguments.specs.Views.{call_in}
 use Rattle.pyc_ast.specs.ExprView.{expr_of}
 use Rattle.pyc_matching.specs.Views.{given_in, match_in}
-use Rattle.pyc_obligations.proofs.Steps.{performs_same}
+use Rattle.pyc_obligations.proofs.Steps.{performs_same, performing}
 use Rattle.pyc_reading.proofs.RunLemmas.{after, grown_trans}
 use Rattle.pyc_reading.specs.Desks.{run}
 use Rattle.pyc_reading.specs.Readings.{and_then}
@@ -29,3 +29,11 @@ returns g c =
           (after (read (expr_of x.value) want) (λ got. owes got want) (g.N.Notes.desk c.refuse.new.notes) _ _ _ _ first second);
       grown = grown_trans (grown_trans c.refuse.ensures.grown c.read.ensures.grown) c.owe.ensures.grown;
     })
+
+pub returns-in_err-refuse : goal.returns-in_err-refuse
+unfolding argument_read
+returns-in_err-refuse g c = first_of (grind (arith, performing), search rules)
+
+pub returns-in_err-got : goal.returns-in_err-got
+unfolding argument_read
+returns-in_err-got g c = first_of (grind (arith, performing), search rules)

@@ -1,4 +1,4 @@
-use Rattle.std.proofs.Common.{◌≡◌, ap, sym, ◌∙◌}
+use Rattle.std.proofs.Common.{◌≡◌, ap, sym, ◌∙◌, arith, rules}
 use Rattle.pyc_arguments.proofs.Parts.{matched_unread}
 use Rattle.pyc_arguments.specs.Arguments.{unread}
 use Rattle.pyc_arguments.specs.Matched.{argument_read, argument_taken, filling_after}
@@ -6,7 +6,7 @@ use Rattle.pyc_arguments.specs.Views.{call_in, filling_in}
 use Rattle.pyc_ast.specs.ExprView.{argument_of}
 use Rattle.pyc_matching.specs.Matching.{match_of}
 use Rattle.pyc_matching.specs.Views.{given_in, match_in}
-use Rattle.pyc_obligations.proofs.Steps.{performs_same}
+use Rattle.pyc_obligations.proofs.Steps.{performs_same, performing}
 use Rattle.pyc_reading.proofs.RunLemmas.{after}
 use Rattle.pyc_reading.specs.Readings.{Done}
 use Rattle.pyc_type_forms.specs.TypeView.{param_row}
@@ -32,3 +32,11 @@ returns g c =
           (ap (λ f. (f, g.N.Notes.desk c.read_argument.new.notes)) (sym c.in_ok-take.ensures));
       grown = c.read_argument.ensures.grown;
     })
+
+pub returns-in_err-read_argument : goal.returns-in_err-read_argument
+unfolding argument_taken
+returns-in_err-read_argument g c = first_of (grind (arith, performing), search rules)
+
+pub returns-in_err-take : goal.returns-in_err-take
+unfolding argument_taken
+returns-in_err-take g c = first_of (grind (arith, performing), search rules)

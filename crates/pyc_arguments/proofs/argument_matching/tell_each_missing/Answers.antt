@@ -1,4 +1,5 @@
-use Rattle.std.proofs.Common.{◌∙◌, map, refl, sym}
+use Rattle.pyc_obligations.proofs.Steps.{performing}
+use Rattle.std.proofs.Common.{◌∙◌, map, refl, sym, arith, rules}
 use Rattle.pyc_arguments.specs.Matched.{missing_told}
 use Rattle.pyc_arguments.specs.Views.{call_in}
 use Rattle.pyc_matching.specs.Views.{missing_in}
@@ -15,3 +16,6 @@ loop-missing-preserved g c =
           ∙ c.loop-missing.invariant.same;
       grown = grown_trans c.loop-missing.invariant.grown c.tell_missing.ensures.grown;
     }
+
+pub returns-in_err-tell_missing : goal.returns-in_err-tell_missing
+returns-in_err-tell_missing g c = first_of (grind (arith, performing), search rules)

@@ -1,4 +1,6 @@
-use Rattle.std.proofs.Common.{◌∙◌}
+use Rattle.pyc_arguments.specs.Arguments.{all_read}
+use Rattle.pyc_obligations.proofs.Steps.{performing}
+use Rattle.std.proofs.Common.{◌∙◌, arith, rules}
 use Rattle.pyc_arguments.proofs.Turns.{read_turn}
 use Rattle.pyc_reading.proofs.RunLemmas.{grown_trans}
 use Rattle.pyc_arguments.proofs.arguments.read_each.Goals as goal
@@ -10,3 +12,7 @@ loop-argument-preserved g c = record {
       ∙ c.loop-argument.invariant.same;
   grown = grown_trans c.loop-argument.invariant.grown c.read.ensures.grown;
 }
+
+pub returns-in_err-read : goal.returns-in_err-read
+unfolding all_read
+returns-in_err-read g c = first_of (grind (arith, performing), search rules)

@@ -1,4 +1,6 @@
-use Rattle.std.proofs.Common.{◌∙◌, map}
+use Rattle.pyc_arguments.specs.Arguments.{more_read}
+use Rattle.pyc_obligations.proofs.Steps.{performing}
+use Rattle.std.proofs.Common.{◌∙◌, map, arith, rules}
 use Rattle.pyc_arguments.proofs.Turns.{once_turn}
 use Rattle.pyc_arguments.specs.Views.{read_in}
 use Rattle.pyc_reading.proofs.RunLemmas.{grown_trans}
@@ -11,3 +13,15 @@ loop-argument-preserved g c = record {
       ∙ c.loop-argument.invariant.same;
   grown = grown_trans c.loop-argument.invariant.grown c.read.ensures.grown;
 }
+
+pub returns-in_err-read : goal.returns-in_err-read
+unfolding more_read
+returns-in_err-read g c = first_of (grind (arith, performing), search rules)
+
+pub returns-in_err-ty : goal.returns-in_err-ty
+unfolding more_read
+returns-in_err-ty g c = first_of (grind (arith, performing), search rules)
+
+pub returns-in_err-push_read : goal.returns-in_err-push_read
+unfolding more_read
+returns-in_err-push_read g c = first_of (grind (arith, performing), search rules)

@@ -1,4 +1,5 @@
-use Rattle.std.proofs.Common.{◌∙◌, Option, option_map, ap, sym}
+use Rattle.pyc_obligations.proofs.Steps.{performing}
+use Rattle.std.proofs.Common.{◌∙◌, Option, option_map, ap, sym, arith, rules}
 use Rattle.pyc_assignments.proofs.Targets.{lent}
 use Rattle.pyc_assignments.specs.Assignments.{annotated_assignment, if_value}
 use Rattle.pyc_ast.specs.ExprView.{expr_of}
@@ -23,3 +24,11 @@ returns g c =
           (ap (λ (v : Option Expr). run (if_value read c.args.declares to v s (ty_of c.in_ok-want.want)) (g.N.Notes.desk c.annotated.new.notes)) (sym (lent expr_of c.as_ref.result _ c.as_ref.ensures.value)) ∙ c.in_ok-state.ensures.done);
       grown = grown_trans c.annotated.ensures.grown c.if_value.ensures.grown;
     }
+
+pub returns-in_err-want : goal.returns-in_err-want
+unfolding annotated_assignment
+returns-in_err-want g c = first_of (grind (arith, performing), search rules)
+
+pub returns-in_err-state : goal.returns-in_err-state
+unfolding annotated_assignment
+returns-in_err-state g c = first_of (grind (arith, performing), search rules)

@@ -1,4 +1,5 @@
-use Rattle.std.proofs.Common.{◌∙◌, Some, option_map, ap}
+use Rattle.pyc_obligations.proofs.Steps.{performing}
+use Rattle.std.proofs.Common.{◌∙◌, Some, option_map, ap, arith, rules}
 use Rattle.pyc_assignments.proofs.Targets.{begins_at}
 use Rattle.pyc_assignments.specs.Assignments.{value_assigned, value_stored}
 use Rattle.pyc_assignments.specs.Reads.{type_read}
@@ -26,3 +27,11 @@ returns g c =
           (ap (λ at. run (value_stored read c.args.declares to want early at (ty_of c.in_ok-got.got) s) (g.N.Notes.desk c.type_read.new.notes)) (begins_at c.args.value.now) ∙ c.in_ok-state.ensures.done);
       grown = grown_trans c.type_read.ensures.grown c.value_stored.ensures.grown;
     }
+
+pub returns-in_err-got : goal.returns-in_err-got
+unfolding value_assigned
+returns-in_err-got g c = first_of (grind (arith, performing), search rules)
+
+pub returns-in_err-state : goal.returns-in_err-state
+unfolding value_assigned
+returns-in_err-state g c = first_of (grind (arith, performing), search rules)

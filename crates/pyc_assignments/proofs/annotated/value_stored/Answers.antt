@@ -1,4 +1,5 @@
-use Rattle.std.proofs.Common.{◌∙◌, Option, option_map, false, ap, sym}
+use Rattle.pyc_obligations.proofs.Steps.{performing}
+use Rattle.std.proofs.Common.{◌∙◌, Option, option_map, false, ap, sym, arith, rules}
 use Rattle.pyc_assignments.proofs.Targets.{lent}
 use Rattle.pyc_assignments.specs.Assignments.{value_stored, late_want}
 use Rattle.pyc_assignments.specs.Storing.{assignment_owed, renarrowed}
@@ -27,3 +28,11 @@ returns g c =
           (ap (λ (d : Option Ty). run (renarrowed to d got s) (g.N.Notes.desk c.assignment_owed.new.notes)) (sym (lent ty_of c.as_ref.result _ c.as_ref.ensures.value)) ∙ c.in_ok-state.ensures.done));
       grown = grown_trans (grown_trans c.late_want.ensures.grown c.assignment_owed.ensures.grown) c.renarrowed.ensures.grown;
     }
+
+pub returns-in_err-declared : goal.returns-in_err-declared
+unfolding value_stored
+returns-in_err-declared g c = first_of (grind (arith, performing), search rules)
+
+pub returns-in_err-assignment_owed : goal.returns-in_err-assignment_owed
+unfolding value_stored
+returns-in_err-assignment_owed g c = first_of (grind (arith, performing), search rules)

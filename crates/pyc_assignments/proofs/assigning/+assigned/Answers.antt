@@ -1,4 +1,5 @@
-use Rattle.std.proofs.Common.{◌≡◌, ◌∙◌, ap}
+use Rattle.pyc_obligations.proofs.Steps.{performing}
+use Rattle.std.proofs.Common.{◌≡◌, ◌∙◌, ap, arith, rules}
 use Rattle.pyc_assignments.proofs.Turns.{element_turn}
 use Rattle.pyc_assignments.specs.Assignments.{assigned}
 use Rattle.pyc_assignments.specs.Views.{shares_in}
@@ -25,3 +26,21 @@ each_assigned-loop-index-preserved g t c =
           ∙ c.loop-index.invariant.same;
       grown = grown_trans c.loop-index.invariant.grown c.assigned.ensures.grown;
     }
+
+pub unpacked-returns-in_err-found : goal.unpacked-returns-in_err-found
+unpacked-returns-in_err-found g t c = first_of (grind (arith, performing), search rules)
+
+pub unpacked-returns-in_err-state : goal.unpacked-returns-in_err-state
+unpacked-returns-in_err-state g t c = first_of (grind (arith, performing), search rules)
+
+pub unpacked-returns : goal.unpacked-returns
+unpacked-returns g t c = first_of (grind (arith, performing), search rules)
+
+pub each_assigned-returns-in_err-after : goal.each_assigned-returns-in_err-after
+each_assigned-returns-in_err-after g t c = first_of (grind (arith, performing), search rules)
+
+pub each_assigned-returns-in_err-ty : goal.each_assigned-returns-in_err-ty
+each_assigned-returns-in_err-ty g t c = first_of (grind (arith, performing), search rules)
+
+pub each_assigned-returns-in_err-after-2 : goal.each_assigned-returns-in_err-after-2
+each_assigned-returns-in_err-after-2 g t c = first_of (grind (arith, performing), search rules)

@@ -1,4 +1,5 @@
-use Rattle.std.proofs.Common.{◌≡◌, ◌∙◌, ℕ, Option, map, ap, sym}
+use Rattle.pyc_obligations.proofs.Steps.{performing}
+use Rattle.std.proofs.Common.{◌≡◌, ◌∙◌, ℕ, Option, map, ap, sym, arith, rules}
 use Rattle.std.specs.List.{slice_get}
 use Rattle.pyc_assignments.proofs.Targets.{lent_at}
 use Rattle.pyc_assignments.specs.Assignments.{assignment, assignment_by, first_single, first_slot}
@@ -29,3 +30,11 @@ returns g c =
           (ap (λ (n : ℕ). run (assignment_by read n targets value s found) (g.N.Notes.desk c.first_slot.new.notes)) (sym first) ∙ c.in_ok-state.ensures.done);
       grown = grown_trans c.first_slot.ensures.grown c.assignment_by.ensures.grown;
     }
+
+pub returns-in_err-found : goal.returns-in_err-found
+unfolding assignment
+returns-in_err-found g c = first_of (grind (arith, performing), search rules)
+
+pub returns-in_err-state : goal.returns-in_err-state
+unfolding assignment
+returns-in_err-state g c = first_of (grind (arith, performing), search rules)

@@ -1,4 +1,5 @@
-use Rattle.std.proofs.Common.{◌∙◌, Option, map, ap, sym}
+use Rattle.pyc_obligations.proofs.Steps.{performing}
+use Rattle.std.proofs.Common.{◌∙◌, Option, map, ap, sym, arith, rules}
 use Rattle.pyc_assignments.proofs.Targets.{begins_at, lent}
 use Rattle.pyc_assignments.specs.Assignments.{assignment_by, targets_assigned}
 use Rattle.pyc_assignments.specs.Reads.{type_read}
@@ -29,3 +30,11 @@ returns g c =
           (ap (λ at. run (targets_assigned read at found first (ty_of c.in_ok-ty.ty) 0 targets s) (g.N.Notes.desk c.type_read.new.notes)) (begins_at c.args.value.now) ∙ c.in_ok-state.ensures.done);
       grown = grown_trans c.type_read.ensures.grown c.targets_assigned.ensures.grown;
     }
+
+pub returns-in_err-ty : goal.returns-in_err-ty
+unfolding assignment_by
+returns-in_err-ty g c = first_of (grind (arith, performing), search rules)
+
+pub returns-in_err-state : goal.returns-in_err-state
+unfolding assignment_by
+returns-in_err-state g c = first_of (grind (arith, performing), search rules)

@@ -1,4 +1,6 @@
-use Rattle.std.proofs.Common.{◌∙◌}
+use Rattle.pyc_assignments.specs.Assignments.{targets_assigned}
+use Rattle.pyc_obligations.proofs.Steps.{performing}
+use Rattle.std.proofs.Common.{◌∙◌, arith, rules}
 use Rattle.pyc_assignments.proofs.Turns.{target_turn}
 use Rattle.pyc_places.specs.StateView.{state_of}
 use Rattle.pyc_reading.proofs.RunLemmas.{grown_trans}
@@ -13,3 +15,11 @@ loop-index-preserved g c = record {
       ∙ c.loop-index.invariant.same;
   grown = grown_trans c.loop-index.invariant.grown c.target_assigned.ensures.grown;
 }
+
+pub returns-in_err-after : goal.returns-in_err-after
+unfolding targets_assigned
+returns-in_err-after g c = first_of (grind (arith, performing), search rules)
+
+pub returns-in_err-after-2 : goal.returns-in_err-after-2
+unfolding targets_assigned
+returns-in_err-after-2 g c = first_of (grind (arith, performing), search rules)

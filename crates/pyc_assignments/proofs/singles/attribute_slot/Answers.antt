@@ -1,4 +1,5 @@
-use Rattle.std.proofs.Common.{None, ap, sym}
+use Rattle.pyc_obligations.proofs.Steps.{performing}
+use Rattle.std.proofs.Common.{None, ap, sym, arith, rules}
 use Rattle.pyc_assignments.specs.Singles.{attribute_slot}
 use Rattle.pyc_ast.specs.ExprView.{expr_of}
 use Rattle.pyc_obligations.specs.ValueView.{value_of}
@@ -23,3 +24,11 @@ returns g c =
           (ap (λ slot. (slot, g.N.Notes.desk c.attribute_want.new.notes)) (sym c.plain.ensures)));
       grown = grown_trans c.value.ensures.grown c.attribute_want.ensures.grown;
     }
+
+pub returns-in_err-owner : goal.returns-in_err-owner
+unfolding attribute_slot
+returns-in_err-owner g c = first_of (grind (arith, performing), search rules)
+
+pub returns-in_err-want : goal.returns-in_err-want
+unfolding attribute_slot
+returns-in_err-want g c = first_of (grind (arith, performing), search rules)

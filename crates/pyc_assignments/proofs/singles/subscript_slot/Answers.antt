@@ -1,4 +1,5 @@
-use Rattle.std.proofs.Common.{None}
+use Rattle.pyc_obligations.proofs.Steps.{performing}
+use Rattle.std.proofs.Common.{None, arith, rules}
 use Rattle.pyc_assignments.specs.Reads.{type_read}
 use Rattle.pyc_assignments.specs.Singles.{subscript_slot}
 use Rattle.pyc_ast.specs.ExprView.{expr_of, index_of}
@@ -23,3 +24,11 @@ returns g c =
           (after (read.index s brackets) (λ got. item_target at inside brackets got (ty_of c.in_ok-ty.ty)) (g.N.Notes.desk c.type_read.new.notes) _ _ _ _ c.in_ok-got.ensures.done c.in_ok-slot.ensures.done);
       grown = grown_trans (grown_trans c.type_read.ensures.grown c.index.ensures.grown) c.item_target.ensures.grown;
     }
+
+pub returns-in_err-ty : goal.returns-in_err-ty
+unfolding subscript_slot
+returns-in_err-ty g c = first_of (grind (arith, performing), search rules)
+
+pub returns-in_err-got : goal.returns-in_err-got
+unfolding subscript_slot
+returns-in_err-got g c = first_of (grind (arith, performing), search rules)

@@ -1,4 +1,5 @@
-use Rattle.std.proofs.Common.{◌≡◌, ◌∷◌, [], ◌++◌, map, sym, ◌∙◌, refl}
+use Rattle.pyc_attributes.proofs.Steps.{performing}
+use Rattle.std.proofs.Common.{◌≡◌, ◌∷◌, [], ◌++◌, map, sym, ◌∙◌, refl, arith, rules}
 use Rattle.std.proofs.lemmas.List.{map-append}
 use Rattle.pyc_attributes.specs.AttributeValues.{item_types, union_item}
 use Rattle.pyc_reading.proofs.RunLemmas.{one_turn, grown_trans}
@@ -19,3 +20,15 @@ loop-item-preserved g c =
           ∙ c.loop-item.invariant.same);
       grown = grown_trans c.loop-item.invariant.grown c.union_item.ensures.grown;
     }
+
+pub returns-in_err-found : goal.returns-in_err-found
+unfolding item_types
+returns-in_err-found g c = first_of (grind (arith, performing), search rules)
+
+pub returns-in_err-ty : goal.returns-in_err-ty
+unfolding item_types
+returns-in_err-ty g c = first_of (grind (arith, performing), search rules)
+
+pub returns-in_err-push : goal.returns-in_err-push
+unfolding item_types
+returns-in_err-push g c = first_of (grind (arith, performing), search rules)

@@ -1,4 +1,5 @@
-use Rattle.std.proofs.Common.{◌≡◌, [], map, ap, sym, refl, ◌∙◌}
+use Rattle.pyc_obligations.proofs.Steps.{performing}
+use Rattle.std.proofs.Common.{◌≡◌, [], map, ap, sym, refl, ◌∙◌, arith, rules}
 use Rattle.pyc_arguments.specs.Views.{args_in, call_in}
 use Rattle.pyc_calls.specs.Called.{called, called_to, most_calls, ty_called}
 use Rattle.pyc_calls.specs.Remembered.{Memory}
@@ -22,3 +23,7 @@ returns g c =
           after (called_to most_calls call [] args callee) (λ found. Done (ty_called found)) desk _ _ _ _ (ap (λ (m : Memory). run (called_to most_calls call m args callee) desk) (sym empty) ∙ c.in_ok-ty.ensures.done) refl;
       grown = c.called_to.ensures.grown;
     }
+
+pub returns-in_err-ty : goal.returns-in_err-ty
+unfolding called
+returns-in_err-ty g c = first_of (grind (arith, performing), search rules)

@@ -1,4 +1,5 @@
-use Rattle.std.proofs.Common.{ap}
+use Rattle.pyc_obligations.proofs.Steps.{performing}
+use Rattle.std.proofs.Common.{ap, arith, rules}
 use Rattle.pyc_arguments.specs.Arguments.{all_read}
 use Rattle.pyc_arguments.specs.Views.{args_in}
 use Rattle.pyc_calls.proofs.Kept.{any_in}
@@ -16,3 +17,7 @@ returns g c = record {
       (ap (λ ty. (ty, g.N.Notes.desk c.read_all.new.notes)) any_in);
   grown = c.read_all.ensures.grown;
 }
+
+pub returns-in_err-read_all : goal.returns-in_err-read_all
+unfolding given_called
+returns-in_err-read_all g c = first_of (grind (arith, performing), search rules)

@@ -1,4 +1,6 @@
-use Rattle.std.proofs.Common.{◌∙◌}
+use Rattle.pyc_displays.specs.Displays.{entries_to}
+use Rattle.pyc_obligations.proofs.Steps.{performing}
+use Rattle.std.proofs.Common.{◌∙◌, arith, rules}
 use Rattle.pyc_displays.proofs.Turns.{entry_to_turn}
 use Rattle.pyc_displays.specs.Views.{entry_in}
 use Rattle.pyc_reading.proofs.RunLemmas.{grown_trans}
@@ -11,3 +13,7 @@ loop-index-preserved g c = record {
       ∙ c.loop-index.invariant.same;
   grown = grown_trans c.loop-index.invariant.grown c.entry_to.ensures.grown;
 }
+
+pub returns-in_err-entry_to : goal.returns-in_err-entry_to
+unfolding entries_to
+returns-in_err-entry_to g c = first_of (grind (arith, performing), search rules)

@@ -1,4 +1,5 @@
-use Rattle.std.proofs.Common.{ap, ◌∙◌}
+use Rattle.pyc_obligations.proofs.Steps.{performing}
+use Rattle.std.proofs.Common.{ap, ◌∙◌, arith, rules}
 use Rattle.pyc_ast.specs.ExprView.{expr_of}
 use Rattle.pyc_ast.specs.Exprs.{at_of}
 use Rattle.pyc_displays.proofs.Parts.{begins_at}
@@ -22,3 +23,11 @@ returns g c =
           ∙ c.in_ok-tell_dict_entry_unless.ensures.done);
       grown = grown_trans c.entry_judged.ensures.grown c.tell_dict_entry_unless.ensures.grown;
     }
+
+pub returns-in_err-holds : goal.returns-in_err-holds
+unfolding entry_owed
+returns-in_err-holds g c = first_of (grind (arith, performing), search rules)
+
+pub returns-in_err-tell_dict_entry_unless : goal.returns-in_err-tell_dict_entry_unless
+unfolding entry_owed
+returns-in_err-tell_dict_entry_unless g c = first_of (grind (arith, performing), search rules)

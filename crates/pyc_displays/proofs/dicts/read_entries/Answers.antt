@@ -1,4 +1,6 @@
-use Rattle.std.proofs.Common.{◌∙◌}
+use Rattle.pyc_displays.specs.Displays.{more_entries}
+use Rattle.pyc_obligations.proofs.Steps.{performing}
+use Rattle.std.proofs.Common.{◌∙◌, arith, rules}
 use Rattle.pyc_displays.proofs.Turns.{entry_turn}
 use Rattle.pyc_displays.specs.Views.{entry_types_in}
 use Rattle.pyc_reading.proofs.RunLemmas.{grown_trans}
@@ -11,3 +13,19 @@ loop-item-preserved g c = record {
       ∙ c.loop-item.invariant.same;
   grown = grown_trans c.loop-item.invariant.grown c.free_entry.ensures.grown;
 }
+
+pub returns-in_err-with_capacity : goal.returns-in_err-with_capacity
+unfolding more_entries
+returns-in_err-with_capacity g c = first_of (grind (arith, performing), search rules)
+
+pub returns-in_err-with_capacity-2 : goal.returns-in_err-with_capacity-2
+unfolding more_entries
+returns-in_err-with_capacity-2 g c = first_of (grind (arith, performing), search rules)
+
+pub returns-in_err-found : goal.returns-in_err-found
+unfolding more_entries
+returns-in_err-found g c = first_of (grind (arith, performing), search rules)
+
+pub returns-in_err-push_entry : goal.returns-in_err-push_entry
+unfolding more_entries
+returns-in_err-push_entry g c = first_of (grind (arith, performing), search rules)

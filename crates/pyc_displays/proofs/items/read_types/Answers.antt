@@ -1,4 +1,6 @@
-use Rattle.std.proofs.Common.{◌≡◌, ◌∙◌, ◌++◌, ◌∷◌, [], ap, map, Bor}
+use Rattle.pyc_displays.specs.Displays.{more_types}
+use Rattle.pyc_obligations.proofs.Steps.{performing}
+use Rattle.std.proofs.Common.{◌≡◌, ◌∙◌, ◌++◌, ◌∷◌, [], ap, map, Bor, arith, rules}
 use Rattle.std.proofs.lemmas.List.{map_push}
 use Rattle.std.specs.Option.{option_map}
 use Rattle.pyc_ast.specs.declared.expr.Element.{Element}
@@ -25,3 +27,15 @@ loop-index-preserved g c =
           ∙ c.loop-index.invariant.same;
       grown = grown_trans c.loop-index.invariant.grown c.read.ensures.grown;
     }
+
+pub returns-in_err-types : goal.returns-in_err-types
+unfolding more_types
+returns-in_err-types g c = first_of (grind (arith, performing), search rules)
+
+pub returns-in_err-ty : goal.returns-in_err-ty
+unfolding more_types
+returns-in_err-ty g c = first_of (grind (arith, performing), search rules)
+
+pub returns-in_err-push : goal.returns-in_err-push
+unfolding more_types
+returns-in_err-push g c = first_of (grind (arith, performing), search rules)

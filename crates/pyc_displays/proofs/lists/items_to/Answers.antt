@@ -1,4 +1,6 @@
-use Rattle.std.proofs.Common.{◌∙◌}
+use Rattle.pyc_displays.specs.Displays.{items_to}
+use Rattle.pyc_obligations.proofs.Steps.{performing}
+use Rattle.std.proofs.Common.{◌∙◌, arith, rules}
 use Rattle.pyc_displays.proofs.Turns.{item_turn}
 use Rattle.pyc_reading.proofs.RunLemmas.{grown_trans}
 use Rattle.pyc_type_forms.specs.TypeView.{ty_of}
@@ -11,3 +13,7 @@ loop-index-preserved g c = record {
       ∙ c.loop-index.invariant.same;
   grown = grown_trans c.loop-index.invariant.grown c.item_to.ensures.grown;
 }
+
+pub returns-in_err-item_to : goal.returns-in_err-item_to
+unfolding items_to
+returns-in_err-item_to g c = first_of (grind (arith, performing), search rules)

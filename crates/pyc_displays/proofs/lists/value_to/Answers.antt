@@ -1,4 +1,5 @@
-use Rattle.std.proofs.Common.{ap, ◌∙◌, Some}
+use Rattle.pyc_obligations.proofs.Steps.{performing}
+use Rattle.std.proofs.Common.{ap, ◌∙◌, Some, arith, rules}
 use Rattle.pyc_ast.specs.ExprView.{expr_of}
 use Rattle.pyc_ast.specs.Exprs.{at_of}
 use Rattle.pyc_displays.proofs.Parts.{begins_at}
@@ -25,3 +26,11 @@ returns g c =
           ∙ after (judged got want) (λ holds. told_unless holds message) (g.N.Notes.desk c.read.new.notes) _ _ _ _ c.in_ok-holds.ensures.done c.in_ok-tell_list_item_unless.ensures.done);
       grown = grown_trans (grown_trans c.read.ensures.grown c.judged.ensures.grown) c.tell_list_item_unless.ensures.grown;
     }
+
+pub returns-in_err-got : goal.returns-in_err-got
+unfolding value_to
+returns-in_err-got g c = first_of (grind (arith, performing), search rules)
+
+pub returns-in_err-holds : goal.returns-in_err-holds
+unfolding value_to
+returns-in_err-holds g c = first_of (grind (arith, performing), search rules)

@@ -1,4 +1,5 @@
-use Rattle.std.proofs.Common.{map, [], ap}
+use Rattle.pyc_obligations.proofs.Steps.{performing}
+use Rattle.std.proofs.Common.{map, [], ap, arith, rules}
 use Rattle.pyc_ast.specs.ExprView.{element_of}
 use Rattle.pyc_displays.specs.Displays.{set_display, types_of}
 use Rattle.pyc_displays.proofs.Parts.{any_in}
@@ -14,3 +15,7 @@ returns g c = record {
       after (types_of (g.R.Reader.reads c.args.reader.now) [] (map element_of c.args.items.now)) (λ types. Done any) (g.N.Notes.desk c.args.notes.now) _ _ _ _ c.in_ok-read_types.ensures.done (ap (λ ty. (ty, g.N.Notes.desk c.read_types.new.notes)) any_in);
   grown = c.read_types.ensures.grown;
 }
+
+pub returns-in_err-read_types : goal.returns-in_err-read_types
+unfolding set_display
+returns-in_err-read_types g c = first_of (grind (arith, performing), search rules)

@@ -1,4 +1,5 @@
-use Rattle.std.proofs.Common.{◌≡◌, List, length, map, option_map, Bor, ap, sym, ◌∙◌}
+use Rattle.pyc_obligations.proofs.Steps.{performing}
+use Rattle.std.proofs.Common.{◌≡◌, List, length, map, option_map, Bor, ap, sym, ◌∙◌, arith, rules}
 use Rattle.std.proofs.lemmas.List.{length-map}
 use Rattle.std.specs.List.{list_any}
 use Rattle.pyc_ast.specs.ExprView.{element_of}
@@ -30,3 +31,15 @@ returns g c =
           (ap (λ ty. (ty, g.N.Notes.desk c.read_types.new.notes)) (sym (c.in_ok-tuple.ensures ∙ ap (λ b. tuple_type b (map ty_of c.in_ok-types.types.items)) c.has_starred-is_starred.ensures)));
       grown = c.read_types.ensures.grown;
     }
+
+pub returns-in_err-places : goal.returns-in_err-places
+unfolding tuple_display
+returns-in_err-places g c = first_of (grind (arith, performing), search rules)
+
+pub returns-in_err-types : goal.returns-in_err-types
+unfolding tuple_display
+returns-in_err-types g c = first_of (grind (arith, performing), search rules)
+
+pub returns-in_err-tuple : goal.returns-in_err-tuple
+unfolding tuple_display
+returns-in_err-tuple g c = first_of (grind (arith, performing), search rules)

@@ -1,4 +1,5 @@
-use Rattle.std.proofs.Common.{map, ap, sym, ◌∙◌}
+use Rattle.pyc_obligations.proofs.Steps.{performing}
+use Rattle.std.proofs.Common.{map, ap, sym, ◌∙◌, arith, rules}
 use Rattle.pyc_arguments.specs.Telling.{Shown}
 use Rattle.pyc_ast.specs.ExprView.{expr_of, argument_of}
 use Rattle.pyc_expr_forms.specs.CallValues.{called_value, member_called, shown_attribute}
@@ -25,3 +26,11 @@ returns g c =
           ∙ c.in_ok-ty.ensures.done);
       grown = grown_trans c.attribute_of.ensures.grown c.called_value.ensures.grown;
     }
+
+pub returns-in_err-found : goal.returns-in_err-found
+unfolding member_called
+returns-in_err-found g c = first_of (grind (arith, performing), search rules)
+
+pub returns-in_err-ty : goal.returns-in_err-ty
+unfolding member_called
+returns-in_err-ty g c = first_of (grind (arith, performing), search rules)

@@ -1,4 +1,5 @@
-use Rattle.std.proofs.Common.{map, None}
+use Rattle.pyc_obligations.proofs.Steps.{performing}
+use Rattle.std.proofs.Common.{map, None, arith, rules}
 use Rattle.pyc_arguments.specs.Views.{shown_in}
 use Rattle.pyc_ast.specs.ExprView.{expr_of, argument_of}
 use Rattle.pyc_expr_forms.specs.CallValues.{called_value, plainly_called}
@@ -17,3 +18,11 @@ returns g c =
           after (parts s (expr_of c.args.callee.now) None) (called_value context parts s c.args.at (map argument_of c.args.arguments.now) (shown_in c.args.shown)) (g.N.Notes.desk c.args.notes.now) _ _ _ _ c.in_ok-found.ensures.done c.in_ok-ty.ensures.done;
       grown = grown_trans c.part.ensures.grown c.called_value.ensures.grown;
     }
+
+pub returns-in_err-found : goal.returns-in_err-found
+unfolding plainly_called
+returns-in_err-found g c = first_of (grind (arith, performing), search rules)
+
+pub returns-in_err-ty : goal.returns-in_err-ty
+unfolding plainly_called
+returns-in_err-ty g c = first_of (grind (arith, performing), search rules)

@@ -1,4 +1,5 @@
-use Rattle.std.proofs.Common.{None}
+use Rattle.pyc_obligations.proofs.Steps.{performing}
+use Rattle.std.proofs.Common.{None, arith, rules}
 use Rattle.pyc_ast.specs.ExprView.{expr_of}
 use Rattle.pyc_expr_forms.specs.Names.{attribute_of, attribute_value}
 use Rattle.pyc_places.specs.StateView.{state_of}
@@ -14,3 +15,11 @@ returns g c =
           after (g.P.Parts.parts c.args.parts.now s (expr_of c.args.owner.now) None) (attribute_of s (expr_of c.args.whole.now) c.args.at c.args.name.now) (g.N.Notes.desk c.args.notes.now) _ _ _ _ c.in_ok-owner.ensures.done c.in_ok-value.ensures.done;
       grown = grown_trans c.part.ensures.grown c.attribute_of.ensures.grown;
     }
+
+pub returns-in_err-owner : goal.returns-in_err-owner
+unfolding attribute_value
+returns-in_err-owner g c = first_of (grind (arith, performing), search rules)
+
+pub returns-in_err-value : goal.returns-in_err-value
+unfolding attribute_value
+returns-in_err-value g c = first_of (grind (arith, performing), search rules)

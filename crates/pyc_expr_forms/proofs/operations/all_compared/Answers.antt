@@ -1,4 +1,6 @@
-use Rattle.std.proofs.Common.{◌∙◌}
+use Rattle.pyc_expr_forms.specs.Operations.{all_compared}
+use Rattle.pyc_obligations.proofs.Steps.{performing}
+use Rattle.std.proofs.Common.{◌∙◌, arith, rules}
 use Rattle.pyc_expr_forms.proofs.Turns.{compared_turn}
 use Rattle.pyc_places.specs.StateView.{state_of}
 use Rattle.pyc_reading.proofs.RunLemmas.{grown_trans}
@@ -12,3 +14,7 @@ loop-link-preserved g c = record {
       ∙ c.loop-link.invariant.same;
   grown = grown_trans c.loop-link.invariant.grown c.compared_with.ensures.grown;
 }
+
+pub returns-in_err-left : goal.returns-in_err-left
+unfolding all_compared
+returns-in_err-left g c = first_of (grind (arith, performing), search rules)

@@ -1,4 +1,5 @@
-use Rattle.std.proofs.Common.{◌≡◌, None, ap, refl, ◌∙◌, rules}
+use Rattle.pyc_obligations.proofs.Steps.{performing}
+use Rattle.std.proofs.Common.{◌≡◌, None, ap, refl, ◌∙◌, rules, arith}
 use Rattle.pyc_ast.specs.declared.expr.DictItem.TheFolds.{the_lemmas}
 use Rattle.pyc_ast.specs.Exprs.{Comparison, comparison}
 use Rattle.pyc_ast.specs.ExprView.{expr_of, comparison_of}
@@ -30,3 +31,11 @@ returns g c =
           (after (compared method_called c.args.at operator left right) (λ u. Done right) _ _ _ _ _ c.in_ok-compared.ensures.done refl);
       grown = grown_trans c.type_in.ensures.grown c.compared.ensures.grown;
     }
+
+pub returns-in_err-right : goal.returns-in_err-right
+unfolding compared_with
+returns-in_err-right g c = first_of (grind (arith, performing), search rules)
+
+pub returns-in_err-compared : goal.returns-in_err-compared
+unfolding compared_with
+returns-in_err-compared g c = first_of (grind (arith, performing), search rules)

@@ -1,4 +1,5 @@
-use Rattle.std.proofs.Common.{map, ap, ◌∙◌}
+use Rattle.pyc_obligations.proofs.Steps.{performing}
+use Rattle.std.proofs.Common.{map, ap, ◌∙◌, arith, rules}
 use Rattle.std.proofs.lemmas.List.{map_push}
 use Rattle.pyc_expr_forms.proofs.Turns.{index_turn}
 use Rattle.pyc_places.specs.StateView.{state_of}
@@ -15,3 +16,21 @@ index_types-loop-index-preserved g t c =
           ∙ c.loop-index.invariant.same;
       grown = grown_trans c.loop-index.invariant.grown c.index_type.ensures.grown;
     }
+
+pub indices_type-returns-in_err-types : goal.indices_type-returns-in_err-types
+indices_type-returns-in_err-types g t c = first_of (grind (arith, performing), search rules)
+
+pub indices_type-returns-in_err-ty : goal.indices_type-returns-in_err-ty
+indices_type-returns-in_err-ty g t c = first_of (grind (arith, performing), search rules)
+
+pub indices_type-returns : goal.indices_type-returns
+indices_type-returns g t c = first_of (grind (arith, performing), search rules)
+
+pub index_types-returns-in_err-types : goal.index_types-returns-in_err-types
+index_types-returns-in_err-types g t c = first_of (grind (arith, performing), search rules)
+
+pub index_types-returns-in_err-ty : goal.index_types-returns-in_err-ty
+index_types-returns-in_err-ty g t c = first_of (grind (arith, performing), search rules)
+
+pub index_types-returns-in_err-push : goal.index_types-returns-in_err-push
+index_types-returns-in_err-push g t c = first_of (grind (arith, performing), search rules)

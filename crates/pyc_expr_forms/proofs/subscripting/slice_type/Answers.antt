@@ -1,4 +1,5 @@
-use Rattle.std.proofs.Common.{ap}
+use Rattle.pyc_obligations.proofs.Steps.{performing}
+use Rattle.std.proofs.Common.{ap, arith, rules}
 use Rattle.pyc_ast.specs.ExprView.{optional_of}
 use Rattle.pyc_calls.proofs.Kept.{any_in}
 use Rattle.pyc_expr_forms.specs.Subscripting.{optional_read, slice_type}
@@ -21,3 +22,11 @@ returns g c =
           (after (read step) (λ w. Done any) _ _ _ _ _ c.in_ok-optional_read-3.ensures.done (ap (λ ty. (ty, g.N.Notes.desk c.optional_read-3.new.notes)) any_in)));
       grown = grown_trans (grown_trans c.optional_read.ensures.grown c.optional_read-2.ensures.grown) c.optional_read-3.ensures.grown;
     }
+
+pub returns-in_err-optional_read : goal.returns-in_err-optional_read
+unfolding slice_type
+returns-in_err-optional_read g c = first_of (grind (arith, performing), search rules)
+
+pub returns-in_err-optional_read-2 : goal.returns-in_err-optional_read-2
+unfolding slice_type
+returns-in_err-optional_read-2 g c = first_of (grind (arith, performing), search rules)

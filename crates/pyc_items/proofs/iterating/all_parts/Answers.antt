@@ -1,4 +1,5 @@
-use Rattle.std.proofs.Common.{◌∷◌, [], ◌++◌, map, sym, ◌∙◌, refl}
+use Rattle.pyc_items.proofs.Steps.{performing}
+use Rattle.std.proofs.Common.{◌∷◌, [], ◌++◌, map, sym, ◌∙◌, refl, arith, rules}
 use Rattle.std.proofs.lemmas.List.{map-append}
 use Rattle.pyc_items.specs.Iteration.{more_parts, union_part}
 use Rattle.pyc_reading.proofs.RunLemmas.{one_turn, grown_trans}
@@ -18,3 +19,15 @@ loop-item-preserved g c =
           ∙ c.loop-item.invariant.same);
       grown = grown_trans c.loop-item.invariant.grown c.union_part.ensures.grown;
     }
+
+pub returns-in_err-found : goal.returns-in_err-found
+unfolding more_parts
+returns-in_err-found g c = first_of (grind (arith, performing), search rules)
+
+pub returns-in_err-part : goal.returns-in_err-part
+unfolding more_parts
+returns-in_err-part g c = first_of (grind (arith, performing), search rules)
+
+pub returns-in_err-push : goal.returns-in_err-push
+unfolding more_parts
+returns-in_err-push g c = first_of (grind (arith, performing), search rules)

@@ -1,4 +1,5 @@
-use Rattle.std.proofs.Common.{map, sym, ◌∙◌, refl}
+use Rattle.pyc_items.proofs.Steps.{performing}
+use Rattle.std.proofs.Common.{map, sym, ◌∙◌, refl, arith, rules}
 use Rattle.pyc_ast.specs.ExprView.{index_of}
 use Rattle.pyc_items.specs.OwnerView.{items_in}
 use Rattle.pyc_items.specs.Subscripts.{more_items, item_of, with_item}
@@ -20,3 +21,15 @@ loop-ty-preserved g c =
           ∙ c.loop-ty.invariant.same);
       grown = grown_trans c.loop-ty.invariant.grown c.item_of.ensures.grown;
     }
+
+pub returns-in_err-with_capacity : goal.returns-in_err-with_capacity
+unfolding more_items
+returns-in_err-with_capacity g c = first_of (grind (arith, performing), search rules)
+
+pub returns-in_err-item : goal.returns-in_err-item
+unfolding more_items
+returns-in_err-item g c = first_of (grind (arith, performing), search rules)
+
+pub returns-in_err-push_item : goal.returns-in_err-push_item
+unfolding more_items
+returns-in_err-push_item g c = first_of (grind (arith, performing), search rules)

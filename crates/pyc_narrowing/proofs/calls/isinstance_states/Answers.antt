@@ -1,3 +1,5 @@
+use Rattle.pyc_obligations.proofs.Steps.{performing}
+use Rattle.std.proofs.Common.{arith, rules}
 use Rattle.pyc_ast.specs.ExprView.{expr_of}
 use Rattle.pyc_narrowing.specs.Splitting.{looked, classes_at, test_by, isinstance_rule}
 use Rattle.pyc_places.specs.StateView.{state_of}
@@ -18,3 +20,11 @@ returns g c =
           (after classes (test_by s c.args.place.now (ty_of c.in_ok-found.found.ty)) _ _ _ _ _ c.in_ok-classes.ensures.done c.in_ok-states.ensures.done);
       grown = grown_trans (grown_trans c.looked.ensures.grown c.classes_at.ensures.grown) c.test_by.ensures.grown;
     }
+
+pub returns-in_err-found : goal.returns-in_err-found
+unfolding isinstance_rule
+returns-in_err-found g c = first_of (grind (arith, performing), search rules)
+
+pub returns-in_err-classes : goal.returns-in_err-classes
+unfolding isinstance_rule
+returns-in_err-classes g c = first_of (grind (arith, performing), search rules)

@@ -1,4 +1,5 @@
-use Rattle.std.proofs.Common.{◌∙◌, sym, refl}
+use Rattle.pyc_obligations.proofs.Steps.{performing}
+use Rattle.std.proofs.Common.{◌∙◌, sym, refl, arith, rules}
 use Rattle.pyc_obligations.specs.Judging.{class_asked, classes_asked}
 use Rattle.pyc_reading.proofs.RunLemmas.{one_turn, grown_trans}
 use Rattle.pyc_narrowing.proofs.classes.ask_classes.Goals as goal
@@ -10,3 +11,6 @@ loop-class-preserved g c = record {
       ∙ c.loop-class.invariant.same;
   grown = grown_trans c.loop-class.invariant.grown c.ask_class.ensures.grown;
 }
+
+pub returns-in_err-ask_class : goal.returns-in_err-ask_class
+returns-in_err-ask_class g c = first_of (grind (arith, performing), search rules)

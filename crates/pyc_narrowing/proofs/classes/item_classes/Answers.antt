@@ -1,4 +1,6 @@
-use Rattle.std.proofs.Common.{◌∙◌, ap, sym}
+use Rattle.pyc_narrowing.specs.Splitting.{more_classes}
+use Rattle.pyc_obligations.proofs.Steps.{performing}
+use Rattle.std.proofs.Common.{◌∙◌, ap, sym, arith, rules}
 use Rattle.pyc_narrowing.proofs.Turns.{class_turn, last_turn}
 use Rattle.pyc_places.specs.StateView.{state_of}
 use Rattle.pyc_reading.proofs.RunLemmas.{grown_trans}
@@ -21,3 +23,15 @@ returns-in-None g c = record {
       (c.in_ok-class.ensures.done ∙ ap (λ class. (class, g.N.Notes.desk c.item_class.new.notes)) c.in-None.is);
   grown = grown_trans c.loop-item.invariant.grown c.item_class.ensures.grown;
 }
+
+pub returns-in_err-classes : goal.returns-in_err-classes
+unfolding more_classes
+returns-in_err-classes g c = first_of (grind (arith, performing), search rules)
+
+pub returns-in_err-class : goal.returns-in_err-class
+unfolding more_classes
+returns-in_err-class g c = first_of (grind (arith, performing), search rules)
+
+pub returns-in_err-push-in-Some : goal.returns-in_err-push-in-Some
+unfolding more_classes
+returns-in_err-push-in-Some g c = first_of (grind (arith, performing), search rules)

@@ -1,10 +1,10 @@
-use Rattle.std.proofs.Common.{◌≡◌, ◌∙◌, ap, sym, rules}
+use Rattle.std.proofs.Common.{◌≡◌, ◌∙◌, ap, sym, rules, arith}
 use Rattle.pyc_ast.specs.declared.expr.DictItem.TheFolds.{the_lemmas}
 use Rattle.pyc_ast.specs.declared.expr.Expr.{Expr as ExprOf}
 use Rattle.pyc_ast.specs.Exprs.{Form, unary, boolean}
 use Rattle.pyc_ast.specs.ExprView.{expr_of, form_of}
-use Rattle.pyc_narrowing.specs.Splitting.{split, form_rule, unary_rule, boolean_rule, right_rule}
-use Rattle.pyc_obligations.proofs.Steps.{performs_same}
+use Rattle.pyc_narrowing.specs.Splitting.{split, form_rule, unary_rule, boolean_rule, right_rule, not_rule, and_right, or_right}
+use Rattle.pyc_obligations.proofs.Steps.{performs_same, performing}
 use Rattle.pyc_reading.proofs.RunLemmas.{after, grown_trans}
 use Rattle.pyc_reading.specs.Desks.{run}
 use Rattle.pyc_places.specs.StateView.{state_of}
@@ -35,3 +35,35 @@ split_form-returns-in_ok-states-in-Boolean g t c =
           ∙ after (split look s left) (right_rule operator (λ state. split look state right)) desk _ _ _ _ c.in_ok-first-in-Boolean.ensures.done c.in_ok-states-in-Boolean.ensures.done;
       grown = grown_trans c.split.ensures.grown c.split_right.ensures.grown;
     }
+
+pub split_not-returns-in_err-states : goal.split_not-returns-in_err-states
+unfolding not_rule
+split_not-returns-in_err-states g t c = first_of (grind (arith, performing), search rules)
+
+pub split_not-returns : goal.split_not-returns
+unfolding not_rule
+split_not-returns g t c = first_of (grind (arith, performing), search rules)
+
+pub split_and_right-returns-in_err-second : goal.split_and_right-returns-in_err-second
+unfolding and_right
+split_and_right-returns-in_err-second g t c = first_of (grind (arith, performing), search rules)
+
+pub split_and_right-returns-in_err-states : goal.split_and_right-returns-in_err-states
+unfolding and_right
+split_and_right-returns-in_err-states g t c = first_of (grind (arith, performing), search rules)
+
+pub split_and_right-returns : goal.split_and_right-returns
+unfolding and_right
+split_and_right-returns g t c = first_of (grind (arith, performing), search rules)
+
+pub split_or_right-returns-in_err-second : goal.split_or_right-returns-in_err-second
+unfolding or_right
+split_or_right-returns-in_err-second g t c = first_of (grind (arith, performing), search rules)
+
+pub split_or_right-returns-in_err-states : goal.split_or_right-returns-in_err-states
+unfolding or_right
+split_or_right-returns-in_err-states g t c = first_of (grind (arith, performing), search rules)
+
+pub split_or_right-returns : goal.split_or_right-returns
+unfolding or_right
+split_or_right-returns g t c = first_of (grind (arith, performing), search rules)

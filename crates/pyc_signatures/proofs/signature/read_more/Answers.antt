@@ -1,4 +1,5 @@
-use Rattle.std.proofs.Common.{◌≡◌, ◌∷◌, [], ◌++◌, map, sym, ap, ◌∙◌, refl}
+use Rattle.pyc_signatures.proofs.Steps.{performing}
+use Rattle.std.proofs.Common.{◌≡◌, ◌∷◌, [], ◌++◌, map, sym, ap, ◌∙◌, refl, arith, rules}
 use Rattle.std.proofs.lemmas.List.{map-append}
 use Rattle.pyc_ast.specs.StatementView.{parameter_of}
 use Rattle.pyc_names.specs.SourceFileView.{source_in}
@@ -20,3 +21,11 @@ loop-parameter-preserved g c =
           ∙ c.loop-parameter.invariant.same);
       grown = grown_trans c.loop-parameter.invariant.grown c.read_later_parameter.ensures.grown;
     }
+
+pub returns-in_err-param : goal.returns-in_err-param
+unfolding more_params
+returns-in_err-param g c = first_of (grind (arith, performing), search rules)
+
+pub returns-in_err-push : goal.returns-in_err-push
+unfolding more_params
+returns-in_err-push g c = first_of (grind (arith, performing), search rules)

@@ -1,4 +1,4 @@
-use Rattle.std.proofs.Common.{◌≡◌, refl, Ok, Err}
+use Rattle.std.proofs.Common.{◌≡◌, refl, Ok, Err, arith, rules}
 use Rattle.pyc_build.specs.declared.built.Built.{Built}
 use Rattle.pyc_tree.specs.Parser.{made}
 use Rattle.pyc_tree.specs.Tree as tree
@@ -35,3 +35,9 @@ returns g c =
     let only = tree.argument (tree_of c.in_ok-generator.generator.expr.value) in
     let two = ReadsTokens_made Built view only (made only ts) (Ok c.in_ok-only.only) ts c.in_ok-only.ensures refl in
     ReadsTokens_made Built view _ _ c.call.result ts c.call.ensures (rw (c.in_ok-comprehensions.ensures, c.in_ok-closing.ensures, one, two, c.closed-arguments.ensures, c.new.ensures) refl)
+
+pub returns-in_err-comprehensions : goal.returns-in_err-comprehensions
+returns-in_err-comprehensions g c = first_of (grind (arith, ReadsTokens_made), search rules)
+
+pub returns-in_err-closing : goal.returns-in_err-closing
+returns-in_err-closing g c = first_of (grind (arith, ReadsTokens_made), search rules)

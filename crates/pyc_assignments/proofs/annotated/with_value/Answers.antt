@@ -1,0 +1,16 @@
+use Rattle.pyc_assignments.specs.Assignments.{with_value}
+use Rattle.pyc_obligations.proofs.Steps.{performing}
+use Rattle.std.proofs.Common.{arith, rules}
+use Rattle.pyc_assignments.proofs.annotated.with_value.Goals as goal
+
+pub returns-in_err-early : goal.returns-in_err-early
+unfolding with_value
+returns-in_err-early g c = first_of (grind (arith, performing), search rules)
+
+pub returns-in_err-state : goal.returns-in_err-state
+unfolding with_value
+returns-in_err-state g c = first_of (grind (arith, performing), search rules)
+
+pub returns : goal.returns
+unfolding with_value
+returns g c = first_of (grind (arith, performing), search rules)

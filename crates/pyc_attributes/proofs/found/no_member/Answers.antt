@@ -1,0 +1,12 @@
+use Rattle.pyc_attributes.proofs.Steps.{performing}
+use Rattle.std.proofs.Common.{arith, rules}
+use Rattle.pyc_attributes.proofs.found.no_member.Goals as goal
+
+pub returns-in_err-is_unknown : goal.returns-in_err-is_unknown
+returns-in_err-is_unknown g c = first_of (grind (arith, performing), search rules)
+
+pub returns-in_err-attribute : goal.returns-in_err-attribute
+returns-in_err-attribute g c = first_of (grind (arith, performing), search rules)
+
+pub returns-in_ok-attribute : goal.returns-in_ok-attribute
+returns-in_ok-attribute g c = first_of (grind (arith, performing), search rules)

@@ -1,0 +1,12 @@
+use Rattle.pyc_attributes.specs.AttributeValues.{no_attribute}
+use Rattle.pyc_attributes.proofs.Steps.{performing}
+use Rattle.std.proofs.Common.{arith, rules}
+use Rattle.pyc_attributes.proofs.messages.no_attribute.Goals as goal
+
+pub returns-in_err-text : goal.returns-in_err-text
+unfolding no_attribute
+returns-in_err-text g c = first_of (grind (arith, performing), search rules)
+
+pub returns-in_err-tell_error : goal.returns-in_err-tell_error
+unfolding no_attribute
+returns-in_err-tell_error g c = first_of (grind (arith, performing), search rules)

@@ -1,0 +1,20 @@
+use Rattle.pyc_attributes.specs.AttributeValues.{no_item_attribute}
+use Rattle.pyc_attributes.proofs.Steps.{performing}
+use Rattle.std.proofs.Common.{arith, rules}
+use Rattle.pyc_attributes.proofs.messages.no_item_attribute.Goals as goal
+
+pub returns-in_err-item : goal.returns-in_err-item
+unfolding no_item_attribute
+returns-in_err-item g c = first_of (grind (arith, performing), search rules)
+
+pub returns-in_err-whole : goal.returns-in_err-whole
+unfolding no_item_attribute
+returns-in_err-whole g c = first_of (grind (arith, performing), search rules)
+
+pub returns-in_err-text : goal.returns-in_err-text
+unfolding no_item_attribute
+returns-in_err-text g c = first_of (grind (arith, performing), search rules)
+
+pub returns-in_err-tell_error : goal.returns-in_err-tell_error
+unfolding no_item_attribute
+returns-in_err-tell_error g c = first_of (grind (arith, performing), search rules)

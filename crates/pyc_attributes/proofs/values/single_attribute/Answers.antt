@@ -1,0 +1,16 @@
+use Rattle.pyc_attributes.specs.AttributeValues.{single_attribute}
+use Rattle.pyc_attributes.proofs.Steps.{performing}
+use Rattle.std.proofs.Common.{arith, rules}
+use Rattle.pyc_attributes.proofs.values.single_attribute.Goals as goal
+
+pub returns-in_err-found : goal.returns-in_err-found
+unfolding single_attribute
+returns-in_err-found g c = first_of (grind (arith, performing), search rules)
+
+pub returns-in_err-value : goal.returns-in_err-value
+unfolding single_attribute
+returns-in_err-value g c = first_of (grind (arith, performing), search rules)
+
+pub returns : goal.returns
+unfolding single_attribute
+returns g c = first_of (grind (arith, performing), search rules)

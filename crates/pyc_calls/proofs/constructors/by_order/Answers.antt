@@ -1,0 +1,16 @@
+use Rattle.pyc_calls.specs.Constructors.{by_order}
+use Rattle.pyc_obligations.proofs.Steps.{performing}
+use Rattle.std.proofs.Common.{arith, rules}
+use Rattle.pyc_calls.proofs.constructors.by_order.Goals as goal
+
+pub returns-in_err-found : goal.returns-in_err-found
+unfolding by_order
+returns-in_err-found g c = first_of (grind (arith, performing), search rules)
+
+pub returns-in_err-constructor : goal.returns-in_err-constructor
+unfolding by_order
+returns-in_err-constructor g c = first_of (grind (arith, performing), search rules)
+
+pub returns : goal.returns
+unfolding by_order
+returns g c = first_of (grind (arith, performing), search rules)

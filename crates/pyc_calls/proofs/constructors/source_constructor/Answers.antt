@@ -1,0 +1,15 @@
+use Rattle.pyc_obligations.proofs.Steps.{performing}
+use Rattle.std.proofs.Common.{arith, rules}
+use Rattle.pyc_calls.proofs.constructors.source_constructor.Goals as goal
+
+pub returns-in_err-clone : goal.returns-in_err-clone
+returns-in_err-clone g c = first_of (grind (arith, performing), search rules)
+
+pub returns-in_err-answer : goal.returns-in_err-answer
+returns-in_err-answer g c = first_of (grind (arith, performing), search rules)
+
+pub returns-in_err-found : goal.returns-in_err-found
+returns-in_err-found g c = first_of (grind (arith, performing), search rules)
+
+pub returns : goal.returns
+returns g c = first_of (grind (arith, performing), search rules)

@@ -1,0 +1,16 @@
+use Rattle.pyc_calls.specs.Called.{refused}
+use Rattle.pyc_obligations.proofs.Steps.{performing}
+use Rattle.std.proofs.Common.{arith, rules}
+use Rattle.pyc_calls.proofs.plain_calls.refused.Goals as goal
+
+pub returns-in_err-read_all : goal.returns-in_err-read_all
+unfolding refused
+returns-in_err-read_all g c = first_of (grind (arith, performing), search rules)
+
+pub returns-in_err-told : goal.returns-in_err-told
+unfolding refused
+returns-in_err-told g c = first_of (grind (arith, performing), search rules)
+
+pub returns : goal.returns
+unfolding refused
+returns g c = first_of (grind (arith, performing), search rules)

@@ -1,0 +1,16 @@
+use Rattle.pyc_displays.specs.Displays.{free_list}
+use Rattle.pyc_obligations.proofs.Steps.{performing}
+use Rattle.std.proofs.Common.{arith, rules}
+use Rattle.pyc_displays.proofs.lists.free_list.Goals as goal
+
+pub returns-in_err-types : goal.returns-in_err-types
+unfolding free_list
+returns-in_err-types g c = first_of (grind (arith, performing), search rules)
+
+pub returns-in_err-list : goal.returns-in_err-list
+unfolding free_list
+returns-in_err-list g c = first_of (grind (arith, performing), search rules)
+
+pub returns : goal.returns
+unfolding free_list
+returns g c = first_of (grind (arith, performing), search rules)

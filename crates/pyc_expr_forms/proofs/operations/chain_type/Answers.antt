@@ -1,0 +1,12 @@
+use Rattle.pyc_expr_forms.specs.Operations.{chain_type}
+use Rattle.pyc_obligations.proofs.Steps.{performing}
+use Rattle.std.proofs.Common.{arith, rules}
+use Rattle.pyc_expr_forms.proofs.operations.chain_type.Goals as goal
+
+pub returns-in_err-all_compared : goal.returns-in_err-all_compared
+unfolding chain_type
+returns-in_err-all_compared g c = first_of (grind (arith, performing), search rules)
+
+pub returns : goal.returns
+unfolding chain_type
+returns g c = first_of (grind (arith, performing), search rules)

@@ -1,0 +1,16 @@
+use Rattle.pyc_expr_forms.specs.Operations.{with_right}
+use Rattle.pyc_obligations.proofs.Steps.{performing}
+use Rattle.std.proofs.Common.{arith, rules}
+use Rattle.pyc_expr_forms.proofs.operations.with_right.Goals as goal
+
+pub returns-in_err-right : goal.returns-in_err-right
+unfolding with_right
+returns-in_err-right g c = first_of (grind (arith, performing), search rules)
+
+pub returns-in_err-ty : goal.returns-in_err-ty
+unfolding with_right
+returns-in_err-ty g c = first_of (grind (arith, performing), search rules)
+
+pub returns : goal.returns
+unfolding with_right
+returns g c = first_of (grind (arith, performing), search rules)

@@ -1,0 +1,16 @@
+use Rattle.pyc_items.specs.Owners.{asked_owner}
+use Rattle.pyc_items.proofs.Steps.{performing}
+use Rattle.std.proofs.Common.{arith, rules}
+use Rattle.pyc_items.proofs.owners.asked_owner.Goals as goal
+
+pub returns-in_err-found : goal.returns-in_err-found
+unfolding asked_owner
+returns-in_err-found g c = first_of (grind (arith, performing), search rules)
+
+pub returns-in_err-owner : goal.returns-in_err-owner
+unfolding asked_owner
+returns-in_err-owner g c = first_of (grind (arith, performing), search rules)
+
+pub returns : goal.returns
+unfolding asked_owner
+returns g c = first_of (grind (arith, performing), search rules)

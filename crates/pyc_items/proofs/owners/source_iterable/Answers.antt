@@ -1,0 +1,20 @@
+use Rattle.pyc_items.specs.Owners.{source_iterable}
+use Rattle.pyc_items.proofs.Steps.{performing}
+use Rattle.std.proofs.Common.{arith, rules}
+use Rattle.pyc_items.proofs.owners.source_iterable.Goals as goal
+
+pub returns-in_err-clone : goal.returns-in_err-clone
+unfolding source_iterable
+returns-in_err-clone g c = first_of (grind (arith, performing), search rules)
+
+pub returns-in_err-answer : goal.returns-in_err-answer
+unfolding source_iterable
+returns-in_err-answer g c = first_of (grind (arith, performing), search rules)
+
+pub returns-in_err-found : goal.returns-in_err-found
+unfolding source_iterable
+returns-in_err-found g c = first_of (grind (arith, performing), search rules)
+
+pub returns : goal.returns
+unfolding source_iterable
+returns g c = first_of (grind (arith, performing), search rules)

@@ -1,0 +1,20 @@
+use Rattle.pyc_items.specs.Subscripts.{subscript}
+use Rattle.pyc_items.proofs.Steps.{performing}
+use Rattle.std.proofs.Common.{arith, rules}
+use Rattle.pyc_items.proofs.subscripts.subscript.Goals as goal
+
+pub returns-in_err-types : goal.returns-in_err-types
+unfolding subscript
+returns-in_err-types g c = first_of (grind (arith, performing), search rules)
+
+pub returns-in_err-found : goal.returns-in_err-found
+unfolding subscript
+returns-in_err-found g c = first_of (grind (arith, performing), search rules)
+
+pub returns-in_err-given : goal.returns-in_err-given
+unfolding subscript
+returns-in_err-given g c = first_of (grind (arith, performing), search rules)
+
+pub returns : goal.returns
+unfolding subscript
+returns g c = first_of (grind (arith, performing), search rules)
