@@ -11,10 +11,11 @@ edited functions alone, with the proofs of the others left open. A proof reads w
 bodies, so an edit of one body leaves the proof of another as it was, and wants none of it: an edit counts as refused in such a
 check only where the prover says of that very function that it is not proved. One whose function is still proved is tried alone,
 in a check of the whole crate. One of whose function the prover says nothing, since it calls another edited one, is tried in the
-next check, at last alone. An edit of what is stated, or of what several functions read, has a line `refuses: FUNCTION`: it is
-tried in a check of that function, with others of such a line where no function of theirs reads a file that another of them
-changes. The checks of a crate run one after another over what the earlier ones kept, so that the first alone reads what is
-stated in it.
+next check, at last alone. One that takes away a place which an answer names that only lists lemmas (`first_of (grind ..`) is
+tried again without such answers, over which the prover looks for a proof by itself. An edit of what is stated, or of what
+several functions read, has a line `refuses: FUNCTION`: it is tried in a check of that function, with others of such a line where
+no function of theirs reads a file that another of them changes. The checks of a crate run one after another over what the
+earlier ones kept, so that the first alone reads what is stated in it.
 
 `RT_JOBS` says how many checks run side by side, 4 where it is not set. The last line is `edits: N passed, M failed`."""
 
@@ -39,6 +40,8 @@ UNREAD = (
     r".*(is not in scope|has no field|is no name|operand is missing|expected the end|cannot continue)"
 )
 PARTS = ("src", "specs", "proofs")
+# An answer that only lists the lemmas by which the prover is to find a proof.
+LISTED = r"(?m)^pub (\S+) : goal\.\1\n(?:unfolding .*\n)?\1 (?:g )?(?:t )?c = first_of \(grind .*, search rules\)\n+"
 # The most checks beside an `rt ci` that still runs, for the memory that they take.
 BESIDE = 3
 
@@ -183,8 +186,9 @@ class Trial:
         self.folder, self.room, self.checks = ROOT / "crates" / name, room, 0
         self.library = built / name / "out" / "rlib" / f"{name}.rlib"
 
-    def check(self, edits, only):
-        """Checks a copy of the crate with these edits, and returns the status and what the prover said."""
+    def check(self, edits, only, bare=False):
+        """Checks a copy of the crate with these edits, and returns the status and what the prover said; a bare copy is without
+        the answers that only list lemmas."""
         self.checks += 1
         copy = Path(tempfile.mkdtemp(dir=self.room))
         for part in PARTS:
@@ -192,6 +196,8 @@ class Trial:
                 shutil.copytree(self.folder / part, copy / part)
         for it in edits:
             it.applied(copy)
+        if bare:
+            strip_answers(copy)
         holes = leave_open(self.library, self.name, copy, only) if only else []
         asked = [word for it in sorted(only) for word in ("--only", it)]
         command = [*self.words, "--incremental", self.kept, *asked, *holes]
@@ -203,11 +209,11 @@ class Trial:
         shutil.rmtree(copy)
         return ran.returncode, ran.stdout
 
-    def together(self, edits):
+    def together(self, edits, bare=False):
         """Tries edits of bodies in one check, and returns those that were refused, each with what was said."""
         if not edits:
             return {}
-        status, said = self.check(edits, {it.place[3] for it in edits})
+        status, said = self.check(edits, {it.place[3] for it in edits}, bare)
         if status == 2:
             print(f"edits: {self.name}: {said.rstrip().splitlines()[-1]}", flush=True)
         return {it: why for it in edits if status == 1 and (why := refusal(it, said, files_read(it) if it.refuses else ()))}
@@ -215,10 +221,10 @@ class Trial:
     def alone(self, edit):
         """Tries one edit, on the function that it names or on the whole crate, and returns why it is refused, or None."""
         if edit.refuses and edit.place:
-            status, said = self.check([edit], {edit.place[3]})
+            status, said = self.check([edit], {edit.place[3]}, True)
             if status == 1 and not re.search(UNREAD, said) and (why := refusal(edit, said)):
                 return why
-        status, said = self.check([edit], set())
+        status, said = self.check([edit], set(), True)
         if status != 1 or not said.rstrip("\n").split("\n")[-1].startswith("logic=not-proved") or re.search(UNREAD, said):
             return None
         told = re.findall(TOLD, said)
@@ -245,9 +251,10 @@ class Trial:
         for part in apart([it for it in self.left if it.refuses]):
             for it, why in self.together(part).items() if len(part) > 1 else ():
                 self.judge(it, why)
-        while refused := self.together(one_a_function(self.left)):
-            for it, why in refused.items():
-                self.judge(it, why)
+        for bare in (False, True):
+            while refused := self.together(one_a_function(self.left), bare):
+                for it, why in refused.items():
+                    self.judge(it, why)
         for it in [*self.left]:
             self.judge(it, self.alone(it))
         shutil.rmtree(self.kept, ignore_errors=True)
@@ -255,6 +262,17 @@ class Trial:
         print("\n".join(self.said), flush=True)
         print(f"edits: {self.name}: {len(self.edits)} in {self.checks} checks, {took:.0f} s", flush=True)
         return len(self.edits) - self.failed, self.failed
+
+
+def strip_answers(copy):
+    """Takes the answers that only list lemmas out of the proofs of a copy of a crate."""
+    for file in copy.glob("proofs/**/Answers.antt"):
+        text = file.read_text(encoding="utf-8")
+        left = re.sub(LISTED, "", text)
+        if not re.search(r"(?m)^pub ", left):
+            file.unlink()
+        elif left != text:
+            file.write_text(left.rstrip("\n") + "\n", encoding="utf-8")
 
 
 def leave_open(library, name, copy, edited):
