@@ -32,8 +32,9 @@ from pathlib import Path
 
 ROOT = Path(__file__).resolve().parents[2]
 KIT = Path(shutil.which("rt")).resolve().parents[1]
-# What a proof says that names what an edit took away, which speaks of no contract, and what a text says that cannot be read.
-NOT_OF_THE_CONTRACT = r"(note: )?(\./)?proofs/.*(has no field|is not in scope|has no `|was not admitted)"
+# What a proof says that names what an edit took away, or of a proof that was left open, which speaks of no contract, and what a
+# text says that cannot be read.
+NOT_OF_THE_CONTRACT = r"(note: )?(\./)?proofs/.*(has no field|is not in scope|has no `|was not admitted|has-holes)"
 TOLD = r"(?m)^(?:note: )?\S+:\d+:\d+: .*$"
 UNREAD = (
     r"(?m)^(?:\./)?(src|specs)/\S+: error: "
@@ -210,13 +211,22 @@ class Trial:
         return ran.returncode, ran.stdout
 
     def together(self, edits, bare=False):
-        """Tries edits of bodies in one check, and returns those that were refused, each with what was said."""
-        if not edits:
-            return {}
+        """Tries edits in one check, and judges those that are refused. Returns those of which the check says nothing."""
         status, said = self.check(edits, {it.place[3] for it in edits}, bare)
         if status == 2:
             print(f"edits: {self.name}: {said.rstrip().splitlines()[-1]}", flush=True)
-        return {it: why for it in edits if status == 1 and (why := refusal(it, said, files_read(it) if it.refuses else ()))}
+        for it in edits:
+            if status == 1 and (why := refusal(it, said, files_read(it) if it.refuses else ())):
+                self.judge(it, why)
+        return [it for it in edits if not verdict(it, said)]
+
+    def in_turn(self, edits, bare=False):
+        """Tries edits of bodies in checks, each with one edit of a function, and with what the check before passed over."""
+        while part := one_a_function(edits):
+            passed_over = self.together(part, bare)
+            if len(passed_over) == len(part):
+                break
+            edits = [it for it in edits if it not in part or it in passed_over]
 
     def alone(self, edit):
         """Tries one edit, on the function that it names or on the whole crate, and returns why it is refused, or None."""
@@ -249,12 +259,10 @@ class Trial:
             self.judge(it, None)
             self.said.append(f"{self.name}/{it.path.name}: BAD EDIT: {it.fault}")
         for part in apart([it for it in self.left if it.refuses]):
-            for it, why in self.together(part).items() if len(part) > 1 else ():
-                self.judge(it, why)
-        for bare in (False, True):
-            while refused := self.together(one_a_function(self.left), bare):
-                for it, why in refused.items():
-                    self.judge(it, why)
+            if len(part) > 1 and part[0].place:
+                self.together(part)
+        self.in_turn([*self.left])
+        self.in_turn([it for it in self.left if it.is_body and it.place and has_listing(self.folder, it)], True)
         for it in [*self.left]:
             self.judge(it, self.alone(it))
         shutil.rmtree(self.kept, ignore_errors=True)
@@ -262,6 +270,13 @@ class Trial:
         print("\n".join(self.said), flush=True)
         print(f"edits: {self.name}: {len(self.edits)} in {self.checks} checks, {took:.0f} s", flush=True)
         return len(self.edits) - self.failed, self.failed
+
+
+def has_listing(folder, edit):
+    """Returns whether the proof of an edit's function, or of its cycle of calls, has an answer that only lists lemmas."""
+    name = edit.place[3].split("::")[-1]
+    files = [*folder.glob(f"proofs/**/{name}/Answers.antt"), *folder.glob("proofs/**/+*/Answers.antt")]
+    return any(re.search(LISTED, it.read_text(encoding="utf-8")) for it in files)
 
 
 def strip_answers(copy):
@@ -337,7 +352,9 @@ def cycles_of(folder):
 def verdict(edit, said):
     """Returns what a check says of an edit's function, or "" where it says nothing or passes it over for one that it calls."""
     found = re.search(rf"(?m)^fn \S*\b{re.escape(edit.place[3])}: (.*)$", said)
-    is_passed_over = found and "it calls" in found[1] and "did not prove" not in found[1]
+    # (what the prover refuses of the function itself it names beside what the function calls)
+    of_its_own = found and re.search(rf"\.{re.escape(edit.place[3].split('::')[-1])}\.\w+\.[^`]*`.* which antt refuses", found[1])
+    is_passed_over = found and "it calls" in found[1] and "did not prove" not in found[1] and not of_its_own
     return found[1] if found and not is_passed_over else ""
 
 
