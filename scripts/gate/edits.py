@@ -34,7 +34,7 @@ ROOT = Path(__file__).resolve().parents[2]
 KIT = Path(shutil.which("rt")).resolve().parents[1]
 # What a proof says that names what an edit took away, or of a proof that was left open, which speaks of no contract, and what a
 # text says that cannot be read.
-NOT_OF_THE_CONTRACT = r"(note: )?(\./)?proofs/.*(has no field|is not in scope|has no `|was not admitted|has-holes)"
+NOT_OF_THE_CONTRACT = r"(note: )?(\./)?proofs/.*(has no field|is not in scope|has no `|was not admitted|has-holes|large solution)"
 TOLD = r"(?m)^(?:note: )?\S+:\d+:\d+: .*$"
 UNREAD = (
     r"(?m)^(?:\./)?(src|specs)/\S+: error: "
@@ -366,7 +366,10 @@ def refusal(edit, said, files=None):
         return None
     for it in re.findall(TOLD, said):
         where, line = re.match(r"(?:note: )?(?:\./)?(\S+?):(\d+):", it).groups()
-        is_own = where == file and begin <= int(line) <= end or f"/{name.split('::')[-1]}/" in where
+        last = name.split("::")[-1]
+        # (the proof of a cycle of calls names the function in its goals)
+        in_cycle = re.search(r"/\+\w+/", where) and f"`{last}-" in it
+        is_own = where == file and begin <= int(line) <= end or f"/{last}/" in where or in_cycle
         is_read = edit.refuses if files is None else where in files
         if (is_own or is_read) and not re.match(NOT_OF_THE_CONTRACT, it):
             return it
