@@ -353,7 +353,8 @@ def verdict(edit, said):
     """Returns what a check says of an edit's function, or "" where it says nothing or passes it over for one that it calls."""
     found = re.search(rf"(?m)^fn \S*\b{re.escape(edit.place[3])}: (.*)$", said)
     # (what the prover refuses of the function itself it names beside what the function calls)
-    of_its_own = found and re.search(rf"\.{re.escape(edit.place[3].split('::')[-1])}\.\w+\.[^`]*`.* which antt refuses", found[1])
+    own = re.escape(edit.place[3].replace("::", "."))
+    of_its_own = found and re.search(rf"\.{own}\.\w+\.[^`]*`.* which antt refuses", found[1])
     is_passed_over = found and "it calls" in found[1] and "did not prove" not in found[1] and not of_its_own
     return found[1] if found and not is_passed_over else ""
 
@@ -369,7 +370,8 @@ def refusal(edit, said, files=None):
         last = name.split("::")[-1]
         # (the proof of a cycle of calls names the function in its goals)
         in_cycle = re.search(r"/\+\w+/", where) and f"`{last}-" in it
-        is_own = where == file and begin <= int(line) <= end or f"/{last}/" in where or in_cycle
+        in_proof = f"/{name.replace('::', '/')}/" in where
+        is_own = where == file and begin <= int(line) <= end or in_proof or in_cycle
         is_read = edit.refuses if files is None else where in files
         if (is_own or is_read) and not re.match(NOT_OF_THE_CONTRACT, it):
             return it
