@@ -22,6 +22,7 @@ earlier ones kept, so that the first alone reads what is stated in it.
 import argparse
 import concurrent.futures
 import os
+import queue
 import re
 import shutil
 import subprocess
@@ -43,6 +44,10 @@ UNREAD = (
 PARTS = ("src", "specs", "proofs")
 # An answer that only lists the lemmas by which the prover is to find a proof.
 LISTED = r"(?m)^pub (\S+) : goal\.\1\n(?:unfolding .*\n)?\1 (?:g )?(?:t )?c = first_of \(grind .*, search rules\)\n+"
+# The body of a function that is not looked at.
+NO_BODY = "loop {}"
+# The processors on which no check runs.
+PROCESSORS = queue.SimpleQueue()
 # The most checks beside an `rt ci` that still runs, for the memory that they take.
 BESIDE = 3
 
@@ -179,6 +184,17 @@ def words(known, name, built):
     return [str(KIT / "bin/rattle"), "check", *found, "--links", f"{name}=", "--jobs", "1"]
 
 
+def on_one_processor(command, folder):
+    """Runs a command in a folder on one processor, which no other of these commands uses: the prover would start a thread for
+    each processor that it may use, and spend a third more in all."""
+    processor = PROCESSORS.get()
+    how = {"stdin": subprocess.DEVNULL, "stdout": subprocess.PIPE, "stderr": subprocess.STDOUT, "errors": "replace"}
+    try:
+        return subprocess.run(command, cwd=folder, preexec_fn=lambda: os.sched_setaffinity(0, {processor}), **how)
+    finally:
+        PROCESSORS.put(processor)
+
+
 class Trial:
     """The trial of the edits of one crate, with the folder where its checks keep what they proved."""
 
@@ -200,13 +216,14 @@ class Trial:
         if bare:
             strip_answers(copy)
         holes = leave_open(self.library, self.name, copy, only) if only else []
+        if holes:
+            cut_bodies(copy, only)
         asked = [word for it in sorted(only) for word in ("--only", it)]
         command = [*self.words, "--incremental", self.kept, *asked, *holes]
-        how = {"stdin": subprocess.DEVNULL, "stdout": subprocess.PIPE, "stderr": subprocess.STDOUT, "errors": "replace"}
-        ran = subprocess.run(command, cwd=copy, **how)
+        ran = on_one_processor(command, copy)
         if ran.returncode < 0:
             # (killed, most likely for memory)
-            ran = subprocess.run(command, cwd=copy, **how)
+            ran = on_one_processor(command, copy)
         shutil.rmtree(copy)
         return ran.returncode, ran.stdout
 
@@ -317,6 +334,36 @@ def leave_open(library, name, copy, edited):
     return ["--allow-holes"] if found else []
 
 
+def cut_bodies(copy, edited):
+    """Has each function of a copy of a crate whose proof is left open end before it begins, so that a check of the others need
+    not read what it does. Those of a cycle of calls, and those that a constant may call, stay."""
+    for file in sorted(copy.glob("src/**/*.rt")):
+        text = file.read_text(encoding="utf-8")
+        lines = text.split("\n")
+        for begin, end, path in reversed(functions(str(file.relative_to(copy)), text)):
+            head = "\n".join(lines[begin - 1 : end])
+            if "#[cycle(" in head or re.search(r"\bconst fn\b", head) or any(ends_alike(path, it) for it in edited):
+                continue
+            indent = len(lines[end - 1]) - len(lines[end - 1].lstrip())
+            if lines[end - 1] != " " * indent + "}":
+                continue
+            at = body_of(lines, begin - 1, end - 1, indent)
+            if at is not None:
+                # (as many lines as before, since a place of a text is told by its line)
+                lines[at + 1 : end - 1] = [" " * indent + "    " + NO_BODY, *[""] * (end - at - 3)]
+        file.write_text("\n".join(lines), encoding="utf-8")
+
+
+def body_of(lines, begin, end, indent):
+    """Returns the line that opens the body of a function between these lines, or None."""
+    named = next(it for it in range(begin, end) if re.match(r"\s*(pub(\([a-z ]+\))? )?fn ", lines[it]))
+    for at in range(named, end):
+        is_signature = at == named or lines[at].startswith(" " * indent + ")")
+        if lines[at] == " " * indent + "{" or is_signature and lines[at].endswith(" {"):
+            return at
+    return None
+
+
 def is_left_open(path, part, cycles, edited):
     """Returns whether a proof that a library has, of a function or of a cycle of calls, says nothing of an edited function."""
     named, last = path.replace(".", "::"), path.rpartition(".")[2]
@@ -350,13 +397,20 @@ def cycles_of(folder):
 
 
 def verdict(edit, said):
-    """Returns what a check says of an edit's function, or "" where it says nothing or passes it over for one that it calls."""
-    found = re.search(rf"(?m)^fn \S*\b{re.escape(edit.place[3])}: (.*)$", said)
+    """Returns what a check says of an edit's function, or of a closure in it, or "" where it says nothing or passes it over for
+    one that it calls."""
+    *module, name = edit.place[3].split("::")
+    closures = re.escape("::".join([*module, "fn", name, ""])) + r"\S+"
+    told = re.findall(rf"(?m)^fn \S*\b({re.escape(edit.place[3])}|{closures}): (.*)$", said)
     # (what the prover refuses of the function itself it names beside what the function calls)
-    own = re.escape(edit.place[3].replace("::", "."))
-    of_its_own = found and re.search(rf"\.{own}\.\w+\.[^`]*`.* which antt refuses", found[1])
-    is_passed_over = found and "it calls" in found[1] and "did not prove" not in found[1] and not of_its_own
-    return found[1] if found and not is_passed_over else ""
+    for path, found in told:
+        of_its_own = re.search(rf"\.{re.escape(path.replace('::', '.'))}\.\w+\.[^`]*`.* which antt refuses", found)
+        if found.startswith(("not proved", "no proof")) and (
+            "it calls" not in found or "did not prove" in found or of_its_own
+        ):
+            return found
+    found = next((found for path, found in told if path == edit.place[3]), "")
+    return "" if "it calls" in found else found
 
 
 def refusal(edit, said, files=None):
@@ -450,7 +504,10 @@ def main():
     given.add_argument("crates", nargs="*", help="the crates, all where none is named")
     given = given.parse_args()
     known, built = libraries(), given.libraries.resolve()
-    begun = []
+    jobs, begun = int(os.environ.get("RT_JOBS", "4")), []
+    usable = sorted(os.sched_getaffinity(0))
+    for it in range(jobs):
+        PROCESSORS.put(usable[it % len(usable)])
     with tempfile.TemporaryDirectory(prefix="edits-") as room:
         trials = [
             Trial(words(known, it, built), it, found, room, built)
@@ -460,7 +517,7 @@ def main():
         # (those with the most to do begin first)
         trials.sort(key=lambda it: -len(it.edits) * (8 + len(below(known, it.name))))
         ready = as_they_are_proved(trials, given.follow, begun) if given.follow else trials
-        with concurrent.futures.ThreadPoolExecutor(int(os.environ.get("RT_JOBS", "4"))) as pool:
+        with concurrent.futures.ThreadPoolExecutor(jobs) as pool:
             for it in ready:
                 begun.append(pool.submit(it.run))
         passed, failed = (sum(done.result()[at] for done in begun) for at in (0, 1))

@@ -1,18 +1,10 @@
 //! `dmypy`: a daemon that checks annotated Python files and answers commands on standard input.
 #![tactic(auto)]
 
-pub mod check_files;
-pub mod disk;
-pub mod session;
-pub mod words;
-
-use check_files::check_files;
-use disk::Disk;
-use pyc_daemon::{Counted, Options};
-use session::session;
+use pyc_command_line::{Job, read_words};
+use pyc_console::{Counted, Disk, Options, check_files, session};
 use std::process::ExitCode;
 use std::{env, io};
-use words::{Job, read_words};
 
 /// Reads the words of the command line and does what they ask for. Where they are no job, or memory runs out while they
 /// are read, nothing is written to standard output and the status is 2.

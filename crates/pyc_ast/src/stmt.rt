@@ -95,21 +95,12 @@ impl Drop for StmtForm {
     fn drop(self) {
         match self {
             StmtForm::Expression(part) => drop(part),
-            StmtForm::Assign { targets, value } => {
-                drop(targets);
-                drop(value);
-            }
+            StmtForm::Assign { targets, value } => drop((targets, value)),
             StmtForm::Annotate(part) => drop(part),
             StmtForm::Augment(part) => drop(part),
             StmtForm::Return(part) => drop(part),
-            StmtForm::Raise { exception, cause } => {
-                drop(exception);
-                drop(cause);
-            }
-            StmtForm::Assert { test, message } => {
-                drop(test);
-                drop(message);
-            }
+            StmtForm::Raise { exception, cause } => drop((exception, cause)),
+            StmtForm::Assert { test, message } => drop((test, message)),
             StmtForm::Delete(part) => drop(part),
             StmtForm::Global(part) => drop(part),
             StmtForm::Nonlocal(part) => drop(part),

@@ -1,9 +1,14 @@
-//! Tests of sessions with their replies, over readers, writers and sources of their own, and of calls below a
-//! session; in a crate of their own: a crate with tests is proved a second time with them.
+//! Tests of sessions with their replies, over readers, writers and sources of their own, of calls below a session, and of
+//! what the program does with its command line, its files and its streams; in a crate of their own: a crate with tests
+//! is proved a second time with them.
 #![tactic(auto)]
 
 #[cfg(test)]
+mod check_files;
+#[cfg(test)]
 mod counted;
+#[cfg(test)]
+mod disk;
 #[cfg(test)]
 mod ending;
 #[cfg(test)]
@@ -13,6 +18,10 @@ mod memory_source;
 #[cfg(test)]
 mod replies;
 #[cfg(test)]
+mod session;
+#[cfg(test)]
 mod sources;
+#[cfg(test)]
+mod words;
 #[cfg(test)]
 mod workspace;

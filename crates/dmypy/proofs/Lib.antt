@@ -1,3 +1,0 @@
-pub mod CheckFilesLemmas
-pub mod CommandLine
-pub mod FirstBytes

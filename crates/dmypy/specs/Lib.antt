@@ -1,4 +1,0 @@
-pub mod CheckFiles
-pub mod Status
-pub mod Updates
-pub mod Words

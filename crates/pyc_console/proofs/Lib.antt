@@ -1,0 +1,2 @@
+pub mod CheckFilesLemmas
+pub mod FirstBytes

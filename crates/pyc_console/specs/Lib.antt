@@ -1,0 +1,3 @@
+pub mod CheckFiles
+pub mod Status
+pub mod Updates
