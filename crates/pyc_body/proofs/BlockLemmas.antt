@@ -3,7 +3,7 @@ use Rattle.std.proofs.Common.{◌≡◌, ℕ, ◌+◌, ◌<◌, map, drop, lengt
 use Rattle.pyc_ast.specs.declared.stmt.Stmt.{Stmt as StmtOf}
 use Rattle.pyc_ast.specs.Statements.{stmts}
 use Rattle.pyc_ast.specs.StatementView.{stmt_of}
-use Rattle.pyc_body.specs.declared.literals.LiteralForm.{LiteralForm}
+use Rattle.pyc_units.specs.declared.literals.LiteralForm.{LiteralForm}
 use Rattle.pyc_body.specs.ModuleBodies.{blocks_reading, statement_reading, form_told}
 use Rattle.pyc_names.specs.SourceFiles.{SourceFile}
 use Rattle.pyc_reading.proofs.RunLemmas.{one_turn, run_then}

@@ -1,9 +1,9 @@
 -- Which annotated literals are told of.
 use Rattle.std.proofs.Common.{Bool, true, false, List, [], ◌∷◌, ◌++◌, flat_map, IsTrue, ◌↔◌, if◌then◌else◌, refl}
 use Rattle.std.proofs.lemmas.Bool.{false≢true}
-use Rattle.pyc_body.specs.declared.literals.LiteralForm.{LiteralForm}
+use Rattle.pyc_units.specs.declared.literals.LiteralForm.{LiteralForm}
 use Rattle.pyc_body.specs.FoundMessages.{IsAssignable, Reports, nothing, passed, refused, ReportsExactly}
-use Rattle.pyc_body.specs.LiteralForms.{literal_forms}
+use Rattle.pyc_units.specs.LiteralForms.{literal_forms}
 use Rattle.pyc_body.specs.ModuleBodies.{assignment_message, form_told}
 use Rattle.pyc_builtins.specs.Builtin.{builtin_type}
 use Rattle.pyc_builtins.specs.Orders.{builtin_orders}

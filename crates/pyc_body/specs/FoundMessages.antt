@@ -7,12 +7,12 @@ use Rattle.std.specs.Prelude.{◌≡◌, List, [], ◌∷◌, flat_map}
 use Rattle.pyc_ast.specs.Modules.{Outcome, tree, fault}
 use Rattle.pyc_ast.specs.Statements.{Stmts}
 use Rattle.pyc_bindings.specs.Bindings.{Binding}
-use Rattle.pyc_body.specs.DefinitionReadings.{definition_reading}
-use Rattle.pyc_body.specs.Header.{header_reading}
-use Rattle.pyc_body.specs.declared.literals.LiteralForm.{LiteralForm}
-use Rattle.pyc_body.specs.LiteralForms.{literal_forms}
+use Rattle.pyc_units.specs.DefinitionReadings.{definition_reading}
+use Rattle.pyc_units.specs.Header.{header_reading}
+use Rattle.pyc_units.specs.declared.literals.LiteralForm.{LiteralForm}
+use Rattle.pyc_units.specs.LiteralForms.{literal_forms}
 use Rattle.pyc_body.specs.ModuleBodies.{assignment_message, literals_told, module_reading}
-use Rattle.pyc_body.specs.Units as units
+use Rattle.pyc_units.specs.Units as units
 use Rattle.pyc_builtins.specs.Builtin.{builtin_type}
 use Rattle.pyc_builtins.specs.Orders.{builtin_orders}
 use Rattle.pyc_iface.specs.Answers.{answer_of}

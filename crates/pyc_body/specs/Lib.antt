@@ -1,8 +1,2 @@
-pub mod Header
-pub mod Units
-pub mod UnitView
-pub mod LiteralForms
-pub mod AnnotationReadings
-pub mod DefinitionReadings
 pub mod ModuleBodies
 pub mod FoundMessages

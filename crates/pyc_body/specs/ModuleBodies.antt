@@ -6,9 +6,9 @@ use Rattle.pyc_ast.specs.Modules.{Outcome, tree, fault}
 use Rattle.pyc_ast.specs.Statements.{Stmt, StmtForm, Stmts, no_stmt, another_stmt}
 use Rattle.pyc_ast.specs.Statements as plain
 use Rattle.pyc_bindings.specs.Bindings.{Binding, form_of}
-use Rattle.pyc_body.specs.AnnotationReadings.{body_reading}
-use Rattle.pyc_body.specs.declared.literals.LiteralForm.{LiteralForm}
-use Rattle.pyc_body.specs.LiteralForms.{literal_forms}
+use Rattle.pyc_units.specs.AnnotationReadings.{body_reading}
+use Rattle.pyc_units.specs.declared.literals.LiteralForm.{LiteralForm}
+use Rattle.pyc_units.specs.LiteralForms.{literal_forms}
 use Rattle.pyc_builtins.specs.Builtin.{builtin_type}
 use Rattle.pyc_builtins.specs.Orders.{builtin_orders}
 use Rattle.pyc_names.specs.SourceFiles.{SourceFile}

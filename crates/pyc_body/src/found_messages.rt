@@ -2,18 +2,14 @@
 
 ghost use Rattle.std.specs.Prelude.{◌≡◌, map, flat_map, IfOk};
 ghost use Rattle.pyc_body.specs.FoundMessages as spec;
-ghost use Rattle.pyc_body.specs.UnitView.{unit_of};
+ghost use Rattle.pyc_units.specs.UnitView.{unit_of};
 ghost use Rattle.pyc_examiner.specs.CheckedView.{checked_of};
 ghost use Rattle.pyc_iface.specs.WorldView.{world_in};
 ghost use Rattle.pyc_names.specs.SourceFileView.{source_in};
 ghost use Rattle.pyc_reading.specs.Desks.{Performs};
 ghost use Rattle.pyc_report.specs.Message.{message_in};
 
-use crate::definitions::read_definition;
-use crate::header::read_header;
 use crate::module_body::read_module_body;
-use crate::unit::Unit;
-use crate::units::file_units;
 use pyc_ast::Outcome;
 use pyc_examiner::{Checked, Examiner};
 use pyc_iface::{Options, World};
@@ -21,6 +17,7 @@ use pyc_names::SourceFile;
 use pyc_obligations::Judge;
 use pyc_report::{Message, drop_silenced};
 use pyc_types::Builtins;
+use pyc_units::{Unit, file_units, read_definition, read_header};
 use std::alloc::{AllocError, Global};
 
 /// The unsilenced messages of a file of a world: what is found in its units, without what its ignore comments silence.

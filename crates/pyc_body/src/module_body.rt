@@ -10,8 +10,6 @@ ghost use Rattle.pyc_reading.specs.Desks.{Performs};
 ghost use Rattle.pyc_reading.specs.Readings.{each};
 ghost use Rattle.pyc_type_forms.specs.TypeView.{ty_of};
 
-use crate::annotations::read_body;
-use crate::literals::{LiteralForm, literal_forms};
 use pyc_ast::{Module, Outcome, Stmt, StmtForm};
 use pyc_iface::Notes;
 use pyc_names::SourceFile;
@@ -19,6 +17,7 @@ use pyc_obligations::Judge;
 use pyc_report::{Code, Message};
 use pyc_statements::read_top_level;
 use pyc_types::{Builtins, Ty, assignable, show};
+use pyc_units::{LiteralForm, literal_forms, read_annotations};
 use std::alloc::{AllocError, Global};
 use std::slice;
 
@@ -116,7 +115,7 @@ fn read_block<N: Notes>(
     ensures { Performs (λ u. u) (spec.block_reading (source_in file.now) (stmts (map stmt_of statements.now)))
         (N.desk notes.old) result (N.desk notes.new) }
 {
-    read_body(alloc, notes, file, statements)?;
+    read_annotations(alloc, notes, file, statements)?;
     let forms = literal_forms(alloc, file, statements)?;
     tell_forms(alloc, notes, builtins, &forms)?;
     Ok(())

@@ -4,9 +4,10 @@ ghost use Rattle.std.specs.Prelude.{◌≡◌, [], false, IfOk, IfErr, All, byte
 ghost use Rattle.std.specs.Prelude.{unwrap_or};
 ghost use Rattle.clap.specs.Words.{all_of, app_of, fault_of, rule_of, found_of, one_of, rows_of, subcommand_of};
 ghost use Rattle.clap.specs.Words.{FailsBy};
-ghost use Rattle.pyc_command_line.specs.Words.{GivesSession, HasFiles, HasUsage, IsFlag, file_texts, files_id, files_rule};
-ghost use Rattle.pyc_command_line.specs.Words.{is_check, names_check, optioned_app, session_rows, command_line, flag_rule};
-ghost use Rattle.pyc_command_line.specs.Words.{option_text, ignore_missing_id, check_untyped_id, options_of};
+ghost use Rattle.pyc_command_line.specs.Words.{GivesSession, HasFiles, HasUsage, IsFlag, file_texts, files_id};
+ghost use Rattle.pyc_command_line.specs.Words.{files_rule, is_check, names_check, optioned_app, session_rows};
+ghost use Rattle.pyc_command_line.specs.Words.{command_line, flag_rule, option_text, ignore_missing_id};
+ghost use Rattle.pyc_command_line.specs.Words.{check_untyped_id, options_of};
 
 use clap::{Arg, ArgAction, ArgMatches, Command};
 use pyc_iface::{Options, TURNS};

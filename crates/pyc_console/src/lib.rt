@@ -1,5 +1,5 @@
-//! What the program does, over any reader, writers and source: a session with its status, or one check of files; and the
-//! disk as a source.
+//! What the program does, over any streams and source: a session with its status, or one check of files; and the disk
+//! as a source.
 #![tactic(auto)]
 
 mod check_files;

@@ -1,6 +1,6 @@
-//! Tests of sessions with their replies, over readers, writers and sources of their own, of calls below a session, and of
-//! what the program does with its command line, its files and its streams; in a crate of their own: a crate with tests
-//! is proved a second time with them.
+//! Tests of sessions with their replies, over readers, writers and sources of their own, of calls below a session, and
+//! of what the program does with its command line, its files and its streams; in a crate of their own: a crate with
+//! tests is proved a second time with them.
 #![tactic(auto)]
 
 #[cfg(test)]

@@ -1,9 +1,9 @@
 -- What a check of files from scratch finds and examines.
 use Rattle.std.specs.Prelude.{ℕ, zero, suc, ◌+◌, List, [], ◌∷◌, map, flat_map}
-use Rattle.pyc_body.specs.declared.unit.UnitId.{UnitId}
+use Rattle.pyc_units.specs.declared.unit.UnitId.{UnitId}
 use Rattle.pyc_body.specs.FoundMessages.{unsilenced}
 use Rattle.pyc_report.specs.Report.{Report, Found, report_of}
-use Rattle.pyc_body.specs.Units.{unit_count}
+use Rattle.pyc_units.specs.Units.{unit_count}
 use Rattle.pyc_iface.specs.declared.options.Options.{Options}
 use Rattle.pyc_names.specs.SourceFiles.{SourceFile, source_file}
 use Rattle.pyc_lower.specs.Reading.{read_of}

@@ -1,7 +1,7 @@
 //! A file of a session.
 
 ghost use Rattle.std.specs.Prelude.{◌≡◌, map, IfOk};
-ghost use Rattle.pyc_body.specs.Units.{unit_count};
+ghost use Rattle.pyc_units.specs.Units.{unit_count};
 ghost use Rattle.pyc_lower.specs.Reading.{read_of};
 ghost use Rattle.pyc_names.specs.ModuleName.{module_of};
 ghost use Rattle.pyc_names.specs.SourceFiles.{source_file};

@@ -1,7 +1,7 @@
 use Rattle.std.proofs.Common.{ap, ◌∙◌}
 use Rattle.pyc_body.proofs.ReadLemmas.{read_there, told_there}
 use Rattle.pyc_body.specs.FoundMessages.{unit_reading}
-use Rattle.pyc_body.specs.UnitView.{unit_of}
+use Rattle.pyc_units.specs.UnitView.{unit_of}
 use Rattle.pyc_examiner.specs.CheckedView.{Checked}
 use Rattle.pyc_names.specs.SourceFileView.{source_in}
 use Rattle.pyc_body.proofs.found_messages.check_unit.Goals as goal

@@ -1,6 +1,6 @@
 use Rattle.std.proofs.Common.{◌≡◌, ◌++◌, map, flat_map, drop}
 use Rattle.pyc_body.specs.FoundMessages.{found}
-use Rattle.pyc_body.specs.UnitView.{unit_of}
+use Rattle.pyc_units.specs.UnitView.{unit_of}
 use Rattle.pyc_iface.specs.WorldView.{world_in}
 use Rattle.pyc_names.specs.SourceFileView.{source_in}
 use Rattle.pyc_report.specs.Message.{message_in}

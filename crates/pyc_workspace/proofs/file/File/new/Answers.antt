@@ -1,5 +1,5 @@
 use Rattle.std.proofs.Common.{◌≡◌, ℕ, List, sym, ap, ◌∙◌}
-use Rattle.pyc_body.specs.Units.{unit_count}
+use Rattle.pyc_units.specs.Units.{unit_count}
 use Rattle.pyc_lower.specs.Reading.{read_of}
 use Rattle.pyc_names.specs.SourceFileView.{source_in}
 use Rattle.pyc_workspace.specs.Workspace.{File}

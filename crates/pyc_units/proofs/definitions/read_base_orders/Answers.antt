@@ -1,0 +1,16 @@
+use Rattle.std.proofs.Common.{map, sym, ◌∙◌, refl}
+use Rattle.pyc_annotations.specs.Views.{base_of}
+use Rattle.pyc_units.specs.DefinitionReadings.{base_reading}
+use Rattle.pyc_reading.specs.Readings.{each}
+use Rattle.pyc_reading.proofs.RunLemmas.{one_turn, grown_trans}
+use Rattle.pyc_units.proofs.definitions.read_base_orders.Goals as goal
+
+pub loop-base-preserved : goal.loop-base-preserved
+loop-base-preserved g c =
+    let read = base_reading in
+    record {
+      same =
+          sym (one_turn (λ xs. each read (map base_of xs)) (λ x. read (base_of x)) (λ u xs. each read (map base_of xs)) (λ x xs. refl) c.args.bases.now c.loop-base.base-index _ _ _ _ c.loop-base-test.true c.base-item.is c.in_ok-read_base_order.ensures.done)
+          ∙ c.loop-base.invariant.same;
+      grown = grown_trans c.loop-base.invariant.grown c.read_base_order.ensures.grown;
+    }

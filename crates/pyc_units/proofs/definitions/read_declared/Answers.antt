@@ -1,0 +1,25 @@
+use Rattle.std.proofs.Common.{map, sym, ap, ◌∙◌}
+use Rattle.pyc_annotations.specs.Views.{base_of}
+use Rattle.pyc_units.specs.DefinitionReadings.{base_reading, order_reading}
+use Rattle.pyc_class.specs.Class.{Id, user}
+use Rattle.pyc_names.specs.SourceFileView.{source_in}
+use Rattle.pyc_reading.proofs.RunLemmas.{after, grown_trans}
+use Rattle.pyc_reading.specs.Desks.{run, asking}
+use Rattle.pyc_reading.specs.Keys.{class}
+use Rattle.pyc_reading.specs.Readings.{and_then, each}
+use Rattle.pyc_units.proofs.definitions.read_declared.Goals as goal
+
+pub returns : goal.returns
+returns g c =
+    let file = source_in c.args.file.now in
+    let name = c.args.name.now in
+    let key = class (user file.name name) in
+    let start = g.N.Notes.desk c.args.notes.now in
+    let middle = g.N.Notes.desk c.read_base_orders.new.notes in
+    let asked = sym (ap (λ (found : Id). run (asking (class found)) middle) c.in_ok-class.ensures) ∙ c.in_ok-answer.ensures.done in
+    record {
+      done =
+          after (each base_reading (map base_of c.args.bases.now)) (λ u. and_then (asking key) (order_reading c.args.at name)) start _ _ _ _ c.in_ok-read_base_orders.ensures.done
+          (after (asking key) (order_reading c.args.at name) middle _ _ _ _ asked c.in_ok-order.ensures.done);
+      grown = grown_trans c.read_base_orders.ensures.grown (grown_trans c.ask.ensures.grown c.read_order.ensures.grown);
+    }

@@ -1,0 +1,16 @@
+use Rattle.std.proofs.Common.{map, sym, ◌∙◌, refl}
+use Rattle.pyc_bindings.specs.RedefinitionView.{redefinition_of}
+use Rattle.pyc_units.specs.Header.{redefinition_reading}
+use Rattle.pyc_reading.specs.Readings.{each}
+use Rattle.pyc_reading.proofs.RunLemmas.{one_turn, grown_trans}
+use Rattle.pyc_units.proofs.redefined.tell_redefinitions.Goals as goal
+
+pub loop-found-preserved : goal.loop-found-preserved
+loop-found-preserved g c =
+    let read = redefinition_reading in
+    record {
+      same =
+          sym (one_turn (λ xs. each read (map redefinition_of xs)) (λ x. read (redefinition_of x)) (λ u xs. each read (map redefinition_of xs)) (λ x xs. refl) c.args.again.now c.loop-found.found-index _ _ _ _ c.loop-found-test.true c.found-item.is c.in_ok-tell_redefinition.ensures.done)
+          ∙ c.loop-found.invariant.same;
+      grown = grown_trans c.loop-found.invariant.grown c.tell_redefinition.ensures.grown;
+    }

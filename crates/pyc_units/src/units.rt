@@ -1,0 +1,146 @@
+//! The units of a file: its header, the body of its module, and its functions, classes and methods.
+
+ghost use Rattle.std.specs.Prelude.{◌≡◌, ◌++◌, map, IfOk, OnOk};
+ghost use Rattle.pyc_ast.specs.Modules.{outcome_of};
+ghost use Rattle.pyc_ast.specs.Statements.{stmts};
+ghost use Rattle.pyc_ast.specs.StatementView.{stmt_of, block_of};
+ghost use Rattle.pyc_bindings.specs.ScopeView.{part_form_of};
+ghost use Rattle.pyc_units.specs.Units as spec;
+ghost use Rattle.pyc_units.specs.Units.{methods_in, unit_count, unit_definitions, units_of, file_units, definition};
+ghost use Rattle.pyc_units.specs.UnitView.{unit_of};
+
+use crate::unit::Unit;
+use pyc_ast::{Block, Outcome, Stmt, StmtForm};
+use pyc_bindings::{PartForm, scope_parts};
+use std::alloc::{AllocError, Global};
+
+/// How many units a file with this outcome has: a header, a module body, and its classes, functions and methods, or
+/// with a fault the header alone. The only error is that memory runs out.
+pub fn count_units(alloc: Global, outcome: &Outcome) -> Result<usize, AllocError>
+    ensures { IfOk result (λ count. count ≡ unit_count (outcome_of outcome.now)) }
+{
+    match outcome {
+        Outcome::Tree(module) => Ok(unit_definitions(alloc, &module.statements)?.len() + 2),
+        Outcome::Fault(_) => Ok(1),
+    }
+}
+
+/// The units of a file with this outcome, in order. The only error is that memory runs out.
+pub fn file_units(alloc: Global, outcome: &Outcome) -> Result<Vec<Unit<'_>>, AllocError>
+    ensures { IfOk result (λ units. map unit_of units.items ≡ file_units (outcome_of outcome.now)) }
+{
+    let mut units = Vec::new(alloc);
+    units.push(Unit::Header)?;
+    if let Outcome::Tree(module) = outcome {
+        units.push(Unit::ModuleBody)?;
+        push_definitions(alloc, &module.statements, &mut units)?;
+    }
+    Ok(units)
+}
+
+/// Adds the definitions of a module that has these statements.
+fn push_definitions<'a>(
+    alloc: Global,
+    statements: &'a [Stmt],
+    units: &mut Vec<Unit<'a>>,
+) -> Result<(), AllocError>
+    ensures { OnOk result (map unit_of units.new.items
+        ≡ map unit_of units.old.items ++ map definition (unit_definitions (stmts (map stmt_of statements.now)))) }
+{
+    let definitions = unit_definitions(alloc, statements)?;
+    for found in &definitions {
+        units.push(Unit::Definition(found))?;
+    }
+    Ok(())
+}
+
+/// The definitions among the units of a module that has these statements, in text order: each function and class, and
+/// after a class its methods. The only error is that memory runs out.
+#[tactic(auto, unfolding(crate::specs::Units::unit_definitions))]
+pub fn unit_definitions<'a>(
+    alloc: Global,
+    statements: &'a [Stmt],
+) -> Result<Vec<&'a Stmt>, AllocError>
+    ensures { IfOk result (λ units. map (λ unit. stmt_of unit.now) units.items
+        ≡ unit_definitions (stmts (map stmt_of statements.now))) }
+{
+    let parts = scope_parts(alloc, statements)?;
+    let mut units = Vec::new(alloc);
+    for part in &parts {
+        push_units(alloc, part.form, &mut units)?;
+    }
+    Ok(units)
+}
+
+/// Adds the units that a part of a module makes.
+fn push_units<'a>(
+    alloc: Global,
+    part: PartForm<'a>,
+    units: &mut Vec<&'a Stmt>,
+) -> Result<(), AllocError>
+    ensures { OnOk result (map (λ unit. stmt_of unit.now) units.new.items
+        ≡ map (λ unit. stmt_of unit.now) units.old.items ++ units_of (part_form_of part.entry)) }
+{
+    match part {
+        PartForm::Statement(statement) => push_definition(alloc, statement, units),
+        _ => Ok(()),
+    }
+}
+
+/// Adds the units that a statement of a module makes.
+fn push_definition<'a>(
+    alloc: Global,
+    statement: &'a Stmt,
+    units: &mut Vec<&'a Stmt>,
+) -> Result<(), AllocError>
+    ensures { OnOk result (map (λ unit. stmt_of unit.now) units.new.items
+        ≡ map (λ unit. stmt_of unit.now) units.old.items ++ spec.statement_units (stmt_of statement.now)) }
+{
+    match &statement.form {
+        StmtForm::Function { .. } => Ok(units.push(statement)?),
+        StmtForm::Class { body, .. } => {
+            units.push(statement)?;
+            push_methods(alloc, body, units)
+        }
+        _ => Ok(()),
+    }
+}
+
+/// Adds the methods of a class that has this block.
+fn push_methods<'a>(
+    alloc: Global,
+    body: &'a Block,
+    units: &mut Vec<&'a Stmt>,
+) -> Result<(), AllocError>
+    ensures { OnOk result (map (λ unit. stmt_of unit.now) units.new.items
+        ≡ map (λ unit. stmt_of unit.now) units.old.items ++ methods_in (block_of body.now)) }
+{
+    let Block::Of(statements) = body;
+    let parts = scope_parts(alloc, statements)?;
+    for part in &parts {
+        push_method(part.form, units)?;
+    }
+    Ok(())
+}
+
+/// Adds a part of a class, where it is a method.
+fn push_method<'a>(part: PartForm<'a>, units: &mut Vec<&'a Stmt>) -> Result<(), AllocError>
+    ensures { OnOk result (map (λ unit. stmt_of unit.now) units.new.items
+        ≡ map (λ unit. stmt_of unit.now) units.old.items ++ spec.method_of (part_form_of part.entry)) }
+{
+    match part {
+        PartForm::Statement(statement) => push_function(statement, units),
+        _ => Ok(()),
+    }
+}
+
+/// Adds a statement, where it is a function.
+fn push_function<'a>(statement: &'a Stmt, units: &mut Vec<&'a Stmt>) -> Result<(), AllocError>
+    ensures { OnOk result (map (λ unit. stmt_of unit.now) units.new.items
+        ≡ map (λ unit. stmt_of unit.now) units.old.items ++ spec.function_of (stmt_of statement.now)) }
+{
+    if let StmtForm::Function { .. } = &statement.form {
+        units.push(statement)?;
+    }
+    Ok(())
+}
