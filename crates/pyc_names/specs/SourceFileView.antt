@@ -17,8 +17,8 @@ source_in file =
       name = file.name;
       is_package = file.is_package;
       outcome = outcome_of file.outcome;
-      bindings = map binding_of file.bindings.items;
-      again = map redefinition_of file.again.items;
+      bindings = map binding_of file.top.bindings.items;
+      again = map redefinition_of file.top.again.items;
       classes = map declared_class_in file.classes.items;
     }
 

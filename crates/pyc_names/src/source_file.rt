@@ -23,6 +23,49 @@ use pyc_members::{DeclaredClass, declared_classes};
 use std::alloc::{AllocError, Global};
 use std::rc::Rc;
 
+/// What the top level of a file binds: its bindings in text order, and the names that they define again.
+struct TopLevel {
+    bindings: Vec<Binding>,
+    /// The place of the first binding of each name.
+    places: IndexMap<Text, usize>,
+    again: Vec<Redefinition>,
+    ghost places_are: { (n : List ℕ) → get_by (bytes_eq n) places
+        ≡ declaration_place (map binding_of bindings.items) n },
+}
+
+/// Written out, as that of a file is.
+impl Drop for TopLevel {
+    fn drop(self) {
+        let TopLevel {
+            bindings,
+            places,
+            again,
+        } = self;
+        drop(bindings);
+        drop(places);
+        drop(again);
+    }
+}
+
+impl TopLevel {
+    /// What the top level of a source binds. The only error is that memory runs out.
+    fn read(alloc: Global, outcome: &Outcome) -> Result<TopLevel, AllocError>
+        ensures bindings { IfOk result (λ top. map binding_of top.bindings.items
+            ≡ spec.top_bindings (outcome_of outcome.now)) }
+        ensures again { IfOk result (λ top. map redefinition_of top.again.items
+            ≡ again.redefinitions (spec.top_bindings (outcome_of outcome.now))) }
+    {
+        let bindings = top_bindings(alloc, outcome)?;
+        let places = first_places(alloc, &bindings)?;
+        let again = redefinitions_at(alloc, &places, &bindings)?;
+        Ok(TopLevel {
+            bindings,
+            places,
+            again,
+        })
+    }
+}
+
 /// A file as names see it: its path, the module that it is, what its source is, the bindings of its top level, the
 /// names that they define again and the classes that it declares, which are made once, with the file.
 pub struct SourceFile {
@@ -30,13 +73,8 @@ pub struct SourceFile {
     name: ModuleName,
     is_package: bool,
     outcome: Outcome,
-    bindings: Vec<Binding>,
-    /// The place of the first binding of each name.
-    places: IndexMap<Text, usize>,
-    again: Vec<Redefinition>,
+    top: TopLevel,
     classes: Vec<Rc<DeclaredClass>>,
-    ghost places_are: { (n : List ℕ) → get_by (bytes_eq n) places
-        ≡ declaration_place (map binding_of bindings.items) n },
 }
 
 /// Written out: the crates above call it, where what `derive` writes would be made and proved in each of them.
@@ -47,17 +85,13 @@ impl Drop for SourceFile {
             name,
             is_package: _,
             outcome,
-            bindings,
-            places,
-            again,
+            top,
             classes,
         } = self;
         drop(path);
         drop(name);
         drop(outcome);
-        drop(bindings);
-        drop(places);
-        drop(again);
+        drop(top);
         drop(classes);
     }
 }
@@ -77,18 +111,14 @@ impl SourceFile {
         requires { name ≡ module_of path.now }
         ensures { IfOk result (λ file. source_in file ≡ spec.source_file path.now (outcome_of outcome)) }
     {
-        let bindings = top_bindings(alloc, &outcome)?;
-        let places = first_places(alloc, &bindings)?;
-        let again = redefinitions_at(alloc, &places, &bindings)?;
-        let classes = classes_in(alloc, &name, &bindings, &outcome)?;
+        let top = TopLevel::read(alloc, &outcome)?;
+        let classes = classes_in(alloc, &name, &top.bindings, &outcome)?;
         Ok(SourceFile {
             is_package: path.as_bytes().ends_with(b"/__init__.py"),
             path: String::from_str(alloc, path)?,
             name,
             outcome,
-            bindings,
-            places,
-            again,
+            top,
             classes,
         })
     }
@@ -125,7 +155,7 @@ impl SourceFile {
     pub fn bindings(&self) -> &[Binding]
         ensures { map binding_of result.now ≡ (source_in self.now).bindings }
     {
-        &self.bindings
+        &self.top.bindings
     }
 
     /// The declaration of a name of the file's top level: the first of its bindings. It takes no memory.
@@ -133,7 +163,7 @@ impl SourceFile {
         ensures { option_map (λ found. binding_of found.now) result
             ≡ again.declaration (source_in self.now).bindings name.now }
     {
-        declaration_at(&self.places, &self.bindings, name)
+        declaration_at(&self.top.places, &self.top.bindings, name)
     }
 
     /// The declaration of a name among so many of the first bindings of the file's top level. It takes no memory.
@@ -141,14 +171,14 @@ impl SourceFile {
         ensures { option_map (λ found. binding_of found.now) result
             ≡ again.declaration (take count (source_in self.now).bindings) name.now }
     {
-        declaration_before(&self.places, &self.bindings, count, name)
+        declaration_before(&self.top.places, &self.top.bindings, count, name)
     }
 
     /// The names that the bindings of the file's top level define again, in text order.
     pub fn redefinitions(&self) -> &[Redefinition]
         ensures { map redefinition_of result.now ≡ (source_in self.now).again }
     {
-        &self.again
+        &self.top.again
     }
 
     /// The classes that the file declares, in text order; one with a fault, or of a fixed module's name, declares none.
