@@ -3,16 +3,17 @@
 # names in the documents, then runs the built program by the other scripts.
 # The crates are proved and built in a copy without the edits: `rt ci` would try these one by one, each with a load of its
 # crate, after it had proved each crate a second time; scripts/gate/edits.py tries several in one check, each crate's once
-# `rt ci` has proved it, on the processors that the proofs leave free.
+# `rt ci` has proved it.
 # The crates of tests are left out of that copy: `rt ci` would prove that each step of a test is safe, a quarter of its work, which
 # says nothing of what is tested. scripts/gate/tests.py runs them. (`rt ci` at the top of the repository takes them in.)
+# Tests and edits run beside the proofs, on the processors that these leave free.
 # Its last line is `gate: N passed, M failed`, the sum of all, and its status is 1 if anything failed.
 set -u
 cd "$(dirname "${BASH_SOURCE[0]}")/.." || exit 1
 
-log=$(mktemp) proofs=$(mktemp) tried=$(mktemp) || exit 1
+log=$(mktemp) proofs=$(mktemp) tested=$(mktemp) tried=$(mktemp) || exit 1
 tree=$(mktemp -d) && chmod 755 "$tree" || exit 1
-trap 'rm -rf "$log" "$proofs" "$tried" "$tree"' EXIT
+trap 'rm -rf "$log" "$proofs" "$tested" "$tried" "$tree"' EXIT
 left_out=(--no-wildcards-match-slash --exclude=./.git --exclude='./crates/*/out' --exclude='./crates/*/must-fail' --exclude='./crates/*tests')
 tar -c "${left_out[@]}" . | tar -x -C "$tree" || exit 1
 sed -i '/^[a-z_]*tests:/d' "$tree/crates.txt" || exit 1
@@ -56,7 +57,8 @@ judge() {
 export RT_JOBS="${RT_JOBS:-4}"
 run python3 scripts/gate/check_layout.py
 run python3 scripts/gate/check_names.py
-run python3 scripts/gate/tests.py
+nice -n 19 python3 scripts/gate/tests.py > "$tested" 2>&1 &
+tests=$!
 nice -n 19 python3 scripts/gate/edits.py --libraries "$tree/crates" --follow "$proofs" > "$tried" 2>&1 &
 edits=$!
 env -C "$tree" rt ci 2>&1 | tee "$proofs"
@@ -69,10 +71,17 @@ run python3 "$tree/scripts/gate/readme.py"
 run python3 "$tree/scripts/gate/rows.py"
 run python3 "$tree/scripts/gate/refused_growths.py"
 run python3 "$tree/scripts/gate/real_files.py"
-wait "$edits"
-status=$?
-tee "$log" < "$tried"
-judge "$status" scripts/gate/edits.py
+
+# Judges what was begun before the proofs, and ran beside them.
+judge_beside() {
+    wait "$1"
+    local status=$?
+    tee "$log" < "$2"
+    judge "$status" "$3"
+}
+
+judge_beside "$tests" "$tested" scripts/gate/tests.py
+judge_beside "$edits" "$tried" scripts/gate/edits.py
 
 echo "gate: $passed passed, $failed failed"
 [[ $failed -eq 0 ]]

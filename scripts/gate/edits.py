@@ -321,7 +321,8 @@ def leave_open(library, name, copy, edited):
         own = path.replace("+", "").replace(".", "::")
         if part == "Code" and path.rpartition(".")[2].startswith("+") and own in cycles and cycles[own] is None:
             cycles[own] = own.rpartition("::")[2]
-    found = [it for it in made if is_left_open(*it, cycles, edited)]
+    # (what drops a value is asked for where what it drops has a proof)
+    found = [it for it in made if is_left_open(*it, cycles, edited) and not it[0].endswith(".drop")]
     for path, part in found:
         last = path.rpartition(".")[2]
         folder = copy / "proofs" / path.replace(".", "/")
@@ -336,21 +337,22 @@ def leave_open(library, name, copy, edited):
 
 def cut_bodies(copy, edited):
     """Has each function of a copy of a crate whose proof is left open end before it begins, so that a check of the others need
-    not read what it does. Those of a cycle of calls, and those that a constant may call, stay."""
+    not read what it does. Those of a cycle of calls stay, those that a constant may call, and those that drop or compare, since
+    the prover looks at these bodies for other functions."""
     for file in sorted(copy.glob("src/**/*.rt")):
         text = file.read_text(encoding="utf-8")
         lines = text.split("\n")
         for begin, end, path in reversed(functions(str(file.relative_to(copy)), text)):
-            head = "\n".join(lines[begin - 1 : end])
-            if "#[cycle(" in head or re.search(r"\bconst fn\b", head) or any(ends_alike(path, it) for it in edited):
-                continue
+            whole, name = "\n".join(lines[begin - 1 : end]), path.rpartition("::")[2]
             indent = len(lines[end - 1]) - len(lines[end - 1].lstrip())
-            if lines[end - 1] != " " * indent + "}":
+            if any(ends_alike(path, it) for it in edited) or lines[end - 1] != " " * indent + "}":
                 continue
             at = body_of(lines, begin - 1, end - 1, indent)
-            if at is not None:
-                # (as many lines as before, since a place of a text is told by its line)
-                lines[at + 1 : end - 1] = [" " * indent + "    " + NO_BODY, *[""] * (end - at - 3)]
+            is_looked_at = name in ("drop", "eq", "ne") or re.search(r"#\[cycle\(|\bconst fn\b", whole)
+            if at is None or is_looked_at or re.search(rf"\b{name}\b", "\n".join(lines[at + 1 : end - 1])):
+                continue
+            # (as many lines as before, since a place of a text is told by its line)
+            lines[at + 1 : end - 1] = [" " * indent + "    " + NO_BODY, *[""] * (end - at - 3)]
         file.write_text("\n".join(lines), encoding="utf-8")
 
 
