@@ -28,6 +28,7 @@ import shutil
 import subprocess
 import sys
 import tempfile
+import threading
 import time
 from pathlib import Path
 
@@ -48,8 +49,8 @@ LISTED = r"(?m)^pub (\S+) : goal\.\1\n(?:unfolding .*\n)?\1 (?:g )?(?:t )?c = fi
 NO_BODY = "loop {}"
 # The processors on which no check runs.
 PROCESSORS = queue.SimpleQueue()
-# The most checks beside an `rt ci` that still runs, for the memory that they take.
-BESIDE = 3
+# How long, in seconds, a processor has been free of proofs where a check may take it.
+FREE = 4
 
 
 class Edit:
@@ -195,10 +196,39 @@ def on_one_processor(command, folder):
         PROCESSORS.put(processor)
 
 
+class Proofs:
+    """The `rt ci` that builds the libraries in a folder and writes a log, if there is one, beside which checks are made: it
+    takes as many processors as it has checks, and those that it leaves free are for the edits."""
+
+    def __init__(self, built, log, jobs):
+        self.built, self.log, self.jobs, self.begins = built, log, jobs, threading.Lock()
+
+    def running(self):
+        """Returns how many checks it runs."""
+        found = 0
+        for it in Path("/proc").glob("[0-9]*"):
+            try:
+                found += os.readlink(it / "cwd").startswith(f"{self.built}/") and os.readlink(it / "exe").endswith("/rattle")
+            except OSError:
+                # (the process has ended)
+                pass
+        return found
+
+    def wait(self):
+        """Returns once a processor is free."""
+        with self.begins:
+            since = time.monotonic()
+            while self.log and time.monotonic() - since < FREE and not proved_by(self.log)[1]:
+                time.sleep(1)
+                if self.jobs - PROCESSORS.qsize() + self.running() >= self.jobs:
+                    since = time.monotonic()
+
+
 class Trial:
     """The trial of the edits of one crate, with the folder where its checks keep what they proved."""
 
-    def __init__(self, command, name, edits, room, built):
+    def __init__(self, command, name, edits, room, built, proofs):
+        self.proofs = proofs
         self.words, self.name, self.edits, self.kept = command, name, edits, f"{room}/{name}"
         self.folder, self.room, self.checks = ROOT / "crates" / name, room, 0
         self.library = built / name / "out" / "rlib" / f"{name}.rlib"
@@ -220,6 +250,7 @@ class Trial:
             cut_bodies(copy, only)
         asked = [word for it in sorted(only) for word in ("--only", it)]
         command = [*self.words, "--incremental", self.kept, *asked, *holes]
+        self.proofs.wait()
         ran = on_one_processor(command, copy)
         if ran.returncode < 0:
             # (killed, most likely for memory)
@@ -481,15 +512,12 @@ def proved_by(log):
     return set(re.findall(r"(?m)^rt: (\w+) (?:proved|is kept: .*)$", text)), bool(re.search(r"(?m)^\d+ passed, \d+ failed", text))
 
 
-def as_they_are_proved(trials, log, begun):
-    """Gives each trial once its crate is proved, in the order of the log, so that few run while the log goes on; those whose
-    crates are not proved last, as none. What was begun of them is added to a list by the caller."""
+def as_they_are_proved(trials, log):
+    """Gives each trial once its crate is proved, those whose crates are not proved last, as none."""
     left, is_over = [*trials], False
     while left and not is_over:
         proved, is_over = proved_by(log)
         for it in [it for it in left if it.name in proved]:
-            while sum(not one.done() for one in begun) >= BESIDE and not proved_by(log)[1]:
-                time.sleep(2)
             left.remove(it)
             yield it
         time.sleep(0 if is_over else 2)
@@ -510,15 +538,16 @@ def main():
     usable = sorted(os.sched_getaffinity(0))
     for it in range(jobs):
         PROCESSORS.put(usable[it % len(usable)])
+    proofs = Proofs(built, given.follow, jobs)
     with tempfile.TemporaryDirectory(prefix="edits-") as room:
         trials = [
-            Trial(words(known, it, built), it, found, room, built)
+            Trial(words(known, it, built), it, found, room, built, proofs)
             for it in given.crates or known
             if (found := edits_of(it))
         ]
         # (those with the most to do begin first)
         trials.sort(key=lambda it: -len(it.edits) * (8 + len(below(known, it.name))))
-        ready = as_they_are_proved(trials, given.follow, begun) if given.follow else trials
+        ready = as_they_are_proved(trials, given.follow) if given.follow else trials
         with concurrent.futures.ThreadPoolExecutor(jobs) as pool:
             for it in ready:
                 begun.append(pool.submit(it.run))
