@@ -2,11 +2,11 @@
 //! as a source.
 #![tactic(auto)]
 
-mod check_files;
+mod checking;
 mod disk;
-mod session;
+mod sessions;
 
-pub use check_files::check_files;
+pub use checking::check_files;
 pub use disk::{Disk, first_bytes};
 pub use pyc_daemon::{Counted, Options};
-pub use session::{session, session_status};
+pub use sessions::{session, session_status};

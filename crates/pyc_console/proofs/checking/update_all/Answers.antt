@@ -1,7 +1,7 @@
 use Rattle.std.proofs.lemmas.Result.{err_from_is_err_and}
 use Rattle.pyc_daemon.proofs.Moving.{sound_none, sound_trans, write_fault}
 use Rattle.pyc_console.proofs.CheckFilesLemmas.{left_next, left_none, updates_none, updates_on, updates_part}
-use Rattle.pyc_console.proofs.check_files.update_all.Goals as goal
+use Rattle.pyc_console.proofs.checking.update_all.Goals as goal
 
 pub loop-file-init : goal.loop-file-init
 loop-file-init g c = record { sound = sound_none _; updates = updates_none _ _ _ _ _ }

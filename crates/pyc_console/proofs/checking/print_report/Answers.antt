@@ -1,7 +1,7 @@
 use Rattle.std.proofs.lemmas.Result.{err_from_is_err_and}
 use Rattle.pyc_report.specs.Report.{report_in}
 use Rattle.pyc_console.proofs.CheckFilesLemmas.{prints_all, prints_part, prints_want, prints_want_part}
-use Rattle.pyc_console.proofs.check_files.print_report.Goals as goal
+use Rattle.pyc_console.proofs.checking.print_report.Goals as goal
 
 pub returns-in_err-write_parts-clause-checks : goal.returns-in_err-write_parts-clause-checks
 returns-in_err-write_parts-clause-checks g c =

@@ -1,6 +1,6 @@
 use Rattle.std.proofs.lemmas.Result.{err_from_is_err_and}
 use Rattle.pyc_console.proofs.CheckFilesLemmas.{one_done, one_part, one_refused, told_result}
-use Rattle.pyc_console.proofs.check_files.update_one.Goals as goal
+use Rattle.pyc_console.proofs.checking.update_one.Goals as goal
 
 pub returns-in_err-tell_refusal-in-Err-clause-update : goal.returns-in_err-tell_refusal-in-Err-clause-update
 returns-in_err-tell_refusal-in-Err-clause-update g c =

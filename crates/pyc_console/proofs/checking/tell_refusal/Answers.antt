@@ -1,7 +1,7 @@
 use Rattle.std.proofs.lemmas.Result.{err_from_is_err_and}
 use Rattle.pyc_daemon.proofs.Going.{at_fault}
 use Rattle.pyc_console.proofs.CheckFilesLemmas.{told_first, told_second}
-use Rattle.pyc_console.proofs.check_files.tell_refusal.Goals as goal
+use Rattle.pyc_console.proofs.checking.tell_refusal.Goals as goal
 
 pub returns-in_err-write_parts-clause-part : goal.returns-in_err-write_parts-clause-part
 returns-in_err-write_parts-clause-part g c =

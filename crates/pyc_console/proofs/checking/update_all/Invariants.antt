@@ -1,7 +1,7 @@
 use Rattle.std.proofs.Common.{map, string_bytes, drop}
 use Rattle.pyc_daemon.specs.Counted.{inner_of, IsSound}
 use Rattle.pyc_console.specs.Updates.{UpdatesFirst}
-use Rattle.pyc_console.proofs.check_files.update_all.Given as goal
+use Rattle.pyc_console.proofs.checking.update_all.Given as goal
 
 abbrev pub invariant-loop-file : goal.invariant-loop-file
 invariant-loop-file g l = record {

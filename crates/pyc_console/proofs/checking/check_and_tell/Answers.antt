@@ -2,7 +2,7 @@ use Rattle.std.proofs.lemmas.Result.{err_from_is_err_and}
 use Rattle.pyc_console.specs.CheckFiles.{at_err}
 use Rattle.pyc_daemon.proofs.Moving.{sound_none}
 use Rattle.pyc_console.proofs.CheckFilesLemmas.{checks_broken, checks_printed, counts_after}
-use Rattle.pyc_console.proofs.check_files.check_and_tell.Goals as goal
+use Rattle.pyc_console.proofs.checking.check_and_tell.Goals as goal
 
 pub returns-in_err-refused-clause-checks : goal.returns-in_err-refused-clause-checks
 returns-in_err-refused-clause-checks g c =
