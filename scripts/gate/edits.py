@@ -7,7 +7,7 @@ and count as failed where it is not.
 
 The prover must refuse each edit `crates/NAME/must-fail/*.edit`. `rt must-fail NAME` tries them one by one, each with a load of
 the whole crate. Here several edits of one crate stand in one check, at most one to a function, and the check asks for the
-edited functions alone, with the proofs of the others left open. A proof reads what other functions promise and not their
+edited functions alone, with the proofs of the others left open and their bodies left out. A proof reads what other functions promise and not their
 bodies, so an edit of one body leaves the proof of another as it was, and wants none of it: an edit counts as refused in such a
 check only where the prover says of that very function that it is not proved. One whose function is still proved is tried alone,
 in a check of the whole crate. One of whose function the prover says nothing, since it calls another edited one, is tried in the
@@ -200,8 +200,8 @@ class Proofs:
     """The `rt ci` that builds the libraries in a folder and writes a log, if there is one, beside which checks are made: it
     takes as many processors as it has checks, and those that it leaves free are for the edits."""
 
-    def __init__(self, built, log, jobs):
-        self.built, self.log, self.jobs, self.begins = built, log, jobs, threading.Lock()
+    def __init__(self, built, log):
+        self.built, self.log, self.begins = built, log, threading.Lock()
 
     def running(self):
         """Returns how many checks it runs."""
@@ -220,7 +220,7 @@ class Proofs:
             since = time.monotonic()
             while self.log and time.monotonic() - since < FREE and not proved_by(self.log)[1]:
                 time.sleep(1)
-                if self.jobs - PROCESSORS.qsize() + self.running() >= self.jobs:
+                if self.running() >= PROCESSORS.qsize():
                     since = time.monotonic()
 
 
@@ -538,7 +538,7 @@ def main():
     usable = sorted(os.sched_getaffinity(0))
     for it in range(jobs):
         PROCESSORS.put(usable[it % len(usable)])
-    proofs = Proofs(built, given.follow, jobs)
+    proofs = Proofs(built, given.follow)
     with tempfile.TemporaryDirectory(prefix="edits-") as room:
         trials = [
             Trial(words(known, it, built), it, found, room, built, proofs)
