@@ -36,8 +36,10 @@ ROOT = Path(__file__).resolve().parents[2]
 KIT = Path(shutil.which("rt")).resolve().parents[1]
 # What a proof says that names what an edit took away, or of a proof that was left open, which speaks of no contract, and what a
 # text says that cannot be read.
-NOT_OF_THE_CONTRACT = r"(note: )?(\./)?proofs/.*(has no field|is not in scope|has no `|was not admitted|has-holes|large solution)"
+NOT_OF_THE_CONTRACT = r"(note: )?(\./)?proofs/.*(has no field|is not in scope|has no `|was not admitted|has-holes|large solution|goal \? in )"
 TOLD = r"(?m)^(?:note: )?\S+:\d+:\d+: .*$"
+# What it says of a goal for which there is no proof, and which has none of the repository's either.
+UNPROVED_GOAL = r"(?m)^note: \S+:\d+:\d+: it is not proved that .*$"
 UNREAD = (
     r"(?m)^(?:\./)?(src|specs)/\S+: error: "
     r".*(is not in scope|has no field|is no name|operand is missing|expected the end|cannot continue)"
@@ -435,15 +437,25 @@ def verdict(edit, said):
     *module, name = edit.place[3].split("::")
     closures = re.escape("::".join([*module, "fn", name, ""])) + r"\S+"
     told = re.findall(rf"(?m)^fn \S*\b({re.escape(edit.place[3])}|{closures}): (.*)$", said)
-    # (what the prover refuses of the function itself it names beside what the function calls)
+    # (what the prover refuses of the function itself it names beside what the function calls, or says of the function's lines)
     for path, found in told:
         of_its_own = re.search(rf"\.{re.escape(path.replace('::', '.'))}\.\w+\.[^`]*`.* which antt refuses", found)
         if found.startswith(("not proved", "no proof")) and (
-            "it calls" not in found or "did not prove" in found or of_its_own
+            "it calls" not in found or "did not prove" in found or of_its_own or unproved_goal(edit, said)
         ):
             return found
     found = next((found for path, found in told if path == edit.place[3]), "")
     return "" if "it calls" in found else found
+
+
+def unproved_goal(edit, said):
+    """Returns what a check says of a place in an edited function at which a goal is not proved, or None."""
+    file, begin, end, _ = edit.place
+    for it in re.findall(UNPROVED_GOAL, said):
+        where, line = re.match(r"note: (?:\./)?(\S+?):(\d+):", it).groups()
+        if where == file and begin <= int(line) <= end:
+            return it
+    return None
 
 
 def refusal(edit, said, files=None):
