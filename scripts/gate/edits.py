@@ -36,10 +36,10 @@ ROOT = Path(__file__).resolve().parents[2]
 KIT = Path(shutil.which("rt")).resolve().parents[1]
 # What a proof says that names what an edit took away, or of a proof that was left open, which speaks of no contract, and what a
 # text says that cannot be read.
-NOT_OF_THE_CONTRACT = r"(note: )?(\./)?proofs/.*(has no field|is not in scope|has no `|was not admitted|has-holes|large solution|goal \? in )"
+NOT_OF_THE_CONTRACT = r"(note: )?(\./)?proofs/.*(has no field|is not in scope|has no `|was not admitted|has-holes|large solution|goal \? in )|.*`no-help`"
 TOLD = r"(?m)^(?:note: )?\S+:\d+:\d+: .*$"
-# What it says of a goal for which there is no proof, and which has none of the repository's either.
-UNPROVED_GOAL = r"(?m)^note: \S+:\d+:\d+: it is not proved that .*$"
+# What it says of a part of a proof that it refuses, or of a goal for which it finds no proof and the repository has none.
+REFUSED = r"\S+ error: |note: \S+ it is not proved that "
 UNREAD = (
     r"(?m)^(?:\./)?(src|specs)/\S+: error: "
     r".*(is not in scope|has no field|is no name|operand is missing|expected the end|cannot continue)"
@@ -49,6 +49,8 @@ PARTS = ("src", "specs", "proofs")
 LISTED = r"(?m)^pub (\S+) : goal\.\1\n(?:unfolding .*\n)?\1 (?:g )?(?:t )?c = first_of \(grind .*, search rules\)\n+"
 # The body of a function that is not looked at.
 NO_BODY = "loop {}"
+# The name of a goal that no function has.
+NO_GOAL = "no-help"
 # The processors on which no check runs.
 PROCESSORS = queue.SimpleQueue()
 # How long, in seconds, a processor has been free of proofs where a check may take it.
@@ -250,6 +252,8 @@ class Trial:
         holes = leave_open(self.library, self.name, copy, only) if only else []
         if holes:
             cut_bodies(copy, only)
+            if all(it.is_body for it in edits):
+                want_no_help(self.library, self.name, copy, only)
         asked = [word for it in sorted(only) for word in ("--only", it)]
         command = [*self.words, "--incremental", self.kept, *asked, *holes]
         self.proofs.wait()
@@ -261,14 +265,14 @@ class Trial:
         return ran.returncode, ran.stdout
 
     def together(self, edits, bare=False):
-        """Tries edits in one check, and judges those that are refused. Returns those of which the check says nothing."""
+        """Tries edits in one check, and judges those that are refused. Returns those that it does not judge."""
         status, said = self.check(edits, {it.place[3] for it in edits}, bare)
         if status == 2:
             print(f"edits: {self.name}: {said.rstrip().splitlines()[-1]}", flush=True)
         for it in edits:
             if status == 1 and (why := refusal(it, said, files_read(it) if it.refuses else ())):
                 self.judge(it, why)
-        return [it for it in edits if not verdict(it, said)]
+        return [it for it in edits if it in self.left]
 
     def in_turn(self, edits, bare=False):
         """Tries edits of bodies in checks, each with one edit of a function, and with what the check before passed over."""
@@ -344,18 +348,7 @@ def leave_open(library, name, copy, edited):
     """Has a copy of a crate leave the proof of each function open but those that are edited, and of each cycle of calls but
     theirs: what is tried of an edited function is its own proof, by what the others promise. Returns the words that a check of
     it wants. The library as it was built tells which functions and cycles there are; where there is none, nothing is left open."""
-    listed = library / "toolchain" / "checked.json"
-    if not listed.is_file():
-        return []
-    made = re.findall(rf'"part/Rattle-{name}-proofs\.([^"]+)\.(TheLink|Code)"', listed.read_text(encoding="utf-8"))
-    cycles = cycles_of(copy)
-    # (a function that calls itself is a cycle by itself, which has its name)
-    for path, part in made:
-        own = path.replace("+", "").replace(".", "::")
-        if part == "Code" and path.rpartition(".")[2].startswith("+") and own in cycles and cycles[own] is None:
-            cycles[own] = own.rpartition("::")[2]
-    # (what drops a value is asked for where what it drops has a proof)
-    found = [it for it in made if is_left_open(*it, cycles, edited) and not it[0].endswith(".drop")]
+    found = proofs_but(library, name, copy, edited)
     for path, part in found:
         last = path.rpartition(".")[2]
         folder = copy / "proofs" / path.replace(".", "/")
@@ -366,6 +359,36 @@ def leave_open(library, name, copy, edited):
         text = f"use Rattle.{name}.proofs.{of}.{{statement}}\n\npub {last}_spec : {{M : Type 1}} → statement M\n{last}_spec = ?\n"
         (folder / "Proof.antt").write_text(text, encoding="utf-8")
     return ["--allow-holes"] if found else []
+
+
+def want_no_help(library, name, copy, edited):
+    """Adds to the answers of each edited function, or of its cycle of calls, one for a goal that there is not: once it has tried
+    every goal, the prover would look for help for those that it did not prove, which nobody reads, and does not over such an
+    answer."""
+    left_open = proofs_but(library, name, copy, edited)
+    for path, _ in [it for it in proofs_but(library, name, copy, ()) if it not in left_open]:
+        file = copy / "proofs" / path.replace(".", "/") / "Answers.antt"
+        if file.with_name("Proof.antt").is_file():
+            continue
+        file.parent.mkdir(parents=True, exist_ok=True)
+        text = file.read_text(encoding="utf-8") if file.is_file() else f"use Rattle.{name}.proofs.{path}.Goals as goal\n"
+        file.write_text(f"{text}\npub {NO_GOAL} : goal.{NO_GOAL}\n{NO_GOAL} c = ?\n", encoding="utf-8")
+
+
+def proofs_but(library, name, copy, edited):
+    """Returns the path and the part of each proof that a library as it was built has, of a function or of a cycle of calls, but
+    those of edited functions and of what drops a value, which is asked for where what it drops has a proof."""
+    listed = library / "toolchain" / "checked.json"
+    if not listed.is_file():
+        return []
+    made = re.findall(rf'"part/Rattle-{name}-proofs\.([^"]+)\.(TheLink|Code)"', listed.read_text(encoding="utf-8"))
+    cycles = cycles_of(copy)
+    # (a function that calls itself is a cycle by itself, which has its name)
+    for path, part in made:
+        own = path.replace("+", "").replace(".", "::")
+        if part == "Code" and path.rpartition(".")[2].startswith("+") and own in cycles and cycles[own] is None:
+            cycles[own] = own.rpartition("::")[2]
+    return [it for it in made if is_left_open(*it, cycles, edited) and not it[0].endswith(".drop")]
 
 
 def cut_bodies(copy, edited):
@@ -431,38 +454,25 @@ def cycles_of(folder):
     return found
 
 
-def verdict(edit, said):
-    """Returns what a check says of an edit's function, or of a closure in it, or "" where it says nothing or passes it over for
-    one that it calls."""
+def is_unproved(edit, said):
+    """Returns whether a check does not prove an edit's function or a closure in it, and, where the edit is of what is stated, not
+    only for a function that it calls."""
     *module, name = edit.place[3].split("::")
     closures = re.escape("::".join([*module, "fn", name, ""])) + r"\S+"
-    told = re.findall(rf"(?m)^fn \S*\b({re.escape(edit.place[3])}|{closures}): (.*)$", said)
-    # (what the prover refuses of the function itself it names beside what the function calls, or says of the function's lines)
-    for path, found in told:
-        of_its_own = re.search(rf"\.{re.escape(path.replace('::', '.'))}\.\w+\.[^`]*`.* which antt refuses", found)
-        if found.startswith(("not proved", "no proof")) and (
-            "it calls" not in found or "did not prove" in found or of_its_own or unproved_goal(edit, said)
-        ):
-            return found
-    found = next((found for path, found in told if path == edit.place[3]), "")
-    return "" if "it calls" in found else found
-
-
-def unproved_goal(edit, said):
-    """Returns what a check says of a place in an edited function at which a goal is not proved, or None."""
-    file, begin, end, _ = edit.place
-    for it in re.findall(UNPROVED_GOAL, said):
-        where, line = re.match(r"note: (?:\./)?(\S+?):(\d+):", it).groups()
-        if where == file and begin <= int(line) <= end:
-            return it
-    return None
+    told = re.findall(rf"(?m)^fn \S*\b({re.escape(edit.place[3])}|{closures}): ((?:not proved|no proof).*)$", said)
+    # (what the prover refuses of the function itself it names beside what the function calls)
+    of_its_own = lambda path: rf"\.{re.escape(path.replace('::', '.'))}\.\w+\.[^`]*`.* which antt refuses"
+    return any(
+        edit.is_body or "it calls" not in found or "did not prove" in found or re.search(of_its_own(path), found)
+        for path, found in told
+    )
 
 
 def refusal(edit, said, files=None):
     """Returns what the prover says of an edited function that is not proved, or None where it says nothing of its contract: it
     says it of the function's lines or proof, or of one of these files; of any where none are given and a function is named."""
     file, begin, end, name = edit.place
-    if not verdict(edit, said).startswith(("not proved", "no proof")):
+    if not is_unproved(edit, said):
         return None
     for it in re.findall(TOLD, said):
         where, line = re.match(r"(?:note: )?(?:\./)?(\S+?):(\d+):", it).groups()
@@ -472,7 +482,8 @@ def refusal(edit, said, files=None):
         in_proof = f"/{name.replace('::', '/')}/" in where
         is_own = where == file and begin <= int(line) <= end or in_proof or in_cycle
         is_read = edit.refuses if files is None else where in files
-        if (is_own or is_read) and not re.match(NOT_OF_THE_CONTRACT, it):
+        is_refused = re.match(REFUSED, it) and not re.match(NOT_OF_THE_CONTRACT, it)
+        if (is_own or is_read) and is_refused:
             return it
     return None
 
