@@ -57,7 +57,7 @@ judge() {
 export RT_JOBS="${RT_JOBS:-4}"
 run python3 scripts/gate/check_layout.py
 run python3 scripts/gate/check_names.py
-RT_JOBS=2 nice -n 19 python3 scripts/gate/tests.py > "$tested" 2>&1 &
+nice -n 19 python3 scripts/gate/tests.py > "$tested" 2>&1 &
 tests=$!
 nice -n 19 python3 scripts/gate/edits.py --libraries "$tree/crates" --follow "$proofs" > "$tried" 2>&1 &
 edits=$!

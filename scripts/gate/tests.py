@@ -1,54 +1,71 @@
 #!/usr/bin/env python3
-"""Runs the tests: those of each crate whose name ends in `tests`, by `rt try --test`, or of the crates that are named.
+"""Runs the tests, those of each crate whose name ends in `tests`, by `rt try --test`, or of the crates that are named.
 
     scripts/gate/tests.py [CRATE..]
 
 What a test compares is settled by running it. `rt ci` would first prove that each of its steps is safe, which says nothing of
 the crates that it tests and took a sixth of the gate's time.
 
-`RT_JOBS` says how many crates run side by side, 4 where it is not set. The last line is `tests: P passed, F failed`, over the
-tests; a crate whose run has another end than passed tests counts as one that failed.
+All crates of tests run as the modules of one crate, made in a folder that is removed at the end: each run reads all crates
+below its own anew, which takes longer than the tests. The last line is `tests: P passed, F failed`, over the tests; a run
+that ends in another way than with passed tests counts as one that failed.
 """
 
-import concurrent.futures
-import os
 import re
+import shutil
 import subprocess
 import sys
+import tempfile
 from pathlib import Path
 
 from judging import Tally
 
-CRATES = Path(__file__).resolve().parents[2] / "crates"
+ROOT = Path(__file__).resolve().parents[2]
 RESULT = re.compile(r"(?m)^test result: \w+\. (\d+) passed; (\d+) failed;")
+JOINED = "joined_tests"
 
 
-def crates_of_tests():
-    """Returns the names of the crates of tests."""
-    return sorted(it.name for it in CRATES.glob("*tests") if (it / "src/lib.rt").is_file())
+def libraries():
+    """Returns the libraries that each crate stands on, by crates.txt."""
+    lines = [it.partition("#")[0].partition(":") for it in (ROOT / "crates.txt").read_text(encoding="utf-8").splitlines()]
+    return {name.strip(): uses.split() for name, _, uses in lines if name.strip()}
 
 
-def run(name):
-    """Runs the tests of a crate, and returns its status and what it printed."""
-    how = {"cwd": CRATES / name, "stdin": subprocess.DEVNULL, "stdout": subprocess.PIPE, "stderr": subprocess.STDOUT}
-    ran = subprocess.run(["rt", "try", "--test"], text=True, errors="replace", check=False, **how)
-    return ran.returncode, ran.stdout
+def join(names, known, room):
+    """Makes a tree with one crate, whose modules are the crates of tests with these names, over the crates that they stand on."""
+    unread = shutil.ignore_patterns("out", "must-fail", "*tests")
+    shutil.copytree(ROOT / "crates", room / "crates", ignore=unread)
+    source = room / "crates" / JOINED / "src"
+    source.mkdir(parents=True)
+    for name in names:
+        folder = ROOT / "crates" / name / "src"
+        for file in sorted(folder.glob("**/*.rt")):
+            text = file.read_text(encoding="utf-8").replace("#![tactic(auto)]\n", "").replace("crate::", f"crate::{name}::")
+            to = source / (f"{name}.rt" if file == folder / "lib.rt" else f"{name}/{file.relative_to(folder)}")
+            to.parent.mkdir(parents=True, exist_ok=True)
+            to.write_text(text, encoding="utf-8")
+    modules = "".join(f"#[cfg(test)]\nmod {it};\n" for it in names)
+    (source / "lib.rt").write_text(f"//! All tests.\n#![tactic(auto)]\n\n{modules}", encoding="utf-8")
+    below = dict.fromkeys(it for name in names for it in known[name])
+    lines = [f"{name}: {' '.join(uses)}\n" for name, uses in known.items() if not name.endswith("tests")]
+    (room / "crates.txt").write_text("".join([*lines, f"{JOINED}: {' '.join(below)}\n"]), encoding="utf-8")
+    (room / ".git").mkdir()
+    return room / "crates" / JOINED
 
 
 def main():
-    tally = Tally("tests")
-    names = sys.argv[1:] or crates_of_tests()
-    with concurrent.futures.ThreadPoolExecutor(int(os.environ.get("RT_JOBS", "4"))) as pool:
-        for name, (status, said) in zip(names, pool.map(run, names)):
-            found = RESULT.search(said)
-            passed, failed = (int(it) for it in found.groups()) if found else (0, 0)
-            tally.passed += passed
-            tally.failed += failed
-            if failed or status or not passed:
-                print(said, end="")
-            if not failed and (status or not passed):
-                tally.judge(False, f"{name}: status {status}, {passed} passed")
-            print(f"tests: {name}: {passed} passed", flush=True)
+    tally, known = Tally("tests"), libraries()
+    names = sys.argv[1:] or [it for it in known if it.endswith("tests")]
+    with tempfile.TemporaryDirectory(prefix="tests-") as room:
+        folder = join(names, known, Path(room))
+        how = {"cwd": folder, "stdin": subprocess.DEVNULL, "stdout": subprocess.PIPE, "stderr": subprocess.STDOUT}
+        ran = subprocess.run(["rt", "try", "--test"], text=True, errors="replace", check=False, **how)
+    found = RESULT.search(ran.stdout)
+    tally.passed, tally.failed = (int(it) for it in found.groups()) if found else (0, 0)
+    if tally.failed or ran.returncode or not tally.passed:
+        print(ran.stdout, end="")
+    if not tally.failed and (ran.returncode or not tally.passed):
+        tally.judge(False, f"status {ran.returncode}, {tally.passed} passed")
     return tally.close()
 
 
