@@ -39,7 +39,7 @@ KIT = Path(shutil.which("rt")).resolve().parents[1]
 NOT_OF_THE_CONTRACT = r"(note: )?(\./)?proofs/.*(has no field|is not in scope|has no `|was not admitted|has-holes|large solution|goal \? in )|.*`no-help`"
 TOLD = r"(?m)^(?:note: )?\S+:\d+:\d+: .*$"
 # What it says of a part of a proof that it refuses, or of a goal for which it finds no proof and the repository has none.
-REFUSED = r"\S+ error: |note: \S+ it is not proved that "
+REFUSED = r"\S+ error: |note: \S+ (it is not proved that |`search` found no proof )"
 UNREAD = (
     r"(?m)^(?:\./)?(src|specs)/\S+: error: "
     r".*(is not in scope|has no field|is no name|operand is missing|expected the end|cannot continue)"
@@ -49,6 +49,8 @@ PARTS = ("src", "specs", "proofs")
 LISTED = r"(?m)^pub (\S+) : goal\.\1\n(?:unfolding .*\n)?\1 (?:g )?(?:t )?c = first_of \(grind .*, search rules\)\n+"
 # The body of a function that is not looked at.
 NO_BODY = "loop {}"
+# Why an edit is refused that only takes away a place which an answer names.
+LITTLE = "only since a proof names what the edit took away, which says little of the contract"
 # The name of a goal that no function has.
 NO_GOAL = "no-help"
 # The processors on which no check runs.
@@ -234,7 +236,7 @@ class Trial:
     def __init__(self, command, name, edits, room, built, proofs):
         self.proofs = proofs
         self.words, self.name, self.edits, self.kept = command, name, edits, f"{room}/{name}"
-        self.folder, self.room, self.checks = ROOT / "crates" / name, room, 0
+        self.folder, self.room, self.checks, self.last = ROOT / "crates" / name, room, 0, {}
         self.library = built / name / "out" / "rlib" / f"{name}.rlib"
 
     def check(self, edits, only, bare=False):
@@ -270,6 +272,7 @@ class Trial:
         if status == 2:
             print(f"edits: {self.name}: {said.rstrip().splitlines()[-1]}", flush=True)
         for it in edits:
+            self.last[it] = said
             if status == 1 and (why := refusal(it, said, files_read(it) if it.refuses else ())):
                 self.judge(it, why)
         return [it for it in edits if it in self.left]
@@ -288,6 +291,8 @@ class Trial:
             status, said = self.check([edit], {edit.place[3]}, True)
             if status == 1 and not re.search(UNREAD, said) and (why := refusal(edit, said)):
                 return why
+        if edit.is_body and (answer := answer_refused(edit, self.last.get(edit, ""))):
+            return f"{LITTLE}: {answer}"
         status, said = self.check([edit], set(), True)
         if status != 1 or not said.rstrip("\n").split("\n")[-1].startswith("logic=not-proved") or re.search(UNREAD, said):
             return None
@@ -295,8 +300,7 @@ class Trial:
         if not told:
             return None
         of_the_contract = [it for it in told if not re.match(NOT_OF_THE_CONTRACT, it)]
-        little = f"only since a proof names what the edit took away, which says little of the contract: {told[0]}"
-        return of_the_contract[0] if of_the_contract else little
+        return of_the_contract[0] if of_the_contract else f"{LITTLE}: {told[0]}"
 
     def judge(self, edit, why):
         """Keeps what came of an edit, None where it was not refused."""
@@ -466,6 +470,14 @@ def is_unproved(edit, said):
         edit.is_body or "it calls" not in found or "did not prove" in found or re.search(of_its_own(path), found)
         for path, found in told
     )
+
+
+def answer_refused(edit, said):
+    """Returns what a check says of an edited function of which it refuses an answer, or None."""
+    path = re.escape(edit.place[3]) if edit.place else None
+    by_answer = rf"(?m)^fn \S*\b{path}: not proved; it stands on `[^`]*\.(?!{NO_GOAL}`)[^`.]+`, which antt refuses"
+    found = path and re.search(by_answer, said)
+    return found[0] if found else None
 
 
 def refusal(edit, said, files=None):
