@@ -65,8 +65,7 @@ fn named_base<N: Notes>(
 {
     let meaning = dotted_meaning(alloc, notes, Role::Base, file, inside, names)?;
     let shown = names_text(alloc, names)?;
-    let base = base_named(alloc, notes, at, shown.as_str(), meaning)?;
-    Ok(base)
+    base_named(alloc, notes, at, shown.as_str(), meaning)
 }
 
 /// A base that stands in a file: a subscript on it is ignored.
@@ -82,8 +81,7 @@ fn read_base<N: Notes>(
 {
     let inner = innermost(e);
     let names = dotted_names(alloc, inner)?;
-    let found = written_base(alloc, notes, file, e.at, inner.inside, names)?;
-    Ok(found)
+    written_base(alloc, notes, file, e.at, inner.inside, names)
 }
 
 /// Names joined by dots, or another expression, as a base.

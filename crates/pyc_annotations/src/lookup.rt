@@ -141,8 +141,7 @@ fn own_name<N: Notes>(
         (N.desk notes.new) }
 {
     let found = module_name_meaning(alloc, notes, file.name(), name)?;
-    let meaning = own_meaning(alloc, notes, at, name, binds(file, name), found)?;
-    Ok(meaning)
+    own_meaning(alloc, notes, at, name, binds(file, name), found)
 }
 
 /// What an attribute of a module means: one that the module does not have is told.
@@ -198,8 +197,7 @@ fn asked_attribute<N: Notes>(
         name: name.clone()?,
     });
     let answer = notes.ask(alloc, key)?;
-    let meaning = answered_attribute(alloc, notes, at, name.as_str(), answer)?;
-    Ok(meaning)
+    answered_attribute(alloc, notes, at, name.as_str(), answer)
 }
 
 /// What an attribute of a module means, as the answer to its key tells it.

@@ -59,7 +59,7 @@ fn wrong_count_text(alloc: Global, form: &str) -> Result<String, AllocError>
 fn invalid_text(alloc: Global) -> Result<String, AllocError>
     ensures { IfOk result (λ text. string_bytes text ≡ spec.invalid_text) }
 {
-    Ok(String::from_str(alloc, "Invalid type comment or annotation")?)
+    String::from_str(alloc, "Invalid type comment or annotation")
 }
 
 /// Tells that a variable, a function or a module is no type.
@@ -74,8 +74,7 @@ pub(crate) fn not_a_type<N: Notes>(
 {
     let names = names_text(alloc, &name.names)?;
     let text = not_a_type_text(alloc, names.as_str())?;
-    let told = wrong(notes, name.at, text)?;
-    Ok(told)
+    wrong(notes, name.at, text)
 }
 
 /// Tells that a form has another number of arguments than it takes.
@@ -89,8 +88,7 @@ pub(crate) fn wrong_count<N: Notes>(
     ensures { Performs annotation_in (spec.wrong_count at form) (N.desk notes.old) result (N.desk notes.new) }
 {
     let text = wrong_count_text(alloc, form.name())?;
-    let told = wrong(notes, at, text)?;
-    Ok(told)
+    wrong(notes, at, text)
 }
 
 /// Tells that an annotation is wrong.
@@ -103,8 +101,7 @@ pub(crate) fn invalid<N: Notes>(
     ensures { Performs annotation_in (spec.invalid at) (N.desk notes.old) result (N.desk notes.new) }
 {
     let text = invalid_text(alloc)?;
-    let told = wrong(notes, at, text)?;
-    Ok(told)
+    wrong(notes, at, text)
 }
 
 /// The text on a base that no class is.

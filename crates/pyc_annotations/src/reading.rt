@@ -65,8 +65,7 @@ pub fn read_annotation<N: Notes>(
         (N.desk notes.old) result (N.desk notes.new) }
 {
     let written = type_expr(alloc, e)?;
-    let found = read_type(alloc, notes, file, &written)?;
-    Ok(found)
+    read_type(alloc, notes, file, &written)
 }
 
 /// The bare name of a special form.
@@ -101,7 +100,7 @@ fn named<N: Notes>(
         result (N.desk notes.new) }
 {
     match meaning {
-        Meaning::Class(class) => Ok(of_class(alloc, class)?),
+        Meaning::Class(class) => of_class(alloc, class),
         Meaning::Any | Meaning::Type => Ok(of_type(Ty::Any)),
         Meaning::Fixed(found) => bare_form(alloc, notes, at, found),
         Meaning::Nothing => invalid(alloc, notes, at),
@@ -122,8 +121,7 @@ fn read_name<N: Notes>(
         (N.desk notes.old) result (N.desk notes.new) }
 {
     let meaning = dotted_meaning(alloc, notes, Role::Annotation, file, name.at, &name.names)?;
-    let found = named(alloc, notes, at, name, meaning)?;
-    Ok(found)
+    named(alloc, notes, at, name, meaning)
 }
 
 /// What an annotation means that stands in a file.
@@ -175,8 +173,7 @@ fn read_subscript<N: Notes>(
 {
     let meaning = dotted_meaning(alloc, notes, Role::Annotation, file, name.at, &name.names)?;
     let subscripted = with_arguments(is_nested, meaning);
-    let found = read_subscripted(alloc, notes, file, at, name, arguments, subscripted)?;
-    Ok(found)
+    read_subscripted(alloc, notes, file, at, name, arguments, subscripted)
 }
 
 /// What stands right of `|`, where the left side has this type.

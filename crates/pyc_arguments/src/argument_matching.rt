@@ -112,8 +112,7 @@ fn match_plainly<N: Judge, R: Reader<N>>(
         (N.desk notes.old) result (N.desk notes.new) }
 {
     let filling = match_each(alloc, notes, reader, call, arguments, params)?;
-    tell_filling(alloc, notes, call, params, &filling)?;
-    Ok(())
+    tell_filling(alloc, notes, call, params, &filling)
 }
 
 /// What arguments fill, in turn.
@@ -240,8 +239,7 @@ fn take_read<N: Judge>(
     let given = given_by(&argument.kind);
     let found = matched(&filling.fill, params, given);
     tell_of_read(alloc, notes, call, number, given, found, argument)?;
-    filling.take(given, found)?;
-    Ok(())
+    filling.take(given, found)
 }
 
 /// Reads an argument that comes to this, and tells of it.
@@ -295,8 +293,7 @@ fn tell_of_read<N: Judge>(
         number,
         &argument.ty,
         wanted(found),
-    )?;
-    Ok(())
+    )
 }
 
 /// Tells what is told of an argument before it is read.
@@ -374,8 +371,7 @@ fn owe_type<N: Judge>(
         (N.desk notes.old) result (N.desk notes.new) }
 {
     let holds = judged(alloc, notes, got, want)?;
-    tell_argument_unless(alloc, notes, holds, call, at, given, number, got, want)?;
-    Ok(())
+    tell_argument_unless(alloc, notes, holds, call, at, given, number, got, want)
 }
 
 /// Tells what is told after all arguments.
@@ -392,8 +388,7 @@ fn tell_filling<N: Judge>(
         (N.desk notes.new) }
 {
     tell_if_too_many(alloc, notes, call, filling.has_too_many)?;
-    tell_unfilled(alloc, notes, call, params, &filling.fill)?;
-    Ok(())
+    tell_unfilled(alloc, notes, call, params, &filling.fill)
 }
 
 /// Tells once that there were too many arguments, if there were.
@@ -427,8 +422,7 @@ fn tell_unfilled<N: Notes>(
         (N.desk notes.old) result (N.desk notes.new) }
 {
     let found = missing(alloc, fill, params)?;
-    tell_each_missing(alloc, notes, call, &found)?;
-    Ok(())
+    tell_each_missing(alloc, notes, call, &found)
 }
 
 /// Tells of parameters that no argument fills, in turn.

@@ -81,8 +81,7 @@ fn tell_argument<N: Notes>(
         got.as_str(),
         want.as_str(),
     )?;
-    tell_error(notes, at, Code::ArgType, text)?;
-    Ok(())
+    tell_error(notes, at, Code::ArgType, text)
 }
 
 /// Tells that an argument is of another type than is wanted, unless it holds that it is not.
@@ -123,8 +122,7 @@ pub(crate) fn tell_repeated<N: Notes>(
 {
     let shown = shown_text(alloc, call.shown)?;
     let text = repeated_text(alloc, name, shown.as_str())?;
-    tell_error(notes, call.at, Code::CallArg, text)?;
-    Ok(())
+    tell_error(notes, call.at, Code::CallArg, text)
 }
 
 /// Tells that there is no parameter of a name.
@@ -140,8 +138,7 @@ pub(crate) fn tell_unexpected<N: Notes>(
 {
     let shown = shown_text(alloc, call.shown)?;
     let text = unexpected_text(alloc, name, shown.as_str())?;
-    tell_error(notes, call.at, Code::CallArg, text)?;
-    Ok(())
+    tell_error(notes, call.at, Code::CallArg, text)
 }
 
 /// Tells that no parameter is left for the places of arguments.
@@ -156,8 +153,7 @@ pub(crate) fn tell_too_many<N: Notes>(
 {
     let shown = shown_text(alloc, call.shown)?;
     let text = too_many_text(alloc, shown.as_str())?;
-    tell_error(notes, call.at, Code::CallArg, text)?;
-    Ok(())
+    tell_error(notes, call.at, Code::CallArg, text)
 }
 
 /// Tells that no argument fills a parameter.
@@ -174,6 +170,5 @@ pub(crate) fn tell_missing<N: Notes>(
     let shown = shown_text(alloc, call.shown)?;
     let name = missing_text(alloc, missing)?;
     let text = missing_argument_text(alloc, missing, name.as_str(), shown.as_str())?;
-    tell_error(notes, call.at, Code::CallArg, text)?;
-    Ok(())
+    tell_error(notes, call.at, Code::CallArg, text)
 }

@@ -17,7 +17,7 @@ pub(crate) fn shown_text(alloc: Global, shown: Shown<'_>) -> Result<String, Allo
     match shown {
         Shown::Name(name) => format!(in alloc; "\"{name}\""),
         Shown::Member(name, owner) => format!(in alloc; "\"{name}\" of \"{owner}\""),
-        Shown::Nameless => Ok(String::from_str(alloc, "\"function\"")?),
+        Shown::Nameless => String::from_str(alloc, "\"function\""),
     }
 }
 

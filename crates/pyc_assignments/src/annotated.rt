@@ -68,7 +68,7 @@ fn if_value<N: Judge, R: AssignmentReader<N>>(
 {
     match value {
         Some(value) => with_value(alloc, notes, reader, declares, target, want, value, state),
-        None => Ok(state.clone()?),
+        None => state.clone(),
     }
 }
 
@@ -90,10 +90,9 @@ fn with_value<N: Judge, R: AssignmentReader<N>>(
         (state_of state.now)) (N.desk notes.old) result (N.desk notes.new) }
 {
     let early = early_want(alloc, notes, reader, state, target)?;
-    let state = value_assigned(
+    value_assigned(
         alloc, notes, reader, declares, target, want, value, state, early,
-    )?;
-    Ok(state)
+    )
 }
 
 /// What a target other than a name takes, which is read before the value.

@@ -61,8 +61,7 @@ fn single_assigned<N: Judge, R: AssignmentReader<N>>(
         (N.desk notes.old) result (N.desk notes.new) }
 {
     let found = slot(alloc, notes, reader, state, target)?;
-    let state = stored(alloc, notes, at, target, &found, ty, state)?;
-    Ok(state)
+    stored(alloc, notes, at, target, &found, ty, state)
 }
 
 /// The same of targets to which a value is unpacked.
@@ -84,8 +83,7 @@ fn unpacked<N: Judge, R: AssignmentReader<N>>(
 {
     let is_starred = has_starred(elements);
     let found = shares_of(alloc, notes, at, is_starred, target_count(elements), ty)?;
-    let state = each_assigned(alloc, notes, reader, at, &found, elements, state)?;
-    Ok(state)
+    each_assigned(alloc, notes, reader, at, &found, elements, state)
 }
 
 /// The same of targets that get their shares, in turn.

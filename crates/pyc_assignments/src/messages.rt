@@ -67,8 +67,7 @@ fn tell_assignment<N: Judge>(
     let got = show(alloc, got)?;
     let want = show(alloc, want)?;
     let text = assignment_text(alloc, is_item, got.as_str(), want.as_str())?;
-    tell_error(notes, at, Code::Assignment, text)?;
-    Ok(())
+    tell_error(notes, at, Code::Assignment, text)
 }
 
 /// Tells that a value is of another type than its target takes, unless it holds that it is not.

@@ -33,8 +33,7 @@ pub(crate) fn stored<N: Judge>(
         (N.desk notes.old) result (N.desk notes.new) }
 {
     want_owed(alloc, notes, at, slot.is_item, got, slot.want.as_ref())?;
-    let state = renarrowed(alloc, notes, target, slot.want.as_ref(), got, state)?;
-    Ok(state)
+    renarrowed(alloc, notes, target, slot.want.as_ref(), got, state)
 }
 
 /// A value must be of the type that its target takes, where something is owed.
@@ -70,8 +69,7 @@ pub(crate) fn assignment_owed<N: Judge>(
         result (N.desk notes.new) }
 {
     let holds = judged(alloc, notes, got, want)?;
-    let told = tell_assignment_unless(alloc, notes, holds, at, is_item, got, want)?;
-    Ok(told)
+    tell_assignment_unless(alloc, notes, holds, at, is_item, got, want)
 }
 
 /// What is known after a target that takes a type was assigned a value of a type.
@@ -88,8 +86,7 @@ pub(crate) fn renarrowed<N: Judge>(
         (state_of state.now)) (N.desk notes.old) result (N.desk notes.new) }
 {
     let place = target_place(alloc, target)?;
-    let state = place_assigned(alloc, notes, place, want, got, state)?;
-    Ok(state)
+    place_assigned(alloc, notes, place, want, got, state)
 }
 
 /// The same of a target that is a place, if it is one.
@@ -107,7 +104,7 @@ fn place_assigned<N: Judge>(
 {
     match place {
         Some(place) => dropped_narrowed(alloc, notes, &place, want, got, state),
-        None => Ok(state.clone()?),
+        None => state.clone(),
     }
 }
 
@@ -125,8 +122,7 @@ fn dropped_narrowed<N: Judge>(
         (states.dropped_at place.now (state_of state.now))) (N.desk notes.old) result (N.desk notes.new) }
 {
     let dropped = state.dropped_at(alloc, place)?;
-    let state = narrowed(alloc, notes, place, want, got, &dropped)?;
-    Ok(state)
+    narrowed(alloc, notes, place, want, got, &dropped)
 }
 
 /// A place that takes a type is narrowed to that of a value.
@@ -144,7 +140,7 @@ fn narrowed<N: Judge>(
 {
     match want {
         Some(want) => narrowed_to(alloc, notes, place, want, got, state),
-        None => Ok(state.clone()?),
+        None => state.clone(),
     }
 }
 
@@ -164,7 +160,7 @@ fn narrowed_to<N: Judge>(
     if is_union(want) && !is_any(got) {
         narrowed_by(alloc, notes, place, want, got, state)
     } else {
-        Ok(state.clone()?)
+        state.clone()
     }
 }
 
@@ -197,8 +193,7 @@ fn narrowed_by<N: Judge>(
         (N.desk notes.new) }
 {
     let goes = judged(alloc, notes, got, want)?;
-    let state = narrowed_if(alloc, goes, place, got, state)?;
-    Ok(state)
+    narrowed_if(alloc, goes, place, got, state)
 }
 
 /// A state in which a place has a type, if it goes.
@@ -215,6 +210,6 @@ fn narrowed_if(
     if goes {
         state.with_place(alloc, place.clone()?, ty.clone()?)
     } else {
-        Ok(state.clone()?)
+        state.clone()
     }
 }

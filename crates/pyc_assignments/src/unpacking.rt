@@ -144,7 +144,7 @@ pub(crate) fn share_at(shares: &Shares, index: usize) -> Result<Ty, AllocError>
     ensures { IfOk result (λ ty. ty_of ty ≡ spec.share_at (shares_in shares.now) index) }
 {
     match shares {
-        Shares::Each(ty) => Ok(ty.clone()?),
+        Shares::Each(ty) => ty.clone(),
         Shares::Places(ty) => place_in(ty, index),
     }
 }
@@ -171,7 +171,7 @@ fn or_any(found: Option<&Ty>) -> Result<Ty, AllocError>
     ensures { IfOk result (λ ty. ty_of ty ≡ spec.or_any (option_map (λ ty. ty_of ty.now) found.entry)) }
 {
     match found {
-        Some(ty) => Ok(ty.clone()?),
+        Some(ty) => ty.clone(),
         None => Ok(Ty::Any),
     }
 }

@@ -63,7 +63,7 @@ pub fn without_first(alloc: Global, ty: &Ty) -> Result<Ty, AllocError>
 {
     match ty {
         Ty::Callable(signature) => given_first(alloc, ty, signature),
-        _ => Ok(ty.clone()?),
+        _ => ty.clone(),
     }
 }
 
@@ -77,7 +77,7 @@ fn given_first(alloc: Global, ty: &Ty, signature: &Signature) -> Result<Ty, Allo
             let later = later_params(alloc, params)?;
             callable_of(alloc, later, &signature.result)
         }
-        Params::Dots => Ok(ty.clone()?),
+        Params::Dots => ty.clone(),
     }
 }
 

@@ -47,10 +47,10 @@ pub fn item_attribute<N: Judge>(
         Ty::Module(home) => module_attribute(alloc, notes, home, name),
         Ty::Instance(class) => of_instance(alloc, notes, ty, class, name),
         Ty::Class(class) => of_class_object(alloc, notes, class, name),
-        Ty::List(_) => Ok(builtin_attribute(alloc, ty, BuiltinClass::List, name)?),
-        Ty::Dict(_) => Ok(builtin_attribute(alloc, ty, BuiltinClass::Dict, name)?),
-        Ty::Tuple(_) => Ok(builtin_attribute(alloc, ty, BuiltinClass::Tuple, name)?),
-        Ty::TupleOf(_) => Ok(builtin_attribute(alloc, ty, BuiltinClass::Tuple, name)?),
+        Ty::List(_) => builtin_attribute(alloc, ty, BuiltinClass::List, name),
+        Ty::Dict(_) => builtin_attribute(alloc, ty, BuiltinClass::Dict, name),
+        Ty::Tuple(_) => builtin_attribute(alloc, ty, BuiltinClass::Tuple, name),
+        Ty::TupleOf(_) => builtin_attribute(alloc, ty, BuiltinClass::Tuple, name),
         Ty::Union(_) => Ok(FoundAttribute::Known(Ty::Any)),
         Ty::Callable(_) => Ok(bare_attribute(name)),
     }
@@ -132,7 +132,7 @@ fn of_instance<N: Judge>(
     ensures { Performs found_in (spec.of_instance class.now name.now) (N.desk notes.old) result (N.desk notes.new) }
 {
     match class.as_builtin() {
-        Some(found) => Ok(builtin_attribute(alloc, ty, found, name)?),
+        Some(found) => builtin_attribute(alloc, ty, found, name),
         None => instance_attribute(alloc, notes, class, name),
     }
 }
@@ -165,8 +165,7 @@ fn instance_attribute<N: Judge>(
         (N.desk notes.new) }
 {
     let found = asked_member(alloc, notes, class, name)?;
-    let attribute = instance_found(alloc, notes, class, name, found)?;
-    Ok(attribute)
+    instance_found(alloc, notes, class, name, found)
 }
 
 /// The same, by the member that it has.
@@ -181,7 +180,7 @@ fn instance_found<N: Judge>(
         (N.desk notes.old) result (N.desk notes.new) }
 {
     match found {
-        Some(found) => Ok(instance_member(alloc, name, found)?),
+        Some(found) => instance_member(alloc, name, found),
         None => no_member(alloc, notes, class, name),
     }
 }
@@ -294,8 +293,7 @@ fn class_object_attribute<N: Judge>(
         (N.desk notes.new) }
 {
     let found = asked_member(alloc, notes, class, name)?;
-    let attribute = class_object_found(alloc, notes, class, name, found)?;
-    Ok(attribute)
+    class_object_found(alloc, notes, class, name, found)
 }
 
 /// The same, by the member that it has.
@@ -310,7 +308,7 @@ fn class_object_found<N: Judge>(
         (N.desk notes.old) result (N.desk notes.new) }
 {
     match found {
-        Some(found) => Ok(class_member(alloc, name, found)?),
+        Some(found) => class_member(alloc, name, found),
         None => no_class_member(alloc, notes, class, name),
     }
 }

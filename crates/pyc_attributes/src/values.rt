@@ -62,8 +62,7 @@ fn single_attribute<N: Judge>(
         (N.desk notes.new) }
 {
     let found = item_attribute(alloc, notes, ty, name)?;
-    let value = found_value(alloc, notes, at, ty, name, found)?;
-    Ok(value)
+    found_value(alloc, notes, at, ty, name, found)
 }
 
 /// What was found.
@@ -157,8 +156,7 @@ fn union_item<N: Judge>(
         (N.desk notes.new) }
 {
     let found = item_attribute(alloc, notes, item, name)?;
-    let ty = item_type(alloc, notes, at, whole, item, name, found)?;
-    Ok(ty)
+    item_type(alloc, notes, at, whole, item, name, found)
 }
 
 /// The type of what was found in an item of a union.

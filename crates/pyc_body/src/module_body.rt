@@ -117,8 +117,7 @@ fn read_block<N: Notes>(
 {
     read_annotations(alloc, notes, file, statements)?;
     let forms = literal_forms(alloc, file, statements)?;
-    tell_forms(alloc, notes, builtins, &forms)?;
-    Ok(())
+    tell_forms(alloc, notes, builtins, &forms)
 }
 
 /// Tells of annotated literals, in turn.

@@ -209,10 +209,9 @@ fn source_called<N: Judge, R: Reader<N>>(
 {
     let found = call_member(alloc, notes, class)?;
     let progress = progress_of(memory, class)?;
-    let ty = by_member(
+    by_member(
         alloc, notes, reader, depth, call, memory, arguments, class, progress, found,
-    )?;
-    Ok(ty)
+    )
 }
 
 /// The `__call__` of a class.
@@ -362,8 +361,7 @@ fn unread_called<N: Judge, R: Reader<N>>(
         (N.desk notes.old) result (N.desk notes.new) }
 {
     let read = read_once(alloc, notes, reader, arguments)?;
-    let ty = read_called(alloc, notes, reader, depth, call, memory, &read, items)?;
-    Ok(ty)
+    read_called(alloc, notes, reader, depth, call, memory, &read, items)
 }
 
 /// The items of a union are called with arguments that were read.
@@ -386,8 +384,7 @@ fn read_called<N: Judge, R: Reader<N>>(
         (N.desk notes.old) result (N.desk notes.new) }
 {
     let arguments = Arguments::Read(arguments);
-    let ty = row_called(alloc, notes, reader, depth, call, memory, &arguments, items)?;
-    Ok(ty)
+    row_called(alloc, notes, reader, depth, call, memory, &arguments, items)
 }
 
 /// The items of a union are called.
@@ -410,8 +407,7 @@ fn row_called<N: Judge, R: Reader<N>>(
         (N.desk notes.old) result (N.desk notes.new) }
 {
     let types = items_called(alloc, notes, reader, depth, call, memory, arguments, items)?;
-    let union = union_of(alloc, &types)?;
-    Ok(union)
+    union_of(alloc, &types)
 }
 
 /// The types of calls of the items of a union, in turn.

@@ -71,8 +71,7 @@ fn source_constructor<N: Judge>(
 {
     let key = Key::Class(class.clone()?);
     let answer = notes.ask(alloc, key)?;
-    let found = answered_constructor(alloc, notes, class, &answer)?;
-    Ok(found)
+    answered_constructor(alloc, notes, class, &answer)
 }
 
 /// The same, by the order that an answer tells.
@@ -120,8 +119,7 @@ fn by_order<N: Judge>(
         (N.desk notes.new) }
 {
     let found = new_member(alloc, notes, class)?;
-    let constructor = without_new(alloc, notes, class, order, &found)?;
-    Ok(constructor)
+    without_new(alloc, notes, class, order, &found)
 }
 
 /// The same, where this is the `__new__` of the class.
@@ -155,8 +153,7 @@ fn by_initializer<N: Judge>(
 {
     let found = initializer_member(alloc, notes, class)?;
     let first = first_initializer(&order.classes, &found);
-    let params = initializer_params(alloc, first, found)?;
-    Ok(params)
+    initializer_params(alloc, first, found)
 }
 
 /// The `__new__` of a class.

@@ -55,8 +55,7 @@ pub fn method_called<N: Judge>(
 {
     let callee = through_instance(alloc, member)?;
     let arguments = placed(alloc, types)?;
-    let found = quietly_called(alloc, notes, &arguments, &callee)?;
-    Ok(found)
+    quietly_called(alloc, notes, &arguments, &callee)
 }
 
 /// What is given by a call of which nothing is told, where nothing would be told.
@@ -91,8 +90,7 @@ fn placed_called<N: Judge>(
         shown: Shown::Nameless,
     };
     let arguments = Arguments::Read(arguments);
-    let ty = called(alloc, notes, &NoReader, &call, &arguments, callee)?;
-    Ok(ty)
+    called(alloc, notes, &NoReader, &call, &arguments, callee)
 }
 
 /// Arguments by place of these types.

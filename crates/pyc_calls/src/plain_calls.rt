@@ -67,8 +67,7 @@ pub(crate) fn refused<N: Judge, R: Reader<N>>(
         (N.desk notes.old) result (N.desk notes.new) }
 {
     read_all(alloc, notes, reader, arguments)?;
-    let told = not_callable(alloc, notes, call, ty)?;
-    Ok(told)
+    not_callable(alloc, notes, call, ty)
 }
 
 /// What is no union and no instance of a class is called.
@@ -112,7 +111,7 @@ fn signature_called<N: Judge, R: Reader<N>>(
         (N.desk notes.old) result (N.desk notes.new) }
 {
     match_arguments(alloc, notes, reader, call, arguments, &signature.params)?;
-    Ok(signature.result.clone()?)
+    signature.result.clone()
 }
 
 /// A class is called.
@@ -131,8 +130,7 @@ fn class_called<N: Judge, R: Reader<N>>(
         (N.desk notes.old) result (N.desk notes.new) }
 {
     let found = constructor(alloc, notes, class)?;
-    let ty = constructed(alloc, notes, reader, call, arguments, class, found)?;
-    Ok(ty)
+    constructed(alloc, notes, reader, call, arguments, class, found)
 }
 
 /// A class is called that takes this.
@@ -153,8 +151,7 @@ fn constructed<N: Judge, R: Reader<N>>(
         (N.desk notes.old) result (N.desk notes.new) }
 {
     match_constructor(alloc, notes, reader, call, arguments, &found)?;
-    let ty = instance_of(alloc, class)?;
-    Ok(ty)
+    instance_of(alloc, class)
 }
 
 /// Matches arguments to what a class takes.
@@ -218,8 +215,7 @@ pub(crate) fn without_call<N: Judge, R: Reader<N>>(
         (N.desk notes.old) result (N.desk notes.new) }
 {
     let is_unknown = is_unknown_class(alloc, notes, class)?;
-    let ty = refused_unless(alloc, notes, reader, is_unknown, call, arguments, class)?;
-    Ok(ty)
+    refused_unless(alloc, notes, reader, is_unknown, call, arguments, class)
 }
 
 /// The same, by whether the order of the class is not known.
@@ -260,6 +256,5 @@ pub(crate) fn refused_instance<N: Judge, R: Reader<N>>(
         (N.desk notes.old) result (N.desk notes.new) }
 {
     let ty = Ty::Instance(class.clone()?);
-    let found = refused(alloc, notes, reader, call, arguments, &ty)?;
-    Ok(found)
+    refused(alloc, notes, reader, call, arguments, &ty)
 }

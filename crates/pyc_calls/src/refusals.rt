@@ -43,6 +43,5 @@ pub(crate) fn not_callable<N: Notes>(
 {
     let got = show(alloc, ty)?;
     let text = not_callable_text(alloc, got.as_str())?;
-    let told = wrong(notes, call.at, text)?;
-    Ok(told)
+    wrong(notes, call.at, text)
 }

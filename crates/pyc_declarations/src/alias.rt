@@ -33,8 +33,7 @@ impl Kinds<'_> {
             ≡ spec.is_alias (kinds_in self.now) (source_in file.now) (expr_of annotation.now)) }
     {
         let written = type_expr(alloc, annotation)?;
-        let found = self.is_alias_type(alloc, file, &written)?;
-        Ok(found)
+        self.is_alias_type(alloc, file, &written)
     }
 
     /// Whether an annotation is a name of a fixed module that is Any there.

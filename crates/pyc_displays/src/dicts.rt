@@ -40,8 +40,7 @@ pub fn dict_display<N: Judge, R: Reader<N>>(
         (option_map (λ ty. ty_of ty.now) want.entry)) (N.desk notes.old) result (N.desk notes.new) }
 {
     let entry = expected_entry(alloc, want)?;
-    let dict = dict_by(alloc, notes, reader, items, entry)?;
-    Ok(dict)
+    dict_by(alloc, notes, reader, items, entry)
 }
 
 /// A dict display, by what is expected of its entries.
@@ -77,8 +76,7 @@ fn free_dict<N: Judge, R: Reader<N>>(
 {
     let is_open = is_open_dict(items);
     let types = read_entries(alloc, notes, reader, items)?;
-    let dict = dict_type(alloc, is_open, &types)?;
-    Ok(dict)
+    dict_type(alloc, is_open, &types)
 }
 
 /// Whether not all entries are known: there are none, or something stands after `**`.
@@ -233,8 +231,7 @@ fn dict_to<N: Judge, R: Reader<N>>(
         (N.desk notes.old) result (N.desk notes.new) }
 {
     entries_to(alloc, notes, reader, &want, items)?;
-    let dict = dict_of(alloc, want)?;
-    Ok(dict)
+    dict_of(alloc, want)
 }
 
 /// Entries that must be of these types, in turn.
@@ -302,8 +299,7 @@ fn pair_to<N: Judge, R: Reader<N>>(
         Some(&want.key),
         Some(&want.value),
     )?;
-    entry_owed(alloc, notes, key, index, &got, want)?;
-    Ok(())
+    entry_owed(alloc, notes, key, index, &got, want)
 }
 
 /// An entry must be of these types, and where one is not that is told at its key.

@@ -30,8 +30,7 @@ pub fn list_display<N: Judge, R: Reader<N>>(
         (option_map (λ ty. ty_of ty.now) want.entry)) (N.desk notes.old) result (N.desk notes.new) }
 {
     let item = expected_item(alloc, want)?;
-    let list = list_by(alloc, notes, reader, items, item)?;
-    Ok(list)
+    list_by(alloc, notes, reader, items, item)
 }
 
 /// A list display, by what is expected of its items.
@@ -67,8 +66,7 @@ fn free_list<N: Judge, R: Reader<N>>(
 {
     let is_open = is_open_list(items);
     let types = read_types(alloc, notes, reader, &[], items)?;
-    let list = list_type(alloc, is_open, &types)?;
-    Ok(list)
+    list_type(alloc, is_open, &types)
 }
 
 /// Whether not all items are known: there are none, or some stand after `*`.
@@ -92,8 +90,7 @@ fn list_to<N: Judge, R: Reader<N>>(
         (N.desk notes.old) result (N.desk notes.new) }
 {
     items_to(alloc, notes, reader, &want, items)?;
-    let list = list_of(alloc, want)?;
-    Ok(list)
+    list_of(alloc, want)
 }
 
 /// Items that must be of a type, in turn.

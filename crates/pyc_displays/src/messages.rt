@@ -38,8 +38,7 @@ fn tell_list_item<N: Notes>(
     let got = show(alloc, got)?;
     let want = show(alloc, want)?;
     let text = list_item_text(alloc, index, got.as_str(), want.as_str())?;
-    tell_error(notes, at, Code::ListItem, text)?;
-    Ok(())
+    tell_error(notes, at, Code::ListItem, text)
 }
 
 /// Tells that an item of a list is of another type than is expected, unless it holds that it is not.
@@ -107,8 +106,7 @@ fn tell_dict_entry<N: Notes>(
         want_key.as_str(),
         want_value.as_str(),
     )?;
-    tell_error(notes, at, Code::DictItem, text)?;
-    Ok(())
+    tell_error(notes, at, Code::DictItem, text)
 }
 
 /// Tells that an entry of a dictionary is of other types than are expected, unless it holds that it is not.

@@ -167,8 +167,7 @@ pub fn condition<N: Judge, C: Context<N>>(
         (N.desk notes.new) }
 {
     read(alloc, notes, context, state, e)?;
-    let states = split(alloc, notes, context, state, e)?;
-    Ok(states)
+    split(alloc, notes, context, state, e)
 }
 
 /// The states after a condition that is true, and after one that is not, from the state before it. Nothing is told. The

@@ -80,10 +80,9 @@ fn attribute_called<N: Judge, C: Context<N>, P: Parts<N>>(
         (N.desk notes.old) result (N.desk notes.new) }
 {
     let owner = parts.part(alloc, notes, state, owner, None)?;
-    let ty = member_called(
+    member_called(
         alloc, notes, context, parts, state, at, arguments, callee, name, &owner,
-    )?;
-    Ok(ty)
+    )
 }
 
 /// A call of an attribute whose owner was read.

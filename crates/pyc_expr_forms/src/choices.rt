@@ -82,8 +82,7 @@ pub fn boolean_type<N: Judge, P: Parts<N>>(
         operator (expr_of left.now) (expr_of right.now)) (N.desk notes.old) result (N.desk notes.new) }
 {
     let left = chained(alloc, notes, parts, state, want, operator, left)?;
-    let ty = last_side(alloc, notes, parts, want, operator, right, left)?;
-    Ok(ty)
+    last_side(alloc, notes, parts, want, operator, right, left)
 }
 
 /// What stands to the left of an operator: the sides of a chain of that operator are read from left to right.
@@ -109,8 +108,7 @@ fn chained<N: Judge, P: Parts<N>>(
         } => {
             if same_operator(operator, *inner) {
                 let first = chained(alloc, notes, parts, state, want, operator, left)?;
-                let both = next_side(alloc, notes, parts, want, operator, right, first)?;
-                Ok(both)
+                next_side(alloc, notes, parts, want, operator, right, first)
             } else {
                 first_side(alloc, notes, parts, state, want, operator, e)
             }
@@ -146,8 +144,7 @@ fn first_side<N: Judge, P: Parts<N>>(
         operator (expr_of side.now)) (N.desk notes.old) result (N.desk notes.new) }
 {
     let ty = type_in(alloc, notes, parts, state, side, want)?;
-    let found = side_said(alloc, notes, parts, state, operator, side, ty)?;
-    Ok(found)
+    side_said(alloc, notes, parts, state, operator, side, ty)
 }
 
 /// A side of a chain, after which the chain goes on.
@@ -168,8 +165,7 @@ fn next_side<N: Judge, P: Parts<N>>(
 {
     let Chain { ty, state } = left;
     let joined = with_side(alloc, notes, parts, &state, want, operator, side, ty)?;
-    let found = side_said(alloc, notes, parts, &state, operator, side, joined)?;
-    Ok(found)
+    side_said(alloc, notes, parts, &state, operator, side, joined)
 }
 
 /// The last side of a chain.
@@ -240,8 +236,7 @@ fn with_side<N: Judge, P: Parts<N>>(
         (expr_of side.now) (ty_of left)) (N.desk notes.old) result (N.desk notes.new) }
 {
     let right = type_where(alloc, notes, parts, state, side, want)?;
-    let ty = joined_type(alloc, operator, left, right)?;
-    Ok(ty)
+    joined_type(alloc, operator, left, right)
 }
 
 /// The type of `and` or `or`, by those of its sides.
@@ -254,8 +249,8 @@ fn joined_type(
     ensures { IfOk result (λ ty. ty_of ty ≡ spec.joined_type operator (ty_of left) (option_map ty_of right)) }
 {
     match operator {
-        BooleanOperator::And => Ok(and_type(alloc, left, right)?),
-        BooleanOperator::Or => Ok(or_type(alloc, left, right)?),
+        BooleanOperator::And => and_type(alloc, left, right),
+        BooleanOperator::Or => or_type(alloc, left, right),
     }
 }
 
@@ -278,8 +273,7 @@ pub fn choice_type<N: Judge, P: Parts<N>>(
 {
     only_read(alloc, notes, parts, state, test)?;
     let states = split(alloc, notes, &Looking { parts }, state, test)?;
-    let ty = arms_type(alloc, notes, parts, want, body, orelse, &states)?;
-    Ok(ty)
+    arms_type(alloc, notes, parts, want, body, orelse, &states)
 }
 
 /// The arms of a conditional expression, in the states of its condition.
@@ -299,8 +293,7 @@ fn arms_type<N: Judge, P: Parts<N>>(
         (expr_of orelse.now) (states_of states.now)) (N.desk notes.old) result (N.desk notes.new) }
 {
     let body = type_where(alloc, notes, parts, &states.if_true, body, want)?;
-    let ty = orelse_type(alloc, notes, parts, &states.if_false, want, orelse, body)?;
-    Ok(ty)
+    orelse_type(alloc, notes, parts, &states.if_false, want, orelse, body)
 }
 
 /// The arm that is read where the condition does not hold, by the type of the other.
@@ -320,6 +313,5 @@ fn orelse_type<N: Judge, P: Parts<N>>(
         (expr_of orelse.now) (option_map ty_of body)) (N.desk notes.old) result (N.desk notes.new) }
 {
     let orelse = type_where(alloc, notes, parts, state, orelse, want)?;
-    let ty = conditional_type(alloc, body, orelse)?;
-    Ok(ty)
+    conditional_type(alloc, body, orelse)
 }

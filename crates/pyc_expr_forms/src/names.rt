@@ -33,7 +33,7 @@ pub fn name_value<N: Judge, C: Context<N>>(
         (N.desk notes.old) result (N.desk notes.new) }
 {
     match state.narrowed_at(whole) {
-        Some(ty) => Ok(narrowed(ty)?),
+        Some(ty) => narrowed(ty),
         None => context.named(alloc, notes, at, name),
     }
 }
@@ -83,7 +83,7 @@ pub(crate) fn attribute_of<N: Judge>(
         (N.desk notes.old) result (N.desk notes.new) }
 {
     match state.narrowed_at(whole) {
-        Some(ty) => Ok(narrowed(ty)?),
+        Some(ty) => narrowed(ty),
         None => attribute(alloc, notes, at, owner, name),
     }
 }

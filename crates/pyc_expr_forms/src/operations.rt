@@ -36,8 +36,7 @@ pub fn unary_type<N: Judge, P: Parts<N>>(
         (N.desk notes.old) result (N.desk notes.new) }
 {
     let operand = type_in(alloc, notes, parts, state, operand, None)?;
-    let ty = unary(alloc, notes, &MethodCaller, at, operator, &operand)?;
-    Ok(ty)
+    unary(alloc, notes, &MethodCaller, at, operator, &operand)
 }
 
 /// The type of a binary operation. The only error is that memory runs out.
@@ -58,8 +57,7 @@ pub fn binary_type<N: Judge, P: Parts<N>>(
         (expr_of right.now)) (N.desk notes.old) result (N.desk notes.new) }
 {
     let left = type_in(alloc, notes, parts, state, left, None)?;
-    let ty = with_right(alloc, notes, parts, state, at, operator, right, &left)?;
-    Ok(ty)
+    with_right(alloc, notes, parts, state, at, operator, right, &left)
 }
 
 /// The same, when its left operand was read.
@@ -80,8 +78,7 @@ fn with_right<N: Judge, P: Parts<N>>(
         (N.desk notes.old) result (N.desk notes.new) }
 {
     let right = type_in(alloc, notes, parts, state, right, None)?;
-    let ty = binary(alloc, notes, &MethodCaller, at, operator, left, &right)?;
-    Ok(ty)
+    binary(alloc, notes, &MethodCaller, at, operator, left, &right)
 }
 
 /// The type of a chain of comparisons. The only error is that memory runs out.
@@ -101,8 +98,7 @@ pub fn compare_type<N: Judge, P: Parts<N>>(
         (comparisons (map comparison_of rest.now))) (N.desk notes.old) result (N.desk notes.new) }
 {
     let left = type_in(alloc, notes, parts, state, left, None)?;
-    let ty = chain_type(alloc, notes, parts, state, at, rest, left)?;
-    Ok(ty)
+    chain_type(alloc, notes, parts, state, at, rest, left)
 }
 
 /// The same, when its first operand was read.

@@ -38,8 +38,7 @@ pub(crate) fn revealed<N: Judge, P: Parts<N>>(
         (N.desk notes.old) result (N.desk notes.new) }
 {
     let ty = type_in(alloc, notes, parts, state, part, None)?;
-    let told = type_told(alloc, notes, at, ty)?;
-    Ok(told)
+    type_told(alloc, notes, at, ty)
 }
 
 /// Tells a type.

@@ -35,8 +35,7 @@ pub fn subscript_type<N: Judge, P: Parts<N>>(
         (N.desk notes.old) result (N.desk notes.new) }
 {
     let owner = type_in(alloc, notes, parts, state, owner, None)?;
-    let ty = subscript_of(alloc, notes, parts, state, at, index, &owner)?;
-    Ok(ty)
+    subscript_of(alloc, notes, parts, state, at, index, &owner)
 }
 
 /// A subscript of a value of a type that was read.
@@ -56,8 +55,7 @@ fn subscript_of<N: Judge, P: Parts<N>>(
         (N.desk notes.old) result (N.desk notes.new) }
 {
     let got = index_type(alloc, notes, parts, state, index)?;
-    let ty = subscript(alloc, notes, at, index, &got, owner)?;
-    Ok(ty)
+    subscript(alloc, notes, at, index, &got, owner)
 }
 
 /// The type of what stands between the brackets of a subscript. The only error is that memory runs out.
@@ -98,8 +96,7 @@ fn indices_type<N: Judge, P: Parts<N>>(
         (N.desk notes.old) result (N.desk notes.new) }
 {
     let types = index_types(alloc, notes, parts, state, indices)?;
-    let ty = tuple_type(alloc, false, types)?;
-    Ok(ty)
+    tuple_type(alloc, false, types)
 }
 
 /// The types of indices, in turn.

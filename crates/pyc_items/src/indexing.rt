@@ -113,8 +113,7 @@ fn str_item<N: Judge>(
         result (N.desk notes.new) }
 {
     let text = Ty::Instance(ClassId::builtin(BuiltinClass::Str));
-    let item = sequence_item(alloc, notes, index, got, &text, &text)?;
-    Ok(item)
+    sequence_item(alloc, notes, index, got, &text, &text)
 }
 
 /// What a subscript of bytes gives.
@@ -129,8 +128,7 @@ fn bytes_item<N: Judge>(
         (N.desk notes.new) }
 {
     let text = Ty::Instance(ClassId::builtin(BuiltinClass::Bytes));
-    let item = sequence_item(alloc, notes, index, got, &text, &int())?;
-    Ok(item)
+    sequence_item(alloc, notes, index, got, &text, &int())
 }
 
 /// An item that an index of a wanted type gives.
@@ -166,8 +164,7 @@ fn index_owed<N: Judge>(
         (N.desk notes.old) result (N.desk notes.new) }
 {
     let holds = judged(alloc, notes, got, want)?;
-    let told = index_told(alloc, notes, holds, at, got, whole, want)?;
-    Ok(told)
+    index_told(alloc, notes, holds, at, got, whole, want)
 }
 
 /// The item at a place of a fixed tuple.
@@ -209,8 +206,8 @@ fn any_length_item(index: &Index, whole: &Ty, item: &Ty) -> Result<Ty, AllocErro
     ensures { IfOk result (λ ty. ty_of ty ≡ spec.any_length_item (index_of index.now) (ty_of item.now)) }
 {
     if is_slice(index) {
-        Ok(whole.clone()?)
+        whole.clone()
     } else {
-        Ok(item.clone()?)
+        item.clone()
     }
 }

@@ -44,8 +44,7 @@ fn single_iterated<N: Judge>(
         (N.desk notes.new) }
 {
     let owner = iterable(alloc, notes, ty)?;
-    let part = found_part(alloc, notes, at, ty, owner)?;
-    Ok(part)
+    found_part(alloc, notes, at, ty, owner)
 }
 
 /// The same, by what it goes by.
@@ -61,8 +60,7 @@ fn found_part<N: Judge>(
         (N.desk notes.new) }
 {
     let part = part_by(alloc, notes, at, ty, owner)?;
-    let limited = limited_part(alloc, part)?;
-    Ok(limited)
+    limited_part(alloc, part)
 }
 
 /// One type as a union is: Any where it is too large.
@@ -86,7 +84,7 @@ fn part_by<N: Judge>(
     match owner {
         Owner::Unknown => Ok(Ty::Any),
         Owner::Method(_) => Ok(Ty::Any),
-        Owner::Builtin(found) => Ok(part_of(alloc, &found)?),
+        Owner::Builtin(found) => part_of(alloc, &found),
         Owner::Nothing => not_iterable(alloc, notes, at, ty),
     }
 }
@@ -109,7 +107,7 @@ fn part_of(alloc: Global, ty: &Ty) -> Result<Ty, AllocError>
 fn copied(ty: &Ty) -> Result<Ty, AllocError>
     ensures { IfOk result (λ copy. ty_of copy ≡ ty_of ty.now) }
 {
-    Ok(ty.clone()?)
+    ty.clone()
 }
 
 /// What an iteration of a string or of bytes gives.
@@ -147,8 +145,7 @@ fn union_iterated<N: Judge>(
 {
     let items = items_of(alloc, whole)?;
     let found = all_parts(alloc, notes, at, whole, &items)?;
-    let union = union_of(alloc, &found)?;
-    Ok(union)
+    union_of(alloc, &found)
 }
 
 /// The items of an iteration of each item of a union, in turn.
@@ -185,8 +182,7 @@ fn union_part<N: Judge>(
         (N.desk notes.new) }
 {
     let owner = iterable(alloc, notes, item)?;
-    let part = item_part(alloc, notes, at, whole, item, owner)?;
-    Ok(part)
+    item_part(alloc, notes, at, whole, item, owner)
 }
 
 /// The same, by what it goes by.
@@ -204,7 +200,7 @@ fn item_part<N: Judge>(
     match owner {
         Owner::Unknown => Ok(Ty::Any),
         Owner::Method(_) => Ok(Ty::Any),
-        Owner::Builtin(found) => Ok(part_of(alloc, &found)?),
+        Owner::Builtin(found) => part_of(alloc, &found),
         Owner::Nothing => item_not_iterable(alloc, notes, at, whole, item),
     }
 }

@@ -51,7 +51,7 @@ pub(crate) fn index_told<N: Judge>(
 fn range_text(alloc: Global) -> Result<String, AllocError>
     ensures { IfOk result (λ text. string_bytes text ≡ spec.range_text) }
 {
-    Ok(String::from_str(alloc, "Tuple index out of range")?)
+    String::from_str(alloc, "Tuple index out of range")
 }
 
 /// Tells that a tuple does not have a place.

@@ -141,8 +141,7 @@ fn source_owner<N: Judge>(
 {
     let key = Key::Class(class.clone()?);
     let answer = notes.ask(alloc, key)?;
-    let found = user_owner(alloc, notes, class, counts_in(&answer))?;
-    Ok(found)
+    user_owner(alloc, notes, class, counts_in(&answer))
 }
 
 /// What an iteration of an instance of a class of a source goes by.
@@ -156,8 +155,7 @@ fn source_iterable<N: Judge>(
 {
     let key = Key::Class(class.clone()?);
     let answer = notes.ask(alloc, key)?;
-    let found = user_iterable(alloc, notes, class, counts_in(&answer))?;
-    Ok(found)
+    user_iterable(alloc, notes, class, counts_in(&answer))
 }
 
 /// What the instances of a class count as, by the order that an answer tells.
@@ -227,8 +225,7 @@ fn asked_owner<N: Judge>(
     ensures { Performs owner_of (spec.asked_owner class.now form) (N.desk notes.old) result (N.desk notes.new) }
 {
     let found = getitem_member(alloc, notes, class)?;
-    let owner = owned_by(alloc, found, form)?;
-    Ok(owner)
+    owned_by(alloc, found, form)
 }
 
 /// The `__getitem__` of a class.
@@ -273,7 +270,7 @@ fn given(ty: &Ty) -> Result<Ty, AllocError>
     ensures { IfOk result (λ found. ty_of found ≡ spec.given (ty_of ty.now)) }
 {
     match ty {
-        Ty::Callable(signature) => Ok(signature.result.clone()?),
+        Ty::Callable(signature) => signature.result.clone(),
         _ => Ok(Ty::Any),
     }
 }
@@ -306,8 +303,7 @@ fn asked_iterable<N: Judge>(
     ensures { Performs owner_of (spec.asked_iterable class.now form) (N.desk notes.old) result (N.desk notes.new) }
 {
     let found = iter_member(alloc, notes, class)?;
-    let owner = iterated_by(alloc, notes, class, form, &found)?;
-    Ok(owner)
+    iterated_by(alloc, notes, class, form, &found)
 }
 
 /// The same, where this is its `__iter__`.

@@ -38,8 +38,7 @@ pub fn subscript<N: Judge>(
 {
     let types = items_of(alloc, ty)?;
     let found = all_items(alloc, notes, at, index, got, &types)?;
-    let given = ended(alloc, notes, at, ty, &found)?;
-    Ok(given)
+    ended(alloc, notes, at, ty, &found)
 }
 
 /// The items of types, in turn.
@@ -93,8 +92,7 @@ pub fn item_of<N: Judge>(
         (N.desk notes.old) result (N.desk notes.new) }
 {
     let owner = subscript_owner(alloc, notes, ty)?;
-    let item = item_by(alloc, notes, at, index, got, owner)?;
-    Ok(item)
+    item_by(alloc, notes, at, index, got, owner)
 }
 
 /// What a subscript gives by what it goes by.
@@ -131,6 +129,6 @@ fn ended<N: Judge>(
     if found.is_failed {
         not_indexable(alloc, notes, at, ty)
     } else {
-        Ok(union_of(alloc, &found.types)?)
+        union_of(alloc, &found.types)
     }
 }

@@ -68,7 +68,7 @@ fn two_arguments<N: Judge, L: Looks<N>>(
             &second.value,
         )
     } else {
-        Ok(unchanged(state)?)
+        unchanged(state)
     }
 }
 
@@ -95,8 +95,7 @@ fn pair_states<N: Judge, L: Looks<N>>(
         (expr_of classes.now) (place_of (expr_of tested.now))) (N.desk notes.old) result (N.desk notes.new) }
 {
     let place = place_of(alloc, tested)?;
-    let states = by_place(alloc, notes, looks, state, callee, tested, classes, &place)?;
-    Ok(states)
+    by_place(alloc, notes, looks, state, callee, tested, classes, &place)
 }
 
 /// The same, by the place that the first argument is.
@@ -117,7 +116,7 @@ fn by_place<N: Judge, L: Looks<N>>(
 {
     match place {
         Some(place) => by_callee(alloc, notes, looks, state, callee, tested, classes, place),
-        None => Ok(unchanged(state)?),
+        None => unchanged(state),
     }
 }
 
@@ -139,7 +138,7 @@ fn by_callee<N: Judge, L: Looks<N>>(
         (expr_of classes.now)) (N.desk notes.old) result (N.desk notes.new) }
 {
     let found = looked(alloc, notes, looks, state, callee)?;
-    let states = called(
+    called(
         alloc,
         notes,
         looks,
@@ -148,8 +147,7 @@ fn by_callee<N: Judge, L: Looks<N>>(
         classes,
         place,
         &found.thing,
-    )?;
-    Ok(states)
+    )
 }
 
 /// A call with a place, by which thing its callee is: any other than `isinstance` says nothing.
@@ -170,7 +168,7 @@ fn called<N: Judge, L: Looks<N>>(
 {
     match thing {
         Thing::IsInstance => isinstance_states(alloc, notes, looks, state, tested, classes, place),
-        _ => Ok(unchanged(state)?),
+        _ => unchanged(state),
     }
 }
 
@@ -211,7 +209,7 @@ fn test_by<N: Judge>(
 {
     match classes {
         Some(classes) => instance_test(alloc, notes, state, place, ty, classes),
-        None => Ok(unchanged(state)?),
+        None => unchanged(state),
     }
 }
 

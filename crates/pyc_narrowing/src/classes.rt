@@ -53,8 +53,7 @@ fn one_class<N: Judge, L: Looks<N>>(
         (N.desk notes.new) }
 {
     let class = class_at(alloc, notes, looks, state, e)?;
-    let classes = just(alloc, class)?;
-    Ok(classes)
+    just(alloc, class)
 }
 
 /// A class by itself, if there is one.
@@ -130,8 +129,7 @@ fn class_at<N: Judge, L: Looks<N>>(
         (N.desk notes.new) }
 {
     let found = looked(alloc, notes, looks, state, e)?;
-    let class = class_in(&found.ty)?;
-    Ok(class)
+    class_in(&found.ty)
 }
 
 /// The class of which a type is the class object. The only error is a full count of those that share its name.

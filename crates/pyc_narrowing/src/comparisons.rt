@@ -58,7 +58,7 @@ fn one_comparison<N: Judge, L: Looks<N>>(
     if is_none_literal(&found.right) {
         compared_with_none(alloc, notes, looks, state, left, sense_of(found.operator))
     } else {
-        Ok(unchanged(state)?)
+        unchanged(state)
     }
 }
 
@@ -89,7 +89,7 @@ fn compared_with_none<N: Judge, L: Looks<N>>(
 {
     match sense {
         Some(sense) => in_a_sense(alloc, notes, looks, state, left, sense),
-        None => Ok(unchanged(state)?),
+        None => unchanged(state),
     }
 }
 
@@ -108,8 +108,7 @@ fn in_a_sense<N: Judge, L: Looks<N>>(
         (place_of (expr_of left.now))) (N.desk notes.old) result (N.desk notes.new) }
 {
     let place = place_of(alloc, left)?;
-    let states = by_place(alloc, notes, looks, state, left, sense, &place)?;
-    Ok(states)
+    by_place(alloc, notes, looks, state, left, sense, &place)
 }
 
 /// The same, by the place that it is.
@@ -129,7 +128,7 @@ fn by_place<N: Judge, L: Looks<N>>(
 {
     match place {
         Some(place) => place_with_none(alloc, notes, looks, state, left, sense, place),
-        None => Ok(unchanged(state)?),
+        None => unchanged(state),
     }
 }
 
@@ -150,8 +149,7 @@ fn place_with_none<N: Judge, L: Looks<N>>(
         (N.desk notes.old) result (N.desk notes.new) }
 {
     let found = looked(alloc, notes, looks, state, left)?;
-    let states = none_in_sense(alloc, state, sense, place, &found.ty)?;
-    Ok(states)
+    none_in_sense(alloc, state, sense, place, &found.ty)
 }
 
 /// A place of a type that is compared with None.

@@ -34,7 +34,7 @@ pub fn split<N: Judge, L: Looks<N>>(
 {
     match state {
         State::Reachable(_) => split_form(alloc, notes, looks, state, condition),
-        State::Unreachable => Ok(unchanged(state)?),
+        State::Unreachable => unchanged(state),
     }
 }
 
@@ -91,7 +91,7 @@ fn split_unary<N: Judge, L: Looks<N>>(
 {
     match operator {
         UnaryOperator::Not => split_not(alloc, notes, looks, state, operand),
-        _ => Ok(unchanged(state)?),
+        _ => unchanged(state),
     }
 }
 
@@ -151,8 +151,7 @@ fn split_and_right<N: Judge, L: Looks<N>>(
         (N.desk notes.old) result (N.desk notes.new) }
 {
     let second = split(alloc, notes, looks, &first.if_true, right)?;
-    let states = and_states(alloc, first, second)?;
-    Ok(states)
+    and_states(alloc, first, second)
 }
 
 /// `or`: the right side is read where the left does not hold.
@@ -171,6 +170,5 @@ fn split_or_right<N: Judge, L: Looks<N>>(
         (N.desk notes.old) result (N.desk notes.new) }
 {
     let second = split(alloc, notes, looks, &first.if_false, right)?;
-    let states = or_states(alloc, first, second)?;
-    Ok(states)
+    or_states(alloc, first, second)
 }

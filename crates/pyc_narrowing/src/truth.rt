@@ -35,8 +35,7 @@ pub(crate) fn truth_of<N: Judge, L: Looks<N>>(
         (N.desk notes.old) result (N.desk notes.new) }
 {
     let place = place_of(alloc, e)?;
-    let states = by_place(alloc, notes, looks, state, e, &place)?;
-    Ok(states)
+    by_place(alloc, notes, looks, state, e, &place)
 }
 
 /// The same, by the place that it is.
@@ -55,7 +54,7 @@ fn by_place<N: Judge, L: Looks<N>>(
 {
     match place {
         Some(place) => place_truth(alloc, notes, looks, state, e, place),
-        None => Ok(unchanged(state)?),
+        None => unchanged(state),
     }
 }
 
@@ -75,8 +74,7 @@ fn place_truth<N: Judge, L: Looks<N>>(
         (N.desk notes.new) }
 {
     let found = looked(alloc, notes, looks, state, e)?;
-    let states = valued(alloc, state, place, &found.ty, &found.thing)?;
-    Ok(states)
+    valued(alloc, state, place, &found.ty, &found.thing)
 }
 
 /// A place, by its type and which thing it is: `TYPE_CHECKING` always holds.

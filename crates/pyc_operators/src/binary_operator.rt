@@ -114,8 +114,7 @@ fn operated<N: Judge, C: CallsMethods<N>>(
         result (N.desk notes.new) }
 {
     let results = pairs(alloc, notes, caller, operation, left, right)?;
-    let ty = ended(alloc, notes, at, operation, left, right, results)?;
-    Ok(ty)
+    ended(alloc, notes, at, operation, left, right, results)
 }
 
 /// What an operation gives on each item of the one operand and each of the other.
@@ -133,8 +132,7 @@ fn pairs<N: Judge, C: CallsMethods<N>>(
 {
     let lefts = items_of(alloc, left)?;
     let rights = items_of(alloc, right)?;
-    let results = pairs_of(alloc, notes, caller, operation, &lefts, &rights)?;
-    Ok(results)
+    pairs_of(alloc, notes, caller, operation, &lefts, &rights)
 }
 
 /// The union of what the pairs give, or what is told where one of them gives nothing.
@@ -154,6 +152,6 @@ fn ended<N: Judge>(
     if results.is_failed {
         wrong_operands(alloc, notes, at, operation, left, right)
     } else {
-        Ok(union_of(alloc, &results.types)?)
+        union_of(alloc, &results.types)
     }
 }

@@ -34,8 +34,7 @@ pub(crate) fn wrong_operands<N: Judge>(
         result (N.desk notes.new) }
 {
     let text = operands_text(alloc, operation, left, right)?;
-    let told = wrong(notes, at, text)?;
-    Ok(told)
+    wrong(notes, at, text)
 }
 
 /// The text on operands that an operation does not take.
@@ -68,8 +67,7 @@ pub(crate) fn wrong_operand<N: Judge>(
         (N.desk notes.new) }
 {
     let text = operand_text(alloc, operation, operand)?;
-    let told = wrong(notes, at, text)?;
-    Ok(told)
+    wrong(notes, at, text)
 }
 
 /// The text on an operand that a unary operation does not take.

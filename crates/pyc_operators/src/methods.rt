@@ -60,6 +60,5 @@ fn class_method<N: Judge>(
     if class.as_builtin().is_some() {
         return Ok(None);
     }
-    let found = asked_member(alloc, notes, class, name)?;
-    Ok(found)
+    asked_member(alloc, notes, class, name)
 }

@@ -34,8 +34,7 @@ pub(crate) fn pair<N: Judge, C: CallsMethods<N>>(
         return Ok(Some(Ty::Any));
     }
     let sort = operand_sort(alloc, notes, left)?;
-    let found = left_sorted(alloc, notes, caller, operation, left, right, sort)?;
-    Ok(found)
+    left_sorted(alloc, notes, caller, operation, left, right, sort)
 }
 
 /// The same, by the sort of the left operand.
@@ -61,8 +60,7 @@ fn left_sorted<N: Judge, C: CallsMethods<N>>(
         left: left_sort,
         right: right_sort,
     };
-    let found = both_sorted(alloc, notes, caller, operation, left, right, sorts)?;
-    Ok(found)
+    both_sorted(alloc, notes, caller, operation, left, right, sorts)
 }
 
 /// The sorts of two operands.
@@ -92,8 +90,7 @@ fn both_sorted<N: Judge, C: CallsMethods<N>>(
     }
     let method = method_of(alloc, notes, left, method_name(operation))?;
     let given = given_by_sorts(operation, left, right, sorts);
-    let found = by_method(alloc, notes, caller, given, left, right, method)?;
-    Ok(found)
+    by_method(alloc, notes, caller, given, left, right, method)
 }
 
 /// What an operation gives by the sorts of both operands, where the left one has no method for it.
@@ -125,7 +122,7 @@ fn by_method<N: Judge, C: CallsMethods<N>>(
 {
     match method {
         Some(method) => called(alloc, notes, caller, method, right),
-        None => Ok(made(alloc, given, left, right)?),
+        None => made(alloc, given, left, right),
     }
 }
 
@@ -142,6 +139,5 @@ fn called<N: Judge, C: CallsMethods<N>>(
         (N.desk notes.new) }
 {
     let arguments = [operand.clone()?];
-    let found = caller.call_method(alloc, notes, method, &arguments)?;
-    Ok(found)
+    caller.call_method(alloc, notes, method, &arguments)
 }

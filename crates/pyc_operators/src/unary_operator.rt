@@ -71,8 +71,7 @@ fn operated<N: Judge, C: CallsMethods<N>>(
         (N.desk notes.old) result (N.desk notes.new) }
 {
     let results = items(alloc, notes, caller, operation, operand)?;
-    let ty = ended(alloc, notes, at, operation, operand, results)?;
-    Ok(ty)
+    ended(alloc, notes, at, operation, operand, results)
 }
 
 /// What a unary operation gives on each item of its operand.
@@ -87,8 +86,7 @@ fn items<N: Judge, C: CallsMethods<N>>(
         result (N.desk notes.new) }
 {
     let operands = items_of(alloc, operand)?;
-    let results = each_item(alloc, notes, caller, operation, &operands)?;
-    Ok(results)
+    each_item(alloc, notes, caller, operation, &operands)
 }
 
 /// What a unary operation gives on each of these operands.
@@ -125,8 +123,7 @@ fn one_item<N: Judge, C: CallsMethods<N>>(
         (N.desk notes.old) result (N.desk notes.new) }
 {
     let sort = operand_sort(alloc, notes, operand)?;
-    let found = sorted(alloc, notes, caller, operation, operand, sort)?;
-    Ok(found)
+    sorted(alloc, notes, caller, operation, operand, sort)
 }
 
 /// The same, by the sort of the operand.
@@ -147,8 +144,7 @@ fn sorted<N: Judge, C: CallsMethods<N>>(
         return Ok(Some(Ty::Any));
     }
     let method = method_of(alloc, notes, operand, unary_method(operation))?;
-    let found = by_method(alloc, notes, caller, operation, operand, sort, method)?;
-    Ok(found)
+    by_method(alloc, notes, caller, operation, operand, sort, method)
 }
 
 /// What the operand's method gives, or what is given without one.
@@ -168,7 +164,7 @@ fn by_method<N: Judge, C: CallsMethods<N>>(
 {
     match method {
         Some(method) => called(alloc, notes, caller, method),
-        None => Ok(made(alloc, unary_given(operation, sort), operand, operand)?),
+        None => made(alloc, unary_given(operation, sort), operand, operand),
     }
 }
 
@@ -182,8 +178,7 @@ fn called<N: Judge, C: CallsMethods<N>>(
     ensures { Performs (option_map ty_of) (C.caller caller.now (member_answer_of method) []) (N.desk notes.old) result
         (N.desk notes.new) }
 {
-    let found = caller.call_method(alloc, notes, method, &[])?;
-    Ok(found)
+    caller.call_method(alloc, notes, method, &[])
 }
 
 /// The union of what the items give, or what is told where one of them gives nothing.
@@ -202,6 +197,6 @@ fn ended<N: Judge>(
     if results.is_failed {
         wrong_operand(alloc, notes, at, operation, operand)
     } else {
-        Ok(union_of(alloc, &results.types)?)
+        union_of(alloc, &results.types)
     }
 }

@@ -92,8 +92,7 @@ fn failing_in<N: Judge>(
         (N.desk notes.old) result (N.desk notes.new) }
 {
     let found = ancestor_member(alloc, notes, ancestor, name)?;
-    let failing = failing_member(alloc, notes, got, found)?;
-    Ok(failing)
+    failing_member(alloc, notes, got, found)
 }
 
 /// What an ancestor itself declares under a name. No file is asked of a builtin class.
@@ -107,7 +106,7 @@ fn ancestor_member<N: Notes>(
         result (N.desk notes.new) }
 {
     match ancestor.as_builtin() {
-        Some(class) => Ok(builtin_member(alloc, class, own_member(class, name))?),
+        Some(class) => builtin_member(alloc, class, own_member(class, name)),
         None => user_member(alloc, notes, ancestor, name),
     }
 }

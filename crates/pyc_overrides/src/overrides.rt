@@ -149,8 +149,7 @@ fn read_member<N: Judge>(
         (N.desk notes.new) }
 {
     let found = asked_member(alloc, notes, heir.class, name.as_str())?;
-    read_declared(alloc, notes, heir, name, declared_by(heir.class, found))?;
-    Ok(())
+    read_declared(alloc, notes, heir, name, declared_by(heir.class, found))
 }
 
 /// Reads what a class itself declares under a name, if anything.
@@ -187,8 +186,7 @@ fn read_seen<N: Judge>(
         (N.desk notes.old) result (N.desk notes.new) }
 {
     let found = first_failing(alloc, notes, &got.ty, name.as_str(), heir.ancestors)?;
-    tell_failing(alloc, notes, heir, name, got, found)?;
-    Ok(())
+    tell_failing(alloc, notes, heir, name, got, found)
 }
 
 /// Tells of a member whose type does not go to that of an ancestor, if there is one.

@@ -127,8 +127,7 @@ fn tell_callables<N: Judge>(
         (N.desk notes.old) result (N.desk notes.new) }
 {
     let goes = judged(alloc, notes, &got.result, &want.result)?;
-    tell_results(alloc, notes, told, goes, got, want)?;
-    Ok(())
+    tell_results(alloc, notes, told, goes, got, want)
 }
 
 /// Tells of two callables, by whether the result of the one goes to that of the other.

@@ -33,8 +33,7 @@ pub fn read_function<N: Notes>(
 {
     let params = read_parameters(alloc, notes, file, receiver, &head.parameters)?;
     let answer = read_result(alloc, notes, file, head.returns.as_ref())?;
-    let ty = called(alloc, head.is_async, params, answer)?;
-    Ok(ty)
+    called(alloc, head.is_async, params, answer)
 }
 
 /// The parameters of a function, in turn.
@@ -118,8 +117,7 @@ fn read_parameter<N: Notes>(
         (N.desk notes.old) result (N.desk notes.new) }
 {
     let ty = read_parameter_type(alloc, notes, file, receiver, parameter)?;
-    let param = param_of_type(parameter, ty)?;
-    Ok(param)
+    param_of_type(parameter, ty)
 }
 
 /// The type of a parameter, the first of which is what the function is called on.

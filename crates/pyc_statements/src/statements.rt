@@ -88,8 +88,7 @@ fn read_expression<N: Judge>(
         (N.desk notes.new) }
 {
     let state = State::nothing_narrowed(alloc);
-    let done = read(alloc, notes, scope, &state, e)?;
-    Ok(done)
+    read(alloc, notes, scope, &state, e)
 }
 
 /// Reads an assignment.

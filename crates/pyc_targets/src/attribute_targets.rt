@@ -56,8 +56,7 @@ fn type_want<N: Judge>(
 {
     let items = items_of(alloc, ty)?;
     let found = all_wants(alloc, notes, at, inside, ty, name, &items)?;
-    let want = want_of(alloc, &found)?;
-    Ok(want)
+    want_of(alloc, &found)
 }
 
 /// What an attribute of items takes, in turn.
@@ -124,8 +123,7 @@ fn item_want<N: Judge>(
         (N.desk notes.new) }
 {
     let found = item_attribute(alloc, notes, item, name)?;
-    let want = found_want(alloc, notes, at, inside, whole, item, name, found)?;
-    Ok(want)
+    found_want(alloc, notes, at, inside, whole, item, name, found)
 }
 
 /// What was found under a name of an item takes.

@@ -56,8 +56,7 @@ pub fn item_target<N: Judge>(
 {
     let types = items_of(alloc, ty)?;
     let found = all_targets(alloc, notes, inside, index, got, &types)?;
-    let slot = ended(alloc, notes, at, ty, &found)?;
-    Ok(slot)
+    ended(alloc, notes, at, ty, &found)
 }
 
 /// What the items of types take, in turn.
@@ -113,7 +112,7 @@ fn ended<N: Judge>(
     if found.is_unsupported {
         unsupported(alloc, notes, at, ty)
     } else {
-        Ok(supported_slot(alloc, found)?)
+        supported_slot(alloc, found)
     }
 }
 
@@ -204,8 +203,7 @@ fn source_target<N: Judge>(
     ensures { Performs item_target_of (spec.source_target class.now) (N.desk notes.old) result (N.desk notes.new) }
 {
     let is_unknown = is_unknown_class(alloc, notes, class)?;
-    let item = user_target(alloc, notes, class, is_unknown)?;
-    Ok(item)
+    user_target(alloc, notes, class, is_unknown)
 }
 
 /// The same, by whether the order of the class is not known.

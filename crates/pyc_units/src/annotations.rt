@@ -30,8 +30,7 @@ pub fn read_annotations<N: Notes>(
         (N.desk notes.old) result (N.desk notes.new) }
 {
     let parts = scope_parts(alloc, statements)?;
-    read_parts(alloc, notes, file, &parts)?;
-    Ok(())
+    read_parts(alloc, notes, file, &parts)
 }
 
 /// Reads the annotations of the names among parts of a module, in turn.

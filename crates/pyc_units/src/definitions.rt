@@ -107,8 +107,7 @@ fn read_class_statement<N: Judge>(
 {
     let order = read_class(alloc, notes, file, at, head)?;
     read_class_body(alloc, notes, head.suspends, body)?;
-    read_heir(alloc, notes, file, &head.name, body, order)?;
-    Ok(())
+    read_heir(alloc, notes, file, &head.name, body, order)
 }
 
 /// Reads what a class of this order, if it has one, declares as an ancestor does.
@@ -147,8 +146,7 @@ fn read_class_body<N: Notes>(
     let Block::Of(statements) = body;
     let bindings = scope_bindings(alloc, statements)?;
     let again = redefinitions(alloc, &bindings)?;
-    tell_redefinitions(alloc, notes, &again)?;
-    Ok(())
+    tell_redefinitions(alloc, notes, &again)
 }
 
 /// Reads the bases of a class, and its order where the file declares it.

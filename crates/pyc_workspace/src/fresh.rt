@@ -53,8 +53,7 @@ fn report_over(
 {
     let world = World::build(alloc, sources)?;
     let builtins = Builtins::new(alloc)?;
-    let report = report_with(alloc, &builtins, options, &world, files)?;
-    Ok(report)
+    report_with(alloc, &builtins, options, &world, files)
 }
 
 /// The report of a check of these files over a world and the builtins.

@@ -8,8 +8,5 @@ returns-in_err-meaning g c = first_of (grind (arith, performing), search rules)
 pub returns-in_err-shown : goal.returns-in_err-shown
 returns-in_err-shown g c = first_of (grind (arith, performing), search rules)
 
-pub returns-in_err-base : goal.returns-in_err-base
-returns-in_err-base g c = first_of (grind (arith, performing), search rules)
-
 pub returns : goal.returns
 returns g c = first_of (grind (arith, performing), search rules)

@@ -11,8 +11,5 @@ returns-in_err-clone-2 g c = first_of (grind (arith, performing), search rules)
 pub returns-in_err-answer : goal.returns-in_err-answer
 returns-in_err-answer g c = first_of (grind (arith, performing), search rules)
 
-pub returns-in_err-meaning : goal.returns-in_err-meaning
-returns-in_err-meaning g c = first_of (grind (arith, performing), search rules)
-
 pub returns : goal.returns
 returns g c = first_of (grind (arith, performing), search rules)

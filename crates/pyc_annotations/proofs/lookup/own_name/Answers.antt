@@ -7,10 +7,6 @@ pub returns-in_err-found : goal.returns-in_err-found
 unfolding own_name
 returns-in_err-found g c = first_of (grind (arith, performing), search rules)
 
-pub returns-in_err-meaning : goal.returns-in_err-meaning
-unfolding own_name
-returns-in_err-meaning g c = first_of (grind (arith, performing), search rules)
-
 pub returns : goal.returns
 unfolding own_name
 returns g c = first_of (grind (arith, performing), search rules)

@@ -130,10 +130,6 @@ pub read_subscript-returns-in_err-meaning : goal.read_subscript-returns-in_err-m
 unfolding subscript_rule
 read_subscript-returns-in_err-meaning g t c = first_of (grind (arith, performing), search rules)
 
-pub read_subscript-returns-in_err-found : goal.read_subscript-returns-in_err-found
-unfolding subscript_rule
-read_subscript-returns-in_err-found g t c = first_of (grind (arith, performing), search rules)
-
 pub read_subscript-returns : goal.read_subscript-returns
 unfolding subscript_rule
 read_subscript-returns g t c = first_of (grind (arith, performing), search rules)

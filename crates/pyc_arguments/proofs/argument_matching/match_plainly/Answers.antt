@@ -7,10 +7,6 @@ pub returns-in_err-filling : goal.returns-in_err-filling
 unfolding plainly_matched
 returns-in_err-filling g c = first_of (grind (arith, performing), search rules)
 
-pub returns-in_err-tell_filling : goal.returns-in_err-tell_filling
-unfolding plainly_matched
-returns-in_err-tell_filling g c = first_of (grind (arith, performing), search rules)
-
 pub returns : goal.returns
 unfolding plainly_matched
 returns g c = first_of (grind (arith, performing), search rules)

@@ -7,10 +7,6 @@ pub returns-in_err-holds : goal.returns-in_err-holds
 unfolding owed
 returns-in_err-holds g c = first_of (grind (arith, performing), search rules)
 
-pub returns-in_err-tell_argument_unless : goal.returns-in_err-tell_argument_unless
-unfolding owed
-returns-in_err-tell_argument_unless g c = first_of (grind (arith, performing), search rules)
-
 pub returns : goal.returns
 unfolding owed
 returns g c = first_of (grind (arith, performing), search rules)

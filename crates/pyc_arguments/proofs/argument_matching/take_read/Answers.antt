@@ -7,10 +7,6 @@ pub returns-in_err-tell_of_read : goal.returns-in_err-tell_of_read
 unfolding argument_taken
 returns-in_err-tell_of_read g c = first_of (grind (arith, performing), search rules)
 
-pub returns-in_err-take : goal.returns-in_err-take
-unfolding argument_taken
-returns-in_err-take g c = first_of (grind (arith, performing), search rules)
-
 pub returns : goal.returns
 unfolding argument_taken
 returns g c = first_of (grind (arith, performing), search rules)

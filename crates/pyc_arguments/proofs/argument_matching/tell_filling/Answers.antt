@@ -7,10 +7,6 @@ pub returns-in_err-tell_if_too_many : goal.returns-in_err-tell_if_too_many
 unfolding filling_told
 returns-in_err-tell_if_too_many g c = first_of (grind (arith, performing), search rules)
 
-pub returns-in_err-tell_unfilled : goal.returns-in_err-tell_unfilled
-unfolding filling_told
-returns-in_err-tell_unfilled g c = first_of (grind (arith, performing), search rules)
-
 pub returns : goal.returns
 unfolding filling_told
 returns g c = first_of (grind (arith, performing), search rules)

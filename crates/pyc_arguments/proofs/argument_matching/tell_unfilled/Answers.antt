@@ -5,8 +5,5 @@ use Rattle.pyc_arguments.proofs.argument_matching.tell_unfilled.Goals as goal
 pub returns-in_err-found : goal.returns-in_err-found
 returns-in_err-found g c = first_of (grind (arith, performing), search rules)
 
-pub returns-in_err-tell_each_missing : goal.returns-in_err-tell_each_missing
-returns-in_err-tell_each_missing g c = first_of (grind (arith, performing), search rules)
-
 pub returns : goal.returns
 returns g c = first_of (grind (arith, performing), search rules)

@@ -7,10 +7,6 @@ pub returns-in_err-early : goal.returns-in_err-early
 unfolding with_value
 returns-in_err-early g c = first_of (grind (arith, performing), search rules)
 
-pub returns-in_err-state : goal.returns-in_err-state
-unfolding with_value
-returns-in_err-state g c = first_of (grind (arith, performing), search rules)
-
 pub returns : goal.returns
 unfolding with_value
 returns g c = first_of (grind (arith, performing), search rules)

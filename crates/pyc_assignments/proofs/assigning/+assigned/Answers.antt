@@ -30,9 +30,6 @@ each_assigned-loop-index-preserved g t c =
 pub unpacked-returns-in_err-found : goal.unpacked-returns-in_err-found
 unpacked-returns-in_err-found g t c = first_of (grind (arith, performing), search rules)
 
-pub unpacked-returns-in_err-state : goal.unpacked-returns-in_err-state
-unpacked-returns-in_err-state g t c = first_of (grind (arith, performing), search rules)
-
 pub unpacked-returns : goal.unpacked-returns
 unpacked-returns g t c = first_of (grind (arith, performing), search rules)
 

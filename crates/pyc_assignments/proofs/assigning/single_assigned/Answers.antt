@@ -7,10 +7,6 @@ pub returns-in_err-found : goal.returns-in_err-found
 unfolding single_assigned
 returns-in_err-found g c = first_of (grind (arith, performing), search rules)
 
-pub returns-in_err-state : goal.returns-in_err-state
-unfolding single_assigned
-returns-in_err-state g c = first_of (grind (arith, performing), search rules)
-
 pub returns : goal.returns
 unfolding single_assigned
 returns g c = first_of (grind (arith, performing), search rules)

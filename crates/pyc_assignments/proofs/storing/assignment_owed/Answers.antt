@@ -7,10 +7,6 @@ pub returns-in_err-holds : goal.returns-in_err-holds
 unfolding assignment_owed
 returns-in_err-holds g c = first_of (grind (arith, performing), search rules)
 
-pub returns-in_err-told : goal.returns-in_err-told
-unfolding assignment_owed
-returns-in_err-told g c = first_of (grind (arith, performing), search rules)
-
 pub returns : goal.returns
 unfolding assignment_owed
 returns g c = first_of (grind (arith, performing), search rules)

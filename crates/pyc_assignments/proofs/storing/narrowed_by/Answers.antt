@@ -7,10 +7,6 @@ pub returns-in_err-goes : goal.returns-in_err-goes
 unfolding narrowed_by
 returns-in_err-goes g c = first_of (grind (arith, performing), search rules)
 
-pub returns-in_err-state : goal.returns-in_err-state
-unfolding narrowed_by
-returns-in_err-state g c = first_of (grind (arith, performing), search rules)
-
 pub returns : goal.returns
 unfolding narrowed_by
 returns g c = first_of (grind (arith, performing), search rules)

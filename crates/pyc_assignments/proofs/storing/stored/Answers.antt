@@ -7,10 +7,6 @@ pub returns-in_err-want_owed : goal.returns-in_err-want_owed
 unfolding stored
 returns-in_err-want_owed g c = first_of (grind (arith, performing), search rules)
 
-pub returns-in_err-state : goal.returns-in_err-state
-unfolding stored
-returns-in_err-state g c = first_of (grind (arith, performing), search rules)
-
 pub returns : goal.returns
 unfolding stored
 returns g c = first_of (grind (arith, performing), search rules)

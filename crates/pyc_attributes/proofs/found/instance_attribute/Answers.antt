@@ -7,10 +7,6 @@ pub returns-in_err-found : goal.returns-in_err-found
 unfolding instance_attribute
 returns-in_err-found g c = first_of (grind (arith, performing), search rules)
 
-pub returns-in_err-attribute : goal.returns-in_err-attribute
-unfolding instance_attribute
-returns-in_err-attribute g c = first_of (grind (arith, performing), search rules)
-
 pub returns : goal.returns
 unfolding instance_attribute
 returns g c = first_of (grind (arith, performing), search rules)

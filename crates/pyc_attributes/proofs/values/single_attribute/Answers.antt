@@ -7,10 +7,6 @@ pub returns-in_err-found : goal.returns-in_err-found
 unfolding single_attribute
 returns-in_err-found g c = first_of (grind (arith, performing), search rules)
 
-pub returns-in_err-value : goal.returns-in_err-value
-unfolding single_attribute
-returns-in_err-value g c = first_of (grind (arith, performing), search rules)
-
 pub returns : goal.returns
 unfolding single_attribute
 returns g c = first_of (grind (arith, performing), search rules)

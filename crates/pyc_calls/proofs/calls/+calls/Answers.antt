@@ -58,10 +58,6 @@ pub source_called-returns-in_err-progress : goal.source_called-returns-in_err-pr
 unfolding source_called
 source_called-returns-in_err-progress g t c = first_of (grind (arith, performing), search rules)
 
-pub source_called-returns-in_err-ty : goal.source_called-returns-in_err-ty
-unfolding source_called
-source_called-returns-in_err-ty g t c = first_of (grind (arith, performing), search rules)
-
 pub source_called-returns : goal.source_called-returns
 unfolding source_called
 source_called-returns g t c = first_of (grind (arith, performing), search rules)
@@ -108,16 +104,9 @@ pub unread_called-returns-in_err-read : goal.unread_called-returns-in_err-read
 unfolding union_called
 unread_called-returns-in_err-read g t c = first_of (grind (arith, performing), search rules)
 
-pub unread_called-returns-in_err-ty : goal.unread_called-returns-in_err-ty
-unfolding union_called
-unread_called-returns-in_err-ty g t c = first_of (grind (arith, performing), search rules)
-
 pub unread_called-returns : goal.unread_called-returns
 unfolding union_called
 unread_called-returns g t c = first_of (grind (arith, performing), search rules)
-
-pub read_called-returns-in_err-ty : goal.read_called-returns-in_err-ty
-read_called-returns-in_err-ty g t c = first_of (grind (arith, performing), search rules)
 
 pub read_called-returns : goal.read_called-returns
 read_called-returns g t c = first_of (grind (arith, performing), search rules)
@@ -125,10 +114,6 @@ read_called-returns g t c = first_of (grind (arith, performing), search rules)
 pub row_called-returns-in_err-types : goal.row_called-returns-in_err-types
 unfolding row_called
 row_called-returns-in_err-types g t c = first_of (grind (arith, performing), search rules)
-
-pub row_called-returns-in_err-union : goal.row_called-returns-in_err-union
-unfolding row_called
-row_called-returns-in_err-union g t c = first_of (grind (arith, performing), search rules)
 
 pub row_called-returns : goal.row_called-returns
 unfolding row_called

@@ -7,10 +7,6 @@ pub returns-in_err-found : goal.returns-in_err-found
 unfolding by_initializer
 returns-in_err-found g c = first_of (grind (arith, performing), search rules)
 
-pub returns-in_err-params : goal.returns-in_err-params
-unfolding by_initializer
-returns-in_err-params g c = first_of (grind (arith, performing), search rules)
-
 pub returns : goal.returns
 unfolding by_initializer
 returns g c = first_of (grind (arith, performing), search rules)

@@ -7,10 +7,6 @@ pub returns-in_err-found : goal.returns-in_err-found
 unfolding by_order
 returns-in_err-found g c = first_of (grind (arith, performing), search rules)
 
-pub returns-in_err-constructor : goal.returns-in_err-constructor
-unfolding by_order
-returns-in_err-constructor g c = first_of (grind (arith, performing), search rules)
-
 pub returns : goal.returns
 unfolding by_order
 returns g c = first_of (grind (arith, performing), search rules)

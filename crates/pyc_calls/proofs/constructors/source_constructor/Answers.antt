@@ -8,8 +8,5 @@ returns-in_err-clone g c = first_of (grind (arith, performing), search rules)
 pub returns-in_err-answer : goal.returns-in_err-answer
 returns-in_err-answer g c = first_of (grind (arith, performing), search rules)
 
-pub returns-in_err-found : goal.returns-in_err-found
-returns-in_err-found g c = first_of (grind (arith, performing), search rules)
-
 pub returns : goal.returns
 returns g c = first_of (grind (arith, performing), search rules)

@@ -8,8 +8,5 @@ returns-in_err-callee g c = first_of (grind (arith, performing), search rules)
 pub returns-in_err-arguments : goal.returns-in_err-arguments
 returns-in_err-arguments g c = first_of (grind (arith, performing), search rules)
 
-pub returns-in_err-found : goal.returns-in_err-found
-returns-in_err-found g c = first_of (grind (arith, performing), search rules)
-
 pub returns : goal.returns
 returns g c = first_of (grind (arith, performing), search rules)

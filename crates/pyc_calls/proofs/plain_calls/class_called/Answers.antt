@@ -7,10 +7,6 @@ pub returns-in_err-found : goal.returns-in_err-found
 unfolding class_called
 returns-in_err-found g c = first_of (grind (arith, performing), search rules)
 
-pub returns-in_err-ty : goal.returns-in_err-ty
-unfolding class_called
-returns-in_err-ty g c = first_of (grind (arith, performing), search rules)
-
 pub returns : goal.returns
 unfolding class_called
 returns g c = first_of (grind (arith, performing), search rules)

@@ -7,10 +7,6 @@ pub returns-in_err-match_constructor : goal.returns-in_err-match_constructor
 unfolding signature_called
 returns-in_err-match_constructor g c = first_of (grind (arith, performing), search rules)
 
-pub returns-in_err-ty : goal.returns-in_err-ty
-unfolding signature_called
-returns-in_err-ty g c = first_of (grind (arith, performing), search rules)
-
 pub returns : goal.returns
 unfolding signature_called
 returns g c = first_of (grind (arith, performing), search rules)

@@ -7,10 +7,6 @@ pub returns-in_err-read_all : goal.returns-in_err-read_all
 unfolding refused
 returns-in_err-read_all g c = first_of (grind (arith, performing), search rules)
 
-pub returns-in_err-told : goal.returns-in_err-told
-unfolding refused
-returns-in_err-told g c = first_of (grind (arith, performing), search rules)
-
 pub returns : goal.returns
 unfolding refused
 returns g c = first_of (grind (arith, performing), search rules)

@@ -4,6 +4,3 @@ use Rattle.pyc_calls.proofs.plain_calls.refused_instance.Goals as goal
 
 pub returns-in_err-clone : goal.returns-in_err-clone
 returns-in_err-clone g c = first_of (grind (arith, performing), search rules)
-
-pub returns-in_err-found : goal.returns-in_err-found
-returns-in_err-found g c = first_of (grind (arith, performing), search rules)

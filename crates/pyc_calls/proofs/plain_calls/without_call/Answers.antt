@@ -7,10 +7,6 @@ pub returns-in_err-is_unknown : goal.returns-in_err-is_unknown
 unfolding without_call
 returns-in_err-is_unknown g c = first_of (grind (arith, performing), search rules)
 
-pub returns-in_err-ty : goal.returns-in_err-ty
-unfolding without_call
-returns-in_err-ty g c = first_of (grind (arith, performing), search rules)
-
 pub returns : goal.returns
 unfolding without_call
 returns g c = first_of (grind (arith, performing), search rules)

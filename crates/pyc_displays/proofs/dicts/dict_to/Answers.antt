@@ -7,10 +7,6 @@ pub returns-in_err-entries_to : goal.returns-in_err-entries_to
 unfolding dict_to
 returns-in_err-entries_to g c = first_of (grind (arith, performing), search rules)
 
-pub returns-in_err-dict : goal.returns-in_err-dict
-unfolding dict_to
-returns-in_err-dict g c = first_of (grind (arith, performing), search rules)
-
 pub returns : goal.returns
 unfolding dict_to
 returns g c = first_of (grind (arith, performing), search rules)

@@ -7,10 +7,6 @@ pub returns-in_err-types : goal.returns-in_err-types
 unfolding free_dict
 returns-in_err-types g c = first_of (grind (arith, performing), search rules)
 
-pub returns-in_err-dict : goal.returns-in_err-dict
-unfolding free_dict
-returns-in_err-dict g c = first_of (grind (arith, performing), search rules)
-
 pub returns : goal.returns
 unfolding free_dict
 returns g c = first_of (grind (arith, performing), search rules)

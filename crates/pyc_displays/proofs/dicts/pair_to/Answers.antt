@@ -7,10 +7,6 @@ pub returns-in_err-got : goal.returns-in_err-got
 unfolding pair_to
 returns-in_err-got g c = first_of (grind (arith, performing), search rules)
 
-pub returns-in_err-entry_owed : goal.returns-in_err-entry_owed
-unfolding pair_to
-returns-in_err-entry_owed g c = first_of (grind (arith, performing), search rules)
-
 pub returns : goal.returns
 unfolding pair_to
 returns g c = first_of (grind (arith, performing), search rules)

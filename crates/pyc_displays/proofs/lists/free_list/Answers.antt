@@ -7,10 +7,6 @@ pub returns-in_err-types : goal.returns-in_err-types
 unfolding free_list
 returns-in_err-types g c = first_of (grind (arith, performing), search rules)
 
-pub returns-in_err-list : goal.returns-in_err-list
-unfolding free_list
-returns-in_err-list g c = first_of (grind (arith, performing), search rules)
-
 pub returns : goal.returns
 unfolding free_list
 returns g c = first_of (grind (arith, performing), search rules)

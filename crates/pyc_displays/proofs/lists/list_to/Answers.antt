@@ -7,10 +7,6 @@ pub returns-in_err-items_to : goal.returns-in_err-items_to
 unfolding list_to
 returns-in_err-items_to g c = first_of (grind (arith, performing), search rules)
 
-pub returns-in_err-list : goal.returns-in_err-list
-unfolding list_to
-returns-in_err-list g c = first_of (grind (arith, performing), search rules)
-
 pub returns : goal.returns
 unfolding list_to
 returns g c = first_of (grind (arith, performing), search rules)

@@ -7,10 +7,6 @@ pub returns-in_err-owner : goal.returns-in_err-owner
 unfolding attribute_called
 returns-in_err-owner g c = first_of (grind (arith, performing), search rules)
 
-pub returns-in_err-ty : goal.returns-in_err-ty
-unfolding attribute_called
-returns-in_err-ty g c = first_of (grind (arith, performing), search rules)
-
 pub returns : goal.returns
 unfolding attribute_called
 returns g c = first_of (grind (arith, performing), search rules)

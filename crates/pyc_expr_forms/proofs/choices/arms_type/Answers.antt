@@ -7,10 +7,6 @@ pub returns-in_err-body : goal.returns-in_err-body
 unfolding arms_type
 returns-in_err-body g c = first_of (grind (arith, performing), search rules)
 
-pub returns-in_err-ty : goal.returns-in_err-ty
-unfolding arms_type
-returns-in_err-ty g c = first_of (grind (arith, performing), search rules)
-
 pub returns : goal.returns
 unfolding arms_type
 returns g c = first_of (grind (arith, performing), search rules)

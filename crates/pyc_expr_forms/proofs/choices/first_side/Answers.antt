@@ -7,10 +7,6 @@ pub returns-in_err-ty : goal.returns-in_err-ty
 unfolding first_side
 returns-in_err-ty g c = first_of (grind (arith, performing), search rules)
 
-pub returns-in_err-found : goal.returns-in_err-found
-unfolding first_side
-returns-in_err-found g c = first_of (grind (arith, performing), search rules)
-
 pub returns : goal.returns
 unfolding first_side
 returns g c = first_of (grind (arith, performing), search rules)

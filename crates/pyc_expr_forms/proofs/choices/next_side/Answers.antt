@@ -7,10 +7,6 @@ pub returns-in_err-joined : goal.returns-in_err-joined
 unfolding next_side
 returns-in_err-joined g c = first_of (grind (arith, performing), search rules)
 
-pub returns-in_err-found : goal.returns-in_err-found
-unfolding next_side
-returns-in_err-found g c = first_of (grind (arith, performing), search rules)
-
 pub returns : goal.returns
 unfolding next_side
 returns g c = first_of (grind (arith, performing), search rules)

@@ -7,10 +7,6 @@ pub returns-in_err-orelse : goal.returns-in_err-orelse
 unfolding orelse_type
 returns-in_err-orelse g c = first_of (grind (arith, performing), search rules)
 
-pub returns-in_err-ty : goal.returns-in_err-ty
-unfolding orelse_type
-returns-in_err-ty g c = first_of (grind (arith, performing), search rules)
-
 pub returns : goal.returns
 unfolding orelse_type
 returns g c = first_of (grind (arith, performing), search rules)

@@ -7,10 +7,6 @@ pub returns-in_err-right : goal.returns-in_err-right
 unfolding with_side
 returns-in_err-right g c = first_of (grind (arith, performing), search rules)
 
-pub returns-in_err-ty : goal.returns-in_err-ty
-unfolding with_side
-returns-in_err-ty g c = first_of (grind (arith, performing), search rules)
-
 pub returns : goal.returns
 unfolding with_side
 returns g c = first_of (grind (arith, performing), search rules)

@@ -7,10 +7,6 @@ pub returns-in_err-left : goal.returns-in_err-left
 unfolding binary_type
 returns-in_err-left g c = first_of (grind (arith, performing), search rules)
 
-pub returns-in_err-ty : goal.returns-in_err-ty
-unfolding binary_type
-returns-in_err-ty g c = first_of (grind (arith, performing), search rules)
-
 pub returns : goal.returns
 unfolding binary_type
 returns g c = first_of (grind (arith, performing), search rules)

@@ -7,10 +7,6 @@ pub returns-in_err-operand : goal.returns-in_err-operand
 unfolding unary_type
 returns-in_err-operand g c = first_of (grind (arith, performing), search rules)
 
-pub returns-in_err-ty : goal.returns-in_err-ty
-unfolding unary_type
-returns-in_err-ty g c = first_of (grind (arith, performing), search rules)
-
 pub returns : goal.returns
 unfolding unary_type
 returns g c = first_of (grind (arith, performing), search rules)

@@ -7,10 +7,6 @@ pub returns-in_err-ty : goal.returns-in_err-ty
 unfolding revealed
 returns-in_err-ty g c = first_of (grind (arith, performing), search rules)
 
-pub returns-in_err-told : goal.returns-in_err-told
-unfolding revealed
-returns-in_err-told g c = first_of (grind (arith, performing), search rules)
-
 pub returns : goal.returns
 unfolding revealed
 returns g c = first_of (grind (arith, performing), search rules)

@@ -20,9 +20,6 @@ index_types-loop-index-preserved g t c =
 pub indices_type-returns-in_err-types : goal.indices_type-returns-in_err-types
 indices_type-returns-in_err-types g t c = first_of (grind (arith, performing), search rules)
 
-pub indices_type-returns-in_err-ty : goal.indices_type-returns-in_err-ty
-indices_type-returns-in_err-ty g t c = first_of (grind (arith, performing), search rules)
-
 pub indices_type-returns : goal.indices_type-returns
 indices_type-returns g t c = first_of (grind (arith, performing), search rules)
 

@@ -7,10 +7,6 @@ pub returns-in_err-got : goal.returns-in_err-got
 unfolding subscript_of
 returns-in_err-got g c = first_of (grind (arith, performing), search rules)
 
-pub returns-in_err-ty : goal.returns-in_err-ty
-unfolding subscript_of
-returns-in_err-ty g c = first_of (grind (arith, performing), search rules)
-
 pub returns : goal.returns
 unfolding subscript_of
 returns g c = first_of (grind (arith, performing), search rules)

@@ -7,10 +7,6 @@ pub returns-in_err-holds : goal.returns-in_err-holds
 unfolding index_owed
 returns-in_err-holds g c = first_of (grind (arith, performing), search rules)
 
-pub returns-in_err-told : goal.returns-in_err-told
-unfolding index_owed
-returns-in_err-told g c = first_of (grind (arith, performing), search rules)
-
 pub returns : goal.returns
 unfolding index_owed
 returns g c = first_of (grind (arith, performing), search rules)

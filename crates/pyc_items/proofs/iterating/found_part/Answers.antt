@@ -7,10 +7,6 @@ pub returns-in_err-part : goal.returns-in_err-part
 unfolding found_part
 returns-in_err-part g c = first_of (grind (arith, performing), search rules)
 
-pub returns-in_err-limited : goal.returns-in_err-limited
-unfolding found_part
-returns-in_err-limited g c = first_of (grind (arith, performing), search rules)
-
 pub returns : goal.returns
 unfolding found_part
 returns g c = first_of (grind (arith, performing), search rules)

@@ -11,10 +11,6 @@ pub returns-in_err-found : goal.returns-in_err-found
 unfolding union_iterated
 returns-in_err-found g c = first_of (grind (arith, performing), search rules)
 
-pub returns-in_err-union : goal.returns-in_err-union
-unfolding union_iterated
-returns-in_err-union g c = first_of (grind (arith, performing), search rules)
-
 pub returns : goal.returns
 unfolding union_iterated
 returns g c = first_of (grind (arith, performing), search rules)

@@ -7,10 +7,6 @@ pub returns-in_err-owner : goal.returns-in_err-owner
 unfolding union_part
 returns-in_err-owner g c = first_of (grind (arith, performing), search rules)
 
-pub returns-in_err-part : goal.returns-in_err-part
-unfolding union_part
-returns-in_err-part g c = first_of (grind (arith, performing), search rules)
-
 pub returns : goal.returns
 unfolding union_part
 returns g c = first_of (grind (arith, performing), search rules)

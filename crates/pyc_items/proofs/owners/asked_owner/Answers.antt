@@ -7,10 +7,6 @@ pub returns-in_err-found : goal.returns-in_err-found
 unfolding asked_owner
 returns-in_err-found g c = first_of (grind (arith, performing), search rules)
 
-pub returns-in_err-owner : goal.returns-in_err-owner
-unfolding asked_owner
-returns-in_err-owner g c = first_of (grind (arith, performing), search rules)
-
 pub returns : goal.returns
 unfolding asked_owner
 returns g c = first_of (grind (arith, performing), search rules)

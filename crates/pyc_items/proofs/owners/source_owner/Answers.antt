@@ -11,10 +11,6 @@ pub returns-in_err-answer : goal.returns-in_err-answer
 unfolding source_owner
 returns-in_err-answer g c = first_of (grind (arith, performing), search rules)
 
-pub returns-in_err-found : goal.returns-in_err-found
-unfolding source_owner
-returns-in_err-found g c = first_of (grind (arith, performing), search rules)
-
 pub returns : goal.returns
 unfolding source_owner
 returns g c = first_of (grind (arith, performing), search rules)

@@ -7,10 +7,6 @@ pub returns-in_err-owner : goal.returns-in_err-owner
 unfolding item_of
 returns-in_err-owner g c = first_of (grind (arith, performing), search rules)
 
-pub returns-in_err-item : goal.returns-in_err-item
-unfolding item_of
-returns-in_err-item g c = first_of (grind (arith, performing), search rules)
-
 pub returns : goal.returns
 unfolding item_of
 returns g c = first_of (grind (arith, performing), search rules)

@@ -11,10 +11,6 @@ pub returns-in_err-found : goal.returns-in_err-found
 unfolding subscript
 returns-in_err-found g c = first_of (grind (arith, performing), search rules)
 
-pub returns-in_err-given : goal.returns-in_err-given
-unfolding subscript
-returns-in_err-given g c = first_of (grind (arith, performing), search rules)
-
 pub returns : goal.returns
 unfolding subscript
 returns g c = first_of (grind (arith, performing), search rules)

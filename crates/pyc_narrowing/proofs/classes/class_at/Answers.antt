@@ -7,10 +7,6 @@ pub returns-in_err-found : goal.returns-in_err-found
 unfolding class_at
 returns-in_err-found g c = first_of (grind (arith, performing), search rules)
 
-pub returns-in_err-class : goal.returns-in_err-class
-unfolding class_at
-returns-in_err-class g c = first_of (grind (arith, performing), search rules)
-
 pub returns : goal.returns
 unfolding class_at
 returns g c = first_of (grind (arith, performing), search rules)

@@ -7,10 +7,6 @@ pub returns-in_err-class : goal.returns-in_err-class
 unfolding one_class
 returns-in_err-class g c = first_of (grind (arith, performing), search rules)
 
-pub returns-in_err-classes : goal.returns-in_err-classes
-unfolding one_class
-returns-in_err-classes g c = first_of (grind (arith, performing), search rules)
-
 pub returns : goal.returns
 unfolding one_class
 returns g c = first_of (grind (arith, performing), search rules)

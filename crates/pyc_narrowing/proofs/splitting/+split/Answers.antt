@@ -48,10 +48,6 @@ pub split_and_right-returns-in_err-second : goal.split_and_right-returns-in_err-
 unfolding and_right
 split_and_right-returns-in_err-second g t c = first_of (grind (arith, performing), search rules)
 
-pub split_and_right-returns-in_err-states : goal.split_and_right-returns-in_err-states
-unfolding and_right
-split_and_right-returns-in_err-states g t c = first_of (grind (arith, performing), search rules)
-
 pub split_and_right-returns : goal.split_and_right-returns
 unfolding and_right
 split_and_right-returns g t c = first_of (grind (arith, performing), search rules)
@@ -59,10 +55,6 @@ split_and_right-returns g t c = first_of (grind (arith, performing), search rule
 pub split_or_right-returns-in_err-second : goal.split_or_right-returns-in_err-second
 unfolding or_right
 split_or_right-returns-in_err-second g t c = first_of (grind (arith, performing), search rules)
-
-pub split_or_right-returns-in_err-states : goal.split_or_right-returns-in_err-states
-unfolding or_right
-split_or_right-returns-in_err-states g t c = first_of (grind (arith, performing), search rules)
 
 pub split_or_right-returns : goal.split_or_right-returns
 unfolding or_right

@@ -7,10 +7,6 @@ pub returns-in_err-found : goal.returns-in_err-found
 unfolding truth_rule
 returns-in_err-found g c = first_of (grind (arith, performing), search rules)
 
-pub returns-in_err-states : goal.returns-in_err-states
-unfolding truth_rule
-returns-in_err-states g c = first_of (grind (arith, performing), search rules)
-
 pub returns : goal.returns
 unfolding truth_rule
 returns g c = first_of (grind (arith, performing), search rules)

@@ -11,10 +11,6 @@ pub returns-in_err-answer : goal.returns-in_err-answer
 unfolding function_type
 returns-in_err-answer g c = first_of (grind (arith, performing), search rules)
 
-pub returns-in_err-ty : goal.returns-in_err-ty
-unfolding function_type
-returns-in_err-ty g c = first_of (grind (arith, performing), search rules)
-
 pub returns : goal.returns
 unfolding function_type
 returns g c = first_of (grind (arith, performing), search rules)

@@ -7,10 +7,6 @@ pub returns-in_err-ty : goal.returns-in_err-ty
 unfolding parameter_reading
 returns-in_err-ty g c = first_of (grind (arith, performing), search rules)
 
-pub returns-in_err-param : goal.returns-in_err-param
-unfolding parameter_reading
-returns-in_err-param g c = first_of (grind (arith, performing), search rules)
-
 pub returns : goal.returns
 unfolding parameter_reading
 returns g c = first_of (grind (arith, performing), search rules)
