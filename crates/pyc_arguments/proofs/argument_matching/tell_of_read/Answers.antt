@@ -7,10 +7,6 @@ pub returns-in_err-refuse : goal.returns-in_err-refuse
 unfolding argument_read
 returns-in_err-refuse g c = first_of (grind (arith, performing), search rules)
 
-pub returns-in_err-owe : goal.returns-in_err-owe
-unfolding argument_read
-returns-in_err-owe g c = first_of (grind (arith, performing), search rules)
-
 pub returns : goal.returns
 unfolding argument_read
 returns g c = first_of (grind (arith, performing), search rules)

@@ -7,10 +7,6 @@ pub returns-in_err-match_arguments : goal.returns-in_err-match_arguments
 unfolding signature_called
 returns-in_err-match_arguments g c = first_of (grind (arith, performing), search rules)
 
-pub returns-in_err-clone : goal.returns-in_err-clone
-unfolding signature_called
-returns-in_err-clone g c = first_of (grind (arith, performing), search rules)
-
 pub returns : goal.returns
 unfolding signature_called
 returns g c = first_of (grind (arith, performing), search rules)
