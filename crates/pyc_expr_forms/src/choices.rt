@@ -108,7 +108,8 @@ fn chained<N: Judge, P: Parts<N>>(
         } => {
             if same_operator(operator, *inner) {
                 let first = chained(alloc, notes, parts, state, want, operator, left)?;
-                next_side(alloc, notes, parts, want, operator, right, first)
+                let both = next_side(alloc, notes, parts, want, operator, right, first)?;
+                Ok(both)
             } else {
                 first_side(alloc, notes, parts, state, want, operator, e)
             }
