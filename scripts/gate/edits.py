@@ -34,9 +34,14 @@ from pathlib import Path
 
 ROOT = Path(__file__).resolve().parents[2]
 KIT = Path(shutil.which("rt")).resolve().parents[1]
+# The name of a goal that no function has.
+NO_GOAL = "no-help"
 # What a proof says that names what an edit took away, or of a proof that was left open, which speaks of no contract, and what a
 # text says that cannot be read.
-NOT_OF_THE_CONTRACT = r"(note: )?(\./)?proofs/.*(has no field|is not in scope|has no `|was not admitted|has-holes|large solution|goal \? in )|.*`no-help`"
+NOT_OF_THE_CONTRACT = (
+    r"(note: )?(\./)?proofs/.*(has no field|is not in scope|has no `|was not admitted|has-holes|large solution|goal \? in )"
+    rf"|.*`{NO_GOAL}`"
+)
 TOLD = r"(?m)^(?:note: )?\S+:\d+:\d+: .*$"
 # What it says of a part of a proof that it refuses, or of a goal for which it finds no proof and the repository has none.
 REFUSED = r"\S+ error: |note: \S+ (it is not proved that |`search` found no proof )"
@@ -51,8 +56,6 @@ LISTED = r"(?m)^pub (\S+) : goal\.\1\n(?:unfolding .*\n)?\1 (?:g )?(?:t )?c = fi
 NO_BODY = "loop {}"
 # Why an edit is refused that only takes away a place which an answer names.
 LITTLE = "only since a proof names what the edit took away, which says little of the contract"
-# The name of a goal that no function has.
-NO_GOAL = "no-help"
 # The processors on which no check runs.
 PROCESSORS = queue.SimpleQueue()
 # How long, in seconds, a processor has been free of proofs where a check may take it.

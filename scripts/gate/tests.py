@@ -18,17 +18,12 @@ import sys
 import tempfile
 from pathlib import Path
 
+from edits import libraries
 from judging import Tally
 
 ROOT = Path(__file__).resolve().parents[2]
 RESULT = re.compile(r"(?m)^test result: \w+\. (\d+) passed; (\d+) failed;")
 JOINED = "joined_tests"
-
-
-def libraries():
-    """Returns the libraries that each crate stands on, by crates.txt."""
-    lines = [it.partition("#")[0].partition(":") for it in (ROOT / "crates.txt").read_text(encoding="utf-8").splitlines()]
-    return {name.strip(): uses.split() for name, _, uses in lines if name.strip()}
 
 
 def join(names, known, room):
