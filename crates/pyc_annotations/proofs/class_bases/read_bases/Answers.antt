@@ -1,3 +1,4 @@
+use Rattle.std.proofs.lemmas.Grind.{common_steps}
 use Rattle.pyc_annotations.specs.Bases.{more_bases}
 use Rattle.pyc_annotations.proofs.Steps.{performing}
 use Rattle.std.proofs.Common.{◌∙◌, map, arith, rules}
@@ -26,3 +27,11 @@ returns-in_err-base g c = first_of (grind (arith, performing), search rules)
 pub returns-in_err-push_base : goal.returns-in_err-push_base
 unfolding more_bases
 returns-in_err-push_base g c = first_of (grind (arith, performing), search rules)
+
+pub loop-argument-init : goal.loop-argument-init
+unfolding more_bases
+loop-argument-init g c = first_of (grind (arith, performing), search rules)
+
+pub returns : goal.returns
+unfolding more_bases
+returns g c = first_of (grind (arith, common_steps, performing), search rules)

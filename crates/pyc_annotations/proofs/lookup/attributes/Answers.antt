@@ -1,3 +1,4 @@
+use Rattle.std.proofs.lemmas.Grind.{common_steps}
 use Rattle.pyc_annotations.proofs.Steps.{performing}
 use Rattle.std.proofs.Common.{sym, ◌∙◌, refl, arith, rules}
 use Rattle.pyc_annotations.specs.Annotations.{attributes, attribute_meaning}
@@ -15,3 +16,11 @@ loop-name-preserved g c = record {
 pub returns-in_err-found : goal.returns-in_err-found
 unfolding attributes
 returns-in_err-found g c = first_of (grind (arith, performing), search rules)
+
+pub loop-name-init : goal.loop-name-init
+unfolding attributes
+loop-name-init g c = first_of (grind (arith, performing), search rules)
+
+pub returns : goal.returns
+unfolding attributes
+returns g c = first_of (grind (arith, common_steps, performing), search rules)

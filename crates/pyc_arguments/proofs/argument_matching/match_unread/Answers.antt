@@ -1,3 +1,4 @@
+use Rattle.std.proofs.lemmas.Grind.{common_steps}
 use Rattle.pyc_arguments.specs.Matched.{arguments_matched}
 use Rattle.pyc_obligations.proofs.Steps.{performing}
 use Rattle.std.proofs.Common.{◌≡◌, ◌+◌, ap, ◌∙◌, arith, rules}
@@ -28,3 +29,11 @@ loop-argument-preserved g c =
 pub returns-in_err-take_unread : goal.returns-in_err-take_unread
 unfolding arguments_matched
 returns-in_err-take_unread g c = first_of (grind (arith, performing), search rules)
+
+pub loop-argument-init : goal.loop-argument-init
+unfolding arguments_matched
+loop-argument-init g c = first_of (grind (arith, performing), search rules)
+
+pub returns : goal.returns
+unfolding arguments_matched
+returns g c = first_of (grind (arith, common_steps, performing), search rules)

@@ -1,3 +1,4 @@
+use Rattle.std.proofs.lemmas.Grind.{common_steps}
 use Rattle.pyc_obligations.proofs.Steps.{performing}
 use Rattle.std.proofs.Common.{◌∙◌, map, refl, sym, arith, rules}
 use Rattle.pyc_arguments.specs.Matched.{missing_told}
@@ -19,3 +20,9 @@ loop-missing-preserved g c =
 
 pub returns-in_err-tell_missing : goal.returns-in_err-tell_missing
 returns-in_err-tell_missing g c = first_of (grind (arith, performing), search rules)
+
+pub loop-missing-init : goal.loop-missing-init
+loop-missing-init g c = first_of (grind (arith, performing), search rules)
+
+pub returns : goal.returns
+returns g c = first_of (grind (arith, common_steps, performing), search rules)

@@ -1,3 +1,4 @@
+use Rattle.std.proofs.lemmas.Grind.{common_steps}
 use Rattle.pyc_arguments.specs.Arguments.{all_read}
 use Rattle.pyc_obligations.proofs.Steps.{performing}
 use Rattle.std.proofs.Common.{◌∙◌, arith, rules}
@@ -16,3 +17,11 @@ loop-argument-preserved g c = record {
 pub returns-in_err-read : goal.returns-in_err-read
 unfolding all_read
 returns-in_err-read g c = first_of (grind (arith, performing), search rules)
+
+pub loop-argument-init : goal.loop-argument-init
+unfolding all_read
+loop-argument-init g c = first_of (grind (arith, performing), search rules)
+
+pub returns : goal.returns
+unfolding all_read
+returns g c = first_of (grind (arith, common_steps, performing), search rules)

@@ -1,3 +1,4 @@
+use Rattle.std.proofs.lemmas.Grind.{common_steps}
 use Rattle.pyc_arguments.specs.Arguments.{more_read}
 use Rattle.pyc_obligations.proofs.Steps.{performing}
 use Rattle.std.proofs.Common.{◌∙◌, map, arith, rules}
@@ -25,3 +26,11 @@ returns-in_err-ty g c = first_of (grind (arith, performing), search rules)
 pub returns-in_err-push_read : goal.returns-in_err-push_read
 unfolding more_read
 returns-in_err-push_read g c = first_of (grind (arith, performing), search rules)
+
+pub loop-argument-init : goal.loop-argument-init
+unfolding more_read
+loop-argument-init g c = first_of (grind (arith, performing), search rules)
+
+pub returns : goal.returns
+unfolding more_read
+returns g c = first_of (grind (arith, common_steps, performing), search rules)

@@ -1,3 +1,4 @@
+use Rattle.std.proofs.lemmas.Grind.{common_steps}
 use Rattle.pyc_attributes.proofs.Steps.{performing}
 use Rattle.std.proofs.Common.{◌≡◌, ◌∷◌, [], ◌++◌, map, sym, ◌∙◌, refl, arith, rules}
 use Rattle.std.proofs.lemmas.List.{map-append}
@@ -32,3 +33,11 @@ returns-in_err-ty g c = first_of (grind (arith, performing), search rules)
 pub returns-in_err-push : goal.returns-in_err-push
 unfolding item_types
 returns-in_err-push g c = first_of (grind (arith, performing), search rules)
+
+pub loop-item-init : goal.loop-item-init
+unfolding item_types
+loop-item-init g c = first_of (grind (arith, performing), search rules)
+
+pub returns : goal.returns
+unfolding item_types
+returns g c = first_of (grind (arith, common_steps, performing), search rules)

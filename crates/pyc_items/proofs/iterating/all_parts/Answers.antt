@@ -1,3 +1,4 @@
+use Rattle.std.proofs.lemmas.Grind.{common_steps}
 use Rattle.pyc_items.proofs.Steps.{performing}
 use Rattle.std.proofs.Common.{◌∷◌, [], ◌++◌, map, sym, ◌∙◌, refl, arith, rules}
 use Rattle.std.proofs.lemmas.List.{map-append}
@@ -31,3 +32,11 @@ returns-in_err-part g c = first_of (grind (arith, performing), search rules)
 pub returns-in_err-push : goal.returns-in_err-push
 unfolding more_parts
 returns-in_err-push g c = first_of (grind (arith, performing), search rules)
+
+pub loop-item-init : goal.loop-item-init
+unfolding more_parts
+loop-item-init g c = first_of (grind (arith, performing), search rules)
+
+pub returns : goal.returns
+unfolding more_parts
+returns g c = first_of (grind (arith, common_steps, performing), search rules)

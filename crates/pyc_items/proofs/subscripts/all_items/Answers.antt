@@ -1,3 +1,4 @@
+use Rattle.std.proofs.lemmas.Grind.{common_steps}
 use Rattle.pyc_items.proofs.Steps.{performing}
 use Rattle.std.proofs.Common.{map, sym, ◌∙◌, refl, arith, rules}
 use Rattle.pyc_ast.specs.ExprView.{index_of}
@@ -33,3 +34,11 @@ returns-in_err-item g c = first_of (grind (arith, performing), search rules)
 pub returns-in_err-push_item : goal.returns-in_err-push_item
 unfolding more_items
 returns-in_err-push_item g c = first_of (grind (arith, performing), search rules)
+
+pub loop-ty-init : goal.loop-ty-init
+unfolding more_items
+loop-ty-init g c = first_of (grind (arith, performing), search rules)
+
+pub returns : goal.returns
+unfolding more_items
+returns g c = first_of (grind (arith, common_steps, performing), search rules)

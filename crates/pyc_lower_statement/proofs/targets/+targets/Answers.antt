@@ -1,4 +1,5 @@
-use Rattle.std.proofs.Common.{sym, ap, ◌∙◌, ◌++◌, List, map, Option}
+use Rattle.pyc_ast.proofs.TargetViewLemmas.{target_views}
+use Rattle.std.proofs.Common.{sym, ap, ◌∙◌, ◌++◌, List, map, Option, arith, rules}
 use Rattle.std.specs.declared.alloc.Global.{Global}
 use Rattle.std.specs.declared.boxed.Box.{Box}
 use Rattle.pyc_ast.specs.declared.target.TargetElement.{TargetElement as TargetElementOf}
@@ -6,7 +7,7 @@ use Rattle.pyc_ast.specs.TargetView.{target_element_of}
 use Rattle.pyc_lower_atom.specs.OriginView.{origin_of}
 use Rattle.pyc_lower_statement.proofs.ItemLemmas.{items_begin}
 use Rattle.pyc_lower_expression.proofs.Loops.{pushed, pushed_at, ended_at, last_at, none_left}
-use Rattle.pyc_lower_statement.proofs.TargetLemmas.{target_other, elements_Piece, elements_None, elements_Some, element_is}
+use Rattle.pyc_lower_statement.proofs.TargetLemmas.{target_other, elements_Piece, elements_None, elements_Some, element_is, targets}
 use Rattle.pyc_lower_statement.specs.Targets.{target_in, elements_in, element_of}
 use Rattle.pyc_tree.specs.declared.tree.Expr.{Expr}
 use Rattle.pyc_tree.specs.declared.tree.Piece.{Piece}
@@ -55,3 +56,60 @@ elements-returns g t c =
     (ap (λ (last : Option (Box Expr Global)). elements_in spelled o (last_of last)) c.in-Some.is ∙ elements_Some spelled o c.in-Some.last)
     (pushed target_element_of _ _ c.element-2.result c.in_ok-push-2.ensures.items
     (element_is spelled o _ _ _ _ _ c.element-2.ensures c.deref-3.ensures c.in_ok-to-2.ensures c.deref-2.ensures))
+
+pub elements-returns-in_err-push : goal.elements-returns-in_err-push
+elements-returns-in_err-push g t c = first_of (grind (arith, target_views, targets), search rules)
+
+pub elements-returns-in_err-push-2 : goal.elements-returns-in_err-push-2
+elements-returns-in_err-push-2 g t c = first_of (grind (arith, target_views, targets), search rules)
+
+pub elements-returns-in_err-to : goal.elements-returns-in_err-to
+elements-returns-in_err-to g t c = first_of (grind (arith, target_views, targets), search rules)
+
+pub elements-returns-in_err-to-2 : goal.elements-returns-in_err-to-2
+elements-returns-in_err-to-2 g t c = first_of (grind (arith, target_views, targets), search rules)
+
+pub target-returns-in-Starred : goal.target-returns-in-Starred
+target-returns-in-Starred g t c = first_of (grind (arith, target_views, targets), search rules)
+
+pub target-returns-in_err-found-in-Bare : goal.target-returns-in_err-found-in-Bare
+target-returns-in_err-found-in-Bare g t c = first_of (grind (arith, target_views, targets), search rules)
+
+pub target-returns-in_err-found-in-Display : goal.target-returns-in_err-found-in-Display
+target-returns-in_err-found-in-Display g t c = first_of (grind (arith, target_views, targets), search rules)
+
+pub target-returns-in_err-index-in-Subscript : goal.target-returns-in_err-index-in-Subscript
+target-returns-in_err-index-in-Subscript g t c = first_of (grind (arith, target_views, targets), search rules)
+
+pub target-returns-in_err-inner-in-Parenthesized : goal.target-returns-in_err-inner-in-Parenthesized
+target-returns-in_err-inner-in-Parenthesized g t c = first_of (grind (arith, target_views, targets), search rules)
+
+pub target-returns-in_err-name-in-Attribute : goal.target-returns-in_err-name-in-Attribute
+target-returns-in_err-name-in-Attribute g t c = first_of (grind (arith, target_views, targets), search rules)
+
+pub target-returns-in_err-name-in-Name : goal.target-returns-in_err-name-in-Name
+target-returns-in_err-name-in-Name g t c = first_of (grind (arith, target_views, targets), search rules)
+
+pub target-returns-in_err-value-in-Attribute : goal.target-returns-in_err-value-in-Attribute
+target-returns-in_err-value-in-Attribute g t c = first_of (grind (arith, target_views, targets), search rules)
+
+pub target-returns-in_err-value-in-Subscript : goal.target-returns-in_err-value-in-Subscript
+target-returns-in_err-value-in-Subscript g t c = first_of (grind (arith, target_views, targets), search rules)
+
+pub target-returns-in_ok-found-in-Bare : goal.target-returns-in_ok-found-in-Bare
+target-returns-in_ok-found-in-Bare g t c = first_of (grind (arith, target_views, targets), search rules)
+
+pub target-returns-in_ok-found-in-Display : goal.target-returns-in_ok-found-in-Display
+target-returns-in_ok-found-in-Display g t c = first_of (grind (arith, target_views, targets), search rules)
+
+pub target-returns-in_ok-index-in-Subscript : goal.target-returns-in_ok-index-in-Subscript
+target-returns-in_ok-index-in-Subscript g t c = first_of (grind (arith, target_views, targets), search rules)
+
+pub target-returns-in_ok-inner-in-Parenthesized : goal.target-returns-in_ok-inner-in-Parenthesized
+target-returns-in_ok-inner-in-Parenthesized g t c = first_of (grind (arith, target_views, targets), search rules)
+
+pub target-returns-in_ok-name-in-Attribute : goal.target-returns-in_ok-name-in-Attribute
+target-returns-in_ok-name-in-Attribute g t c = first_of (grind (arith, target_views, targets), search rules)
+
+pub target-returns-in_ok-name-in-Name : goal.target-returns-in_ok-name-in-Name
+target-returns-in_ok-name-in-Name g t c = first_of (grind (arith, target_views, targets), search rules)

@@ -1,3 +1,4 @@
+use Rattle.std.proofs.lemmas.Grind.{common_steps}
 use Rattle.pyc_obligations.proofs.Steps.{performing}
 use Rattle.std.proofs.Common.{◌∙◌, sym, refl, arith, rules}
 use Rattle.pyc_obligations.specs.Judging.{class_asked, classes_asked}
@@ -14,3 +15,9 @@ loop-class-preserved g c = record {
 
 pub returns-in_err-ask_class : goal.returns-in_err-ask_class
 returns-in_err-ask_class g c = first_of (grind (arith, performing), search rules)
+
+pub loop-class-init : goal.loop-class-init
+loop-class-init g c = first_of (grind (arith, performing), search rules)
+
+pub returns : goal.returns
+returns g c = first_of (grind (arith, common_steps, performing), search rules)

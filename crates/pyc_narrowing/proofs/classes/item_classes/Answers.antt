@@ -1,3 +1,4 @@
+use Rattle.std.proofs.lemmas.Grind.{common_steps}
 use Rattle.pyc_narrowing.specs.Splitting.{more_classes}
 use Rattle.pyc_obligations.proofs.Steps.{performing}
 use Rattle.std.proofs.Common.{◌∙◌, ap, sym, arith, rules}
@@ -35,3 +36,11 @@ returns-in_err-class g c = first_of (grind (arith, performing), search rules)
 pub returns-in_err-push-in-Some : goal.returns-in_err-push-in-Some
 unfolding more_classes
 returns-in_err-push-in-Some g c = first_of (grind (arith, performing), search rules)
+
+pub loop-item-init : goal.loop-item-init
+unfolding more_classes
+loop-item-init g c = first_of (grind (arith, performing), search rules)
+
+pub returns : goal.returns
+unfolding more_classes
+returns g c = first_of (grind (arith, common_steps, performing), search rules)

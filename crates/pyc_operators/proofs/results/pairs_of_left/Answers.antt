@@ -1,4 +1,7 @@
-use Rattle.std.proofs.Common.{◌∙◌}
+use Rattle.pyc_operators.proofs.Steps.{performing}
+use Rattle.pyc_operators.specs.Results.{pairs_of_left}
+use Rattle.std.proofs.Common.{◌∙◌, arith, rules}
+use Rattle.std.proofs.lemmas.Grind.{common_steps}
 use Rattle.pyc_operators.proofs.Turns.{pair_turn}
 use Rattle.pyc_operators.specs.ResultsView.{results_of}
 use Rattle.pyc_reading.proofs.RunLemmas.{grown_trans}
@@ -12,3 +15,19 @@ loop-right-preserved g c = record {
       ∙ c.loop-right.invariant.same;
   grown = grown_trans c.loop-right.invariant.grown c.pair.ensures.grown;
 }
+
+pub loop-right-init : goal.loop-right-init
+unfolding pairs_of_left
+loop-right-init g c = first_of (grind (arith, performing), search rules)
+
+pub returns : goal.returns
+unfolding pairs_of_left
+returns g c = first_of (grind (arith, common_steps, performing), search rules)
+
+pub returns-in_err-found : goal.returns-in_err-found
+unfolding pairs_of_left
+returns-in_err-found g c = first_of (grind (arith, performing), search rules)
+
+pub returns-in_err-results : goal.returns-in_err-results
+unfolding pairs_of_left
+returns-in_err-results g c = first_of (grind (arith, performing), search rules)

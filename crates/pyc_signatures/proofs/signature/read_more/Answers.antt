@@ -1,3 +1,4 @@
+use Rattle.std.proofs.lemmas.Grind.{common_steps}
 use Rattle.pyc_signatures.proofs.Steps.{performing}
 use Rattle.std.proofs.Common.{◌≡◌, ◌∷◌, [], ◌++◌, map, sym, ap, ◌∙◌, refl, arith, rules}
 use Rattle.std.proofs.lemmas.List.{map-append}
@@ -29,3 +30,11 @@ returns-in_err-param g c = first_of (grind (arith, performing), search rules)
 pub returns-in_err-push : goal.returns-in_err-push
 unfolding more_params
 returns-in_err-push g c = first_of (grind (arith, performing), search rules)
+
+pub loop-parameter-init : goal.loop-parameter-init
+unfolding more_params
+loop-parameter-init g c = first_of (grind (arith, performing), search rules)
+
+pub returns : goal.returns
+unfolding more_params
+returns g c = first_of (grind (arith, common_steps, performing), search rules)

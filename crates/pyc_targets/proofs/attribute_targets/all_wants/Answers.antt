@@ -1,4 +1,6 @@
-use Rattle.std.proofs.Common.{map, sym, ◌∙◌, refl}
+use Rattle.pyc_obligations.proofs.Steps.{performing}
+use Rattle.std.proofs.Common.{map, sym, ◌∙◌, refl, arith, rules}
+use Rattle.std.proofs.lemmas.Grind.{common_steps}
 use Rattle.pyc_targets.specs.AttributeTargets.{more_wants, item_want, with_want}
 use Rattle.pyc_targets.specs.Views.{wants_in}
 use Rattle.pyc_reading.proofs.RunLemmas.{one_turn, grown_trans}
@@ -20,3 +22,23 @@ loop-item-preserved g c =
           ∙ c.loop-item.invariant.same);
       grown = grown_trans c.loop-item.invariant.grown c.item_want.ensures.grown;
     }
+
+pub loop-item-init : goal.loop-item-init
+unfolding more_wants
+loop-item-init g c = first_of (grind (arith, performing), search rules)
+
+pub returns : goal.returns
+unfolding more_wants
+returns g c = first_of (grind (arith, common_steps, performing), search rules)
+
+pub returns-in_err-push_want : goal.returns-in_err-push_want
+unfolding more_wants
+returns-in_err-push_want g c = first_of (grind (arith, performing), search rules)
+
+pub returns-in_err-want : goal.returns-in_err-want
+unfolding more_wants
+returns-in_err-want g c = first_of (grind (arith, performing), search rules)
+
+pub returns-in_err-with_capacity : goal.returns-in_err-with_capacity
+unfolding more_wants
+returns-in_err-with_capacity g c = first_of (grind (arith, performing), search rules)

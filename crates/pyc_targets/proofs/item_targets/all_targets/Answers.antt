@@ -1,4 +1,6 @@
-use Rattle.std.proofs.Common.{map, sym, ◌∙◌, refl}
+use Rattle.pyc_obligations.proofs.Steps.{performing}
+use Rattle.std.proofs.Common.{map, sym, ◌∙◌, refl, arith, rules}
+use Rattle.std.proofs.lemmas.Grind.{common_steps}
 use Rattle.pyc_ast.specs.ExprView.{index_of}
 use Rattle.pyc_targets.specs.ItemTargets.{more_targets, target_of_type, with_target}
 use Rattle.pyc_targets.specs.Views.{item_targets_in}
@@ -20,3 +22,23 @@ loop-ty-preserved g c =
           ∙ c.loop-ty.invariant.same);
       grown = grown_trans c.loop-ty.invariant.grown c.target_of_type.ensures.grown;
     }
+
+pub loop-ty-init : goal.loop-ty-init
+unfolding more_targets
+loop-ty-init g c = first_of (grind (arith, performing), search rules)
+
+pub returns : goal.returns
+unfolding more_targets
+returns g c = first_of (grind (arith, common_steps, performing), search rules)
+
+pub returns-in_err-item : goal.returns-in_err-item
+unfolding more_targets
+returns-in_err-item g c = first_of (grind (arith, performing), search rules)
+
+pub returns-in_err-push_target : goal.returns-in_err-push_target
+unfolding more_targets
+returns-in_err-push_target g c = first_of (grind (arith, performing), search rules)
+
+pub returns-in_err-with_capacity : goal.returns-in_err-with_capacity
+unfolding more_targets
+returns-in_err-with_capacity g c = first_of (grind (arith, performing), search rules)

@@ -1,0 +1,13 @@
+use Rattle.pyc_operators.specs.Pairs.{pair}
+use Rattle.pyc_operators.proofs.Steps.{performing}
+use Rattle.std.proofs.Common.{arith, rules}
+use Rattle.std.proofs.lemmas.Grind.{common_steps}
+use Rattle.pyc_operators.proofs.pairs.pair.Goals as goal
+
+pub returns : goal.returns
+unfolding pair
+returns g c = first_of (grind (arith, performing), search rules)
+
+pub returns-in_err-sort : goal.returns-in_err-sort
+unfolding pair
+returns-in_err-sort g c = first_of (grind (arith, performing), search rules)

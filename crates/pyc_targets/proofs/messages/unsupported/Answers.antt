@@ -1,0 +1,17 @@
+use Rattle.pyc_targets.specs.ItemTargets.{unsupported_told}
+use Rattle.pyc_obligations.proofs.Steps.{performing}
+use Rattle.std.proofs.Common.{arith, rules}
+use Rattle.std.proofs.lemmas.Grind.{common_steps}
+use Rattle.pyc_targets.proofs.messages.unsupported.Goals as goal
+
+pub returns-in_err-shown : goal.returns-in_err-shown
+unfolding unsupported_told
+returns-in_err-shown g c = first_of (grind (arith, performing), search rules)
+
+pub returns-in_err-tell_error : goal.returns-in_err-tell_error
+unfolding unsupported_told
+returns-in_err-tell_error g c = first_of (grind (arith, performing), search rules)
+
+pub returns-in_err-text : goal.returns-in_err-text
+unfolding unsupported_told
+returns-in_err-text g c = first_of (grind (arith, performing), search rules)
