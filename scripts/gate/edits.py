@@ -1,12 +1,13 @@
 #!/usr/bin/env python3
-"""Tries must-fail edits: `edits.py [--libraries FOLDER] [--follow LOG] [CRATE..]`.
+"""Tries must-fail edits: `edits.py [--libraries FOLDER] [--follow LOG] [--all] [CRATE..]`.
 
 The libraries that the crates stand on are those that `rt ci` left in FOLDER/NAME/out; FOLDER is `crates` where it is not
 named. With `--follow` that `rt ci` still runs and writes LOG: the edits of a crate are tried once LOG says that it is proved,
 and count as failed where it is not.
 
-The prover must refuse each edit `crates/NAME/must-fail/*.edit`. `rt must-fail NAME` tries them one by one, each with a load of
-the whole crate. Here several edits of one crate stand in one check, at most one to a function, and the check asks for the
+The prover must refuse each edit `crates/NAME/must-fail/*.edit`. One with a line `tried: by hand` is of a private function, beside
+others that turn what its crate promises: it is tried with `--all` alone, and without it only looked at whether it fits the text.
+`rt must-fail NAME` tries them all one by one, each with a load of the whole crate. Here several edits of one crate stand in one check, at most one to a function, and the check asks for the
 edited functions alone, with the proofs of the others left open and their bodies left out. A proof reads what other functions
 promise and not their bodies, so an edit of one body leaves the proof of another as it was, and wants none of it: an edit counts
 as refused in such a check only where the prover refuses a goal at a place in that very function, or an answer of its proof. One
@@ -72,6 +73,7 @@ class Edit:
         self.pairs = re.findall(r"(?m)^old: (.*)\nnew: (.*)$", text)
         named = re.search(r"(?m)^refuses: (.*)$", text)
         self.refuses = named[1] if named else None
+        self.by_hand = bool(re.search(r"(?m)^tried: by hand$", text))
         old = (folder / self.file).read_text(encoding="utf-8")
         self.fault = None if self.pairs else "it has no pair of an old and a new text"
         for was, new in self.pairs:
@@ -569,6 +571,7 @@ def main():
     given = argparse.ArgumentParser(description="Tries must-fail edits.")
     given.add_argument("--libraries", type=Path, default=ROOT / "crates", help="where the crates were built")
     given.add_argument("--follow", type=Path, help="the log of the `rt ci` that builds the libraries")
+    given.add_argument("--all", action="store_true", help="those that are tried by hand, too")
     given.add_argument("crates", nargs="*", help="the crates, all where none is named")
     given = given.parse_args()
     known, built = libraries(), given.libraries.resolve()
@@ -581,7 +584,7 @@ def main():
         trials = [
             Trial(words(known, it, built), it, found, room, built, proofs)
             for it in given.crates or known
-            if (found := edits_of(it))
+            if (found := [one for one in edits_of(it) if given.all or one.fault or not one.by_hand])
         ]
         # (those with the most to do begin first)
         trials.sort(key=lambda it: -len(it.edits) * (8 + len(below(known, it.name))))
