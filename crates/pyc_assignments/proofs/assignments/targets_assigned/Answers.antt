@@ -1,3 +1,4 @@
+use Rattle.std.proofs.lemmas.Grind.{common_steps}
 use Rattle.pyc_assignments.specs.Assignments.{targets_assigned}
 use Rattle.pyc_obligations.proofs.Steps.{performing}
 use Rattle.std.proofs.Common.{◌∙◌, arith, rules}
@@ -23,3 +24,11 @@ returns-in_err-after g c = first_of (grind (arith, performing), search rules)
 pub returns-in_err-after-2 : goal.returns-in_err-after-2
 unfolding targets_assigned
 returns-in_err-after-2 g c = first_of (grind (arith, performing), search rules)
+
+pub loop-index-init : goal.loop-index-init
+unfolding targets_assigned
+loop-index-init g c = first_of (grind (arith, performing), search rules)
+
+pub returns : goal.returns
+unfolding targets_assigned
+returns g c = first_of (grind (arith, common_steps, performing), search rules)

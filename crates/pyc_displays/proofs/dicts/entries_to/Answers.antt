@@ -1,3 +1,4 @@
+use Rattle.std.proofs.lemmas.Grind.{common_steps}
 use Rattle.pyc_displays.specs.Displays.{entries_to}
 use Rattle.pyc_obligations.proofs.Steps.{performing}
 use Rattle.std.proofs.Common.{◌∙◌, arith, rules}
@@ -17,3 +18,11 @@ loop-index-preserved g c = record {
 pub returns-in_err-entry_to : goal.returns-in_err-entry_to
 unfolding entries_to
 returns-in_err-entry_to g c = first_of (grind (arith, performing), search rules)
+
+pub loop-index-init : goal.loop-index-init
+unfolding entries_to
+loop-index-init g c = first_of (grind (arith, performing), search rules)
+
+pub returns : goal.returns
+unfolding entries_to
+returns g c = first_of (grind (arith, common_steps, performing), search rules)

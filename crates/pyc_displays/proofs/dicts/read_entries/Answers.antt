@@ -1,3 +1,4 @@
+use Rattle.std.proofs.lemmas.Grind.{common_steps}
 use Rattle.pyc_displays.specs.Displays.{more_entries}
 use Rattle.pyc_obligations.proofs.Steps.{performing}
 use Rattle.std.proofs.Common.{◌∙◌, arith, rules}
@@ -29,3 +30,11 @@ returns-in_err-found g c = first_of (grind (arith, performing), search rules)
 pub returns-in_err-push_entry : goal.returns-in_err-push_entry
 unfolding more_entries
 returns-in_err-push_entry g c = first_of (grind (arith, performing), search rules)
+
+pub loop-item-init : goal.loop-item-init
+unfolding more_entries
+loop-item-init g c = first_of (grind (arith, performing), search rules)
+
+pub returns : goal.returns
+unfolding more_entries
+returns g c = first_of (grind (arith, common_steps, performing), search rules)

@@ -1,3 +1,4 @@
+use Rattle.std.proofs.lemmas.Grind.{common_steps}
 use Rattle.pyc_displays.specs.Displays.{more_types}
 use Rattle.pyc_obligations.proofs.Steps.{performing}
 use Rattle.std.proofs.Common.{◌≡◌, ◌∙◌, ◌++◌, ◌∷◌, [], ap, map, Bor, arith, rules}
@@ -39,3 +40,11 @@ returns-in_err-ty g c = first_of (grind (arith, performing), search rules)
 pub returns-in_err-push : goal.returns-in_err-push
 unfolding more_types
 returns-in_err-push g c = first_of (grind (arith, performing), search rules)
+
+pub loop-index-init : goal.loop-index-init
+unfolding more_types
+loop-index-init g c = first_of (grind (arith, performing), search rules)
+
+pub returns : goal.returns
+unfolding more_types
+returns g c = first_of (grind (arith, common_steps, performing), search rules)

@@ -1,3 +1,4 @@
+use Rattle.std.proofs.lemmas.Grind.{common_steps}
 use Rattle.pyc_displays.specs.Displays.{items_to}
 use Rattle.pyc_obligations.proofs.Steps.{performing}
 use Rattle.std.proofs.Common.{◌∙◌, arith, rules}
@@ -17,3 +18,11 @@ loop-index-preserved g c = record {
 pub returns-in_err-item_to : goal.returns-in_err-item_to
 unfolding items_to
 returns-in_err-item_to g c = first_of (grind (arith, performing), search rules)
+
+pub loop-index-init : goal.loop-index-init
+unfolding items_to
+loop-index-init g c = first_of (grind (arith, performing), search rules)
+
+pub returns : goal.returns
+unfolding items_to
+returns g c = first_of (grind (arith, common_steps, performing), search rules)
