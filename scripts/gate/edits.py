@@ -5,8 +5,9 @@ The libraries that the crates stand on are those that `rt ci` left in FOLDER/NAM
 named. With `--follow` that `rt ci` still runs and writes LOG: the edits of a crate are tried once LOG says that it is proved,
 and count as failed where it is not.
 
-The prover must refuse each edit `crates/NAME/must-fail/*.edit`. One with a line `tried: by hand` is of a private function, beside
-others that turn what its crate promises: it is tried with `--all` alone, and without it only looked at whether it fits the text.
+The prover must refuse each edit `crates/NAME/must-fail/*.edit`. One with a line `tried: by hand` stands beside others that
+turn what its crate promises, as it is of a private function or the second of its function: it is tried with `--all` alone, and
+without it only looked at whether it fits the text.
 `rt must-fail NAME` tries them all one by one, each with a load of the whole crate. Here several edits of one crate stand in one check, at most one to a function, and the check asks for the
 edited functions alone, with the proofs of the others left open and their bodies left out. A proof reads what other functions
 promise and not their bodies, so an edit of one body leaves the proof of another as it was, and wants none of it: an edit counts
