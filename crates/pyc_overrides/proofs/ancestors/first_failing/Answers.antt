@@ -1,4 +1,7 @@
-use Rattle.std.proofs.Common.{option_map, ◌∙◌}
+use Rattle.std.proofs.lemmas.Grind.{common_steps}
+use Rattle.pyc_obligations.proofs.Steps.{performing}
+use Rattle.pyc_overrides.specs.Ancestors.{first_failing}
+use Rattle.std.proofs.Common.{option_map, ◌∙◌, arith, rules}
 use Rattle.pyc_overrides.proofs.Turns.{failing_turn}
 use Rattle.pyc_reading.proofs.RunLemmas.{grown_trans}
 use Rattle.pyc_reading.specs.AnswerView.{member_answer_of}
@@ -14,3 +17,15 @@ loop-ancestor-preserved g c =
           ∙ c.loop-ancestor.invariant.same;
       grown = grown_trans c.loop-ancestor.invariant.grown c.failing_in.ensures.grown;
     }
+
+pub loop-ancestor-init : goal.loop-ancestor-init
+unfolding first_failing
+loop-ancestor-init g c = first_of (grind (arith, performing), search rules)
+
+pub returns-in_err-found : goal.returns-in_err-found
+unfolding first_failing
+returns-in_err-found g c = first_of (grind (arith, performing), search rules)
+
+pub returns : goal.returns
+unfolding first_failing
+returns g c = first_of (grind (arith, common_steps, performing), search rules)
