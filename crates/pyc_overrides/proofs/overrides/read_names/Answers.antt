@@ -1,4 +1,6 @@
-use Rattle.std.proofs.Common.{sym, ◌∙◌, refl}
+use Rattle.pyc_obligations.proofs.Steps.{performing}
+use Rattle.std.proofs.Common.{sym, ◌∙◌, refl, arith, rules}
+use Rattle.std.proofs.lemmas.Grind.{common_steps}
 use Rattle.pyc_overrides.specs.Overrides.{name_read}
 use Rattle.pyc_overrides.specs.Views.{heir_of}
 use Rattle.pyc_reading.specs.Readings.{each}
@@ -14,3 +16,12 @@ loop-name-preserved g c =
           ∙ c.loop-name.invariant.same;
       grown = grown_trans c.loop-name.invariant.grown c.read_name.ensures.grown;
     }
+
+pub loop-name-init : goal.loop-name-init
+loop-name-init g c = first_of (grind (arith, performing), search rules)
+
+pub returns : goal.returns
+returns g c = first_of (grind (arith, common_steps, performing), search rules)
+
+pub returns-in_err-read_name : goal.returns-in_err-read_name
+returns-in_err-read_name g c = first_of (grind (arith, performing), search rules)

@@ -1,4 +1,5 @@
-use Rattle.std.proofs.Common.{◌≡◌, ◌+◌, ◌≤◌, Bool, [], drop, ap, sym, ◌∙◌, arith, if◌then◌else◌}
+use Rattle.pyc_obligations.proofs.Steps.{performing}
+use Rattle.std.proofs.Common.{◌≡◌, ◌+◌, ◌≤◌, Bool, [], drop, ap, sym, ◌∙◌, arith, if◌then◌else◌, rules}
 use Rattle.std.proofs.lemmas.List.{drop_all}
 use Rattle.pyc_overrides.proofs.Turns.{performs_rest, type_is, placed_after, no_parameter, parameter_turn}
 use Rattle.pyc_overrides.specs.Messages.{argument_message, signature_message}
@@ -67,3 +68,9 @@ returns g c =
     (sym (ap (λ l. run (parameters_told told gots place (param_row l)) now) left ∙ ap (λ s. run s now) (no_parameter told gots place))
     ∙ c.loop-want.invariant.going.same)
     c.loop-want.invariant.going.grown c.tell_signature.ensures
+
+pub loop-want-init : goal.loop-want-init
+loop-want-init g c = first_of (grind (arith, performing), search rules)
+
+pub returns-in_err-is_refused : goal.returns-in_err-is_refused
+returns-in_err-is_refused g c = first_of (grind (arith, performing), search rules)
