@@ -1,4 +1,5 @@
-use Rattle.std.proofs.Common.{◌≡◌, false, refl, sym, ap, ◌∙◌, length}
+use Rattle.std.proofs.lemmas.Grind.{common_steps}
+use Rattle.std.proofs.Common.{◌≡◌, false, refl, sym, ap, ◌∙◌, length, arith, rules}
 use Rattle.pyc_tree.specs.Parser.{expect_name}
 use Rattle.pyc_tree.specs.StatementView.{token_of}
 use Rattle.pyc_statement.proofs.NameSteps.{read_err, with_items, items_refused, items_end, items_cut, items_on}
@@ -23,3 +24,15 @@ pub loop-turn-preserved : goal.loop-turn-preserved
 loop-turn-preserved c =
     rw c.in_ok-push.ensures.items
     (items_on token_of expect_name false _ _ _ _ _ c.loop-turn-test.true c.loop-turn.invariant c.in_ok-value.value _ c.in_ok-value.ensures c.in_ok-separator.separator _ (cc) c.in_ok-separator.ensures refl)
+
+pub loop-turn-init : goal.loop-turn-init
+loop-turn-init c = first_of (grind (arith, common_steps), search rules)
+
+pub returns : goal.returns
+returns c = first_of (grind (arith, common_steps), search rules)
+
+pub returns-in_err-last : goal.returns-in_err-last
+returns-in_err-last c = first_of (grind (arith, common_steps), search rules)
+
+pub returns-in_err-push : goal.returns-in_err-push
+returns-in_err-push c = first_of (grind (arith, common_steps), search rules)
