@@ -1,4 +1,6 @@
-use Rattle.std.proofs.Common.{map, sym, ◌∙◌, refl}
+use Rattle.pyc_units.proofs.Steps.{performing}
+use Rattle.std.proofs.Common.{map, sym, ◌∙◌, refl, arith, rules}
+use Rattle.std.proofs.lemmas.Grind.{common_steps}
 use Rattle.pyc_bindings.specs.ScopeView.{part_of}
 use Rattle.pyc_units.specs.AnnotationReadings.{part_reading}
 use Rattle.pyc_names.specs.SourceFileView.{source_in}
@@ -15,3 +17,12 @@ loop-part-preserved g c =
           ∙ c.loop-part.invariant.same;
       grown = grown_trans c.loop-part.invariant.grown c.read_part.ensures.grown;
     }
+
+pub loop-part-init : goal.loop-part-init
+loop-part-init g c = first_of (grind (arith, performing), search rules)
+
+pub returns : goal.returns
+returns g c = first_of (grind (arith, common_steps, performing), search rules)
+
+pub returns-in_err-read_part : goal.returns-in_err-read_part
+returns-in_err-read_part g c = first_of (grind (arith, performing), search rules)

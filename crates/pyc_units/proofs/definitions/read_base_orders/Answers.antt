@@ -1,4 +1,6 @@
-use Rattle.std.proofs.Common.{map, sym, ◌∙◌, refl}
+use Rattle.pyc_units.proofs.Steps.{performing}
+use Rattle.std.proofs.Common.{map, sym, ◌∙◌, refl, arith, rules}
+use Rattle.std.proofs.lemmas.Grind.{common_steps}
 use Rattle.pyc_annotations.specs.Views.{base_of}
 use Rattle.pyc_units.specs.DefinitionReadings.{base_reading}
 use Rattle.pyc_reading.specs.Readings.{each}
@@ -14,3 +16,12 @@ loop-base-preserved g c =
           ∙ c.loop-base.invariant.same;
       grown = grown_trans c.loop-base.invariant.grown c.read_base_order.ensures.grown;
     }
+
+pub loop-base-init : goal.loop-base-init
+loop-base-init g c = first_of (grind (arith, performing), search rules)
+
+pub returns : goal.returns
+returns g c = first_of (grind (arith, common_steps, performing), search rules)
+
+pub returns-in_err-read_base_order : goal.returns-in_err-read_base_order
+returns-in_err-read_base_order g c = first_of (grind (arith, performing), search rules)

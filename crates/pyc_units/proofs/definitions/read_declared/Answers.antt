@@ -1,4 +1,6 @@
-use Rattle.std.proofs.Common.{map, sym, ap, ◌∙◌}
+use Rattle.pyc_units.proofs.Steps.{performing}
+use Rattle.std.proofs.Common.{map, sym, ap, ◌∙◌, arith, rules}
+use Rattle.std.proofs.lemmas.Grind.{common_steps}
 use Rattle.pyc_annotations.specs.Views.{base_of}
 use Rattle.pyc_units.specs.DefinitionReadings.{base_reading, order_reading}
 use Rattle.pyc_class.specs.Class.{Id, user}
@@ -23,3 +25,15 @@ returns g c =
           (after (asking key) (order_reading c.args.at name) middle _ _ _ _ asked c.in_ok-order.ensures.done);
       grown = grown_trans c.read_base_orders.ensures.grown (grown_trans c.ask.ensures.grown c.read_order.ensures.grown);
     }
+
+pub returns-in_err-answer : goal.returns-in_err-answer
+returns-in_err-answer g c = first_of (grind (arith, performing), search rules)
+
+pub returns-in_err-class : goal.returns-in_err-class
+returns-in_err-class g c = first_of (grind (arith, performing), search rules)
+
+pub returns-in_err-order : goal.returns-in_err-order
+returns-in_err-order g c = first_of (grind (arith, common_steps, performing), search rules)
+
+pub returns-in_err-read_base_orders : goal.returns-in_err-read_base_orders
+returns-in_err-read_base_orders g c = first_of (grind (arith, performing), search rules)

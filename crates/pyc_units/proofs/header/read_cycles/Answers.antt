@@ -1,4 +1,6 @@
-use Rattle.std.proofs.Common.{take, sym, ap, ◌∙◌}
+use Rattle.pyc_units.proofs.Steps.{performing}
+use Rattle.std.proofs.Common.{take, sym, ap, ◌∙◌, arith, rules}
+use Rattle.std.proofs.lemmas.Grind.{common_steps}
 use Rattle.std.proofs.lemmas.List.{take-map}
 use Rattle.pyc_bindings.specs.BindingView.{binding_of}
 use Rattle.pyc_units.proofs.HeaderLemmas.{cycles_turn}
@@ -16,3 +18,12 @@ loop-i-preserved g c =
           ∙ c.loop-i.invariant.same;
       grown = grown_trans c.loop-i.invariant.grown c.read_binding.ensures.grown;
     }
+
+pub loop-i-init : goal.loop-i-init
+loop-i-init g c = first_of (grind (arith, performing), search rules)
+
+pub returns : goal.returns
+returns g c = first_of (grind (arith, common_steps, performing), search rules)
+
+pub returns-in_err-read_binding : goal.returns-in_err-read_binding
+returns-in_err-read_binding g c = first_of (grind (arith, performing), search rules)

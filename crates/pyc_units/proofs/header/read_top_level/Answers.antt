@@ -1,4 +1,6 @@
-use Rattle.std.proofs.Common.{List, [], map, false, sym, ap, ◌∙◌}
+use Rattle.pyc_units.proofs.Steps.{performing}
+use Rattle.std.proofs.Common.{List, [], map, false, sym, ap, ◌∙◌, arith, rules}
+use Rattle.std.proofs.lemmas.Grind.{common_steps}
 use Rattle.pyc_ast.specs.declared.stmt.Stmt.{Stmt as StmtOf}
 use Rattle.pyc_ast.specs.Statements.{stmts}
 use Rattle.pyc_ast.specs.StatementView.{stmt_of}
@@ -30,3 +32,15 @@ returns g c =
           (after cycles (λ v. again) _ _ _ _ _ c.in_ok-read_cycles.ensures.done third);
       grown = grown_trans c.read_parts.ensures.grown (grown_trans c.read_cycles.ensures.grown c.tell_redefinitions.ensures.grown);
     }
+
+pub returns-in_err-parts : goal.returns-in_err-parts
+returns-in_err-parts g c = first_of (grind (arith, performing), search rules)
+
+pub returns-in_err-read_cycles : goal.returns-in_err-read_cycles
+returns-in_err-read_cycles g c = first_of (grind (arith, performing), search rules)
+
+pub returns-in_err-read_parts : goal.returns-in_err-read_parts
+returns-in_err-read_parts g c = first_of (grind (arith, performing), search rules)
+
+pub returns-in_err-tell_redefinitions : goal.returns-in_err-tell_redefinitions
+returns-in_err-tell_redefinitions g c = first_of (grind (arith, common_steps, performing), search rules)

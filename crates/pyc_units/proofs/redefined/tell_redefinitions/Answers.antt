@@ -1,4 +1,6 @@
-use Rattle.std.proofs.Common.{map, sym, ◌∙◌, refl}
+use Rattle.pyc_units.proofs.Steps.{performing}
+use Rattle.std.proofs.Common.{map, sym, ◌∙◌, refl, arith, rules}
+use Rattle.std.proofs.lemmas.Grind.{common_steps}
 use Rattle.pyc_bindings.specs.RedefinitionView.{redefinition_of}
 use Rattle.pyc_units.specs.Header.{redefinition_reading}
 use Rattle.pyc_reading.specs.Readings.{each}
@@ -14,3 +16,12 @@ loop-found-preserved g c =
           ∙ c.loop-found.invariant.same;
       grown = grown_trans c.loop-found.invariant.grown c.tell_redefinition.ensures.grown;
     }
+
+pub loop-found-init : goal.loop-found-init
+loop-found-init g c = first_of (grind (arith, performing), search rules)
+
+pub returns : goal.returns
+returns g c = first_of (grind (arith, common_steps, performing), search rules)
+
+pub returns-in_err-tell_redefinition : goal.returns-in_err-tell_redefinition
+returns-in_err-tell_redefinition g c = first_of (grind (arith, performing), search rules)
