@@ -1,4 +1,4 @@
-use Rattle.std.proofs.Common.{◌≡◌, refl, sym, ap, ◌∙◌, ◌++◌, List, map}
+use Rattle.std.proofs.Common.{◌≡◌, refl, sym, ap, ◌∙◌, ◌++◌, List, map, arith, rules}
 use Rattle.std.proofs.lemmas.List.{append-nil}
 use Rattle.std.proofs.lemmas.Result.{IfOk-weaker}
 use Rattle.pyc_ast.proofs.StatementViewLemmas.{view_stmt}
@@ -6,7 +6,7 @@ use Rattle.pyc_ast.specs.declared.stmt.Block.{Of}
 use Rattle.pyc_ast.specs.ExprView.{expr_of}
 use Rattle.pyc_ast.specs.StatementView.{stmt_of as made_of, block_of, branch_of, handler_of}
 use Rattle.pyc_ast.specs.Statements as plain
-use Rattle.pyc_lower_block.proofs.BlockLemmas.{block_made, compound_made, branch_made, handler_of_all_made, handler_made, lowered_stmts, lowered_no_stmt, branches_of, lowered_branches, lowered_no_branch, branch_other, handlers_of, lowered_handlers, lowered_no_handler, handler_other, lowered_ended, lowered_not_ended}
+use Rattle.pyc_lower_block.proofs.BlockLemmas.{block_made, compound_made, branch_made, handler_of_all_made, handler_made, lowered_stmts, lowered_no_stmt, branches_of, lowered_branches, lowered_no_branch, branch_other, handlers_of, lowered_handlers, lowered_no_handler, handler_other, lowered_ended, lowered_not_ended, blocks}
 use Rattle.pyc_lower_block.proofs.JoinLemmas.{joined_at, chosen_at, skipped_at}
 use Rattle.pyc_lower_block.specs.Blocks as spec
 use Rattle.pyc_lower_block.specs.PartsView.{parts_of}
@@ -164,3 +164,87 @@ push_statement-returns-in_ok-push-in-Compound g t c =
     (c.in_ok-parts-in-Compound.ensures ∙ ap (λ (y : List CompoundClause). spec.parts_in s o marks (block_of (Of body)) (clauses_before y tree.no_clause)) c.deref-in-Compound-2.ensures.value)
     (c.in_ok-marks-in-Compound.ensures ∙ ap (λ (y : List Decorator). spec.decorators_in s o (map decorator_of y)) c.deref.ensures.value)
     (block_made body (c.in_ok-suite-in-Compound.ensures ∙ ap (λ (y : CompoundClause). spec.suite_in s o (suite_of y.suite)) c.deref-in-Compound.ensures))))
+
+pub branches-loop-clause-init : goal.branches-loop-clause-init
+branches-loop-clause-init g t c = first_of (grind (arith, blocks), search rules)
+
+pub branches-returns-in_err-push_branch : goal.branches-returns-in_err-push_branch
+branches-returns-in_err-push_branch g t c = first_of (grind (arith, blocks), search rules)
+
+pub ended-loop-clause-init : goal.ended-loop-clause-init
+ended-loop-clause-init g t c = first_of (grind (arith, blocks), search rules)
+
+pub handlers-loop-clause-init : goal.handlers-loop-clause-init
+handlers-loop-clause-init g t c = first_of (grind (arith, blocks), search rules)
+
+pub handlers-returns-in_err-push_handler : goal.handlers-returns-in_err-push_handler
+handlers-returns-in_err-push_handler g t c = first_of (grind (arith, blocks), search rules)
+
+pub parts-returns-in_err-branches : goal.parts-returns-in_err-branches
+parts-returns-in_err-branches g t c = first_of (grind (arith, blocks), search rules)
+
+pub parts-returns-in_err-ended : goal.parts-returns-in_err-ended
+parts-returns-in_err-ended g t c = first_of (grind (arith, blocks), search rules)
+
+pub parts-returns-in_err-ended-2 : goal.parts-returns-in_err-ended-2
+parts-returns-in_err-ended-2 g t c = first_of (grind (arith, blocks), search rules)
+
+pub parts-returns-in_err-handlers : goal.parts-returns-in_err-handlers
+parts-returns-in_err-handlers g t c = first_of (grind (arith, blocks), search rules)
+
+pub push_branch-returns-in_err-branch-in-Condition : goal.push_branch-returns-in_err-branch-in-Condition
+push_branch-returns-in_err-branch-in-Condition g t c = first_of (grind (arith, blocks), search rules)
+
+pub push_branch-returns-in_err-push-in-Condition : goal.push_branch-returns-in_err-push-in-Condition
+push_branch-returns-in_err-push-in-Condition g t c = first_of (grind (arith, blocks), search rules)
+
+pub push_branch-returns-in_err-suite-in-Condition : goal.push_branch-returns-in_err-suite-in-Condition
+push_branch-returns-in_err-suite-in-Condition g t c = first_of (grind (arith, blocks), search rules)
+
+pub push_handler-returns-in_err-handler-in-ExceptOf : goal.push_handler-returns-in_err-handler-in-ExceptOf
+push_handler-returns-in_err-handler-in-ExceptOf g t c = first_of (grind (arith, blocks), search rules)
+
+pub push_handler-returns-in_err-push-in-Except : goal.push_handler-returns-in_err-push-in-Except
+push_handler-returns-in_err-push-in-Except g t c = first_of (grind (arith, blocks), search rules)
+
+pub push_handler-returns-in_err-push-in-ExceptOf : goal.push_handler-returns-in_err-push-in-ExceptOf
+push_handler-returns-in_err-push-in-ExceptOf g t c = first_of (grind (arith, blocks), search rules)
+
+pub push_handler-returns-in_err-suite-in-Except : goal.push_handler-returns-in_err-suite-in-Except
+push_handler-returns-in_err-suite-in-Except g t c = first_of (grind (arith, blocks), search rules)
+
+pub push_handler-returns-in_err-suite-in-ExceptOf : goal.push_handler-returns-in_err-suite-in-ExceptOf
+push_handler-returns-in_err-suite-in-ExceptOf g t c = first_of (grind (arith, blocks), search rules)
+
+pub push_statement-returns-in-Simple : goal.push_statement-returns-in-Simple
+push_statement-returns-in-Simple g t c = first_of (grind (arith, blocks), search rules)
+
+pub push_statement-returns-in_err-form-in-Compound : goal.push_statement-returns-in_err-form-in-Compound
+push_statement-returns-in_err-form-in-Compound g t c = first_of (grind (arith, blocks), search rules)
+
+pub push_statement-returns-in_err-marks-in-Compound : goal.push_statement-returns-in_err-marks-in-Compound
+push_statement-returns-in_err-marks-in-Compound g t c = first_of (grind (arith, blocks), search rules)
+
+pub push_statement-returns-in_err-parts-in-Compound : goal.push_statement-returns-in_err-parts-in-Compound
+push_statement-returns-in_err-parts-in-Compound g t c = first_of (grind (arith, blocks), search rules)
+
+pub push_statement-returns-in_err-push-in-Compound : goal.push_statement-returns-in_err-push-in-Compound
+push_statement-returns-in_err-push-in-Compound g t c = first_of (grind (arith, blocks), search rules)
+
+pub push_statement-returns-in_err-suite-in-Compound : goal.push_statement-returns-in_err-suite-in-Compound
+push_statement-returns-in_err-suite-in-Compound g t c = first_of (grind (arith, blocks), search rules)
+
+pub statements-loop-statement-init : goal.statements-loop-statement-init
+statements-loop-statement-init g t c = first_of (grind (arith, blocks), search rules)
+
+pub statements-returns-in_err-push_statement : goal.statements-returns-in_err-push_statement
+statements-returns-in_err-push_statement g t c = first_of (grind (arith, blocks), search rules)
+
+pub suite-returns-in-Block : goal.suite-returns-in-Block
+suite-returns-in-Block g t c = first_of (grind (arith, blocks), search rules)
+
+pub suite-returns-in_err-push_line-in-Inline : goal.suite-returns-in_err-push_line-in-Inline
+suite-returns-in_err-push_line-in-Inline g t c = first_of (grind (arith, blocks), search rules)
+
+pub suite-returns-in_ok-push_line-in-Inline : goal.suite-returns-in_ok-push_line-in-Inline
+suite-returns-in_ok-push_line-in-Inline g t c = first_of (grind (arith, blocks), search rules)

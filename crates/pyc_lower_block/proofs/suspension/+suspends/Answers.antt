@@ -1,6 +1,7 @@
-use Rattle.std.proofs.Common.{sym, ◌∙◌, Bool, List}
+use Rattle.pyc_tree.proofs.BlockViewLemmas.{block_views}
+use Rattle.std.proofs.Common.{sym, ◌∙◌, Bool, List, arith, rules}
 use Rattle.pyc_lower_block.specs.Suspends.{stmts_suspend, stmt_suspends, clause_suspends, clauses_suspend}
-use Rattle.pyc_lower_block.proofs.SuspensionLemmas.{suspends_stmts, suspends_no_statement, suspends_clauses, suspends_no_clause}
+use Rattle.pyc_lower_block.proofs.SuspensionLemmas.{suspends_stmts, suspends_no_statement, suspends_clauses, suspends_no_clause, suspensions}
 use Rattle.pyc_lower_expression.proofs.Loops.{found_at, passed_at, no_more}
 use Rattle.pyc_tree.specs.declared.block.CompoundClause.{CompoundClause as CompoundClauseOf}
 use Rattle.pyc_tree.specs.declared.block.Stmt.{Stmt as StmtOf}
@@ -47,3 +48,33 @@ clauses_suspend-loop-clause-preserved t c =
 pub clauses_suspend-returns : goal.clauses_suspend-returns
 clauses_suspend-returns t c =
     sym suspends_no_clause ∙ no_more clauses c.args.clauses.now c.loop-clause.clause-index c.loop-clause-test.false c.loop-clause.invariant
+
+pub clause_suspends-returns-else-header_suspends : goal.clause_suspends-returns-else-header_suspends
+clause_suspends-returns-else-header_suspends t c = first_of (grind (arith, block_views, suspensions), search rules)
+
+pub clause_suspends-returns-then-defines : goal.clause_suspends-returns-then-defines
+clause_suspends-returns-then-defines t c = first_of (grind (arith, block_views, suspensions), search rules)
+
+pub clause_suspends-returns-then-header_suspends : goal.clause_suspends-returns-then-header_suspends
+clause_suspends-returns-then-header_suspends t c = first_of (grind (arith, block_views, suspensions), search rules)
+
+pub clauses_suspend-loop-clause-init : goal.clauses_suspend-loop-clause-init
+clauses_suspend-loop-clause-init t c = first_of (grind (arith, block_views, suspensions), search rules)
+
+pub statement_suspends-returns-else-clause_suspends : goal.statement_suspends-returns-else-clause_suspends
+statement_suspends-returns-else-clause_suspends t c = first_of (grind (arith, block_views, suspensions), search rules)
+
+pub statement_suspends-returns-in-Simple : goal.statement_suspends-returns-in-Simple
+statement_suspends-returns-in-Simple t c = first_of (grind (arith, block_views, suspensions), search rules)
+
+pub statement_suspends-returns-then-clause_suspends : goal.statement_suspends-returns-then-clause_suspends
+statement_suspends-returns-then-clause_suspends t c = first_of (grind (arith, block_views, suspensions), search rules)
+
+pub statements_suspend-loop-statement-init : goal.statements_suspend-loop-statement-init
+statements_suspend-loop-statement-init t c = first_of (grind (arith, block_views, suspensions), search rules)
+
+pub suite_suspends-returns-in-Block : goal.suite_suspends-returns-in-Block
+suite_suspends-returns-in-Block t c = first_of (grind (arith, block_views, suspensions), search rules)
+
+pub suite_suspends-returns-in-Inline : goal.suite_suspends-returns-in-Inline
+suite_suspends-returns-in-Inline t c = first_of (grind (arith, block_views, suspensions), search rules)

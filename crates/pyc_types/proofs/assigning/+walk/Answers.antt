@@ -10,7 +10,7 @@ use Rattle.pyc_type_forms.specs.TypeView.{ty_of, row, param_row}
 use Rattle.pyc_types.specs.Slots.{slots_in}
 use Rattle.pyc_type_forms.specs.Size.{size, row_size, listed_size}
 use Rattle.pyc_types.proofs.Measures.{size_in_row, size_in_params}
-use Rattle.pyc_types.proofs.WalkLemmas.{slots_row, other_lengths, row_step, rows_step}
+use Rattle.pyc_types.proofs.WalkLemmas.{slots_row, other_lengths, row_step, rows_step, joins}
 use Rattle.pyc_types.proofs.WayLemmas.{is_whole, ways_whole, made_by_form}
 use Rattle.pyc_types.proofs.CrossLemmas.{rows_done, enough_marks, crossed}
 use Rattle.pyc_types.proofs.Rules.{turned}
@@ -126,3 +126,6 @@ pub walk-returns-in_default : goal.walk-returns-in_default
 walk-returns-in_default g t c =
     let h : is_whole (ty_of c.args.got.now) ≡ true = search (rules, the_lemmas) in
     rw (ways_whole _ _ h) c.whole_ways.ensures
+
+pub item_ways-loop-item-init : goal.item_ways-loop-item-init
+item_ways-loop-item-init g t c = first_of (grind (arith, joins), search rules)

@@ -1,4 +1,5 @@
-use Rattle.std.proofs.Common.{◌≡◌, false, rules}
+use Rattle.pyc_types.proofs.WalkLemmas.{joins}
+use Rattle.std.proofs.Common.{◌≡◌, false, rules, arith}
 use Rattle.pyc_type_forms.specs.declared.types.Params.TheFolds.{the_lemmas}
 use Rattle.pyc_type_forms.specs.Types.{union}
 use Rattle.pyc_type_forms.specs.TypeView.{ty_of, row}
@@ -17,3 +18,6 @@ instance_ways-returns g t c =
           let h : is_union (ty_of c.args.want.now) ≡ false = search (rules, the_lemmas) in
           rw (into_other _ _ _ _ h) (rw (w.by_form-is, w.instance_rule-by_form.ensures, c.is_simple_instance.ensures, c.is_simple_target.ensures) at c.either.ensures)
     ]
+
+pub instance_item_ways-loop-item-init : goal.instance_item_ways-loop-item-init
+instance_item_ways-loop-item-init g t c = first_of (grind (arith, joins), search rules)
