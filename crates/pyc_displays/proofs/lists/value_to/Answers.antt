@@ -1,5 +1,6 @@
 use Rattle.pyc_obligations.proofs.Steps.{performing}
 use Rattle.std.proofs.Common.{ap, ◌∙◌, Some, arith, rules}
+use Rattle.std.proofs.lemmas.Grind.{common_steps}
 use Rattle.pyc_ast.specs.ExprView.{expr_of}
 use Rattle.pyc_ast.specs.Exprs.{at_of}
 use Rattle.pyc_displays.proofs.Parts.{begins_at}
@@ -34,3 +35,7 @@ returns-in_err-got g c = first_of (grind (arith, performing), search rules)
 pub returns-in_err-holds : goal.returns-in_err-holds
 unfolding value_to
 returns-in_err-holds g c = first_of (grind (arith, performing), search rules)
+
+pub returns-in_err-tell_list_item_unless : goal.returns-in_err-tell_list_item_unless
+unfolding value_to
+returns-in_err-tell_list_item_unless g c = first_of (grind (arith, common_steps, performing), search rules)

@@ -1,12 +1,12 @@
-use Rattle.std.proofs.Common.{◌≡◌, sym, ap, ◌∙◌, ℕ, List, map, arith, length, ◌==◌}
+use Rattle.std.proofs.Common.{◌≡◌, sym, ap, ◌∙◌, ℕ, List, map, arith, length, ◌==◌, rules}
 use Rattle.std.proofs.lemmas.Result.{IfOk-weaker}
 use Rattle.std.specs.Vec.{vec_len}
 use Rattle.pyc_ast.specs.Exprs as plain
 use Rattle.pyc_ast.specs.ExprView.{expr_of, element_of, dict_item_of, argument_of, comparison_of, index_of}
 use Rattle.pyc_lower_expression.proofs.ItemLemmas.{pieces_of-fields, single-only, single-more, single-none}
-use Rattle.pyc_ast.proofs.ViewLemmas.{view_Unpacking, view_comparison}
+use Rattle.pyc_ast.proofs.ViewLemmas.{view_Unpacking, view_comparison, views}
 use Rattle.pyc_lower_expression.proofs.Loops.{started_at, turned_at, pushed, pushed_at, ended_at, last_at}
-use Rattle.pyc_lower_expression.proofs.LoweredForms.{lowered_piece, lowered_last, lowered_none, entry_piece, entry_last, entry_none, index_piece, index_last, index_none, lowered_Stride, subscript_many, subscript_one, argument_piece, argument_last, argument_none, link_more, link_none}
+use Rattle.pyc_lower_expression.proofs.LoweredForms.{lowered_piece, lowered_last, lowered_none, entry_piece, entry_last, entry_none, index_piece, index_last, index_none, lowered_Stride, subscript_many, subscript_one, argument_piece, argument_last, argument_none, link_more, link_none, lowered}
 use Rattle.pyc_lower_expression.proofs.OtherForms.{atom_other, operation_other, nowhere_other, dict_item_other, index_other, slice_at}
 use Rattle.pyc_lower_expression.specs.Expressions as spec
 use Rattle.pyc_lower_atom.specs.declared.role.Role.{Role}
@@ -286,3 +286,303 @@ subscript-returns-in-None g t c =
     let p = pieces_of c.args.items.now in
     let none = single-none c.args.items.now c.in-None.is in
     IfOk-weaker c.many_indices-in-None.result _ _ (λ found is. is ∙ subscript_many p (spec.indices_in s o c.args.role p) none) c.many_indices-in-None.ensures
+
+pub arguments-returns-in_err-argument : goal.arguments-returns-in_err-argument
+arguments-returns-in_err-argument g t c = first_of (grind (arith, views, lowered), search rules)
+
+pub arguments-returns-in_err-argument-in-Some : goal.arguments-returns-in_err-argument-in-Some
+arguments-returns-in_err-argument-in-Some g t c = first_of (grind (arith, views, lowered), search rules)
+
+pub arguments-returns-in_err-found : goal.arguments-returns-in_err-found
+arguments-returns-in_err-found g t c = first_of (grind (arith, views, lowered), search rules)
+
+pub arguments-returns-in_err-push : goal.arguments-returns-in_err-push
+arguments-returns-in_err-push g t c = first_of (grind (arith, views, lowered), search rules)
+
+pub arguments-returns-in_err-push-in-Some : goal.arguments-returns-in_err-push-in-Some
+arguments-returns-in_err-push-in-Some g t c = first_of (grind (arith, views, lowered), search rules)
+
+pub arguments-returns-in_err-value : goal.arguments-returns-in_err-value
+arguments-returns-in_err-value g t c = first_of (grind (arith, views, lowered), search rules)
+
+pub arguments-returns-in_err-value-in-Some : goal.arguments-returns-in_err-value-in-Some
+arguments-returns-in_err-value-in-Some g t c = first_of (grind (arith, views, lowered), search rules)
+
+pub binary-returns : goal.binary-returns
+binary-returns g t c = first_of (grind (arith, views, lowered), search rules)
+
+pub binary-returns-in_err-right : goal.binary-returns-in_err-right
+binary-returns-in_err-right g t c = first_of (grind (arith, views, lowered), search rules)
+
+pub call-returns : goal.call-returns
+call-returns g t c = first_of (grind (arith, views, lowered), search rules)
+
+pub call-returns-in_err-found : goal.call-returns-in_err-found
+call-returns-in_err-found g t c = first_of (grind (arith, views, lowered), search rules)
+
+pub compared-returns : goal.compared-returns
+compared-returns g t c = first_of (grind (arith, views, lowered), search rules)
+
+pub compared-returns-in_err-rest : goal.compared-returns-in_err-rest
+compared-returns-in_err-rest g t c = first_of (grind (arith, views, lowered), search rules)
+
+pub comparisons-loop-link-init : goal.comparisons-loop-link-init
+comparisons-loop-link-init g t c = first_of (grind (arith, views, lowered), search rules)
+
+pub comparisons-returns-in_err-found : goal.comparisons-returns-in_err-found
+comparisons-returns-in_err-found g t c = first_of (grind (arith, views, lowered), search rules)
+
+pub comparisons-returns-in_err-push : goal.comparisons-returns-in_err-push
+comparisons-returns-in_err-push g t c = first_of (grind (arith, views, lowered), search rules)
+
+pub comparisons-returns-in_err-right : goal.comparisons-returns-in_err-right
+comparisons-returns-in_err-right g t c = first_of (grind (arith, views, lowered), search rules)
+
+pub conditional-returns : goal.conditional-returns
+conditional-returns g t c = first_of (grind (arith, views, lowered), search rules)
+
+pub conditional-returns-in_err-orelse : goal.conditional-returns-in_err-orelse
+conditional-returns-in_err-orelse g t c = first_of (grind (arith, views, lowered), search rules)
+
+pub dict_item-returns-in_err-expr-in-Entry : goal.dict_item-returns-in_err-expr-in-Entry
+dict_item-returns-in_err-expr-in-Entry g t c = first_of (grind (arith, views, lowered), search rules)
+
+pub dict_item-returns-in_err-value : goal.dict_item-returns-in_err-value
+dict_item-returns-in_err-value g t c = first_of (grind (arith, views, lowered), search rules)
+
+pub dict_item-returns-in_ok-expr-in-Entry : goal.dict_item-returns-in_ok-expr-in-Entry
+dict_item-returns-in_ok-expr-in-Entry g t c = first_of (grind (arith, views, lowered), search rules)
+
+pub dict_items-returns-in_err-dict_item : goal.dict_items-returns-in_err-dict_item
+dict_items-returns-in_err-dict_item g t c = first_of (grind (arith, views, lowered), search rules)
+
+pub dict_items-returns-in_err-dict_item-in-Some : goal.dict_items-returns-in_err-dict_item-in-Some
+dict_items-returns-in_err-dict_item-in-Some g t c = first_of (grind (arith, views, lowered), search rules)
+
+pub dict_items-returns-in_err-found : goal.dict_items-returns-in_err-found
+dict_items-returns-in_err-found g t c = first_of (grind (arith, views, lowered), search rules)
+
+pub dict_items-returns-in_err-push : goal.dict_items-returns-in_err-push
+dict_items-returns-in_err-push g t c = first_of (grind (arith, views, lowered), search rules)
+
+pub dict_items-returns-in_err-push-in-Some : goal.dict_items-returns-in_err-push-in-Some
+dict_items-returns-in_err-push-in-Some g t c = first_of (grind (arith, views, lowered), search rules)
+
+pub display-returns-in_err-found-in-Dict : goal.display-returns-in_err-found-in-Dict
+display-returns-in_err-found-in-Dict g t c = first_of (grind (arith, views, lowered), search rules)
+
+pub display-returns-in_err-found-in-List : goal.display-returns-in_err-found-in-List
+display-returns-in_err-found-in-List g t c = first_of (grind (arith, views, lowered), search rules)
+
+pub display-returns-in_err-found-in-Set : goal.display-returns-in_err-found-in-Set
+display-returns-in_err-found-in-Set g t c = first_of (grind (arith, views, lowered), search rules)
+
+pub display-returns-in_err-found-in-Tuple : goal.display-returns-in_err-found-in-Tuple
+display-returns-in_err-found-in-Tuple g t c = first_of (grind (arith, views, lowered), search rules)
+
+pub display-returns-in_ok-found-in-Dict : goal.display-returns-in_ok-found-in-Dict
+display-returns-in_ok-found-in-Dict g t c = first_of (grind (arith, views, lowered), search rules)
+
+pub display-returns-in_ok-found-in-List : goal.display-returns-in_ok-found-in-List
+display-returns-in_ok-found-in-List g t c = first_of (grind (arith, views, lowered), search rules)
+
+pub display-returns-in_ok-found-in-Set : goal.display-returns-in_ok-found-in-Set
+display-returns-in_ok-found-in-Set g t c = first_of (grind (arith, views, lowered), search rules)
+
+pub display-returns-in_ok-found-in-Tuple : goal.display-returns-in_ok-found-in-Tuple
+display-returns-in_ok-found-in-Tuple g t c = first_of (grind (arith, views, lowered), search rules)
+
+pub elements-returns-in_err-found : goal.elements-returns-in_err-found
+elements-returns-in_err-found g t c = first_of (grind (arith, views, lowered), search rules)
+
+pub elements-returns-in_err-push : goal.elements-returns-in_err-push
+elements-returns-in_err-push g t c = first_of (grind (arith, views, lowered), search rules)
+
+pub elements-returns-in_err-push-in-Some : goal.elements-returns-in_err-push-in-Some
+elements-returns-in_err-push-in-Some g t c = first_of (grind (arith, views, lowered), search rules)
+
+pub elements-returns-in_err-value : goal.elements-returns-in_err-value
+elements-returns-in_err-value g t c = first_of (grind (arith, views, lowered), search rules)
+
+pub elements-returns-in_err-value-in-Some : goal.elements-returns-in_err-value-in-Some
+elements-returns-in_err-value-in-Some g t c = first_of (grind (arith, views, lowered), search rules)
+
+pub expr-returns-in-ComprehensionDisplay : goal.expr-returns-in-ComprehensionDisplay
+expr-returns-in-ComprehensionDisplay g t c = first_of (grind (arith, views, lowered), search rules)
+
+pub expr-returns-in-Constant : goal.expr-returns-in-Constant
+expr-returns-in-Constant g t c = first_of (grind (arith, views, lowered), search rules)
+
+pub expr-returns-in-Display : goal.expr-returns-in-Display
+expr-returns-in-Display g t c = first_of (grind (arith, views, lowered), search rules)
+
+pub expr-returns-in-Lambda : goal.expr-returns-in-Lambda
+expr-returns-in-Lambda g t c = first_of (grind (arith, views, lowered), search rules)
+
+pub expr-returns-in-Name : goal.expr-returns-in-Name
+expr-returns-in-Name g t c = first_of (grind (arith, views, lowered), search rules)
+
+pub expr-returns-in-Number : goal.expr-returns-in-Number
+expr-returns-in-Number g t c = first_of (grind (arith, views, lowered), search rules)
+
+pub expr-returns-in-Strings : goal.expr-returns-in-Strings
+expr-returns-in-Strings g t c = first_of (grind (arith, views, lowered), search rules)
+
+pub expr-returns-in_default : goal.expr-returns-in_default
+expr-returns-in_default g t c = first_of (grind (arith, views, lowered), search rules)
+
+pub expr-returns-in_err-found-in-Bare : goal.expr-returns-in_err-found-in-Bare
+expr-returns-in_err-found-in-Bare g t c = first_of (grind (arith, views, lowered), search rules)
+
+pub expr-returns-in_err-inner-in-Parenthesized : goal.expr-returns-in_err-inner-in-Parenthesized
+expr-returns-in_err-inner-in-Parenthesized g t c = first_of (grind (arith, views, lowered), search rules)
+
+pub expr-returns-in_ok-found-in-Bare : goal.expr-returns-in_ok-found-in-Bare
+expr-returns-in_ok-found-in-Bare g t c = first_of (grind (arith, views, lowered), search rules)
+
+pub expr-returns-in_ok-inner-in-Parenthesized : goal.expr-returns-in_ok-inner-in-Parenthesized
+expr-returns-in_ok-inner-in-Parenthesized g t c = first_of (grind (arith, views, lowered), search rules)
+
+pub index-returns-in_err-expr-in_default : goal.index-returns-in_err-expr-in_default
+index-returns-in_err-expr-in_default g t c = first_of (grind (arith, views, lowered), search rules)
+
+pub index-returns-in_err-lower-in-Slice : goal.index-returns-in_err-lower-in-Slice
+index-returns-in_err-lower-in-Slice g t c = first_of (grind (arith, views, lowered), search rules)
+
+pub index-returns-in_err-lower-in-Stride : goal.index-returns-in_err-lower-in-Stride
+index-returns-in_err-lower-in-Stride g t c = first_of (grind (arith, views, lowered), search rules)
+
+pub index-returns-in_err-step-in-Stride : goal.index-returns-in_err-step-in-Stride
+index-returns-in_err-step-in-Stride g t c = first_of (grind (arith, views, lowered), search rules)
+
+pub index-returns-in_err-upper-in-Slice : goal.index-returns-in_err-upper-in-Slice
+index-returns-in_err-upper-in-Slice g t c = first_of (grind (arith, views, lowered), search rules)
+
+pub index-returns-in_err-upper-in-Stride : goal.index-returns-in_err-upper-in-Stride
+index-returns-in_err-upper-in-Stride g t c = first_of (grind (arith, views, lowered), search rules)
+
+pub index-returns-in_ok-upper-in-Slice : goal.index-returns-in_ok-upper-in-Slice
+index-returns-in_ok-upper-in-Slice g t c = first_of (grind (arith, views, lowered), search rules)
+
+pub indices-returns-in_err-found : goal.indices-returns-in_err-found
+indices-returns-in_err-found g t c = first_of (grind (arith, views, lowered), search rules)
+
+pub indices-returns-in_err-index : goal.indices-returns-in_err-index
+indices-returns-in_err-index g t c = first_of (grind (arith, views, lowered), search rules)
+
+pub indices-returns-in_err-index-in-Some : goal.indices-returns-in_err-index-in-Some
+indices-returns-in_err-index-in-Some g t c = first_of (grind (arith, views, lowered), search rules)
+
+pub indices-returns-in_err-push : goal.indices-returns-in_err-push
+indices-returns-in_err-push g t c = first_of (grind (arith, views, lowered), search rules)
+
+pub indices-returns-in_err-push-in-Some : goal.indices-returns-in_err-push-in-Some
+indices-returns-in_err-push-in-Some g t c = first_of (grind (arith, views, lowered), search rules)
+
+pub item-returns-in-Argument : goal.item-returns-in-Argument
+item-returns-in-Argument g t c = first_of (grind (arith, views, lowered), search rules)
+
+pub item-returns-in-DoubleStarred : goal.item-returns-in-DoubleStarred
+item-returns-in-DoubleStarred g t c = first_of (grind (arith, views, lowered), search rules)
+
+pub item-returns-in-Entry : goal.item-returns-in-Entry
+item-returns-in-Entry g t c = first_of (grind (arith, views, lowered), search rules)
+
+pub item-returns-in-Keyword : goal.item-returns-in-Keyword
+item-returns-in-Keyword g t c = first_of (grind (arith, views, lowered), search rules)
+
+pub item-returns-in-Mapping : goal.item-returns-in-Mapping
+item-returns-in-Mapping g t c = first_of (grind (arith, views, lowered), search rules)
+
+pub item-returns-in-Starred : goal.item-returns-in-Starred
+item-returns-in-Starred g t c = first_of (grind (arith, views, lowered), search rules)
+
+pub item-returns-in-WithItem : goal.item-returns-in-WithItem
+item-returns-in-WithItem g t c = first_of (grind (arith, views, lowered), search rules)
+
+pub many_indices-returns : goal.many_indices-returns
+many_indices-returns g t c = first_of (grind (arith, views, lowered), search rules)
+
+pub many_indices-returns-in_err-indices : goal.many_indices-returns-in_err-indices
+many_indices-returns-in_err-indices g t c = first_of (grind (arith, views, lowered), search rules)
+
+pub operation-returns-in_default : goal.operation-returns-in_default
+operation-returns-in_default g t c = first_of (grind (arith, views, lowered), search rules)
+
+pub operation-returns-in_err-body-in-Conditional : goal.operation-returns-in_err-body-in-Conditional
+operation-returns-in_err-body-in-Conditional g t c = first_of (grind (arith, views, lowered), search rules)
+
+pub operation-returns-in_err-callee-in-Call : goal.operation-returns-in_err-callee-in-Call
+operation-returns-in_err-callee-in-Call g t c = first_of (grind (arith, views, lowered), search rules)
+
+pub operation-returns-in_err-left-in-Binary : goal.operation-returns-in_err-left-in-Binary
+operation-returns-in_err-left-in-Binary g t c = first_of (grind (arith, views, lowered), search rules)
+
+pub operation-returns-in_err-left-in-Compare : goal.operation-returns-in_err-left-in-Compare
+operation-returns-in_err-left-in-Compare g t c = first_of (grind (arith, views, lowered), search rules)
+
+pub operation-returns-in_err-operand-in-Await : goal.operation-returns-in_err-operand-in-Await
+operation-returns-in_err-operand-in-Await g t c = first_of (grind (arith, views, lowered), search rules)
+
+pub operation-returns-in_err-operand-in-Unary : goal.operation-returns-in_err-operand-in-Unary
+operation-returns-in_err-operand-in-Unary g t c = first_of (grind (arith, views, lowered), search rules)
+
+pub operation-returns-in_err-test-in-Conditional : goal.operation-returns-in_err-test-in-Conditional
+operation-returns-in_err-test-in-Conditional g t c = first_of (grind (arith, views, lowered), search rules)
+
+pub operation-returns-in_err-value-in-Attribute : goal.operation-returns-in_err-value-in-Attribute
+operation-returns-in_err-value-in-Attribute g t c = first_of (grind (arith, views, lowered), search rules)
+
+pub operation-returns-in_err-value-in-Subscript : goal.operation-returns-in_err-value-in-Subscript
+operation-returns-in_err-value-in-Subscript g t c = first_of (grind (arith, views, lowered), search rules)
+
+pub operation-returns-in_err-value-in-Yield : goal.operation-returns-in_err-value-in-Yield
+operation-returns-in_err-value-in-Yield g t c = first_of (grind (arith, views, lowered), search rules)
+
+pub operation-returns-in_err-value-in-YieldFrom : goal.operation-returns-in_err-value-in-YieldFrom
+operation-returns-in_err-value-in-YieldFrom g t c = first_of (grind (arith, views, lowered), search rules)
+
+pub operation-returns-in_ok-callee-in-Call : goal.operation-returns-in_ok-callee-in-Call
+operation-returns-in_ok-callee-in-Call g t c = first_of (grind (arith, views, lowered), search rules)
+
+pub operation-returns-in_ok-left-in-Binary : goal.operation-returns-in_ok-left-in-Binary
+operation-returns-in_ok-left-in-Binary g t c = first_of (grind (arith, views, lowered), search rules)
+
+pub operation-returns-in_ok-left-in-Compare : goal.operation-returns-in_ok-left-in-Compare
+operation-returns-in_ok-left-in-Compare g t c = first_of (grind (arith, views, lowered), search rules)
+
+pub operation-returns-in_ok-operand-in-Await : goal.operation-returns-in_ok-operand-in-Await
+operation-returns-in_ok-operand-in-Await g t c = first_of (grind (arith, views, lowered), search rules)
+
+pub operation-returns-in_ok-operand-in-Unary : goal.operation-returns-in_ok-operand-in-Unary
+operation-returns-in_ok-operand-in-Unary g t c = first_of (grind (arith, views, lowered), search rules)
+
+pub operation-returns-in_ok-test-in-Conditional : goal.operation-returns-in_ok-test-in-Conditional
+operation-returns-in_ok-test-in-Conditional g t c = first_of (grind (arith, views, lowered), search rules)
+
+pub operation-returns-in_ok-value-in-Attribute : goal.operation-returns-in_ok-value-in-Attribute
+operation-returns-in_ok-value-in-Attribute g t c = first_of (grind (arith, views, lowered), search rules)
+
+pub operation-returns-in_ok-value-in-Subscript : goal.operation-returns-in_ok-value-in-Subscript
+operation-returns-in_ok-value-in-Subscript g t c = first_of (grind (arith, views, lowered), search rules)
+
+pub operation-returns-in_ok-value-in-Yield : goal.operation-returns-in_ok-value-in-Yield
+operation-returns-in_ok-value-in-Yield g t c = first_of (grind (arith, views, lowered), search rules)
+
+pub operation-returns-in_ok-value-in-YieldFrom : goal.operation-returns-in_ok-value-in-YieldFrom
+operation-returns-in_ok-value-in-YieldFrom g t c = first_of (grind (arith, views, lowered), search rules)
+
+pub optional-returns-in-None : goal.optional-returns-in-None
+optional-returns-in-None g t c = first_of (grind (arith, views, lowered), search rules)
+
+pub optional-returns-in_err-expr-in-Some : goal.optional-returns-in_err-expr-in-Some
+optional-returns-in_err-expr-in-Some g t c = first_of (grind (arith, views, lowered), search rules)
+
+pub optional-returns-in_ok-expr-in-Some : goal.optional-returns-in_ok-expr-in-Some
+optional-returns-in_ok-expr-in-Some g t c = first_of (grind (arith, views, lowered), search rules)
+
+pub subscripted-returns : goal.subscripted-returns
+subscripted-returns g t c = first_of (grind (arith, views, lowered), search rules)
+
+pub subscripted-returns-in_err-index : goal.subscripted-returns-in_err-index
+subscripted-returns-in_err-index g t c = first_of (grind (arith, views, lowered), search rules)
