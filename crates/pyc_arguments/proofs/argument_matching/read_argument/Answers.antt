@@ -1,4 +1,5 @@
 use Rattle.std.proofs.Common.{◌≡◌, Option, ap, sym, ◌∙◌, arith, rules}
+use Rattle.std.proofs.lemmas.Grind.{common_steps}
 use Rattle.pyc_arguments.proofs.Parts.{view_unread}
 use Rattle.pyc_arguments.specs.Matched.{argument_owed, argument_read, refused, wanted}
 use Rattle.pyc_arguments.specs.Views.{call_in}
@@ -37,3 +38,7 @@ returns-in_err-refuse g c = first_of (grind (arith, performing), search rules)
 pub returns-in_err-got : goal.returns-in_err-got
 unfolding argument_read
 returns-in_err-got g c = first_of (grind (arith, performing), search rules)
+
+pub returns-in_err-owe : goal.returns-in_err-owe
+unfolding argument_read
+returns-in_err-owe g c = first_of (grind (arith, common_steps, performing), search rules)
