@@ -1,5 +1,6 @@
 use Rattle.pyc_obligations.proofs.Steps.{performing}
 use Rattle.std.proofs.Common.{None, arith, rules}
+use Rattle.std.proofs.lemmas.Grind.{common_steps}
 use Rattle.pyc_assignments.specs.Reads.{type_read}
 use Rattle.pyc_assignments.specs.Singles.{subscript_slot}
 use Rattle.pyc_ast.specs.ExprView.{expr_of, index_of}
@@ -32,3 +33,7 @@ returns-in_err-ty g c = first_of (grind (arith, performing), search rules)
 pub returns-in_err-got : goal.returns-in_err-got
 unfolding subscript_slot
 returns-in_err-got g c = first_of (grind (arith, performing), search rules)
+
+pub returns-in_err-slot : goal.returns-in_err-slot
+unfolding subscript_slot
+returns-in_err-slot g c = first_of (grind (arith, common_steps, performing), search rules)

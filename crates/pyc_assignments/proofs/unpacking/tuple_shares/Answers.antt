@@ -1,0 +1,12 @@
+use Rattle.pyc_obligations.proofs.Steps.{performing}
+use Rattle.std.proofs.Common.{arith, rules}
+use Rattle.pyc_assignments.proofs.unpacking.tuple_shares.Goals as goal
+
+pub returns-else-provided-expected : goal.returns-else-provided-expected
+returns-else-provided-expected g c = first_of (grind (arith, performing), search rules)
+
+pub returns-in_err-clone : goal.returns-in_err-clone
+returns-in_err-clone g c = first_of (grind (arith, performing), search rules)
+
+pub returns-in_ok-clone : goal.returns-in_ok-clone
+returns-in_ok-clone g c = first_of (grind (arith, performing), search rules)
