@@ -1,0 +1,12 @@
+use Rattle.std.proofs.lemmas.Grind.{common_steps}
+use Rattle.std.proofs.Common.{arith, rules}
+use Rattle.pyc_names.proofs.table.is_above_a_file.Goals as goal
+
+pub loop-file-init : goal.loop-file-init
+loop-file-init c = first_of (grind (arith, common_steps), search rules)
+
+pub returns : goal.returns
+returns c = first_of (grind (arith, common_steps), search rules)
+
+pub returns-then-starts_with : goal.returns-then-starts_with
+returns-then-starts_with c = first_of (grind (arith, common_steps), search rules)
