@@ -1,4 +1,5 @@
-use Rattle.std.proofs.Common.{◌∙◌, ap, arith, bytes_eq, cond, List, ℕ, Option, Some}
+use Rattle.std.proofs.lemmas.Grind.{common_steps}
+use Rattle.std.proofs.Common.{◌∙◌, ap, arith, bytes_eq, cond, List, ℕ, Option, Some, rules}
 use Rattle.pyc_ast.specs.declared.position.Position.{Position}
 use Rattle.pyc_members.specs.DeclaredClassView.{places_in}
 use Rattle.pyc_members.proofs.PlaceLemmas.{first_place-more}
@@ -17,3 +18,15 @@ loop-left-preserved c =
           (λ n. c.in_ok-insert.ensures.updates.0 n ∙ ap (λ k. chosen k n) c.in_ok-clone.ensures.cases)
           c.loop-left.invariant.placed;
     }
+
+pub loop-left-init : goal.loop-left-init
+loop-left-init c = first_of (grind (arith, common_steps), search rules)
+
+pub returns : goal.returns
+returns c = first_of (grind (arith, common_steps), search rules)
+
+pub returns-in_err-clone : goal.returns-in_err-clone
+returns-in_err-clone c = first_of (grind (arith, common_steps), search rules)
+
+pub returns-in_err-insert : goal.returns-in_err-insert
+returns-in_err-insert c = first_of (grind (arith, common_steps), search rules)
