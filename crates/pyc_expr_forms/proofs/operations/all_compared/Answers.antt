@@ -1,3 +1,4 @@
+use Rattle.std.proofs.lemmas.Grind.{common_steps}
 use Rattle.pyc_expr_forms.specs.Operations.{all_compared}
 use Rattle.pyc_obligations.proofs.Steps.{performing}
 use Rattle.std.proofs.Common.{◌∙◌, arith, rules}
@@ -18,3 +19,11 @@ loop-link-preserved g c = record {
 pub returns-in_err-left : goal.returns-in_err-left
 unfolding all_compared
 returns-in_err-left g c = first_of (grind (arith, performing), search rules)
+
+pub loop-link-init : goal.loop-link-init
+unfolding all_compared
+loop-link-init g c = first_of (grind (arith, performing), search rules)
+
+pub returns : goal.returns
+unfolding all_compared
+returns g c = first_of (grind (arith, common_steps, performing), search rules)

@@ -31,3 +31,6 @@ index_types-returns-in_err-ty g t c = first_of (grind (arith, performing), searc
 
 pub index_types-returns-in_err-push : goal.index_types-returns-in_err-push
 index_types-returns-in_err-push g t c = first_of (grind (arith, performing), search rules)
+
+pub index_types-loop-index-init : goal.index_types-loop-index-init
+index_types-loop-index-init g t c = first_of (grind (arith, performing), search rules)

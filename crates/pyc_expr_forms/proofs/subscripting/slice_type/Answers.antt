@@ -1,5 +1,6 @@
 use Rattle.pyc_obligations.proofs.Steps.{performing}
 use Rattle.std.proofs.Common.{ap, arith, rules}
+use Rattle.std.proofs.lemmas.Grind.{common_steps}
 use Rattle.pyc_ast.specs.ExprView.{optional_of}
 use Rattle.pyc_calls.proofs.Kept.{any_in}
 use Rattle.pyc_expr_forms.specs.Subscripting.{optional_read, slice_type}
@@ -30,3 +31,7 @@ returns-in_err-optional_read g c = first_of (grind (arith, performing), search r
 pub returns-in_err-optional_read-2 : goal.returns-in_err-optional_read-2
 unfolding slice_type
 returns-in_err-optional_read-2 g c = first_of (grind (arith, performing), search rules)
+
+pub returns-in_err-optional_read-3 : goal.returns-in_err-optional_read-3
+unfolding slice_type
+returns-in_err-optional_read-3 g c = first_of (grind (arith, common_steps, performing), search rules)
