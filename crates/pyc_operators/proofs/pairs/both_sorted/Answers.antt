@@ -1,7 +1,6 @@
 use Rattle.pyc_operators.specs.Pairs.{both_sorted}
 use Rattle.pyc_operators.proofs.Steps.{performing}
 use Rattle.std.proofs.Common.{arith, rules}
-use Rattle.std.proofs.lemmas.Grind.{common_steps}
 use Rattle.pyc_operators.proofs.pairs.both_sorted.Goals as goal
 
 pub returns : goal.returns

@@ -1,7 +1,6 @@
 use Rattle.pyc_operators.specs.Unary.{sorted}
 use Rattle.pyc_operators.proofs.Steps.{performing}
 use Rattle.std.proofs.Common.{arith, rules}
-use Rattle.std.proofs.lemmas.Grind.{common_steps}
 use Rattle.pyc_operators.proofs.unary_operator.sorted.Goals as goal
 
 pub returns : goal.returns

@@ -1,7 +1,6 @@
 use Rattle.pyc_targets.specs.ItemTargets.{unsupported_told}
 use Rattle.pyc_obligations.proofs.Steps.{performing}
 use Rattle.std.proofs.Common.{arith, rules}
-use Rattle.std.proofs.lemmas.Grind.{common_steps}
 use Rattle.pyc_targets.proofs.messages.unsupported.Goals as goal
 
 pub returns-in_err-shown : goal.returns-in_err-shown
