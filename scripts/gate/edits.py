@@ -5,18 +5,18 @@ The libraries that the crates stand on are those that `rt ci` left in FOLDER/NAM
 named. With `--follow` that `rt ci` still runs and writes LOG: the edits of a crate are tried once LOG says that it is proved,
 and count as failed where it is not.
 
-The prover must refuse each edit `crates/NAME/must-fail/*.edit`. One with a line `tried: by hand` stands beside others that
-turn what its crate promises, as it is of a private function or the second of its function: it is tried with `--all` alone, and
-without it only looked at whether it fits the text.
-`rt must-fail NAME` tries them all one by one, each with a load of the whole crate. Here several edits of one crate stand in one check, at most one to a function, and the check asks for the
-edited functions alone, with the proofs of the others left open and their bodies left out. A proof reads what other functions
-promise and not their bodies, so an edit of one body leaves the proof of another as it was, and wants none of it: an edit counts
-as refused in such a check only where the prover refuses a goal at a place in that very function, or an answer of its proof. One
-of which it says neither is tried in the next check, and at last alone, in a check of the whole crate. One that takes away a
-place which an answer names that only lists lemmas (`first_of (grind ..`) is tried again without such answers, over which the
-prover looks for a proof by itself. An edit of what is stated, or of what several functions read, has a line `refuses: FUNCTION`:
-it is tried in a check of that function, with others of such a line where no function of theirs reads a file that another of
-them changes. The checks of a crate run one after another over what the earlier ones kept, so that the first alone reads what is
+The prover must refuse each edit `crates/NAME/must-fail/*.edit`. One with a line `tried: by hand` stands beside others that turn
+what its crate promises, as it is of a private function or the second of its function: it is tried with `--all` alone, and
+without it only looked at whether it fits the text. `rt must-fail NAME` tries them all one by one, each with a load of the whole
+crate. Here several edits of one crate stand in one check, at most one to a function, and the check asks for the edited
+functions alone, with the proofs of the others left open and their bodies left out. A proof reads what other functions promise
+and not their bodies, so an edit of one body leaves the proof of another as it was, and wants none of it: an edit counts as
+refused in such a check only where the prover refuses a goal at a place in that very function, or an answer of its proof. One of
+which it says neither is tried in the next check, and at last alone, in a check of the whole crate. One that takes away a place
+which an answer names that only lists lemmas (`first_of (grind ..`) is tried again without such answers, over which the prover
+looks for a proof by itself. An edit of what is stated, or of what several functions read, has a line `refuses: FUNCTION`: it is
+tried in a check of that function, with others of such a line where no function of theirs reads a file that another of them
+changes. The checks of a crate run one after another over what the earlier ones kept, so that the first alone reads what is
 stated in it.
 
 `RT_JOBS` says how many checks run side by side, 4 where it is not set. The last line is `edits: N passed, M failed`."""
