@@ -2,11 +2,11 @@
 """Adds answers that name lemmas to the proofs of crates: `name_lemmas.py [--libraries FOLDER] [--least SECONDS] CRATE..`.
 
 The prover looks for the proof of a goal without an answer first without lemmas, and last by the sets that a function's
-attribute names. Here a crate is checked, and each function, or cycle of calls, whose proof took SECONDS (1 if not named) gets
-an answer for each goal without one: `first_of (grind (arith, SETS), search rules)`, with the sets of its attribute, or with
-`common_steps`. One that the prover refuses is tried with `common_steps` besides, and then taken out, so that at the end the
-crate is proved as before. The libraries that it stands on are those that `rt ci` left in FOLDER/NAME/out; FOLDER is `crates`
-where it is not named."""
+attribute names. Here a crate is checked, and each function, or cycle of calls, whose proof took SECONDS (1 if not named), or of
+which the gate tries a must-fail edit, gets an answer for each goal without one: `first_of (grind (arith, SETS), search rules)`,
+with the sets of its attribute, or with `common_steps`. One that the prover refuses is tried in other ways (`WAYS`), and then
+taken out, so that at the end the crate is proved as before. The libraries that it stands on are those that `rt ci` left in
+FOLDER/NAME/out; FOLDER is `crates` where it is not named."""
 
 import argparse
 import json
@@ -22,7 +22,11 @@ import edits  # noqa: E402
 
 STD = "Rattle.std.proofs.Common"
 STEPS = ("Rattle.std.proofs.lemmas.Grind", "common_steps")
-TURNS = 4
+# The ways to answer a goal, one tried after another, with what each brings in besides the sets of the attribute.
+WAYS = (
+    ("first_of (grind (arith, {sets}), search rules)", []),
+    ("first_of (grind (arith, common_steps, {sets}), search rules)", [STEPS]),
+)
 # A goal that an answer of a set of lemmas may prove: what is returned, and that a loop's invariant holds when it begins.
 LISTED_GOAL = r"(\w+-)?(returns|loop-\w+-init)"
 REFUSED = r"(?m)^(?:\./)?(proofs/\S+/Answers\.antt):\d+:\d+: error: `([^`]+)`: (.*)$"
@@ -91,65 +95,105 @@ def with_imports(text, names):
     return text
 
 
-def answer(goal, sets, unfolded, context):
-    """Returns the answer of a goal by sets of lemmas."""
-    unfolding = f"unfolding {' '.join(name for _, name in unfolded)}\n" if unfolded else ""
-    lemmas = ", ".join(["arith", *(name for _, name in sets)])
-    return f"\npub {goal} : goal.{goal}\n{unfolding}{goal} {context} = first_of (grind ({lemmas}), search rules)\n"
+class Answer:
+    """An answer of a goal by sets of lemmas, in one of the ways."""
+
+    def __init__(self, file, goal, owner, context):
+        self.file, self.goal, self.context, self.way = file, goal, context, 0
+        _, _, self.sets, self.unfolded = owner
+
+    def names(self):
+        """Returns what the answer brings in, by module and name."""
+        return [*dict.fromkeys([*self.unfolded, *self.sets, *WAYS[self.way][1], (STD, "arith"), (STD, "rules")])]
+
+    def has_a_way(self):
+        """Returns whether there is such a way, in which no two sets have one name."""
+        return self.way < len(WAYS) and len({name for _, name in self.names()}) == len(self.names())
+
+    def text(self):
+        """Returns the answer as it stands in its file."""
+        how, more = WAYS[self.way]
+        unfolding = f"unfolding {' '.join(name for _, name in self.unfolded)}\n" if self.unfolded else ""
+        lemmas = ", ".join(name for it in self.sets if it not in more for name in it[1:])
+        how = how.format(sets=lemmas).replace(", )", ")")
+        return f"\npub {self.goal} : goal.{self.goal}\n{unfolding}{self.goal} {self.context} = {how}\n"
 
 
-def add_answers(crate, folder, path, proof, known):
-    """Adds answers to the goals of a function, or of a cycle of calls, that have none. Returns how many."""
+def new_answers(crate, folder, path, proof, known):
+    """Returns an answer for each goal of a function, or of a cycle of calls, that has none."""
     last = path.rpartition(".")[2]
     # (a function that calls itself is a cycle by itself, which has its name)
     own = known.get(path.replace("+", ""))
     members = [it for it in known.values() if it[1] and f"+{it[1]}" == last] or ([own] if own else [])
     file = folder / "proofs" / path.replace(".", "/") / "Answers.antt"
-    text = file.read_text(encoding="utf-8") if file.is_file() else f"use Rattle.{crate}.proofs.{path}.Goals as goal\n"
+    text = file.read_text(encoding="utf-8") if file.is_file() else ""
     as_before = re.search(r"(?m)^\S+ ((?:g )?(?:t )?c) =", text)
     ghosts = "g " if "--@ import denote.Param.Laws " in head_of(proof) else ""
     context = as_before[1] if as_before else ghosts + ("t c" if last.startswith("+") else "c")
-    added = 0
+    found = []
     for goal in goals_of(proof):
         owners = [it for it in members if it is own or goal.startswith(f"{it[0]}-")]
         owner = max(owners, key=lambda it: len(it[0]), default=None)
         has_answer = re.search(rf"(?m)^pub {re.escape(goal)} :", text)
-        if owner is None or has_answer or not re.match(LISTED_GOAL, goal) or "requires" in goal:
-            continue
-        _, _, sets, unfolded = owner
-        names = [*unfolded, *sets, (STD, "arith"), (STD, "rules")]
-        if len({name for _, name in names}) < len(set(names)):
-            # (two sets of one name)
-            continue
-        text = with_imports(text, names)
-        text = text.rstrip("\n") + "\n" + answer(goal, sets, unfolded, context)
-        added += 1
-    if added:
-        file.parent.mkdir(parents=True, exist_ok=True)
-        file.write_text(text, encoding="utf-8")
-    return added
+        if owner and not has_answer and re.match(LISTED_GOAL, goal) and "requires" not in goal:
+            found.append(Answer(file, goal, owner, context))
+    return found
 
 
-def mend(folder, refused):
-    """Adds `common_steps` to each refused answer, or takes it out where it has them or its goal is none."""
-    for place, goal, why in sorted(set(refused)):
-        file = folder / place
-        text = file.read_text(encoding="utf-8") if file.is_file() else ""
-        named = re.escape(goal)
-        head = rf"(?m)^\npub {named} : goal\.{named}\n(?:unfolding .*\n)?"
-        found = re.search(rf"{head}{named} (?:g )?(?:t )?c = first_of \(grind \(arith, .*\n", text)
-        if found is None:
-            continue
-        if STEPS[1] in found[0] or "has no" in why:
-            text = text.replace(found[0], "")
+def write(crate, folder, before, answers):
+    """Writes the files of answers, as each was before and with these."""
+    for file, text in before.items():
+        added = [it for it in answers if it.file == file]
+        path = ".".join(file.parent.relative_to(folder / "proofs").parts)
+        whole = text or f"use Rattle.{crate}.proofs.{path}.Goals as goal\n"
+        for it in added:
+            whole = with_imports(whole, it.names()).rstrip("\n") + "\n" + it.text()
+        if added or text:
+            file.parent.mkdir(parents=True, exist_ok=True)
+            file.write_text(whole, encoding="utf-8")
         else:
-            text = with_imports(text.replace(found[0], found[0].replace("(arith, ", f"(arith, {STEPS[1]}, ", 1)), [STEPS])
-        if f"{STEPS[1]}," not in text and f"{STEPS[1]})" not in text:
-            text = text.replace(f"use {STEPS[0]}.{{{STEPS[1]}}}\n", "")
-        if re.search(r"(?m)^pub ", text):
-            file.write_text(text, encoding="utf-8")
-        else:
-            file.unlink()
+            file.unlink(missing_ok=True)
+
+
+def mended(folder, answers, refused):
+    """Returns the answers, each that was refused in the next way, or not at all where there is none."""
+    for place, goal, why in refused:
+        for it in answers:
+            if it.goal == goal and it.file == folder / place:
+                it.way = len(WAYS) if "has no" in why else it.way + 1
+                while it.way < len(WAYS) and not it.has_a_way():
+                    it.way += 1
+    return [it for it in answers if it.has_a_way()]
+
+
+def is_tried(path, tried, cycles):
+    """Returns whether a proof is of a function, or of a cycle of calls, of which the gate tries an edit."""
+    last, own = path.rpartition(".")[2], path.replace("+", "").replace(".", "::")
+    members = [own, *(it for it, cycle in cycles.items() if cycle and f"+{cycle}" == last)]
+    return any(edits.ends_alike(it, one) for it in members for one in tried)
+
+
+def add_answers(crate, folder, command, kept, least):
+    """Adds answers to a crate over what a check of it kept, and returns how many, how many stay, and what the prover said."""
+    known, cycles, answers = attributes(crate, folder), edits.cycles_of(folder), []
+    tried = {it.place[3] for it in edits.edits_of(crate) if it.place and not it.by_hand}
+    for file, took in proofs_in(kept).items():
+        path = file.name.removeprefix(f"Rattle-{crate}-proofs.").removesuffix(".Proof.oantt")
+        if took >= least or is_tried(path, tried, cycles):
+            answers += new_answers(crate, folder, path, file, known)
+    answers = [it for it in answers if it.has_a_way()]
+    before = {it.file: it.file.read_text(encoding="utf-8") if it.file.is_file() else "" for it in answers}
+    added, said = len(answers), "nothing to answer"
+    while answers:
+        write(crate, folder, before, answers)
+        said = check(command, folder, kept)
+        refused = [it for it in re.findall(REFUSED, said) if any(it[1] == one.goal for one in answers)]
+        if not refused:
+            break
+        answers = mended(folder, answers, refused)
+        if not answers:
+            write(crate, folder, before, [])
+    return added, len(answers), said
 
 
 def run(crate, built, least):
@@ -158,18 +202,9 @@ def run(crate, built, least):
     command = edits.words(edits.libraries(), crate, built)
     with tempfile.TemporaryDirectory(prefix="lemmas-") as kept:
         said = check(command, folder, kept)
-        known, added = attributes(crate, folder), 0
-        for file, took in proofs_in(kept).items():
-            path = file.name.removeprefix(f"Rattle-{crate}-proofs.").removesuffix(".Proof.oantt")
-            if took >= least:
-                added += add_answers(crate, folder, path, file, known)
-        for _ in range(TURNS):
-            said = check(command, folder, kept)
-            refused = re.findall(REFUSED, said)
-            if not refused:
-                break
-            mend(folder, refused)
-        print(f"{crate}: {added} answers tried; {said.rstrip().splitlines()[-1]}", flush=True)
+        added, left, said_last = add_answers(crate, folder, command, kept, least)
+        said = said_last if added else said
+        print(f"{crate}: {added} answers tried, {left} stay; {said.rstrip().splitlines()[-1]}", flush=True)
         return "logic=proved" in said
 
 

@@ -1,10 +1,11 @@
+use Rattle.std.proofs.lemmas.Grind.{common_steps}
 use Rattle.std.proofs.Common.{◌≡◌, ◌∷◌, ◌∙◌, [], ◌<◌, ◌≤◌, List, length, map, ap, sym, subst, arith, rules, true, false}
 use Rattle.std.proofs.lemmas.List.{map_push}
 use Rattle.pyc_annotations.proofs.Arguments.{readings_of, length_readings, form_taken, form_not_taken, callable_two, callable_other, tuple_other}
 use Rattle.pyc_annotations.proofs.Sizes.{arguments_below}
 use Rattle.pyc_annotations.proofs.Steps.{performs_same, performing}
 use Rattle.pyc_annotations.proofs.Turns.{argument_turn, type_turn}
-use Rattle.pyc_annotations.specs.Annotations.{Annotation, of_type, plain_callable, more_types, type_readings, read_type, callable_of, shape_reading, takes, subscripted_rule, union_rule, subscript_rule, built_rule}
+use Rattle.pyc_annotations.specs.Annotations.{Annotation, of_type, plain_callable, more_types, type_readings, read_type, callable_of, shape_reading, takes, subscripted_rule, union_rule, subscript_rule, built_rule, form_rule}
 use Rattle.pyc_annotations.specs.Views.{annotation_in, subscripted_of}
 use Rattle.pyc_names.specs.SourceFileView.{source_in}
 use Rattle.pyc_reading.proofs.RunLemmas.{after, grown_trans}
@@ -211,3 +212,57 @@ listed_types-returns-in_err-found g t c = first_of (grind (arith, performing), s
 pub listed_types-returns-in_err-push : goal.listed_types-returns-in_err-push
 unfolding more_types
 listed_types-returns-in_err-push g t c = first_of (grind (arith, performing), search rules)
+
+pub argument_types-loop-argument-init : goal.argument_types-loop-argument-init
+unfolding more_types
+argument_types-loop-argument-init g t c = first_of (grind (arith, performing), search rules)
+
+pub argument_types-returns : goal.argument_types-returns
+unfolding more_types
+argument_types-returns g t c = first_of (grind (arith, common_steps, performing), search rules)
+
+pub listed_types-loop-written-init : goal.listed_types-loop-written-init
+unfolding more_types
+listed_types-loop-written-init g t c = first_of (grind (arith, performing), search rules)
+
+pub listed_types-returns : goal.listed_types-returns
+unfolding more_types
+listed_types-returns g t c = first_of (grind (arith, common_steps, performing), search rules)
+
+pub read_callable-returns-in_err-found-in-List : goal.read_callable-returns-in_err-found-in-List
+read_callable-returns-in_err-found-in-List g t c = first_of (grind (arith, common_steps), search rules)
+
+pub read_callable-returns-in_err-types-in-List : goal.read_callable-returns-in_err-types-in-List
+read_callable-returns-in_err-types-in-List g t c = first_of (grind (arith, common_steps), search rules)
+
+pub read_form-returns-in-Callable : goal.read_form-returns-in-Callable
+unfolding form_rule
+read_form-returns-in-Callable g t c = first_of (grind (arith, common_steps), search rules)
+
+pub read_form-returns-in-Tuple : goal.read_form-returns-in-Tuple
+unfolding form_rule
+read_form-returns-in-Tuple g t c = first_of (grind (arith, common_steps), search rules)
+
+pub read_form-returns-in-Type : goal.read_form-returns-in-Type
+unfolding form_rule
+read_form-returns-in-Type g t c = first_of (grind (arith, common_steps), search rules)
+
+pub read_form-returns-in_default : goal.read_form-returns-in_default
+unfolding form_rule
+read_form-returns-in_default g t c = first_of (grind (arith, common_steps), search rules)
+
+pub read_subscripted-returns-in-Value : goal.read_subscripted-returns-in-Value
+unfolding subscripted_rule
+read_subscripted-returns-in-Value g t c = first_of (grind (arith, common_steps), search rules)
+
+pub read_subscripted-returns-in-Wrong : goal.read_subscripted-returns-in-Wrong
+unfolding subscripted_rule
+read_subscripted-returns-in-Wrong g t c = first_of (grind (arith, common_steps), search rules)
+
+pub read_subscripted-returns-in_err-of_class-in-Class : goal.read_subscripted-returns-in_err-of_class-in-Class
+unfolding subscripted_rule
+read_subscripted-returns-in_err-of_class-in-Class g t c = first_of (grind (arith, common_steps), search rules)
+
+pub read_subscripted-returns-in_ok-of_class-in-Class : goal.read_subscripted-returns-in_ok-of_class-in-Class
+unfolding subscripted_rule
+read_subscripted-returns-in_ok-of_class-in-Class g t c = first_of (grind (arith, common_steps), search rules)

@@ -1,3 +1,4 @@
+use Rattle.std.proofs.lemmas.Grind.{common_steps}
 use Rattle.pyc_obligations.proofs.Steps.{performing}
 use Rattle.std.proofs.Common.{◌∙◌, Option, option_map, false, ap, sym, arith, rules}
 use Rattle.pyc_assignments.proofs.Targets.{lent}
@@ -36,3 +37,7 @@ returns-in_err-declared g c = first_of (grind (arith, performing), search rules)
 pub returns-in_err-assignment_owed : goal.returns-in_err-assignment_owed
 unfolding value_stored
 returns-in_err-assignment_owed g c = first_of (grind (arith, performing), search rules)
+
+pub returns-in_err-state : goal.returns-in_err-state
+unfolding value_stored
+returns-in_err-state g c = first_of (grind (arith, common_steps, performing), search rules)

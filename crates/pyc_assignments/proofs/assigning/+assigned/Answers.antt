@@ -1,3 +1,4 @@
+use Rattle.std.proofs.lemmas.Grind.{common_steps}
 use Rattle.pyc_obligations.proofs.Steps.{performing}
 use Rattle.std.proofs.Common.{◌≡◌, ◌∙◌, ap, arith, rules}
 use Rattle.pyc_assignments.proofs.Turns.{element_turn}
@@ -41,3 +42,9 @@ each_assigned-returns-in_err-ty g t c = first_of (grind (arith, performing), sea
 
 pub each_assigned-returns-in_err-after-2 : goal.each_assigned-returns-in_err-after-2
 each_assigned-returns-in_err-after-2 g t c = first_of (grind (arith, performing), search rules)
+
+pub each_assigned-loop-index-init : goal.each_assigned-loop-index-init
+each_assigned-loop-index-init g t c = first_of (grind (arith, performing), search rules)
+
+pub each_assigned-returns : goal.each_assigned-returns
+each_assigned-returns g t c = first_of (grind (arith, common_steps, performing), search rules)

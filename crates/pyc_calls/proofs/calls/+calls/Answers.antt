@@ -1,3 +1,4 @@
+use Rattle.std.proofs.lemmas.Grind.{common_steps}
 use Rattle.std.proofs.Common.{◌≡◌, ap, map, sym, ◌∙◌, arith, rules}
 use Rattle.std.proofs.lemmas.List.{map_push}
 use Rattle.pyc_arguments.specs.declared.arguments.Arguments.{Arguments}
@@ -130,3 +131,11 @@ items_called-returns-in_err-ty g t c = first_of (grind (arith, performing), sear
 pub items_called-returns-in_err-push : goal.items_called-returns-in_err-push
 unfolding items_called
 items_called-returns-in_err-push g t c = first_of (grind (arith, performing), search rules)
+
+pub items_called-loop-item-init : goal.items_called-loop-item-init
+unfolding items_called
+items_called-loop-item-init g t c = first_of (grind (arith, performing), search rules)
+
+pub items_called-returns : goal.items_called-returns
+unfolding items_called
+items_called-returns g t c = first_of (grind (arith, common_steps, performing), search rules)

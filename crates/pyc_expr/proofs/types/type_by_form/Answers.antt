@@ -1,4 +1,5 @@
-use Rattle.std.proofs.Common.{◌≡◌, List, map, option_map, Bor, ap, ◌∙◌, rules}
+use Rattle.std.proofs.lemmas.Grind.{common_steps}
+use Rattle.std.proofs.Common.{◌≡◌, List, map, option_map, Bor, ap, ◌∙◌, rules, arith}
 use Rattle.pyc_ast.specs.declared.expr.DictItem.TheFolds.{the_lemmas}
 use Rattle.pyc_ast.specs.Exprs as form
 use Rattle.pyc_ast.specs.Exprs.{Form, Element, elements, DictItem, dict_items}
@@ -52,3 +53,6 @@ returns-in-Dict g c =
     let is : form_of c.args.e.now.form ≡ form.dict (dict_items items) = rw (c.in-Dict.is, c.deref-in-Dict.ensures.value) (search (rules, the_lemmas)) in
     performs_same _ _ _ _ _ _ (ap (λ (f : Form). type_by_form (g.C.Context.context c.args.context.now) parts s c.args.e.now.inside want f) is
     ∙ ap (λ (l : List DictItem). dict_display (type_in parts s) l want) (dict_item_row items)) c.dict_display.ensures
+
+pub returns-in_err-opaque_type-in-Opaque : goal.returns-in_err-opaque_type-in-Opaque
+returns-in_err-opaque_type-in-Opaque g c = first_of (grind (arith, common_steps), search rules)

@@ -1,4 +1,5 @@
-use Rattle.std.proofs.Common.{◌≡◌, Bool, if◌then◌else◌, option_map, Bor, ap, sym, ◌∙◌, rules}
+use Rattle.std.proofs.lemmas.Grind.{common_steps}
+use Rattle.std.proofs.Common.{◌≡◌, Bool, if◌then◌else◌, option_map, Bor, ap, sym, ◌∙◌, rules, arith}
 use Rattle.pyc_ast.specs.declared.expr.DictItem.TheFolds.{the_lemmas}
 use Rattle.pyc_ast.specs.Exprs.{Expr, expr, boolean}
 use Rattle.pyc_ast.specs.ExprView.{expr_of}
@@ -31,3 +32,9 @@ returns-in_ok-both-in-Boolean g t c =
           ∙ after (chained parts s want operator left) (next_side parts want operator right) desk (g.N.Notes.desk c.chained.new.notes) (g.N.Notes.desk c.next_side.new.notes) (chain_of c.in_ok-first-in-Boolean.first) (chain_of c.in_ok-both-in-Boolean.both) c.in_ok-first-in-Boolean.ensures.done c.in_ok-both-in-Boolean.ensures.done;
       grown = grown_trans c.chained.ensures.grown c.next_side.ensures.grown;
     }
+
+pub returns-in_err-both-in-Boolean : goal.returns-in_err-both-in-Boolean
+returns-in_err-both-in-Boolean g t c = first_of (grind (arith, common_steps), search rules)
+
+pub returns-in_err-first-in-Boolean : goal.returns-in_err-first-in-Boolean
+returns-in_err-first-in-Boolean g t c = first_of (grind (arith, common_steps), search rules)

@@ -1,3 +1,4 @@
+use Rattle.std.proofs.lemmas.Grind.{common_steps}
 use Rattle.pyc_obligations.proofs.Steps.{performing}
 use Rattle.std.proofs.Common.{map, ap, ◌∙◌, arith, rules}
 use Rattle.std.proofs.lemmas.List.{map_push}
@@ -34,3 +35,6 @@ index_types-returns-in_err-push g t c = first_of (grind (arith, performing), sea
 
 pub index_types-loop-index-init : goal.index_types-loop-index-init
 index_types-loop-index-init g t c = first_of (grind (arith, performing), search rules)
+
+pub index_types-returns : goal.index_types-returns
+index_types-returns g t c = first_of (grind (arith, common_steps, performing), search rules)

@@ -1,4 +1,5 @@
-use Rattle.std.proofs.Common.{sym, ◌∙◌, refl}
+use Rattle.std.proofs.lemmas.Grind.{common_steps}
+use Rattle.std.proofs.Common.{sym, ◌∙◌, refl, arith, rules}
 use Rattle.pyc_ast.specs.StatementView.{import_from_of}
 use Rattle.pyc_imports.specs.ImportReadings.{alias_reading}
 use Rattle.pyc_names.specs.SourceFileView.{source_in}
@@ -15,3 +16,12 @@ loop-alias-preserved g c =
           ∙ c.loop-alias.invariant.same;
       grown = grown_trans c.loop-alias.invariant.grown c.read_alias.ensures.grown;
     }
+
+pub loop-alias-init : goal.loop-alias-init
+loop-alias-init g c = first_of (grind (arith, common_steps), search rules)
+
+pub returns : goal.returns
+returns g c = first_of (grind (arith, common_steps), search rules)
+
+pub returns-in_err-read_alias : goal.returns-in_err-read_alias
+returns-in_err-read_alias g c = first_of (grind (arith, common_steps), search rules)

@@ -1,4 +1,5 @@
-use Rattle.std.proofs.Common.{map, ap, sym, ◌∙◌, refl}
+use Rattle.std.proofs.lemmas.Grind.{common_steps}
+use Rattle.std.proofs.Common.{map, ap, sym, ◌∙◌, refl, arith, rules}
 use Rattle.pyc_ast.specs.StatementView.{imported_of, imported_module_of}
 use Rattle.pyc_imports.specs.ImportReadings.{module_reading}
 use Rattle.pyc_reading.specs.Desks.{run}
@@ -16,3 +17,12 @@ loop-imported-preserved g c =
           ∙ c.loop-imported.invariant.same;
       grown = grown_trans c.loop-imported.invariant.grown c.read_module.ensures.grown;
     }
+
+pub loop-imported-init : goal.loop-imported-init
+loop-imported-init g c = first_of (grind (arith, common_steps), search rules)
+
+pub returns : goal.returns
+returns g c = first_of (grind (arith, common_steps), search rules)
+
+pub returns-in_err-read_module : goal.returns-in_err-read_module
+returns-in_err-read_module g c = first_of (grind (arith, common_steps), search rules)

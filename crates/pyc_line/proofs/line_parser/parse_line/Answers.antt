@@ -1,4 +1,5 @@
-use Rattle.std.proofs.Common.{◌≡◌, None, Err, subst}
+use Rattle.std.proofs.lemmas.Grind.{common_steps}
+use Rattle.std.proofs.Common.{◌≡◌, None, Err, subst, arith, rules}
 use Rattle.pyc_build.specs.declared.error.ParseError.{ParseError}
 use Rattle.pyc_tree.specs.Headers.{line_tree}
 use Rattle.pyc_build.specs.ReadsTokens.{AnswersLine}
@@ -24,3 +25,6 @@ returns-in-Err-Refused-clause-none c =
     let refused : line_tree c.args.tokens.now ≡ None =
     subst (λ (error : ParseError). AnswersLine line_of (line_tree c.args.tokens.now) (Err error)) c.in-Err-Refused.field-0-is c.in-Err-Refused.ensures in
     λ some. no_tree c.args.tokens.now refused
+
+pub returns-in-Err-Memory : goal.returns-in-Err-Memory
+returns-in-Err-Memory c = first_of (grind (arith, common_steps), search rules)

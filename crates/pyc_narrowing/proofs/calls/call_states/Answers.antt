@@ -1,3 +1,4 @@
+use Rattle.std.proofs.lemmas.Grind.{common_steps}
 use Rattle.std.proofs.Common.{◌≡◌, ◌∙◌, ◌<◌, ◌≤◌, length, ap, sym, arith, rules}
 use Rattle.pyc_ast.specs.ExprView.{expr_of}
 use Rattle.pyc_narrowing.proofs.Others.{other_call}
@@ -22,3 +23,9 @@ returns-in_ok-unchanged-in_default g c =
           ∙ ap (λ (found : States). (found, desk)) (sym c.in_ok-unchanged-in_default.ensures);
       grown = grown_refl desk;
     }
+
+pub returns-in-len2 : goal.returns-in-len2
+returns-in-len2 g c = first_of (grind (arith, common_steps), search rules)
+
+pub returns-in_err-unchanged-in_default : goal.returns-in_err-unchanged-in_default
+returns-in_err-unchanged-in_default g c = first_of (grind (arith, common_steps), search rules)

@@ -1,4 +1,5 @@
-use Rattle.std.proofs.Common.{◌∙◌, ap}
+use Rattle.std.proofs.lemmas.Grind.{common_steps}
+use Rattle.std.proofs.Common.{◌∙◌, ap, arith, rules}
 use Rattle.pyc_narrowing.proofs.Known.{tested_done}
 use Rattle.pyc_narrowing.specs.SplitStates.{instance_states}
 use Rattle.pyc_obligations.specs.Asking.{orders_at}
@@ -16,3 +17,12 @@ returns g c =
           (c.in_ok-states.ensures ∙ ap (λ n. instance_states (orders_at (g.N.Notes.desk n)) (state_of c.args.state.now) c.args.place.now (ty_of c.args.ty.now) c.args.classes.now) c.known_orders.ensures);
       grown = grown;
     }
+
+pub returns-in_err-ask_classes : goal.returns-in_err-ask_classes
+returns-in_err-ask_classes g c = first_of (grind (arith, common_steps), search rules)
+
+pub returns-in_err-ask_written : goal.returns-in_err-ask_written
+returns-in_err-ask_written g c = first_of (grind (arith, common_steps), search rules)
+
+pub returns-in_err-states : goal.returns-in_err-states
+returns-in_err-states g c = first_of (grind (arith, common_steps), search rules)

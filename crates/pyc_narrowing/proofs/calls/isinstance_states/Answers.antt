@@ -1,3 +1,4 @@
+use Rattle.std.proofs.lemmas.Grind.{common_steps}
 use Rattle.pyc_obligations.proofs.Steps.{performing}
 use Rattle.std.proofs.Common.{arith, rules}
 use Rattle.pyc_ast.specs.ExprView.{expr_of}
@@ -28,3 +29,7 @@ returns-in_err-found g c = first_of (grind (arith, performing), search rules)
 pub returns-in_err-classes : goal.returns-in_err-classes
 unfolding isinstance_rule
 returns-in_err-classes g c = first_of (grind (arith, performing), search rules)
+
+pub returns-in_err-states : goal.returns-in_err-states
+unfolding isinstance_rule
+returns-in_err-states g c = first_of (grind (arith, common_steps, performing), search rules)

@@ -1,3 +1,4 @@
+use Rattle.std.proofs.lemmas.Grind.{common_steps}
 use Rattle.std.proofs.Common.{◌≡◌, ◌∙◌, ap, sym, rules, arith}
 use Rattle.pyc_ast.specs.declared.expr.DictItem.TheFolds.{the_lemmas}
 use Rattle.pyc_ast.specs.declared.expr.Expr.{Expr as ExprOf}
@@ -59,3 +60,27 @@ split_or_right-returns-in_err-second g t c = first_of (grind (arith, performing)
 pub split_or_right-returns : goal.split_or_right-returns
 unfolding or_right
 split_or_right-returns g t c = first_of (grind (arith, performing), search rules)
+
+pub split-returns-in-Unreachable : goal.split-returns-in-Unreachable
+split-returns-in-Unreachable g t c = first_of (grind (arith, common_steps), search rules)
+
+pub split_form-returns-in_err-first-in-Boolean : goal.split_form-returns-in_err-first-in-Boolean
+split_form-returns-in_err-first-in-Boolean g t c = first_of (grind (arith, common_steps), search rules)
+
+pub split_form-returns-in_err-literal_states-in-Constant : goal.split_form-returns-in_err-literal_states-in-Constant
+split_form-returns-in_err-literal_states-in-Constant g t c = first_of (grind (arith, common_steps), search rules)
+
+pub split_form-returns-in_err-states-in-Boolean : goal.split_form-returns-in_err-states-in-Boolean
+split_form-returns-in_err-states-in-Boolean g t c = first_of (grind (arith, common_steps), search rules)
+
+pub split_right-returns-in-And : goal.split_right-returns-in-And
+split_right-returns-in-And g t c = first_of (grind (arith, common_steps), search rules)
+
+pub split_right-returns-in-Or : goal.split_right-returns-in-Or
+split_right-returns-in-Or g t c = first_of (grind (arith, common_steps), search rules)
+
+pub split_unary-returns-in-Not : goal.split_unary-returns-in-Not
+split_unary-returns-in-Not g t c = first_of (grind (arith, common_steps), search rules)
+
+pub split_unary-returns-in_default : goal.split_unary-returns-in_default
+split_unary-returns-in_default g t c = first_of (grind (arith, common_steps), search rules)

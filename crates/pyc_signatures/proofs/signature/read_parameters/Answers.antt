@@ -1,3 +1,4 @@
+use Rattle.std.proofs.lemmas.Grind.{common_steps}
 use Rattle.pyc_signatures.proofs.Steps.{performing}
 use Rattle.std.proofs.Common.{arith, rules}
 use Rattle.pyc_signatures.proofs.signature.read_parameters.Goals as goal
@@ -13,3 +14,6 @@ returns-in_err-params-in-Some g c = first_of (grind (arith, performing), search 
 
 pub returns-in_ok-params-in-Some : goal.returns-in_ok-params-in-Some
 returns-in_ok-params-in-Some g c = first_of (grind (arith, performing), search rules)
+
+pub returns-in-None : goal.returns-in-None
+returns-in-None g c = first_of (grind (arith, common_steps, performing), search rules)

@@ -1,3 +1,4 @@
+use Rattle.std.proofs.lemmas.Grind.{common_steps}
 use Rattle.std.proofs.Common.{rules, suc, ◌≡◌, ◌≤◌, false, true, length, ap, sym, ◌∙◌, refl, arith}
 use Rattle.pyc_class.specs.Class.{form_of}
 use Rattle.pyc_type_forms.specs.Types.{class_object, union}
@@ -129,3 +130,6 @@ walk-returns-in_default g t c =
 
 pub item_ways-loop-item-init : goal.item_ways-loop-item-init
 item_ways-loop-item-init g t c = first_of (grind (arith, joins), search rules)
+
+pub item_ways-returns : goal.item_ways-returns
+item_ways-returns g t c = first_of (grind (arith, common_steps, joins), search rules)

@@ -1,4 +1,5 @@
-use Rattle.std.proofs.Common.{◌≡◌, ℕ, ◌<◌, List, length, map, Option, None, Some, refl, sym, ap, ◌∙◌, subst, arith}
+use Rattle.std.proofs.lemmas.Grind.{common_steps}
+use Rattle.std.proofs.Common.{◌≡◌, ℕ, ◌<◌, List, length, map, Option, None, Some, refl, sym, ap, ◌∙◌, subst, arith, rules}
 use Rattle.pyc_class.specs.Class.{Id, builtin, user}
 use Rattle.pyc_mro.specs.declared.orders.Orders.{Orders as NumberedOrders}
 use Rattle.pyc_mro.specs.Orders.{order_of}
@@ -52,3 +53,21 @@ returns c =
     (subst (λ es. AreStored es c.in_ok-orders.orders stored) seen_last c.in_ok-stored_orders.ensures) in
     subst (λ f. (class : Id) → orders_by f stored class ≡ orders_of declared class)
     (sym (ap numbers_in c.numbers.view_is)) are
+
+pub returns-in_err-builtins : goal.returns-in_err-builtins
+returns-in_err-builtins c = first_of (grind (arith, common_steps), search rules)
+
+pub returns-in_err-entries : goal.returns-in_err-entries
+returns-in_err-entries c = first_of (grind (arith, common_steps), search rules)
+
+pub returns-in_err-numbers : goal.returns-in_err-numbers
+returns-in_err-numbers c = first_of (grind (arith, common_steps), search rules)
+
+pub returns-in_err-orders : goal.returns-in_err-orders
+returns-in_err-orders c = first_of (grind (arith, common_steps), search rules)
+
+pub returns-in_err-stored_orders : goal.returns-in_err-stored_orders
+returns-in_err-stored_orders c = first_of (grind (arith, common_steps), search rules)
+
+pub returns-in_err-table : goal.returns-in_err-table
+returns-in_err-table c = first_of (grind (arith, common_steps), search rules)

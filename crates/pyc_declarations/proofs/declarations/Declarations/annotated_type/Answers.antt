@@ -1,4 +1,5 @@
-use Rattle.std.proofs.Common.{◌≡◌, ap, ◌∙◌}
+use Rattle.std.proofs.lemmas.Grind.{common_steps}
+use Rattle.std.proofs.Common.{◌≡◌, ap, ◌∙◌, arith, rules}
 use Rattle.pyc_annotations.specs.Annotations.{Annotation, read_type}
 use Rattle.pyc_ast.specs.ExprView.{expr_of}
 use Rattle.pyc_declarations.specs.Declarations.{annotated_type}
@@ -12,3 +13,7 @@ unfolding annotated_type
 returns c =
     let r = read_type (source_in c.args.file.now) (type_expr (expr_of c.args.annotation.now)) in
     c.type_in.ensures ∙ ap (λ (found : Annotation). found.ty) (result_read r _ _ _ _ c.new-notes.ensures c.in_ok-found.ensures.done)
+
+pub returns-in_err-found : goal.returns-in_err-found
+unfolding annotated_type
+returns-in_err-found c = first_of (grind (arith, common_steps), search rules)

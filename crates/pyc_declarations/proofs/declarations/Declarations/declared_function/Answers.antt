@@ -1,4 +1,5 @@
-use Rattle.std.proofs.Common.{◌≡◌}
+use Rattle.std.proofs.lemmas.Grind.{common_steps}
+use Rattle.std.proofs.Common.{◌≡◌, arith, rules}
 use Rattle.pyc_ast.specs.StatementView.{function_of}
 use Rattle.pyc_declarations.specs.Declarations.{declared_function}
 use Rattle.pyc_names.specs.SourceFileView.{source_in}
@@ -12,3 +13,7 @@ unfolding declared_function
 returns c =
     let r = function_type (source_in c.args.file.now) (ty_of c.args.receiver) (function_of c.args.head.now) in
     result_read r _ _ _ _ c.new-notes.ensures c.in_ok-ty.ensures.done
+
+pub returns-in_err-ty : goal.returns-in_err-ty
+unfolding declared_function
+returns-in_err-ty c = first_of (grind (arith, common_steps), search rules)

@@ -1,0 +1,9 @@
+use Rattle.std.proofs.Common.{arith, rules}
+use Rattle.std.proofs.lemmas.Grind.{common_steps}
+use Rattle.pyc_displays.proofs.dicts.dict_display.Goals as goal
+
+pub returns : goal.returns
+returns g c = first_of (grind (arith, common_steps), search rules)
+
+pub returns-in_err-entry : goal.returns-in_err-entry
+returns-in_err-entry g c = first_of (grind (arith, common_steps), search rules)

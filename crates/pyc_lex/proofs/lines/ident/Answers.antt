@@ -1,0 +1,9 @@
+use Rattle.std.proofs.Common.{arith, rules}
+use Rattle.std.proofs.lemmas.Grind.{common_steps}
+use Rattle.pyc_lex.proofs.lines.ident.Goals as goal
+
+pub returns : goal.returns
+returns c = first_of (grind (arith, common_steps), search rules)
+
+pub returns-text : goal.returns-text
+returns-text c = first_of (grind (arith, common_steps), search rules)

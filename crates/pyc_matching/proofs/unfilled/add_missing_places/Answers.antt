@@ -1,0 +1,12 @@
+use Rattle.std.proofs.Common.{arith, rules}
+use Rattle.std.proofs.lemmas.Grind.{common_steps}
+use Rattle.pyc_matching.proofs.unfilled.add_missing_places.Goals as goal
+
+pub loop-index-init : goal.loop-index-init
+loop-index-init c = first_of (grind (arith, common_steps), search rules)
+
+pub returns : goal.returns
+returns c = first_of (grind (arith, common_steps), search rules)
+
+pub returns-in_err-add_place : goal.returns-in_err-add_place
+returns-in_err-add_place c = first_of (grind (arith, common_steps), search rules)

@@ -1,0 +1,12 @@
+use Rattle.std.proofs.Common.{arith, rules}
+use Rattle.pyc_scopes.proofs.Steps.{performing}
+use Rattle.pyc_scopes.specs.NamedValues.{not_defined}
+use Rattle.pyc_scopes.proofs.names.not_defined.Goals as goal
+
+pub returns-in_err-tell_error : goal.returns-in_err-tell_error
+unfolding not_defined
+returns-in_err-tell_error g c = first_of (grind (arith, performing), search rules)
+
+pub returns-in_err-text : goal.returns-in_err-text
+unfolding not_defined
+returns-in_err-text g c = first_of (grind (arith, performing), search rules)

@@ -1,0 +1,6 @@
+use Rattle.std.proofs.Common.{arith, rules}
+use Rattle.std.proofs.lemmas.Grind.{common_steps}
+use Rattle.pyc_signatures.proofs.signature.read_result.Goals as goal
+
+pub returns-in-Some : goal.returns-in-Some
+returns-in-Some g c = first_of (grind (arith, common_steps), search rules)
