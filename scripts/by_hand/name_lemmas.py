@@ -70,17 +70,14 @@ def attributes(crate, folder):
     found = {}
     for file in sorted(folder.glob("src/**/*.rt")):
         text = file.read_text(encoding="utf-8")
-        lines, inside = text.split("\n"), file.relative_to(folder / "src").with_suffix("").parts
-        module = [it for it in inside if it not in ("lib", "main", "mod")]
+        lines = text.split("\n")
         for begin, end, path in edits.functions(str(file.relative_to(folder)), text):
             whole = "\n".join(lines[begin - 1 : end])
             said = re.search(r"#\[tactic\(auto(.*)\)\]\n", whole) or re.search(r"#!\[tactic\(auto(.*)\)\]\n", text)
             named = {it: re.search(rf"{it}\(([^)]*)\)", said[1] if said else "") for it in ("using", "unfolding")}
             sets, unfolded = ([imported(crate, one) for one in it[1].split(",")] if it else [] for it in named.values())
             cycle = re.search(r"#\[cycle\((\w+)\)\]", whole)
-            segments = path.split("::")
-            whole_path = segments if segments[: len(module)] == module else [*module, *segments]
-            found[".".join(whole_path)] = (segments[-1], cycle and cycle[1], sets or [STEPS], unfolded)
+            found[path] = (path.rpartition("::")[2], cycle and cycle[1], sets or [STEPS], unfolded)
     return found
 
 
@@ -123,7 +120,7 @@ def new_answers(crate, folder, path, proof, known):
     """Returns an answer for each goal of a function, or of a cycle of calls, that has none."""
     last = path.rpartition(".")[2]
     # (a function that calls itself is a cycle by itself, which has its name)
-    own = known.get(path.replace("+", ""))
+    own = known.get(edits.key_of(known, path.replace("+", "")))
     members = [it for it in known.values() if it[1] and f"+{it[1]}" == last] or ([own] if own else [])
     file = folder / "proofs" / path.replace(".", "/") / "Answers.antt"
     text = file.read_text(encoding="utf-8") if file.is_file() else ""

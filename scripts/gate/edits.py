@@ -395,8 +395,8 @@ def proofs_but(library, name, copy, edited):
     cycles = cycles_of(copy)
     # (a function that calls itself is a cycle by itself, which has its name)
     for path, part in made:
-        own = path.replace("+", "").replace(".", "::")
-        if part == "Code" and path.rpartition(".")[2].startswith("+") and own in cycles and cycles[own] is None:
+        own = key_of(cycles, path.replace("+", ""))
+        if part == "Code" and path.rpartition(".")[2].startswith("+") and own and cycles[own] is None:
             cycles[own] = own.rpartition("::")[2]
     return [it for it in made if is_left_open(*it, cycles, edited) and not it[0].endswith(".drop")]
 
@@ -438,7 +438,16 @@ def is_left_open(path, part, cycles, edited):
     if part == "Code":
         members = [it for it, cycle in cycles.items() if cycle and f"+{cycle}" == last]
         return bool(members) and not any(ends_alike(it, one) for it in members for one in edited)
-    return named in cycles and cycles[named] is None and not any(ends_alike(named, one) for one in edited)
+    own = key_of(cycles, path)
+    return own is not None and cycles[own] is None and not any(ends_alike(named, one) for one in edited)
+
+
+def key_of(cycles, path):
+    """Returns the path by which the function of a proof stands in this map, or None: a method is there by its type alone, whose
+    module its proof's path begins with, whatever file the method stands in."""
+    named = path.replace(".", "::").split("::")
+    ends = ("::".join(named[at:]) for at in range(len(named)))
+    return next((it for it in ends if it in cycles), None)
 
 
 def ends_alike(one, other):
@@ -448,19 +457,18 @@ def ends_alike(one, other):
 
 
 def cycles_of(folder):
-    """Returns the name of the cycle of calls that each function of a crate is in, or None."""
+    """Returns the name of the cycle of calls that each function of a crate is in, or None. A method goes by its type's name and
+    its own, another function by its path below the crate."""
     found = {}
     for file in sorted(folder.glob("src/**/*.rt")):
         text = file.read_text(encoding="utf-8")
-        module = [it for it in file.relative_to(folder / "src").with_suffix("").parts if it not in ("lib", "main", "mod")]
         lines, traits = text.split("\n"), re.findall(r"(?m)^\s*(?:pub )?trait (\w+)", text)
         for begin, end, path in functions(str(file.relative_to(folder)), text):
             if path.split("::")[-2:-1] and path.split("::")[-2] in traits:
                 # (what a trait promises has no proof)
                 continue
             named = re.search(r"#\[cycle\((\w+)\)\]", "\n".join(lines[begin - 1 : end]))
-            whole = path if path.split("::")[: len(module)] == module else "::".join([*module, path])
-            found[whole] = named and named[1]
+            found[path] = named and named[1]
     return found
 
 
