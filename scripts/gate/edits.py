@@ -81,9 +81,11 @@ class Edit:
             if old.count(was) != 1 or was == new:
                 self.fault = f"{was!r} stands in {self.file} {old.count(was)} times, or is not changed"
         self.is_body = self.file.startswith("src/") and not self.refuses
-        self.place = None
+        self.place, self.cycle = None, None
         if self.fault is None:
             self.place = self.function(folder, old)
+        if self.place:
+            self.cycle = self.cycle_of((folder / self.place[0]).read_text(encoding="utf-8"))
 
     def function(self, folder, text):
         """Returns the file, the first line, the last line and the path of the function that the edit changes, or None."""
@@ -94,12 +96,22 @@ class Edit:
         places = {enclosing(self.file, text, text.index(was)) for was, _ in self.pairs}
         return places.pop() if len(places) == 1 else None
 
-    def applied(self, room):
-        """Changes the file of the crate's copy."""
-        file = room / self.file
+    def cycle_of(self, text):
+        """Returns the name of the cycle of calls that its function is in: one that calls itself may be a cycle by itself, which
+        has its name."""
+        _, begin, end, path = self.place
+        named = re.search(r"#\[cycle\((\w+)\)\]", "\n".join(text.split("\n")[begin - 1 : end]))
+        return named[1] if named else path.rpartition("::")[2]
+
+
+def apply(edits, room):
+    """Changes the files of a crate's copy by edits, each where its old text stands in the file as it was."""
+    for name in sorted({it.file for it in edits}):
+        file = room / name
         text = file.read_text(encoding="utf-8")
-        for was, new in self.pairs:
-            text = text.replace(was, new)
+        pairs = [pair for it in edits if it.file == name for pair in it.pairs]
+        for at, was, new in sorted(((text.index(was), was, new) for was, new in pairs), reverse=True):
+            text = text[:at] + new + text[at + len(was) :]
         file.write_text(text, encoding="utf-8")
 
 
@@ -109,7 +121,10 @@ def functions(file, text):
     lines, found, blocks = text.split("\n"), [], []
     for at, line in enumerate(lines):
         indent = len(line) - len(line.lstrip())
-        if opened := re.match(r"\s*(?:impl\b|(?:pub )?trait )(.*?)(?: where .*)?\{?$", line):
+        # (parameters of a block may stand on lines of their own)
+        end = next(it for it in range(at, len(lines)) if lines[it].endswith("{")) if re.match(r"\s*impl<$", line) else at
+        head = " ".join([line, *(it.strip() for it in lines[at + 1 : end + 1])])
+        if opened := re.match(r"\s*(?:impl\b|(?:pub )?trait )(.*?)(?: where .*)?\{?$", head):
             blocks.append((indent, impl_name(opened[1])))
         if line.rstrip().endswith("{}") and opened:
             blocks.pop()
@@ -130,21 +145,26 @@ def functions(file, text):
     return found
 
 
-def without_parameters(head):
-    """Returns the head of a block without the list of type parameters that it begins with."""
+def parted(head):
+    """Returns the list of type parameters that the head of a block begins with, and the rest of the head."""
     depth = 0
     for at, it in enumerate(head):
         depth += (it == "<") - (it == ">")
         if depth == 0:
-            return head[at + 1 :].strip() if head.startswith("<") else head
-    return head
+            return (head[1:at], head[at + 1 :].strip()) if head.startswith("<") else ("", head)
+    return "", head
 
 
 def impl_name(head):
-    """Returns the segment of a path for a block of methods: the type's name, then of a trait's the trait's with its types."""
-    head = without_parameters(head.replace("->", "").strip())
+    """Returns the segment of a path for a block of methods: the type's name, then of a trait's the trait's with its types, but
+    for parameters of the block."""
+    listed, head = parted(head.replace("->", "").strip())
+    while (plain := re.sub(r"<[^<>]*>|\([^()]*\)", "", listed)) != listed:
+        listed = plain
+    parameters = re.findall(r"(?:^|,)\s*(\w+)", listed)
     *trait, kind = head.split(" for ")
-    named = lambda it: "".join(re.split("::", word)[-1] for word in re.findall(r"(?<!')\b[\w:]+", it))
+    words = lambda it: (re.split("::", word)[-1] for word in re.findall(r"(?<!')\b[\w:]+", it))
+    named = lambda it: "".join(word for word in words(it) if word not in parameters)
     while (plain := re.sub(r"<[^<>]*>", "", kind)) != kind:
         kind = plain
     return named(kind) + "".join(named(it) for it in trait)
@@ -253,8 +273,7 @@ class Trial:
         for part in PARTS:
             if (self.folder / part).is_dir():
                 shutil.copytree(self.folder / part, copy / part)
-        for it in edits:
-            it.applied(copy)
+        apply(edits, copy)
         if bare:
             strip_answers(copy)
         holes = leave_open(self.library, self.name, copy, only) if only else []
@@ -504,7 +523,7 @@ def refusal(edit, said, files=None):
         where, line = re.match(r"(?:note: )?(?:\./)?(\S+?):(\d+):", it).groups()
         last = name.split("::")[-1]
         # (the proof of a cycle of calls names the function in its goals)
-        in_cycle = re.search(r"/\+\w+/", where) and f"`{last}-" in it
+        in_cycle = f"/+{edit.cycle}/" in where and f"`{last}-" in it
         in_proof = f"/{name.replace('::', '/')}/" in where
         is_own = where == file and begin <= int(line) <= end or in_proof or in_cycle
         is_read = edit.refuses if files is None else where in files

@@ -59,15 +59,9 @@ impl<F: Fn(Global, &mut Cursor<'_>, usize, u8) -> Result<Built, ParseError>> Exp
             (tree_of first.expr.value) tokens.old.rest.now) result tokens.new.rest.now }
     {
         let height = first.height;
-        match Box::into_inner(first.expr) {
-            Expr::Argument(element) => {
-                self.generator_in(tokens, callee, opening, element, height - 1)
-            }
-            // Dropped as a whole, which is proved at once where its variants one by one take long.
-            other => {
-                drop(other);
-                Err(ParseError::Refused)
-            }
+        match Box::into_inner(first.expr).into_argument() {
+            Some(element) => self.generator_in(tokens, callee, opening, element, height - 1),
+            None => Err(ParseError::Refused),
         }
     }
 

@@ -1,5 +1,5 @@
 -- What a test says of the forms that it does not name.
-use Rattle.std.proofs.Common.{◌≡◌, refl, ℕ, List, Bool, false, Option, Some, None}
+use Rattle.std.proofs.Common.{◌≡◌, refl, ℕ, List, Bool, false, Option, Some, None, true≢false}
 use Rattle.std.specs.declared.alloc.Global.{Global}
 use Rattle.std.specs.declared.boxed.Box.{Box}
 use Rattle.pyc_token.specs.declared.tokens.Token.{Token}
@@ -9,10 +9,11 @@ use Rattle.pyc_tree.specs.declared.tree.Expr.{Expr, None', Some'}
 use Rattle.pyc_tree.specs.declared.tree.Expr.TheVariants as e
 use Rattle.pyc_tree.specs.declared.tree.Tail.{Tail}
 use Rattle.pyc_tree.specs.ListContexts.{is_at, is_item, is_target_item, is_index, is_with_item, is_entry, is_last_argument, is_keyword_argument, is_argument, is_plain_parameter, is_late_parameter, is_parameter, after_argument, after_parameter}
-use Rattle.pyc_tree.specs.Items.{keyword, generated}
+use Rattle.pyc_tree.specs.Items.{keyword, generated, is_plain_argument}
 use Rattle.pyc_tree.specs.Parser.{Parser}
 use Rattle.pyc_tree.specs.Targets.{is_starred}
 use Rattle.pyc_tree.specs.Tree.{Tree}
+use Rattle.pyc_tree.specs.Tree as tree
 use Rattle.pyc_tree.specs.Well.{is_element}
 use Rattle.pyc_tree.specs.View.{tree_of}
 
@@ -114,9 +115,14 @@ unfolding tree_of
 keyword_other self (e.Name a) first ts = absurd (first _ refl)
 keyword_other self _ first ts = refl
 
--- an argument that is not plain is no element
-pub generated_other : (self : ℕ → Parser Tree) (callee : Tree) (opening : Token) (x : Expr) → ((a : Box Expr Global) → x ≡ e.Argument a → ⊥) → (ts : List Token)
-    → generated self callee opening (tree_of x) ts ≡ None
+-- an expression that is none is no plain argument
+pub plain_argument_other : (x : Expr) → ((a : Box Expr Global) → x ≡ e.Argument a → ⊥) → is_plain_argument (tree_of x) ≡ false
 unfolding tree_of
-generated_other self callee opening (e.Argument' p x) first ts = absurd (first _ refl)
+plain_argument_other (e.Argument' p x) first = absurd (first _ refl)
+plain_argument_other _ first = refl
+
+-- an argument that is not plain is no element
+pub generated_other : (self : ℕ → Parser Tree) (callee : Tree) (opening : Token) (t : Tree) → is_plain_argument t ≡ false → (ts : List Token)
+    → generated self callee opening t ts ≡ None
+generated_other self callee opening (tree.argument e) first ts = absurd (true≢false first)
 generated_other self callee opening _ first ts = refl

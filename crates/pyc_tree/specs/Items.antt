@@ -26,6 +26,11 @@ use Rattle.pyc_tree.specs.Parser.{Parser, ◌>>=◌, pure, fail, peek, take_one,
 abbrev pub checked : {A : Type 0} → Bool → A → Parser A
 checked holds a = if holds then pure a else fail
 
+-- whether a tree is a plain argument of a call: no keyword, and no `*` or `**` before it ("Calls")
+abbrev pub is_plain_argument : Tree → Bool
+is_plain_argument (tree.argument _) = true
+is_plain_argument _ = false
+
 -- an expression that goes on with operators of a precedence or tighter ones is read by `self` of that precedence
 module _ (self : ℕ → Parser Tree) where
   -- ---- what stands behind a token, where it comes next

@@ -1,12 +1,16 @@
 //! The trees of expressions, as a logical line has them: every node keeps each of its tokens, and an identifier is
 //! named by its token's span.
 
+ghost use Rattle.std.specs.Prelude.{◌≡◌, IfSome, IfNone, false};
+ghost use Rattle.pyc_tree.specs.Items.{is_plain_argument};
+ghost use Rattle.pyc_tree.specs.Tree as tree;
+ghost use Rattle.pyc_tree.specs.View.{tree_of};
+
 use crate::display_kind::DisplayKind;
 use pyc_token::Token;
 
 /// An expression, or a part that stands in some places alone.
 #[cycle(tree)]
-#[derive(Drop)]
 pub enum Expr {
     /// An identifier.
     Name(Token),
@@ -75,6 +79,103 @@ pub enum Expr {
     WithItem(Box<Expr>, Tail),
 }
 
+/// Written out: the crates above call it, where what `derive` writes would be made and proved in each of them.
+impl Drop for Expr {
+    #[cycle(tree)]
+    fn drop(self) {
+        match self {
+            Expr::Strings(_, more) => drop(more),
+            Expr::Parenthesized(_, inner, _) => drop(inner),
+            Expr::Display(_, _, items, _) => drop(items),
+            Expr::ComprehensionDisplay(_, _, element, comprehensions, _) => {
+                drop(element);
+                drop(comprehensions);
+            }
+            Expr::Attribute(value, _, _) => drop(value),
+            Expr::Call(callee, _, arguments, _) => {
+                drop(callee);
+                drop(arguments);
+            }
+            Expr::Subscript(value, _, indices, _) => {
+                drop(value);
+                drop(indices);
+            }
+            Expr::Await(_, operand) => drop(operand),
+            Expr::Unary(_, operand) => drop(operand),
+            Expr::Binary(left, _, right) => {
+                drop(left);
+                drop(right);
+            }
+            Expr::Compare(left, links) => {
+                drop(left);
+                drop(links);
+            }
+            Expr::Conditional(body, _, test, _, orelse) => {
+                drop(body);
+                drop(test);
+                drop(orelse);
+            }
+            Expr::Lambda(_, parameters, _, body) => {
+                drop(parameters);
+                drop(body);
+            }
+            Expr::Bare(items) => drop(items),
+            Expr::Yield(_, value) => drop(value),
+            Expr::YieldFrom(_, _, value) => drop(value),
+            Expr::Starred(_, operand) => drop(operand),
+            Expr::DoubleStarred(_, value) => drop(value),
+            Expr::Entry(key, _, value) => {
+                drop(key);
+                drop(value);
+            }
+            Expr::Mapping(_, value) => drop(value),
+            Expr::Slice(lower, _, upper) => {
+                drop(lower);
+                drop(upper);
+            }
+            Expr::Stride(lower, _, upper, _, step) => {
+                drop(lower);
+                drop(upper);
+                drop(step);
+            }
+            Expr::Argument(value) => drop(value),
+            Expr::Keyword(_, _, value) => drop(value),
+            Expr::Generator(element, comprehensions) => {
+                drop(element);
+                drop(comprehensions);
+            }
+            Expr::Parameter(_, annotation, default) => {
+                drop(annotation);
+                drop(default);
+            }
+            Expr::StarParameter(_, _, annotation) => drop(annotation),
+            Expr::DoubleParameter(_, _, annotation) => drop(annotation),
+            Expr::WithItem(value, target) => {
+                drop(value);
+                drop(target);
+            }
+            Expr::Name(_) | Expr::Number(_) | Expr::Constant(_) | Expr::BareStar(_) => {}
+        }
+    }
+}
+
+impl Expr {
+    /// The value of a plain argument of a call, where this is one.
+    pub fn into_argument(self) -> Option<Box<Expr>>
+        ensures found { IfSome result (λ value. tree_of self ≡ tree.argument (tree_of value.value)) }
+        ensures none { IfNone result (is_plain_argument (tree_of self) ≡ false) }
+    {
+        match self {
+            Expr::Argument(value) => Some(value),
+            // Dropped as a whole, which is proved at once where its variants one by one take long.
+            other => {
+                drop(other);
+                None
+            }
+        }
+    }
+}
+
 /// Items with a comma after each, and perhaps a last one without.
 #[cycle(tree)]
 #[derive(Drop)]
@@ -85,24 +186,39 @@ pub struct Pieces {
 
 /// An item and the comma after it.
 #[cycle(tree)]
-#[derive(Drop)]
 pub struct Piece {
     pub value: Box<Expr>,
     pub comma: Token,
 }
 
+/// Written out: the crates above call it, where what `derive` writes would be made and proved in each of them.
+impl Drop for Piece {
+    #[cycle(tree)]
+    fn drop(self) {
+        let Piece { value, comma: _ } = self;
+        drop(value);
+    }
+}
+
 /// A comparison: its operator, which may have a second word, as `not in`, and its right operand.
 #[cycle(tree)]
-#[derive(Drop)]
 pub struct Link {
     pub first: Token,
     pub second: Option<Token>,
     pub right: Box<Expr>,
 }
 
+/// Written out: the crates above call it, where what `derive` writes would be made and proved in each of them.
+impl Drop for Link {
+    #[cycle(tree)]
+    fn drop(self) {
+        let Link { first: _, second: _, right } = self;
+        drop(right);
+    }
+}
+
 /// A clause of a comprehension.
 #[cycle(tree)]
-#[derive(Drop)]
 pub enum Comprehension {
     /// Perhaps `async`, then `for`, targets, `in` and what is iterated.
     For(Option<Token>, Token, Box<Expr>, Token, Box<Expr>),
@@ -110,10 +226,37 @@ pub enum Comprehension {
     If(Token, Box<Expr>),
 }
 
+/// Written out: the crates above call it, where what `derive` writes would be made and proved in each of them.
+impl Drop for Comprehension {
+    #[cycle(tree)]
+    fn drop(self) {
+        match self {
+            Comprehension::For(_, _, targets, _, iterable) => {
+                drop(targets);
+                drop(iterable);
+            }
+            Comprehension::If(_, test) => drop(test),
+        }
+    }
+}
+
 /// A token with an expression after it, or nothing. Most are nothing, so the token stands in a box of its own.
 #[cycle(tree)]
-#[derive(Drop)]
 pub enum Tail {
     Nothing,
     After(Box<Token>, Box<Expr>),
+}
+
+/// Written out: the crates above call it, where what `derive` writes would be made and proved in each of them.
+impl Drop for Tail {
+    #[cycle(tree)]
+    fn drop(self) {
+        match self {
+            Tail::Nothing => {}
+            Tail::After(token, value) => {
+                drop(token);
+                drop(value);
+            }
+        }
+    }
 }
