@@ -212,7 +212,11 @@ pub struct Link {
 impl Drop for Link {
     #[cycle(tree)]
     fn drop(self) {
-        let Link { first: _, second: _, right } = self;
+        let Link {
+            first: _,
+            second: _,
+            right,
+        } = self;
         drop(right);
     }
 }
