@@ -3,8 +3,8 @@
 
     bench/reading.py [--program PROGRAM] [FOLDER]
 
-The sources are those of `bench/parsing.py`: texts of up to 1 MiB made of the files below FOLDER that have a tree, and texts
-that are dense. PROGRAM is built from `bench/reading.rt.txt` (`scripts/by_hand/build.py reading`, which is called where no PROGRAM
+The sources are the files below FOLDER that have a tree, each by itself, and those of `bench/parsing.py`: texts of up to 1 MiB
+made of such files, and texts that are dense. PROGRAM is built from `bench/reading.rt.txt` (`scripts/by_hand/build.py reading`, which is called where no PROGRAM
 is given). It reads each text several times in one thread, and counts the processor time of each alone, first of the
 reading, from bytes to abstract tree, and then of the removal. The quickest of a text's turns is taken. Two memories are
 told, both without the source: the most that the program holds in one turn (VmHWM) less that in a turn with an empty
@@ -73,10 +73,20 @@ def tell(what, found):
         print(f"  {name}     {total / size:.1f} bytes a byte of source, at most {most:.1f}", flush=True)
 
 
+def tell_each(program, sources):
+    """Prints the speed over sources, each read by itself."""
+    formed = sum(min(time[0] for time in ran(program, source, TURNS)[0]) for source in sources)
+    size, lines = sum(map(len, sources)), sum(it.count(b"\n") for it in sources)
+    print(f"files, each by itself: {len(sources)}, {size} bytes, {lines} lines")
+    print(f"  reading  {speed(lines, formed)} lines a second, {1e3 * size / formed:.1f} MB a second", flush=True)
+
+
 def measure_all(program, folder):
     print(f"{processor()}, {platform.system()} {platform.release()}, {TURNS} turns a text")
     empty = ran(program, b"", 1)[1]
-    tell("files", [measured(program, text, empty) for text in texts_of(trees_of(program, folder))])
+    paths = trees_of(program, folder)
+    tell_each(program, [path.read_bytes() for path in paths])
+    tell("texts of files", [measured(program, text, empty) for text in texts_of(paths)])
     for what, text in DENSE.items():
         tell(what, [measured(program, text, empty)])
 

@@ -9,7 +9,7 @@ ghost use Rattle.pyc_parse.specs.Modules.{module_in};
 use crate::ignores::ignores;
 use crate::strings::Inside;
 use pyc_ast::{Fault, Module, Outcome};
-use pyc_lower_block::{statements, statements_suspend};
+use pyc_lower_block::{into_statements, statements_suspend};
 use pyc_lower_expression::{Lowering, Names, Origin, Unread};
 use pyc_parse::{Module as Tree, Outcome as Found, outcome};
 use std::alloc::{AllocError, Global};
@@ -24,9 +24,9 @@ const STRINGS: Inside<Inside<Inside<Inside<Unread>>>> = Inside {
     },
 };
 
-/// The module that a tree of the grammar of this source is.
-fn lowered(alloc: Global, source: &[u8], tree: &Tree) -> Result<Module, AllocError>
-    ensures { IfOk result (λ found. module_of found ≡ spec.module_in source.now (module_in tree.now)) }
+/// The module that a tree of the grammar of this source is; each statement of the tree is dropped once it is lowered.
+fn lowered(alloc: Global, source: &[u8], tree: Tree) -> Result<Module, AllocError>
+    ensures { IfOk result (λ found. module_of found ≡ spec.module_in source.now (module_in tree)) }
 {
     let lowering = Lowering {
         alloc,
@@ -37,9 +37,10 @@ fn lowered(alloc: Global, source: &[u8], tree: &Tree) -> Result<Module, AllocErr
         quotes: &STRINGS,
     };
     let mut names = Names::new(alloc)?;
+    let suspends = statements_suspend(&tree.statements);
     Ok(Module {
-        statements: statements(&lowering, &tree.statements, &mut names)?,
-        suspends: statements_suspend(&tree.statements),
+        statements: into_statements(&lowering, tree.statements, &mut names)?,
+        suspends,
         ignores: ignores(alloc, source, &tree.ignores)?,
         whole_file: tree.whole_file,
     })
@@ -53,7 +54,7 @@ pub fn read(alloc: Global, bytes: &[u8]) -> Result<Outcome, AllocError>
     ensures { IfOk result (λ outcome. outcome_of outcome ≡ read_of bytes.now) }
 {
     match outcome(alloc, bytes)? {
-        Found::Tree(tree) => Ok(Outcome::Tree(lowered(alloc, bytes, &tree)?)),
+        Found::Tree(tree) => Ok(Outcome::Tree(lowered(alloc, bytes, tree)?)),
         Found::Fault(fault) => Ok(Outcome::Fault(Fault {
             line: fault.line,
             text: fault.text,

@@ -1,5 +1,6 @@
 -- Loops that put a list behind what was made, and loops that look for the first item of a kind.
-use Rattle.std.proofs.Common.{◌≡◌, refl, ap, sym, ◌∙◌, ℕ, ◌+◌, ◌<◌, Bool, true, false, if◌then◌else◌, List, [], ◌∷◌, length, get_or, Option, None, Some, drop, ◌++◌, append_assoc}
+use Rattle.std.proofs.Common.{◌≡◌, refl, ap, sym, ◌∙◌, ℕ, ◌+◌, ◌<◌, Bool, true, false, if◌then◌else◌, List, [], ◌∷◌, length, get_or, Option, None, Some, drop, ◌++◌, append_assoc, arith}
+use Rattle.std.proofs.lemmas.List.{append-nil}
 use Rattle.std.specs.List.{cons_option}
 use Rattle.pyc_lower_expression.proofs.Loops.{drop_at}
 
@@ -14,6 +15,22 @@ pub joined_at : {A B : Type 0} (f : List A → List B) (h : A → List B) → ((
 joined_at f h step xs i x found {new} below is e made =
     ap (λ all. all ++ f (drop (i + 1) xs)) made ∙ append_assoc found (h x) (f (drop (i + 1) xs))
     ∙ ap (λ rest. found ++ rest) (sym (step x (drop (i + 1) xs)) ∙ ap f (sym (drop_at xs i x below is))) ∙ e
+
+-- the same over the items that are left
+pub joined_next : {A B : Type 0} (f : List A → List B) (h : A → List B) → ((x : A) (xs : List A) → f (x ∷ xs) ≡ h x ++ f xs)
+    → (left : List A) (x : A) (rest : List A) (found : List B) {new whole : List B} → left ≡ x ∷ rest → found ++ f left ≡ whole → new ≡ found ++ h x → new ++ f rest ≡ whole
+joined_next f h step left x rest found is e made =
+    ap (λ all. all ++ f rest) made ∙ append_assoc found (h x) (f rest)
+    ∙ ap (λ more. found ++ more) (sym (step x rest) ∙ ap f (sym is)) ∙ e
+
+no_item : {A : Type 0} (xs : List A) → length xs ≡ 0 → xs ≡ []
+no_item [] none = refl
+no_item (x ∷ xs) none = absurd (omega arith)
+
+-- no item is left
+pub joined_end : {A B : Type 0} (f : List A → List B) (left : List A) (found : List B) {whole : List B} → length left ≡ 0 → f [] ≡ [] → found ++ f left ≡ whole → found ≡ whole
+joined_end f left found none nothing e =
+    sym (append-nil found) ∙ ap (λ more. found ++ more) (sym nothing ∙ ap f (sym (no_item left none))) ∙ e
 
 if_true : {B : Type 0} (test : Bool) (here there : B) → test ≡ true → (if test then here else there) ≡ here
 if_true true here there e = refl

@@ -61,7 +61,7 @@ fn decorators<Q: Quotes>(
 
 /// The statements of a block; the only error is that memory runs out.
 #[cycle(blocks)]
-pub fn statements<Q: Quotes>(
+fn statements<Q: Quotes>(
     lowering: &Lowering<'_, Q>,
     trees: &[Tree],
     names: &mut Names,
@@ -70,9 +70,27 @@ pub fn statements<Q: Quotes>(
         ≡ spec.stmts_in (Q.spelled lowering.now.quotes.now) (origin_of lowering.now.origin)
         (stmts_before trees.now tree.no_statement)) }
 {
-    let mut found = Vec::new(lowering.alloc);
+    let mut found = Vec::with_capacity(lowering.alloc, trees.len())?;
     for statement in trees {
         push_statement(lowering, statement, &mut found, names)?;
+    }
+    Ok(found)
+}
+
+/// The statements of a block whose trees are needed no longer: each is dropped once it is lowered, while it is near.
+/// The only error is that memory runs out.
+pub fn into_statements<Q: Quotes>(
+    lowering: &Lowering<'_, Q>,
+    trees: Vec<Tree>,
+    names: &mut Names,
+) -> Result<Vec<Stmt>, AllocError>
+    ensures { IfOk result (λ found. map made_of found.items
+        ≡ spec.stmts_in (Q.spelled lowering.now.quotes.now) (origin_of lowering.now.origin)
+        (stmts_before trees.items tree.no_statement)) }
+{
+    let mut found = Vec::with_capacity(lowering.alloc, trees.len())?;
+    for tree in trees {
+        push_statement(lowering, &tree, &mut found, names)?;
     }
     Ok(found)
 }

@@ -6,5 +6,5 @@ mod ending;
 mod forms;
 mod suspension;
 
-pub use blocks::statements;
+pub use blocks::into_statements;
 pub use suspension::statements_suspend;

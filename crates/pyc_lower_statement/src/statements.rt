@@ -40,7 +40,7 @@ fn assigned<Q: Quotes>(
         ≡ spec.assigned_in (Q.spelled lowering.now.quotes.now) (origin_of lowering.now.origin)
         (map assigned_of trees.now)) }
 {
-    let mut found = Vec::new(lowering.alloc);
+    let mut found = Vec::with_capacity(lowering.alloc, trees.len())?;
     for tree in trees {
         found.push(target(lowering, &tree.target, names)?)?;
     }

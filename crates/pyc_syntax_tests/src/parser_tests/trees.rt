@@ -2,7 +2,7 @@
 
 use super::parsed;
 use super::shapes::{statement, write_items, write_tree};
-use pyc_parse::{Expr, Header, Line, SimpleStatement};
+use pyc_parse::{Expr, Header, Line, Pieces, SimpleStatement};
 use std::alloc::Global;
 use std::test::Fail;
 
@@ -88,5 +88,24 @@ fn lines_have_their_shapes(rt: HostRuntime) -> Result<(), Fail> {
     for (source, want) in SHAPES {
         assert_eq!(rt; shape_of(rt.alloc(), source)?.as_str(), *want, "{source}");
     }
+    Ok(())
+}
+
+/// The value of a tree that is an argument by its place alone, with a value of no items, and of that value itself.
+fn taken_out(alloc: Global) -> Result<(Option<Box<Expr>>, Option<Box<Expr>>), Fail> {
+    let value = || Expr::Bare(Pieces {
+        each: Vec::new(alloc),
+        last: None,
+    });
+    let argument = Expr::Argument(Box::new(alloc, value())?);
+    Ok((argument.into_argument(), value().into_argument()))
+}
+
+#[test]
+fn plain_arguments_are_taken_out(rt: HostRuntime) -> Result<(), Fail> {
+    let (value, nothing) = taken_out(rt.alloc())?;
+    let value = value.ok_or("an argument has no value")?;
+    assert!(rt; matches!(&*value, Expr::Bare(_)));
+    assert!(rt; nothing.is_none());
     Ok(())
 }

@@ -1,10 +1,8 @@
-use Rattle.std.proofs.Common.{◌≡◌, ap, ◌∙◌, map, None}
+use Rattle.std.proofs.Common.{◌≡◌, ap, ◌∙◌, map}
 use Rattle.pyc_ast.specs.Statements.{stmts}
 use Rattle.pyc_lex.specs.View as lex
 use Rattle.pyc_lower.proofs.ReadingLemmas.{module_made}
 use Rattle.pyc_lower.specs.Ignores.{ignore_in}
-use Rattle.pyc_lower.specs.Strings.{spelled}
-use Rattle.pyc_lower_block.specs.Blocks.{stmts_in}
 use Rattle.pyc_lower_block.specs.Suspends.{stmts_suspend}
 use Rattle.pyc_parse.specs.Modules.{module_in}
 use Rattle.pyc_tree.specs.BlockTrees.{no_statement}
@@ -14,8 +12,7 @@ use Rattle.pyc_lower.proofs.reading.lowered.Goals as goal
 pub returns : goal.returns
 returns c =
     let source = c.args.source.now in
-    module_made source (module_in c.args.tree.now) _ _ _
-    (ap stmts (c.in_ok-statements.ensures
-    ∙ ap (λ trees. stmts_in spelled (record { source = source; string = None }) (stmts_before trees no_statement)) c.deref.ensures.value))
-    (c.statements_suspend.ensures ∙ ap (λ trees. stmts_suspend (stmts_before trees no_statement)) c.deref-2.ensures.value)
-    (c.in_ok-ignores.ensures ∙ ap (λ found. map (ignore_in source) (map lex.ignore_in found)) c.deref-3.ensures.value)
+    module_made source (module_in c.args.tree) _ _ _
+    (ap stmts c.in_ok-into_statements.ensures)
+    (c.statements_suspend-suspends.ensures ∙ ap (λ trees. stmts_suspend (stmts_before trees no_statement)) c.deref.ensures.value)
+    (c.in_ok-ignores.ensures ∙ ap (λ found. map (ignore_in source) (map lex.ignore_in found)) c.deref-2.ensures.value)
