@@ -79,82 +79,39 @@ pub enum Expr {
     WithItem(Box<Expr>, Tail),
 }
 
-/// Written out: the crates above call it, where what `derive` writes would be made and proved in each of them.
+/// Written out: the crates above call it, where what `derive` writes would be made and proved in each of them. The parts
+/// that an arm names are dropped as it ends.
 impl Drop for Expr {
     #[cycle(tree)]
     fn drop(self) {
         match self {
-            Expr::Strings(_, more) => drop(more),
-            Expr::Parenthesized(_, inner, _) => drop(inner),
-            Expr::Display(_, _, items, _) => drop(items),
-            Expr::ComprehensionDisplay(_, _, element, comprehensions, _) => {
-                drop(element);
-                drop(comprehensions);
-            }
-            Expr::Attribute(value, _, _) => drop(value),
-            Expr::Call(callee, _, arguments, _) => {
-                drop(callee);
-                drop(arguments);
-            }
-            Expr::Subscript(value, _, indices, _) => {
-                drop(value);
-                drop(indices);
-            }
-            Expr::Await(_, operand) => drop(operand),
-            Expr::Unary(_, operand) => drop(operand),
-            Expr::Binary(left, _, right) => {
-                drop(left);
-                drop(right);
-            }
-            Expr::Compare(left, links) => {
-                drop(left);
-                drop(links);
-            }
-            Expr::Conditional(body, _, test, _, orelse) => {
-                drop(body);
-                drop(test);
-                drop(orelse);
-            }
-            Expr::Lambda(_, parameters, _, body) => {
-                drop(parameters);
-                drop(body);
-            }
-            Expr::Bare(items) => drop(items),
-            Expr::Yield(_, value) => drop(value),
-            Expr::YieldFrom(_, _, value) => drop(value),
-            Expr::Starred(_, operand) => drop(operand),
-            Expr::DoubleStarred(_, value) => drop(value),
-            Expr::Entry(key, _, value) => {
-                drop(key);
-                drop(value);
-            }
-            Expr::Mapping(_, value) => drop(value),
-            Expr::Slice(lower, _, upper) => {
-                drop(lower);
-                drop(upper);
-            }
-            Expr::Stride(lower, _, upper, _, step) => {
-                drop(lower);
-                drop(upper);
-                drop(step);
-            }
-            Expr::Argument(value) => drop(value),
-            Expr::Keyword(_, _, value) => drop(value),
-            Expr::Generator(element, comprehensions) => {
-                drop(element);
-                drop(comprehensions);
-            }
-            Expr::Parameter(_, annotation, default) => {
-                drop(annotation);
-                drop(default);
-            }
-            Expr::StarParameter(_, _, annotation) => drop(annotation),
-            Expr::DoubleParameter(_, _, annotation) => drop(annotation),
-            Expr::WithItem(value, target) => {
-                drop(value);
-                drop(target);
-            }
             Expr::Name(_) | Expr::Number(_) | Expr::Constant(_) | Expr::BareStar(_) => {}
+            Expr::Strings(_, _more) => {}
+            Expr::Display(_, _, _items, _) | Expr::Bare(_items) => {}
+            Expr::Parenthesized(_, _value, _)
+            | Expr::Attribute(_value, _, _)
+            | Expr::Await(_, _value)
+            | Expr::Unary(_, _value)
+            | Expr::YieldFrom(_, _, _value)
+            | Expr::Starred(_, _value)
+            | Expr::DoubleStarred(_, _value)
+            | Expr::Mapping(_, _value)
+            | Expr::Argument(_value)
+            | Expr::Keyword(_, _, _value) => {}
+            Expr::Yield(_, _value) => {}
+            Expr::Call(_value, _, _items, _)
+            | Expr::Subscript(_value, _, _items, _)
+            | Expr::Lambda(_, _items, _, _value) => {}
+            Expr::ComprehensionDisplay(_, _, _element, _comprehensions, _)
+            | Expr::Generator(_element, _comprehensions) => {}
+            Expr::Binary(_left, _, _right) | Expr::Entry(_left, _, _right) => {}
+            Expr::Compare(_left, _links) => {}
+            Expr::Conditional(_body, _, _test, _, _orelse) => {}
+            Expr::Slice(_lower, _, _upper) => {}
+            Expr::Stride(_lower, _, _upper, _, _step) => {}
+            Expr::Parameter(_, _annotation, _default) => {}
+            Expr::StarParameter(_, _, _annotation) | Expr::DoubleParameter(_, _, _annotation) => {}
+            Expr::WithItem(_value, _target) => {}
         }
     }
 }
