@@ -1,6 +1,6 @@
 //! Physical lines and columns.
 
-ghost use Rattle.std.specs.Prelude.{◌≡◌, ◌<◌, ◌≤◌, ◌+◌, ◌^◌, length};
+ghost use Rattle.std.specs.Prelude.{◌≡◌, ◌<◌, ◌≤◌, ◌+◌, ◌^◌, length, slice_index};
 
 use pyc_token::byte_at;
 
@@ -14,13 +14,21 @@ pub(crate) struct Position {
 impl Position {
     ghost use Rattle.pyc_lex.specs.Positions as spec;
 
-    /// The position after a byte, before another one.
-    fn past(self, byte: u8, next: u8) -> Position
+    /// The position after the byte of a text at an index.
+    fn past(self, text: &[u8], index: usize) -> Position
+        requires within { index < length text.now }
         requires line { self.line + 1 < 2 ^ 64 }
         requires column { self.column + 1 < 2 ^ 64 }
-        ensures { result ≡ spec.position_past self byte next }
+        ensures { result ≡ spec.position_past self (slice_index text.now index) (slice_index text.now (index + 1)) }
     {
-        if byte == b'\n' || byte == b'\r' && next != b'\n' {
+        let byte = text[index];
+        // Most bytes are of this sort, and for these the next one is not looked at.
+        if (b' '..=b'~').contains(&byte) {
+            Position {
+                line: self.line,
+                column: self.column + 1,
+            }
+        } else if byte == b'\n' || byte == b'\r' && byte_at(text, index + 1) != b'\n' {
             Position {
                 line: self.line + 1,
                 column: 1,
@@ -47,7 +55,7 @@ impl Position {
     {
         let mut position = self;
         for index in 0..text.len() {
-            position = position.past(text[index], byte_at(text, index + 1));
+            position = position.past(text, index);
         }
         position
     }

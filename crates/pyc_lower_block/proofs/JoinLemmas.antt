@@ -9,19 +9,17 @@ pub cons_first : {A : Type 0} (x : Option A) (xs : List A) → cons_option x xs 
 cons_first None xs = refl
 cons_first (Some x) xs = refl
 
--- a list is made list by list: what the item at an index is, is put behind those that were made
-pub joined_at : {A B : Type 0} (f : List A → List B) (h : A → List B) → ((x : A) (xs : List A) → f (x ∷ xs) ≡ h x ++ f xs)
-    → (xs : List A) (i : ℕ) (x : A) (found : List B) {new whole : List B} → i < length xs → x ≡ get_or xs i x → found ++ f (drop i xs) ≡ whole → new ≡ found ++ h x → new ++ f (drop (i + 1) xs) ≡ whole
-joined_at f h step xs i x found {new} below is e made =
-    ap (λ all. all ++ f (drop (i + 1) xs)) made ∙ append_assoc found (h x) (f (drop (i + 1) xs))
-    ∙ ap (λ rest. found ++ rest) (sym (step x (drop (i + 1) xs)) ∙ ap f (sym (drop_at xs i x below is))) ∙ e
-
--- the same over the items that are left
+-- a list is made list by list: what the first of the items that are left is, is put behind those that were made
 pub joined_next : {A B : Type 0} (f : List A → List B) (h : A → List B) → ((x : A) (xs : List A) → f (x ∷ xs) ≡ h x ++ f xs)
     → (left : List A) (x : A) (rest : List A) (found : List B) {new whole : List B} → left ≡ x ∷ rest → found ++ f left ≡ whole → new ≡ found ++ h x → new ++ f rest ≡ whole
 joined_next f h step left x rest found is e made =
     ap (λ all. all ++ f rest) made ∙ append_assoc found (h x) (f rest)
     ∙ ap (λ more. found ++ more) (sym (step x rest) ∙ ap f (sym is)) ∙ e
+
+-- the same by the index of that item
+pub joined_at : {A B : Type 0} (f : List A → List B) (h : A → List B) → ((x : A) (xs : List A) → f (x ∷ xs) ≡ h x ++ f xs)
+    → (xs : List A) (i : ℕ) (x : A) (found : List B) {new whole : List B} → i < length xs → x ≡ get_or xs i x → found ++ f (drop i xs) ≡ whole → new ≡ found ++ h x → new ++ f (drop (i + 1) xs) ≡ whole
+joined_at f h step xs i x found below is e made = joined_next f h step (drop i xs) x (drop (i + 1) xs) found (drop_at xs i x below is) e made
 
 no_item : {A : Type 0} (xs : List A) → length xs ≡ 0 → xs ≡ []
 no_item [] none = refl

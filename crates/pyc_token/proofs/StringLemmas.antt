@@ -1,7 +1,16 @@
 -- Strings, read from one unit to the next, and an f-string's braces, read byte by byte.
-use Rattle.std.proofs.Common.{◌≡◌, ℕ, zero, suc, ◌+◌, ◌-◌, ◌<◌, ◌≤◌, Bool, true, false, not, ◌||◌, ◌&&◌, ◌==◌, nat_eq, List, [], ◌∷◌, drop, length, slice_index, if◌then◌else◌, Option, Some, None, option_map, refl, sym, ap, ◌∙◌, arith, length-drop}
+use Rattle.std.proofs.Common.{◌≡◌, ℕ, zero, suc, ◌+◌, ◌-◌, ◌<◌, ◌≤◌, Bool, true, false, not, ◌||◌, ◌&&◌, ◌==◌, nat_eq, List, [], ◌∷◌, drop, length, slice_index, take, if◌then◌else◌, Option, Some, None, option_map, refl, sym, ap, ◌∙◌, arith, length-drop}
 use Rattle.std.specs.List.{list_any, starts_with}
+use Rattle.std.specs.Cmp.Lexicographic.{pointwise}
 use Rattle.pyc_token.specs.Strings.{unit_len, is_cut_off, closed_len, without_doubled, has_open_brace}
+
+-- ---- the quotes at the front of a text
+
+-- a text that begins with another byte does not begin with the quotes
+pub no_quotes : (text quotes : List ℕ) → 0 < length quotes → nat_eq (slice_index quotes 0) (slice_index text 0) ≡ false → starts_with nat_eq text quotes ≡ false
+no_quotes text [] some apart = absurd (omega (arith, some))
+no_quotes [] (quote ∷ quotes) some apart = refl
+no_quotes (byte ∷ text) (quote ∷ quotes) some apart = ap (λ same. same && pointwise nat_eq quotes (take (length quotes) text)) apart
 
 -- ---- the end of a string
 

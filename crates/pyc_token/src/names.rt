@@ -1,6 +1,6 @@
 //! Names and keywords.
 
-ghost use Rattle.std.specs.Prelude.{◌≡◌, ◌<◌, ◌≤◌, length, map, IfOk};
+ghost use Rattle.std.specs.Prelude.{◌≡◌, ◌<◌, ◌≤◌, bytes_eq, length, map, IfOk};
 ghost use Rattle.std.specs.List.{prefix_len};
 ghost use Rattle.pyc_token.specs.Names as spec;
 
@@ -109,12 +109,19 @@ pub(crate) fn name_len(text: &str) -> usize
     len + character_name_len(rest)
 }
 
+/// Whether two spellings are the same; their first bytes alone tell it of most.
+fn is_same(one: &[u8], other: &[u8]) -> bool
+    ensures { result ≡ bytes_eq one.now other.now }
+{
+    byte_at(one, 0) == byte_at(other, 0) && one == other
+}
+
 /// The keyword that the table has under this spelling.
 fn keyword_in(mut table: &[(&[u8], Keyword)], name: &[u8]) -> Option<Keyword>
     ensures { result ≡ spec.keyword_in (map (λ entry. (entry.0.now, entry.1)) table.entry.now) name.now }
 {
     while let [entry, rest @ ..] = table {
-        if entry.0 == name {
+        if is_same(entry.0, name) {
             return Some(entry.1);
         }
         table = rest;

@@ -1,6 +1,7 @@
 //! Strings.
 
-ghost use Rattle.std.specs.Prelude.{◌≡◌, ◌≤◌, ◌<◌, true, length, slice_index, IfSome};
+ghost use Rattle.std.specs.Prelude.{◌≡◌, ◌≤◌, ◌<◌, nat_eq, true, length, slice_index, IfSome};
+ghost use Rattle.std.specs.List.{starts_with};
 ghost use Rattle.pyc_token.specs.Characters.{is_quote};
 ghost use Rattle.pyc_token.specs.Strings as spec;
 
@@ -76,6 +77,14 @@ fn is_cut_off(quotes: &[u8], byte: u8) -> bool
     quotes.len() == 1 && is_line_end(byte)
 }
 
+/// Whether a text begins with these quotes; its first byte alone tells it of most.
+fn begins_with(text: &[u8], quotes: &[u8]) -> bool
+    requires { 0 < length quotes.now }
+    ensures { result ≡ starts_with nat_eq text.now quotes.now }
+{
+    byte_at(quotes, 0) == byte_at(text, 0) && text.starts_with(quotes)
+}
+
 /// How many bytes a string goes on for after its opening quotes, its closing quotes included, or none where it is open.
 fn closed_len(quotes: &[u8], text: &[u8]) -> Option<usize>
     requires { 0 < length quotes.now }
@@ -87,7 +96,7 @@ fn closed_len(quotes: &[u8], text: &[u8]) -> Option<usize>
         if rest.is_empty() {
             break;
         }
-        if rest.starts_with(quotes) {
+        if begins_with(rest, quotes) {
             return Some(text.len() - rest.len() + quotes.len());
         }
         if is_cut_off(quotes, rest[0]) {

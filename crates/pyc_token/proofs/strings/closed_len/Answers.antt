@@ -6,23 +6,23 @@ use Rattle.pyc_token.proofs.strings.closed_len.Goals as goal
 pub loop-turn-init : goal.loop-turn-init
 loop-turn-init c = closing-start _ _ _ (omega arith)
 
-pub returns-then-starts_with-clause-value : goal.returns-then-starts_with-clause-value
-returns-then-starts_with-clause-value c =
-    closing-closes _ _ _ _ _ c.loop-turn.invariant (grind (arith, common_steps)) (sym c.starts_with.ensures.value ∙ c.if-starts_with.true)
+pub returns-then-begins_with-clause-value : goal.returns-then-begins_with-clause-value
+returns-then-begins_with-clause-value c =
+    closing-closes _ _ _ _ _ c.loop-turn.invariant (grind (arith, common_steps)) (sym c.begins_with.ensures ∙ c.if-begins_with.true)
 
 pub returns-then-is_cut_off-clause-value : goal.returns-then-is_cut_off-clause-value
 returns-then-is_cut_off-clause-value c =
-    closing-ends _ _ _ _ _ c.loop-turn.invariant (grind (arith, common_steps)) (sym c.starts_with.ensures.value ∙ c.if-starts_with.false) (sym c.is_cut_off.ensures ∙ c.if-is_cut_off.true)
+    closing-ends _ _ _ _ _ c.loop-turn.invariant (grind (arith, common_steps)) (sym c.begins_with.ensures ∙ c.if-begins_with.false) (sym c.is_cut_off.ensures ∙ c.if-is_cut_off.true)
 
 pub returns-then-len-rest-clause-value : goal.returns-then-len-rest-clause-value
 returns-then-len-rest-clause-value c =
     closing-past _ _ _ _ _ c.loop-turn.invariant c.unit_len-len.result (length c.args.text.now - (c.loop-turn._turn + 1)) (omega arith) (grind (arith, common_steps))
-    (sym c.starts_with.ensures.value ∙ c.if-starts_with.false) (sym c.is_cut_off.ensures ∙ c.if-is_cut_off.false) c.unit_len-len.ensures.value (omega arith)
+    (sym c.begins_with.ensures ∙ c.if-begins_with.false) (sym c.is_cut_off.ensures ∙ c.if-is_cut_off.false) c.unit_len-len.ensures.value (omega arith)
 
 pub loop-turn-preserved : goal.loop-turn-preserved
 loop-turn-preserved c =
     closing-step _ _ _ _ _ c.loop-turn.invariant c.unit_len-len.result (length c.args.text.now - (c.loop-turn._turn + 1)) c.split_at.result.1.now (omega arith) (grind (arith, common_steps))
-    (sym c.starts_with.ensures.value ∙ c.if-starts_with.false) (sym c.is_cut_off.ensures ∙ c.if-is_cut_off.false) c.unit_len-len.ensures.value (omega arith) c.unit_len-len.ensures.least c.split_at.ensures.back
+    (sym c.begins_with.ensures ∙ c.if-begins_with.false) (sym c.is_cut_off.ensures ∙ c.if-is_cut_off.false) c.unit_len-len.ensures.value (omega arith) c.unit_len-len.ensures.least c.split_at.ensures.back
 
 pub returns-after-loop-turn-clause-value : goal.returns-after-loop-turn-clause-value
 returns-after-loop-turn-clause-value c = closing-out_of_turns _ _ _ _ _ c.loop-turn.invariant (omega arith)
