@@ -79,8 +79,8 @@ pub enum Expr {
     WithItem(Box<Expr>, Tail),
 }
 
-/// Written out: the crates above call it, where what `derive` writes would be made and proved in each of them. The parts
-/// that an arm names are dropped as it ends.
+/// Written out: the crates above call it, where what `derive` writes would be made and proved in each of them. What an
+/// arm names is dropped as it ends.
 impl Drop for Expr {
     #[cycle(tree)]
     fn drop(self) {
