@@ -143,11 +143,12 @@ def is_suspending(nodes):
 
 
 def content_of(string):
-    """What stands in a string without prefix and backslash, without the spaces at its ends; None of any other string."""
+    """What stands in a string without prefix and backslash, without the spaces at its ends and without the line ends and blanks
+    at its front, since a line of any indent may stand there; None of any other string."""
     if string[0] not in QUOTES or "\\" in string:
         return None
     quotes = 3 if string[:3] in ("'''", '"""') else 1
-    return string[quotes:-quotes].strip(" ")
+    return string[quotes:-quotes].strip(" ").lstrip(" \t\f\r\n")
 
 
 def spelled(text):
