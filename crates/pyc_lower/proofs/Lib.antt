@@ -1,3 +1,4 @@
 pub mod InputLemmas
 pub mod StringLemmas
+pub mod PartLemmas
 pub mod ReadingLemmas

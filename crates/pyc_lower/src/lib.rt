@@ -5,6 +5,7 @@ mod content;
 mod expression_input;
 mod ignores;
 mod only_line;
+mod parts;
 mod reading;
 mod strings;
 

@@ -1,17 +1,20 @@
 //! What a source is.
 
-ghost use Rattle.std.specs.Prelude.{◌≡◌, IfOk};
+ghost use Rattle.std.specs.Prelude.{◌≡◌, IfOk, IfSome, [], map, is_some, true};
 ghost use Rattle.pyc_ast.specs.Modules.{module_of, outcome_of};
-ghost use Rattle.pyc_lower.specs.Reading as spec;
-ghost use Rattle.pyc_lower.specs.Reading.{read_of};
-ghost use Rattle.pyc_parse.specs.Modules.{module_in};
+ghost use Rattle.pyc_lex.specs.View.{line_in, lexis_in};
+ghost use Rattle.pyc_lower.specs.Parts.{lines_in, AnswersParts, AnswersWhole};
+ghost use Rattle.pyc_lower.specs.Reading.{read_of, outcome_in};
+ghost use Rattle.pyc_parse.specs.Modules as concrete;
+ghost use Rattle.pyc_parse.specs.Outcome.{fault_in, parsed};
 
 use crate::ignores::ignores;
+use crate::parts::{Parts, lower_parts, lower_whole};
 use crate::strings::Inside;
 use pyc_ast::{Fault, Module, Outcome};
-use pyc_lower_block::{into_statements, statements_suspend};
+use pyc_lex::{LogicalLine, Scan, scan};
 use pyc_lower_expression::{Lowering, Names, Origin, Unread};
-use pyc_parse::{Module as Tree, Outcome as Found, outcome};
+use pyc_parse::{Fault as Told, lexical_fault, parse_fault};
 use std::alloc::{AllocError, Global};
 
 /// The reader of the strings of a file. Without a backslash a string holds no quotes like its own, and there are four
@@ -24,9 +27,16 @@ const STRINGS: Inside<Inside<Inside<Inside<Unread>>>> = Inside {
     },
 };
 
-/// The module that a tree of the grammar of this source is; each statement of the tree is dropped once it is lowered.
-fn lowered(alloc: Global, source: &[u8], tree: Tree) -> Result<Module, AllocError>
-    ensures { IfOk result (λ found. module_of found ≡ spec.module_in source.now (module_in tree)) }
+/// What the lines of a source are, read as a whole or in parts. The only error is that memory runs out.
+fn lowered(
+    alloc: Global,
+    source: &[u8],
+    lines: Vec<LogicalLine>,
+    is_whole: bool,
+) -> Result<Parts, AllocError>
+    ensures parts { IfOk result (λ parts. AnswersParts (lines_in source.now (map line_in lines.items)) parts) }
+    ensures whole { is_whole ≡ true → IfOk result
+        (λ parts. AnswersWhole (lines_in source.now (map line_in lines.items)) parts) }
 {
     let lowering = Lowering {
         alloc,
@@ -37,27 +47,71 @@ fn lowered(alloc: Global, source: &[u8], tree: Tree) -> Result<Module, AllocErro
         quotes: &STRINGS,
     };
     let mut names = Names::new(alloc)?;
-    let suspends = statements_suspend(&tree.statements);
-    Ok(Module {
-        statements: into_statements(&lowering, tree.statements, &mut names)?,
-        suspends,
-        ignores: ignores(alloc, source, &tree.ignores)?,
-        whole_file: tree.whole_file,
+    if is_whole {
+        lower_whole(&lowering, lines, &mut names)
+    } else {
+        lower_parts(&lowering, lines, &mut names)
+    }
+}
+
+/// What a source with a fault is.
+fn told(fault: Told) -> Outcome
+    ensures { outcome_of result ≡ outcome_in [] (fault_in fault) }
+{
+    Outcome::Fault(Fault {
+        line: fault.line,
+        text: fault.text,
     })
+}
+
+/// What a source with these logical lines is. Nothing where these are read in parts and one has a fault in its blocks.
+/// The only error is that memory runs out.
+fn scanned(
+    alloc: Global,
+    source: &[u8],
+    scan: Scan,
+    is_whole: bool,
+) -> Result<Option<Outcome>, AllocError>
+    ensures outcome { IfOk result (λ found. IfSome found
+        (λ outcome. outcome_of outcome ≡ outcome_in source.now (parsed (concrete.module_of (lexis_in scan))))) }
+    ensures whole { is_whole ≡ true → IfOk result (λ found. is_some found ≡ true) }
+{
+    match lowered(alloc, source, scan.lines, is_whole)? {
+        Parts::Lowered(found) => Ok(Some(Outcome::Tree(Module {
+            statements: found.statements,
+            suspends: found.suspends,
+            ignores: ignores(alloc, source, &scan.ignores)?,
+            whole_file: scan.whole_file,
+        }))),
+        Parts::Fault(fault) => Ok(Some(told(parse_fault(fault)?))),
+        Parts::Misplaced => Ok(None),
+    }
+}
+
+/// What a source is. Nothing where its lines are read in parts and one has a fault in its blocks. The only error is
+/// that memory runs out.
+#[tactic(auto, unfolding(crate::specs::Reading::read_of))]
+fn read_by(alloc: Global, bytes: &[u8], is_whole: bool) -> Result<Option<Outcome>, AllocError>
+    ensures outcome { IfOk result (λ found. IfSome found (λ outcome. outcome_of outcome ≡ read_of bytes.now)) }
+    ensures whole { is_whole ≡ true → IfOk result (λ found. is_some found ≡ true) }
+{
+    match scan(alloc, bytes) {
+        Ok(scan) => scanned(alloc, bytes, scan, is_whole),
+        Err(fault) => Ok(Some(told(lexical_fault(fault)?))),
+    }
 }
 
 /// What a source is: its first lexical fault, else its first line without a tree, else the first fault of its blocks,
 /// else its module, with the strings in annotations read as the expressions that they spell. The only error is that
 /// memory runs out.
-#[tactic(auto, unfolding(crate::specs::Reading::read_of))]
 pub fn read(alloc: Global, bytes: &[u8]) -> Result<Outcome, AllocError>
     ensures { IfOk result (λ outcome. outcome_of outcome ≡ read_of bytes.now) }
 {
-    match outcome(alloc, bytes)? {
-        Found::Tree(tree) => Ok(Outcome::Tree(lowered(alloc, bytes, tree)?)),
-        Found::Fault(fault) => Ok(Outcome::Fault(Fault {
-            line: fault.line,
-            text: fault.text,
-        })),
+    if let Some(outcome) = read_by(alloc, bytes, false)? {
+        return Ok(outcome);
+    }
+    match read_by(alloc, bytes, true)? {
+        Some(outcome) => Ok(outcome),
+        None => unreachable!(),
     }
 }

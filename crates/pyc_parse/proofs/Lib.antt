@@ -8,3 +8,5 @@ pub mod BadLineLemmas
 pub mod MisplacedBlocks
 pub mod MisplacedLemmas
 pub mod MisplacedSteps
+pub mod JoinedBlocks
+pub mod JoinedModules

@@ -1,5 +1,5 @@
 -- The lines of a module, one after another.
-use Rattle.std.proofs.Common.{◌≡◌, ◌≢◌, ◌+◌, ℕ, List, [], ◌∷◌, ◌++◌, length, map, Some, None, Result, Ok, Err, IsErrAnd, refl, ap, sym, ◌∙◌, subst, arith, append_assoc, append-nil}
+use Rattle.std.proofs.Common.{◌≡◌, ◌≢◌, ℕ, List, [], ◌∷◌, ◌++◌, length, map, Some, None, Result, Ok, Err, IsErrAnd, refl, ap, sym, ◌∙◌, subst, arith, append_assoc, append-nil}
 use Rattle.pyc_lex.specs.declared.logical_lines.LogicalLine.{LogicalLine}
 use Rattle.pyc_token.specs.declared.tokens.Token.{Token}
 use Rattle.pyc_lex.specs.Lines as lex

@@ -26,18 +26,18 @@ IsYield ps taken rest = map indented ps ≡ taken ++ map indented rest
 
 -- ---- what is read is one thing
 
-refused : {A G : Type 0} (number : ℕ) (a : A × List Placed) → ◌≡◌ {A = BlocksParsed A} (Err number) (Ok a) → G
+pub refused : {A G : Type 0} (number : ℕ) (a : A × List Placed) → ◌≡◌ {A = BlocksParsed A} (Err number) (Ok a) → G
 refused number a e = absurd (cc)
 
 ok_pair : {A : Type 0} (p q : A × List Placed) → ◌≡◌ {A = BlocksParsed A} (Ok p) (Ok q) → p ≡ q
 ok_pair p q e = cc
 
-parts : {A G : Type 0} (a b : A) (ps rest : List Placed) → ◌≡◌ {A = BlocksParsed A} (Ok (a, ps)) (Ok (b, rest)) → (a ≡ b → ps ≡ rest → G) → G
+pub parts : {A G : Type 0} (a b : A) (ps rest : List Placed) → ◌≡◌ {A = BlocksParsed A} (Ok (a, ps)) (Ok (b, rest)) → (a ≡ b → ps ≡ rest → G) → G
 parts a b ps rest e go =
     let same : ◌≡◌ {A = _ × List Placed} (a, ps) (b, rest) = ok_pair (a, ps) (b, rest) e in
     go (ap (λ p. p.0) same) (ap (λ p. p.1) same)
 
-bind : {A B G : Type 0} (o : BlocksParsed A) (f : A → Parser B) (r : B × List Placed) → and_then o f ≡ Ok r
+pub bind : {A B G : Type 0} (o : BlocksParsed A) (f : A → Parser B) (r : B × List Placed) → and_then o f ≡ Ok r
     → ((x : A) (later : List Placed) → o ≡ Ok (x, later) → f x later ≡ Ok r → G) → G
 bind (Ok p) f r e go = go p.0 p.1 refl e
 bind (Err number) f r e go = refused number r e
@@ -57,26 +57,26 @@ after_one f (p ∷ ps) r e go = go p ps refl e
 -- ---- where the next line stands
 
 -- whether what stands next is a line at its block's level
-abbrev stands : Next → Bool
+abbrev pub stands : Next → Bool
 stands next.End = false
 stands (next.Fault _) = false
 stands _ = true
 
-tested : (indent own number : ℕ) (a b : Bool) (others found : Next) → nat_lt own indent ≡ a → nat_lt indent own ≡ b
+pub tested : (indent own number : ℕ) (a b : Bool) (others found : Next) → nat_lt own indent ≡ a → nat_lt indent own ≡ b
     → (if a then next.End else if b then next.Fault number else others) ≡ found → stands found ≡ true → own ≡ indent
 tested indent own number true b others found below above is so = absurd (false≢true (ap stands is ∙ so))
 tested indent own number false true others found below above is so = absurd (false≢true (ap stands is ∙ so))
 tested indent own number false false others found below above is so =
     let least = ltb-false own indent below in let most = ltb-false indent own above in omega (arith, least, most)
 
-here : {G : Type 0} (indent : ℕ) (found : Next) (ps : List Placed) → next_of indent ps ≡ found → stands found ≡ true
+pub here : {G : Type 0} (indent : ℕ) (found : Next) (ps : List Placed) → next_of indent ps ≡ found → stands found ≡ true
     → ((p : Placed) (later : List Placed) → ps ≡ p ∷ later → p.indent ≡ indent → G) → G
 unfolding next_of
 here indent found [] is so go = absurd (false≢true (ap stands is ∙ so))
 here indent found (p ∷ ps) is so go =
     go p ps refl (tested indent p.indent p.number (nat_lt p.indent indent) (nat_lt indent p.indent) (beginning p.number indent ps p.line) found refl refl is so)
 
-decorator_stands : (found : Next) → is_decorator found ≡ true → stands found ≡ true
+pub decorator_stands : (found : Next) → is_decorator found ≡ true → stands found ≡ true
 decorator_stands next.End e = e
 decorator_stands (next.Fault _) e = e
 decorator_stands next.Simple e = refl
@@ -84,7 +84,7 @@ decorator_stands next.Decorator e = refl
 decorator_stands next.Definition e = refl
 decorator_stands (next.Header _) e = refl
 
-definition_stands : (found : Next) → is_definition found ≡ true → stands found ≡ true
+pub definition_stands : (found : Next) → is_definition found ≡ true → stands found ≡ true
 definition_stands next.End e = e
 definition_stands (next.Fault _) e = e
 definition_stands next.Simple e = refl
@@ -96,7 +96,7 @@ matched : (own indent : ℕ) (b : Bool) (o : Option After) (found : After) → o
 matched own indent true o found same is = eqb-true own indent same
 matched own indent false o found same is = absurd (cc)
 
-follower_here : {G : Type 0} (so : After) (indent : ℕ) (found : After) (ps : List Placed) → follower so indent ps ≡ Some found
+pub follower_here : {G : Type 0} (so : After) (indent : ℕ) (found : After) (ps : List Placed) → follower so indent ps ≡ Some found
     → ((p : Placed) (later : List Placed) → ps ≡ p ∷ later → p.indent ≡ indent → G) → G
 unfolding follower
 follower_here so indent found [] is go = absurd (cc)
@@ -106,7 +106,7 @@ deeper : (indent inner : ℕ) (b : Bool) → (if b then Some (indent + 1) else N
 deeper indent inner true is = cc
 deeper indent inner false is = absurd (cc)
 
-under_is : (indent inner : ℕ) (ps : List Placed) → under indent ps ≡ Some inner → inner ≡ indent + 1
+pub under_is : (indent inner : ℕ) (ps : List Placed) → under indent ps ≡ Some inner → inner ≡ indent + 1
 unfolding under
 under_is indent inner [] is = absurd (cc)
 under_is indent inner (p ∷ ps) is = deeper indent inner (nat_lt indent p.indent) is
@@ -157,7 +157,7 @@ mark_ok indent p later ps d rest ps_is at e =
 -- ---- decorators
 
 -- either way of a test
-either : {A G : Type 0} (o other : BlocksParsed A) (b : Bool) (r : A × List Placed) → (if b then o else other) ≡ Ok r
+pub either : {A G : Type 0} (o other : BlocksParsed A) (b : Bool) (r : A × List Placed) → (if b then o else other) ≡ Ok r
     → (b ≡ true → o ≡ Ok r → G) → (b ≡ false → other ≡ Ok r → G) → G
 either o other true r e holds fails = holds refl e
 either o other false r e holds fails = fails refl e
@@ -229,7 +229,7 @@ module _ (S : ℕ → Parser Stmts) (holds : Holds S) where
   clause_by_line indent p later (line.simple found) c rest is at e = refused p.number (c, rest) e
   clause_by_line indent p later (line.decorator t v) c rest is at e = refused p.number (c, rest) e
 
-  clause_ok : (indent : ℕ) (p : Placed) (later ps : List Placed) (c : CompoundClause) (rest : List Placed) → ps ≡ p ∷ later → p.indent ≡ indent
+  pub clause_ok : (indent : ℕ) (p : Placed) (later ps : List Placed) (c : CompoundClause) (rest : List Placed) → ps ≡ p ∷ later → p.indent ≡ indent
       → one_clause S indent ps ≡ Ok (c, rest) → IsYield ps (clause_yield indent c) rest
   unfolding one_clause take_one
   clause_ok indent p later ps c rest ps_is at e =
@@ -291,14 +291,14 @@ module _ (S : ℕ → Parser Stmts) (holds : Holds S) where
       compound_ok indent after.Nothing marks p later ps s rest ps_is at held))
       (λ none over. refused number (s, rest) over)
 
-  decorated_ok : (indent : ℕ) (ps : List Placed) (s : Stmt) (rest : List Placed) → decorated S indent ps ≡ Ok (s, rest) → IsYield ps (stmt_yield indent s) rest
+  pub decorated_ok : (indent : ℕ) (ps : List Placed) (s : Stmt) (rest : List Placed) → decorated S indent ps ≡ Ok (s, rest) → IsYield ps (stmt_yield indent s) rest
   unfolding decorated all_decorators
   decorated_ok indent ps s rest e =
       bind (all_decorators indent ps) _ (s, rest) e (λ marks mid row made.
       decorators_ok (length ps) indent ps marks mid row ∙ definition_ok (number_of ps) indent marks mid s rest made)
 
   -- what one statement or none holds
-  abbrev OneHolds : ℕ → List Placed → Option Stmt → List Placed → Type 0
+  abbrev pub OneHolds : ℕ → List Placed → Option Stmt → List Placed → Type 0
   OneHolds indent ps None rest = ps ≡ rest
   OneHolds indent ps (Some s) rest = IsYield ps (stmt_yield indent s) rest
 
@@ -310,7 +310,7 @@ module _ (S : ℕ → Parser Stmts) (holds : Holds S) where
       parts (Some s) x later rest made (λ same left.
       subst (λ y. OneHolds indent ps y rest) same (subst (λ qs. IsYield ps (stmt_yield indent s) qs) left (each s later read))))
 
-  statement_ok : (indent : ℕ) (found : Next) (ps : List Placed) (x : Option Stmt) (rest : List Placed) → next_of indent ps ≡ found
+  pub statement_ok : (indent : ℕ) (found : Next) (ps : List Placed) (x : Option Stmt) (rest : List Placed) → next_of indent ps ≡ found
       → statement_by S indent found ps ≡ Ok (x, rest) → OneHolds indent ps x rest
   statement_ok indent next.End ps x rest is e = parts None x ps rest e (λ same left. subst (λ y. OneHolds indent ps y rest) same left)
   statement_ok indent (next.Fault number) ps x rest is e = refused number (x, rest) e
@@ -356,7 +356,7 @@ block_holds (suc depth) indent ps found rest e = statements_ok (block_at depth) 
 
 -- ---- modules
 
-clause_some : (indent : ℕ) (c : CompoundClause) → 1 ≤ length (clause_yield indent c)
+pub clause_some : (indent : ℕ) (c : CompoundClause) → 1 ≤ length (clause_yield indent c)
 unfolding clause_yield
 clause_some indent (clause h colon (inline found)) = omega arith
 clause_some indent (clause h colon (block inner)) = omega arith
@@ -371,7 +371,7 @@ stmt_some indent (compound marks first others) =
     let some = clause_some indent first in omega (arith, all, clauses, some)
 
 -- fewer lines are left than there were
-fewer : (indent : ℕ) (ps : List Placed) (s : Stmt) (rest : List Placed) → IsYield ps (stmt_yield indent s) rest → length rest < length ps
+pub fewer : (indent : ℕ) (ps : List Placed) (s : Stmt) (rest : List Placed) → IsYield ps (stmt_yield indent s) rest → length rest < length ps
 fewer indent ps s rest is =
     let all = ap length is ∙ length-append (stmt_yield indent s) (map indented rest) in
     let whole = length-map ps indented in let left = length-map rest indented in let some = stmt_some indent s in omega (arith, all, whole, left, some)
@@ -392,7 +392,7 @@ opening_goes number indent ps form.Finally e = cc
 opening_goes number indent ps form.With e = cc
 opening_goes number indent ps form.Definition e = cc
 
-beginning_goes : (number indent : ℕ) (ps : List Placed) (l : Line) → beginning number indent ps l ≡ next.End → ⊥
+pub beginning_goes : (number indent : ℕ) (ps : List Placed) (l : Line) → beginning number indent ps l ≡ next.End → ⊥
 beginning_goes number indent ps (line.simple found) e = cc
 beginning_goes number indent ps (line.header h colon found) e = opening_goes number indent ps (form_of h) e
 beginning_goes number indent ps (line.decorator t v) e = cc
@@ -404,7 +404,7 @@ goes_on own number true b others below e go = let less = ltb-true own 0 below in
 goes_on own number false true others below e go = cc
 goes_on own number false false others below e go = go e
 
-ends : (ps : List Placed) → next_of 0 ps ≡ next.End → ps ≡ []
+pub ends : (ps : List Placed) → next_of 0 ps ≡ next.End → ps ≡ []
 unfolding next_of
 ends [] e = refl
 ends (p ∷ ps) e =
@@ -420,7 +420,7 @@ none_left (Err number) x rest e none = refused number (x, rest) e
 
 module _ (S : ℕ → Parser Stmts) (holds : Holds S) where
   -- only the end of a block gives no statement
-  over : (indent : ℕ) (found : Next) (ps : List Placed) (x : Option Stmt) (rest : List Placed) → statement_by S indent found ps ≡ Ok (x, rest) → x ≡ None
+  pub over : (indent : ℕ) (found : Next) (ps : List Placed) (x : Option Stmt) (rest : List Placed) → statement_by S indent found ps ≡ Ok (x, rest) → x ≡ None
       → found ≡ next.End
   over indent next.End ps x rest e none = refl
   over indent (next.Fault number) ps x rest e none = refused number (x, rest) e
@@ -450,7 +450,7 @@ module _ (S : ℕ → Parser Stmts) (holds : Holds S) where
   statements_all (suc n) ps found rest few e =
       bind (next_statement S 0 ps) _ (found, rest) e (λ x later read made. all_step n ps x later found rest few (statements_all n) read made)
 
-block_all : (depth : ℕ) (ps : List Placed) (found : Stmts) (rest : List Placed) → block_at (suc depth) 0 ps ≡ Ok (found, rest) → rest ≡ []
+pub block_all : (depth : ℕ) (ps : List Placed) (found : Stmts) (rest : List Placed) → block_at (suc depth) 0 ps ≡ Ok (found, rest) → rest ≡ []
 unfolding block_at all_statements
 block_all depth ps found rest e = statements_all (block_at depth) (block_holds depth) (length ps) ps found rest (omega arith) e
 

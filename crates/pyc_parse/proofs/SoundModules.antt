@@ -5,11 +5,11 @@ use Rattle.pyc_lex.specs.Lines as lex
 use Rattle.pyc_line.specs.declared.fault.ParseFault.{ParseFault}
 use Rattle.pyc_line.specs.declared.fault.What.TheVariants as what
 use Rattle.pyc_tree.specs.BlockTrees.{Stmts}
-use Rattle.pyc_parse.specs.BlockYield.{held, lines_held, stmts_yield}
+use Rattle.pyc_parse.specs.BlockYield.{held, lines_held}
 use Rattle.pyc_parse.specs.Blocks.{Placed, blocks}
 use Rattle.pyc_tree.specs.Headers.{line_tree}
 use Rattle.pyc_line.specs.LineFault.{fault_of, number_of}
-use Rattle.pyc_tree.specs.Lines.{Line, line_yield}
+use Rattle.pyc_tree.specs.Lines.{Line}
 use Rattle.pyc_parse.specs.Modules.{Module, placed_before, placed_lines, of_blocks, of_lines, module_of}
 use Rattle.pyc_parse.proofs.SoundBlocks.{indented, blocks_hold}
 use Rattle.pyc_line.proofs.SoundLines.{line_sound}

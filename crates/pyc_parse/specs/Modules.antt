@@ -1,5 +1,5 @@
 -- The tree of a module, or the first fault of its lines, else of its blocks (Python reference 3.13, "File input").
-use Rattle.std.specs.Prelude.{◌≡◌, ◌≢◌, ℕ, Bool, List, [], ◌∷◌, ◌++◌, map, Option, Some, None, Result, Ok, Err}
+use Rattle.std.specs.Prelude.{◌≡◌, ◌≢◌, ℕ, Bool, List, [], ◌∷◌, map, Option, Some, None, Result, Ok, Err}
 use Rattle.pyc_lex.specs.Ignores.{IgnoreAt}
 use Rattle.pyc_lex.specs.Lines.{Lexis}
 use Rattle.pyc_lex.specs.Lines as lex

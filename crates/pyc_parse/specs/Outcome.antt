@@ -7,6 +7,7 @@ use Rattle.pyc_lex.specs.Lines.{Lexis, lines_of}
 use Rattle.pyc_line.specs.declared.fault.ParseFault.{ParseFault}
 use Rattle.pyc_line.specs.declared.fault.What.{What}
 use Rattle.pyc_line.specs.declared.fault.What.TheVariants as what
+use Rattle.pyc_parse.specs.declared.file_outcome.Fault.{Fault as FaultOf}
 use Rattle.pyc_parse.specs.declared.file_outcome.Outcome.{Outcome as OutcomeOf}
 use Rattle.pyc_parse.specs.declared.file_outcome.Outcome.TheVariants as declared
 use Rattle.pyc_parse.specs.BlockYield.{stmts_tokens}
@@ -56,6 +57,9 @@ outcome_tokens (fault line text) = []
 
 -- ---- what the code answers
 
+abbrev pub fault_in : FaultOf → Outcome
+fault_in told = fault told.line told.text.now
+
 abbrev pub outcome_in : OutcomeOf → Outcome
 outcome_in (declared.Tree found) = tree (module_in found)
-outcome_in (declared.Fault told) = fault told.line told.text.now
+outcome_in (declared.Fault told) = fault_in told

@@ -1,12 +1,12 @@
 //! Reads a source.
 
-ghost use Rattle.std.specs.Prelude.{◌≡◌, ◌≢◌, All, IfOk, OnOk, true};
+ghost use Rattle.std.specs.Prelude.{◌≡◌, ◌≢◌, All, IfOk, OnOk, Err, true};
 ghost use Rattle.pyc_lex.specs.Texts.{IsTextSpan};
 ghost use Rattle.pyc_lex.specs.View.{lexis_in};
 ghost use Rattle.pyc_parse.specs.BadLines.{TellsFirstBadLine, is_line_fault};
 ghost use Rattle.pyc_parse.specs.Modules.{module_of};
 ghost use Rattle.pyc_parse.specs.Outcome as spec;
-ghost use Rattle.pyc_parse.specs.Outcome.{outcome_in, outcome_of, outcome_tokens, parse_text};
+ghost use Rattle.pyc_parse.specs.Outcome.{fault_in, outcome_in, outcome_of, outcome_tokens, parse_text};
 
 use crate::file_outcome::{Fault, Outcome};
 use crate::module_tree::parse;
@@ -26,16 +26,16 @@ fn parse_text(what: What) -> &'static str
     }
 }
 
-/// A source whose first fault is told on this line.
-fn at_fault(line: usize, text: &'static str) -> Outcome
-    ensures { outcome_in result ≡ spec.fault line text.now }
+/// The fault that is told on this line.
+fn at_fault(line: usize, text: &'static str) -> Fault
+    ensures { fault_in result ≡ spec.fault line text.now }
 {
-    Outcome::Fault(Fault { line, text })
+    Fault { line, text }
 }
 
-/// What a source with this lexical fault is.
-fn lexical_outcome(fault: LexFault) -> Result<Outcome, AllocError>
-    ensures outcome { IfOk result (λ outcome. outcome_in outcome ≡ spec.lexical_outcome fault) }
+/// What is told of a source with this lexical fault. The only error is that memory ran out.
+pub fn lexical_fault(fault: LexFault) -> Result<Fault, AllocError>
+    ensures told { IfOk result (λ told. fault_in told ≡ spec.lexical_outcome fault) }
     ensures of_source { OnOk result (fault ≢ LexFault.Memory) }
 {
     match fault {
@@ -56,19 +56,32 @@ fn lexical_outcome(fault: LexFault) -> Result<Outcome, AllocError>
     }
 }
 
+/// What a source with this lexical fault is.
+fn lexical_outcome(fault: LexFault) -> Result<Outcome, AllocError>
+    ensures outcome { IfOk result (λ outcome. outcome_in outcome ≡ spec.lexical_outcome fault) }
+    ensures of_source { OnOk result (fault ≢ LexFault.Memory) }
+{
+    Ok(Outcome::Fault(lexical_fault(fault)?))
+}
+
+/// What is told of a source with this fault of a line or of its blocks. The only error is that memory ran out.
+pub fn parse_fault(fault: ParseFault) -> Result<Fault, AllocError>
+    ensures told { IfOk result (λ told. fault_in told ≡ spec.parsed (Err fault)) }
+    ensures of_source { OnOk result (fault.what ≢ What.Memory) }
+{
+    match fault.what {
+        What::Memory => Err(AllocError),
+        what => Ok(at_fault(fault.line, parse_text(what))),
+    }
+}
+
 /// What a source with these logical lines is.
 fn parsed(alloc: Global, scan: Scan) -> Result<Outcome, AllocError>
     ensures { IfOk result (λ outcome. outcome_in outcome ≡ spec.parsed (module_of (lexis_in scan))) }
 {
     match parse(alloc, scan) {
         Ok(module) => Ok(Outcome::Tree(module)),
-        Err(
-            ParseFault {
-                what: What::Memory,
-                ..
-            },
-        ) => Err(AllocError),
-        Err(ParseFault { line, what }) => Ok(at_fault(line, parse_text(what))),
+        Err(fault) => Ok(Outcome::Fault(parse_fault(fault)?)),
     }
 }
 

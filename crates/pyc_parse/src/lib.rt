@@ -9,7 +9,7 @@ pub mod laws;
 mod module_tree;
 
 pub use file_outcome::{Fault, Outcome};
-pub use file_parser::outcome;
+pub use file_parser::{lexical_fault, outcome, parse_fault};
 pub use module_tree::{Module, parse};
 pub use pyc_line::{ParseFault, What, parse_line};
 pub use pyc_tree::{

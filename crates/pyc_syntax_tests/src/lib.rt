@@ -5,3 +5,5 @@
 mod lowering_tests;
 #[cfg(test)]
 mod parser_tests;
+#[cfg(test)]
+mod part_tests;

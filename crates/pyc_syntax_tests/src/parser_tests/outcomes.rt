@@ -1,7 +1,7 @@
 //! What sources are: their first faults, and their trees with the ignore comments.
 
-use pyc_lex::Codes;
-use pyc_parse::{Module, Outcome, outcome};
+use pyc_lex::{Codes, LexFault};
+use pyc_parse::{Module, Outcome, ParseFault, What, lexical_fault, outcome, parse_fault};
 use std::alloc::{AllocError, Global};
 use std::fmt::Write;
 use std::test::Fail;
@@ -184,5 +184,21 @@ fn trees_with_ignore_comments(rt: HostRuntime) -> Result<(), Fail> {
     for (source, want) in TREES {
         assert_eq!(rt; tree_shown(rt.alloc(), source)?.as_str(), *want, "{source}");
     }
+    Ok(())
+}
+
+#[test]
+fn faults_by_themselves(rt: HostRuntime) -> Result<(), Fail> {
+    let deep = lexical_fault(LexFault::Deep(3))?;
+    assert_eq!(rt; (deep.line, deep.text), (3, "Too deeply nested"));
+    let fault = ParseFault {
+        line: 2,
+        what: What::Block,
+    };
+    let misplaced = parse_fault(fault)?;
+    assert_eq!(rt;
+        (misplaced.line, misplaced.text),
+        (2, "Unexpected or missing block")
+    );
     Ok(())
 }

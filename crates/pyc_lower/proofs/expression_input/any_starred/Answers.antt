@@ -1,4 +1,3 @@
-use Rattle.std.proofs.Common.{◌≡◌, refl, sym, ap, ◌∙◌}
 use Rattle.std.specs.List.{list_any}
 use Rattle.pyc_lower.proofs.InputLemmas.{is_starred_item}
 use Rattle.pyc_lower_expression.proofs.Loops.{no_more}

@@ -1,8 +1,7 @@
-use Rattle.std.proofs.Common.{◌≡◌, ap, sym, ◌∙◌, not, List}
+use Rattle.std.proofs.Common.{ap, sym, ◌∙◌, not}
 use Rattle.std.specs.List.{list_any}
 use Rattle.pyc_lower.proofs.InputLemmas.{is_starred_item, no_star-found, no_star-last}
 use Rattle.pyc_tree.specs.declared.tree.Expr.{Expr}
-use Rattle.pyc_tree.specs.declared.tree.Piece.{Piece}
 use Rattle.pyc_tree.specs.Targets.{is_starred}
 use Rattle.pyc_tree.specs.View.{tree_of, last_of}
 use Rattle.pyc_tree.specs.WellLines.{has_no_star}

@@ -1,10 +1,8 @@
-use Rattle.std.proofs.Common.{◌≡◌, ◌∙◌, ◌∷◌, [], List, length, map, ap, sym, arith}
+use Rattle.std.proofs.Common.{◌≡◌, ◌∙◌, ◌∷◌, List, length, map, ap, sym, arith}
 use Rattle.std.specs.Vec.Iter.{into_iter_items}
 use Rattle.pyc_lex.specs.declared.logical_lines.LogicalLine.{LogicalLine}
 use Rattle.pyc_lex.specs.View.{line_in}
 use Rattle.pyc_tree.specs.declared.block.Placed.{Placed as PlacedOf}
-use Rattle.pyc_line.specs.declared.fault.ParseFault.{ParseFault}
-use Rattle.pyc_parse.specs.Blocks.{Placed}
 use Rattle.pyc_parse.specs.PlacedView.{placed_of}
 use Rattle.pyc_line.specs.LineFault.{number_of}
 use Rattle.pyc_tree.specs.LineView.{line_of}

@@ -1,6 +1,6 @@
 use Rattle.std.proofs.lemmas.Grind.{common_steps}
 use Rattle.std.proofs.Common.{arith, rules}
-use Rattle.pyc_parse.proofs.file_parser.lexical_outcome.Goals as goal
+use Rattle.pyc_parse.proofs.file_parser.lexical_fault.Goals as goal
 
 pub returns-in-BadCharacter : goal.returns-in-BadCharacter
 returns-in-BadCharacter c = first_of (grind (arith, common_steps), search rules)
