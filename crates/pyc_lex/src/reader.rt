@@ -104,7 +104,10 @@ impl Reader {
         requires { self.old.from + length text.now < 2 ^ 63 }
         ensures { Leads (spec.with_token (reading_of self.old) kind text.now) result (reading_of self.new) }
     {
-        self.settle_line()?;
+        // Most tokens have one before them on their line.
+        if self.begun.is_empty() {
+            self.settle_line()?;
+        }
         meet(&mut self.brackets, kind, self.position.line)?;
         self.push_token(kind, text)?;
         Ok(())

@@ -146,10 +146,11 @@ pub fn lower_parts<Q: Quotes>(
         (part_in (Q.spelled lowering.now.quotes.now) (origin_of lowering.now.origin) (map line_in lines.items)) parts) }
 {
     let mut found = nothing(lowering.alloc);
-    let mut part = Vec::new(lowering.alloc);
+    let mut part = Vec::with_capacity(lowering.alloc, PART_LINES)?;
     for line in lines {
         if begins_part(&part, &line) {
-            let whole = mem::replace(&mut part, Vec::new(lowering.alloc));
+            let next = Vec::with_capacity(lowering.alloc, PART_LINES)?;
+            let whole = mem::replace(&mut part, next);
             if let Some(fault) = add_part(lowering, whole, &mut found, names)? {
                 return Ok(of_part(fault));
             }

@@ -27,7 +27,12 @@ pub struct Module {
 fn placed_lines(alloc: Global, lines: Vec<LogicalLine>) -> Result<Vec<Placed>, ParseFault>
     ensures { AnswersModule (λ found. map placed_of found.items) (lines_with_trees (map line_in lines.items)) result }
 {
-    let mut found = Vec::new(alloc);
+    let Ok(mut found) = Vec::with_capacity(alloc, lines.len()) else {
+        return Err(ParseFault {
+            line: 0,
+            what: What::Memory,
+        });
+    };
     for line in lines {
         let tree = parse_line(alloc, &line.tokens)?;
         let number = line_number(&line.tokens);

@@ -271,7 +271,7 @@ impl<F: Fn(Global, &mut Lines, usize, usize) -> Result<Vec<Stmt>, BlockFault>> R
             let next = self.next_statement(lines, indent)?;
             match next {
                 None => return Ok(found),
-                Some(statement) => append(&mut found, statement)?,
+                Some(statement) => found.push(statement)?,
             }
         }
         Ok(found)

@@ -8,7 +8,7 @@ use Rattle.pyc_lower.specs.Parts.{part_in, lowered_of}
 use Rattle.pyc_lower.proofs.PartLemmas.{IsParted, parted_first, parted_as, parted_pushed, parted_added, parted_bad, parted_last, adds_some, adds_none, answers_part}
 use Rattle.pyc_lower_atom.specs.OriginView.{origin_of}
 use Rattle.pyc_parse.proofs.ModuleLemmas.{no_line_left}
-use Rattle.pyc_lower.proofs.parts.lower_parts.Goals.{then-begins_part+in_ok-fault+in_default, else-begins_part}
+use Rattle.pyc_lower.proofs.parts.lower_parts.Goals.{then-begins_part+in_ok-next+in_ok-fault+in_default, else-begins_part}
 use Rattle.pyc_lower.proofs.parts.lower_parts.Goals as goal
 
 pub loop-line-init : goal.loop-line-init
@@ -17,8 +17,8 @@ loop-line-init g c =
     let o = origin_of c.args.lowering.now.origin in
     let all = map line_in c.args.lines.items in
     let gives = c.into_iter-line-iterator.ensures.into_iter_gives in
-    let first = parted_as s o all all c.new-part.ensures.items c.nothing-found.ensures (parted_first s o all) in (
-      subst (λ (ls : List LogicalLine). IsParted s o all (map line_in c.new-part.result.items) (map line_in ls) (lowered_of c.nothing-found.result)) (sym gives.0) first,
+    let first = parted_as s o all all c.in_ok-part.ensures.items c.nothing-found.ensures (parted_first s o all) in (
+      subst (λ (ls : List LogicalLine). IsParted s o all (map line_in c.in_ok-part.part.items) (map line_in ls) (lowered_of c.nothing-found.result)) (sym gives.0) first,
       first_of (grind (arith, common_steps), search rules),
     )
 
@@ -45,11 +45,11 @@ loop-line-preserved g c =
     let next : before ≡ c.in-Some.line ∷ after = c.in-Some.ensures.steps.0 in
     let parted : IsParted s o all (map line_in c.if-begins_part.part.items) (map line_in before) (lowered_of c.if-begins_part.found) =
     elim c.if-begins_part.branch [
-      | then-begins_part+in_ok-fault+in_default w ↦
+      | then-begins_part+in_ok-next+in_ok-fault+in_default w ↦
           let good = ap (λ (v : Vec LogicalLine). Rattle.pyc_lower.specs.Parts.added (lowered_of c.loop-line.found) (part_in s o (map line_in v.items))) (sym w.replace-whole.ensures.value)
           ∙ adds_none (part_in s o (map line_in w.replace-whole.result.items)) (lowered_of c.loop-line.found) (lowered_of w.add_part.new.found) w.in_ok-fault.field-0
           w.in_ok-fault.ensures w.in_default.is in
-          parted_as s o all (map line_in before) (ap (λ (v : Vec LogicalLine). v.items) (w.part-is ∙ w.replace-whole.ensures.after) ∙ w.new.ensures.items)
+          parted_as s o all (map line_in before) (ap (λ (v : Vec LogicalLine). v.items) (w.part-is ∙ w.replace-whole.ensures.after) ∙ w.in_ok-next.ensures.items)
           (ap lowered_of w.found-is)
           (parted_added s o all part (map line_in before) (lowered_of c.loop-line.found) (lowered_of w.add_part.new.found) c.loop-line.invariant.0 good)
       | else-begins_part w ↦

@@ -23,7 +23,7 @@ returns-in-None g c =
 
 pub loop-turn-preserved : goal.loop-turn-preserved
 loop-turn-preserved g c =
-    rw c.in_ok-append-in-Some.ensures
+    rw c.in_ok-push-in-Some.ensures.items
     (statements_on _ _ _ _ _ _ _ c.loop-turn.invariant c.loop-turn-test.true c.in_ok-next.next _ c.in_ok-next.ensures c.in-Some.statement (cc))
 
 pub returns : goal.returns
