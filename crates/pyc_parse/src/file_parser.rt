@@ -1,6 +1,6 @@
 //! Reads a source.
 
-ghost use Rattle.std.specs.Prelude.{◌≡◌, ◌≢◌, All, IfOk, OnOk, Err, true};
+ghost use Rattle.std.specs.Prelude.{◌≡◌, ◌≢◌, All, IfOk, IfErr, OnOk, Err, true};
 ghost use Rattle.pyc_lex.specs.Texts.{IsTextSpan};
 ghost use Rattle.pyc_lex.specs.View.{lexis_in};
 ghost use Rattle.pyc_parse.specs.BadLines.{TellsFirstBadLine, is_line_fault};
@@ -37,6 +37,7 @@ fn at_fault(line: usize, text: &'static str) -> Fault
 pub fn lexical_fault(fault: LexFault) -> Result<Fault, AllocError>
     ensures told { IfOk result (λ told. fault_in told ≡ spec.lexical_outcome fault) }
     ensures of_source { OnOk result (fault ≢ LexFault.Memory) }
+    ensures memory { IfErr result (λ _. fault ≡ LexFault.Memory) }
 {
     match fault {
         LexFault::NotUtf8 => Ok(at_fault(1, "Source is not UTF-8")),
@@ -68,6 +69,7 @@ fn lexical_outcome(fault: LexFault) -> Result<Outcome, AllocError>
 pub fn parse_fault(fault: ParseFault) -> Result<Fault, AllocError>
     ensures told { IfOk result (λ told. fault_in told ≡ spec.parsed (Err fault)) }
     ensures of_source { OnOk result (fault.what ≢ What.Memory) }
+    ensures memory { IfErr result (λ _. fault.what ≡ What.Memory) }
 {
     match fault.what {
         What::Memory => Err(AllocError),
