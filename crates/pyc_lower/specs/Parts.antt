@@ -1,4 +1,4 @@
--- What lines of a module are by themselves.
+-- What lines of a module are by themselves (Python reference 3.13, "File input").
 use Rattle.std.specs.Prelude.{◌≡◌, ℕ, Bool, false, ◌||◌, List, [], ◌++◌, map, Option, None, Some, Result, Ok, Err}
 use Rattle.pyc_ast.specs.declared.position.Position.{Position}
 use Rattle.pyc_ast.specs.Exprs.{Expr}
@@ -26,6 +26,7 @@ abbrev pub alone : List lex.Line → lex.Lexis
 alone lines = record { lines = lines; ignores = []; whole_file = false }
 
 module _ (read : List ℕ → Position → Option Expr) where
+  -- those of a module with a tree, or its fault
   abbrev pub statements_in : Origin → Result concrete.Module ParseFault → Result Statements ParseFault
   statements_in o (Ok found) = Ok (stmts_in read o found.statements, stmts_suspend found.statements)
   statements_in o (Err fault) = Err fault
