@@ -2,6 +2,7 @@ pub mod IgnoreLemmas
 pub mod IgnoreSpans
 pub mod MarkLemmas
 pub mod OrderLemmas
+pub mod PositionLemmas
 pub mod ReadLemmas
 pub mod ScanLemmas
 pub mod StackLemmas

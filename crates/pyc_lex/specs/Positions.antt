@@ -1,5 +1,6 @@
 -- Physical lines and columns (Python reference, lexical analysis, "Physical lines").
-use Rattle.std.specs.Prelude.{ℕ, ◌+◌, Bool, not, ◌||◌, ◌&&◌, ◌==◌, if◌then◌else◌, List, [], ◌∷◌, slice_index}
+use Rattle.std.specs.Prelude.{ℕ, ◌+◌, Bool, not, ◌||◌, ◌&&◌, ◌==◌, nat_le, if◌then◌else◌, List, [], ◌∷◌}
+use Rattle.std.specs.Prelude.{slice_index}
 use Rattle.pyc_lex.specs.declared.positions.Position.{Position}
 use Rattle.pyc_token.specs.Characters.{begins_character}
 
@@ -18,3 +19,7 @@ position_past position byte next =
 abbrev pub position_after : Position → List ℕ → Position
 position_after position [] = position
 position_after position (byte ∷ rest) = position_after (position_past position byte (slice_index rest 0)) rest
+
+-- a printed character of ASCII, which takes a column
+abbrev pub is_printed : ℕ → Bool
+is_printed byte = nat_le 32 byte && nat_le byte 126

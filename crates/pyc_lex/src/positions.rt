@@ -1,6 +1,8 @@
 //! Physical lines and columns.
 
 ghost use Rattle.std.specs.Prelude.{◌≡◌, ◌<◌, ◌≤◌, ◌+◌, ◌^◌, length, slice_index};
+ghost use Rattle.std.specs.List.{prefix_len};
+ghost use Rattle.pyc_lex.specs.Positions as spec;
 
 use pyc_token::byte_at;
 
@@ -11,9 +13,17 @@ pub(crate) struct Position {
     pub column: usize,
 }
 
-impl Position {
-    ghost use Rattle.pyc_lex.specs.Positions as spec;
+/// How many printed characters of ASCII a text begins with.
+fn printed_len(text: &[u8]) -> usize
+    ensures value { result ≡ prefix_len spec.is_printed text.now }
+    ensures within { result ≤ length text.now }
+{
+    text.iter()
+        .take_while(|byte| (b' '..=b'~').contains(*byte))
+        .count()
+}
 
+impl Position {
     /// The position after the byte of a text at an index.
     fn past(self, text: &[u8], index: usize) -> Position
         requires within { index < length text.now }
@@ -53,8 +63,12 @@ impl Position {
         ensures column { result.column ≤ self.column + length text.now }
         ensures from_one { 1 ≤ result.column }
     {
-        let mut position = self;
-        for index in 0..text.len() {
+        let front = printed_len(text);
+        let mut position = Position {
+            line: self.line,
+            column: self.column + front,
+        };
+        for index in front..text.len() {
             position = position.past(text, index);
         }
         position

@@ -41,6 +41,10 @@ unit_len text = if slice_index text 0 == 92 then 1 + line_end_len (drop 1 text) 
 abbrev pub is_cut_off : List ℕ → ℕ → Bool
 is_cut_off quotes byte = length quotes == 1 && is_line_end byte
 
+-- whether a byte goes by itself within a string of such quotes, and neither begins them nor ends a line
+abbrev pub is_inner : ℕ → ℕ → Bool
+is_inner quote byte = not (quote == byte) && (not (byte == 92) && not (is_line_end byte))
+
 -- how many bytes a string goes on for after its opening quotes, its closing quotes included, or none where it is open;
 -- one in single quotes may not hold a bare line end. The number bounds how far it is read
 unfoldable pub closed_len : ℕ → List ℕ → List ℕ → Option ℕ

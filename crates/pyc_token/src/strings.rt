@@ -1,7 +1,7 @@
 //! Strings.
 
 ghost use Rattle.std.specs.Prelude.{◌≡◌, ◌≤◌, ◌<◌, nat_eq, true, length, slice_index, IfSome};
-ghost use Rattle.std.specs.List.{starts_with};
+ghost use Rattle.std.specs.List.{prefix_len, starts_with};
 ghost use Rattle.pyc_token.specs.Characters.{is_quote};
 ghost use Rattle.pyc_token.specs.Strings as spec;
 
@@ -85,14 +85,27 @@ fn begins_with(text: &[u8], quotes: &[u8]) -> bool
     byte_at(quotes, 0) == byte_at(text, 0) && text.starts_with(quotes)
 }
 
+/// How many bytes at the front of a text go by themselves within a string of such quotes.
+fn inner_len(quote: u8, text: &[u8]) -> usize
+    ensures value { result ≡ prefix_len (spec.is_inner quote) text.now }
+    ensures within { result ≤ length text.now }
+{
+    text.iter()
+        .take_while(|byte| quote != **byte && **byte != b'\\' && !is_line_end(**byte))
+        .count()
+}
+
 /// How many bytes a string goes on for after its opening quotes, its closing quotes included, or none where it is open.
 fn closed_len(quotes: &[u8], text: &[u8]) -> Option<usize>
     requires { 0 < length quotes.now }
     ensures value { result ≡ spec.closed_len (length text.now) quotes.now text.now }
     ensures within { IfSome result (λ len. len ≤ length text.now) }
 {
+    let quote = byte_at(quotes, 0);
     let mut rest = text;
     for _turn in 0..text.len() {
+        let (_, left) = rest.split_at(inner_len(quote, rest));
+        rest = left;
         if rest.is_empty() {
             break;
         }
