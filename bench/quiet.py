@@ -1,18 +1,15 @@
 #!/usr/bin/env python3
-"""Runs a command, and tells how much of its processors the machine gave meanwhile.
+"""Runs a command, and tells how much of its processors the machine gave meanwhile: `bench/quiet.py COMMAND [WORD..]`.
 
-    bench/quiet.py [--share SHARE] COMMAND [WORD..]
+A virtual machine may share its cores with others. Its host takes part of its time away (the column `steal` of /proc/stat), and
+a program was seen to go at about half its speed from one moment to the next with nothing else running here: most likely as
+another ran on the other half of its core, of which no counter here tells. So a fixed loop of some ten milliseconds is run
+thrice every few seconds beside the command, and timed by its own processor time. The middle one is taken, so that nothing
+which broke into one counts. What the command itself does to the loop, by its other threads, cannot be told apart.
 
-A virtual machine shares its cores with others. Its host takes part of its time away (the column `steal` of /proc/stat), and
-while another runs on the other half of a core, the rest goes at about half the speed, of which no counter tells. So a fixed
-loop of some ten milliseconds is run thrice every few seconds beside the command, and timed by its own processor time. The
-middle one is taken, so that nothing which broke into one counts; where it is quickest of all, it had a core to itself.
-
-SHARE is how much of the loop's slowness the command shares: 1 where it is as slow as the loop, and 0.65, which is taken where
-none is given, for the prover: checks that were timed beside the loop took 1.37 times as long where it took 1.58 times as long.
-
-Printed are the time by the clock, the part of it that was stolen, how often the quickest turn of the loop went into one on average, and the time in which a machine that is quiet, all of whose processors are as quick as one was in the quickest turn,
-does as much. That is a reckoning and no measurement. The status is that of the command.
+Printed are the time by the clock, the part of it that was stolen, and how often the quickest turn of the loop went into one on
+average. How much slower the command itself was for it is not told: checks of the prover that were timed beside the loop shared
+between a tenth and two fifths of its slowness, by which of 44 pairs are taken. The status is that of the command.
 """
 
 import argparse
@@ -70,20 +67,17 @@ class Watch:
         self.thread.join()
 
 
-def tell(rows, share):
+def tell(rows):
     """Prints what the machine gave by these rows."""
     whole, quickest = sum(it[0] for it in rows), min(it[1] for it in rows)
     stolen = sum(seconds * part for seconds, _, part in rows) / whole
     slow = sum(seconds * took for seconds, took, _ in rows) / whole / quickest
-    done = sum(seconds * (1 - part) / (1 + share * (took / quickest - 1)) for seconds, took, part in rows)
     print(f"quiet: {whole / 60:.1f} minutes by the clock, {100 * stolen:.0f} % of the time stolen", end="", file=sys.stderr)
-    print(f", a loop {slow:.2f} times as long as at its quickest ({1e3 * quickest:.1f} ms)", end="", file=sys.stderr)
-    print(f": as much as a quiet machine does in {done / 60:.1f} minutes", file=sys.stderr, flush=True)
+    print(f", a loop {slow:.2f} times as long as at its quickest ({1e3 * quickest:.1f} ms)", file=sys.stderr, flush=True)
 
 
 def main():
     parser = argparse.ArgumentParser(description="Tells how much of its processors a machine gave a command.")
-    parser.add_argument("--share", type=float, default=0.65, help="how much of the loop's slowness the command shares")
     parser.add_argument("command", nargs=argparse.REMAINDER, help="the command and its words")
     words = parser.parse_args()
     if not words.command:
@@ -91,7 +85,7 @@ def main():
     with Watch() as watch:
         status = subprocess.run(words.command).returncode
     if watch.rows:
-        tell(watch.rows, words.share)
+        tell(watch.rows)
     return status
 
 

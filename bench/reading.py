@@ -8,9 +8,10 @@ made of such files, and texts that are dense. PROGRAM is built from `bench/readi
 which is called where no PROGRAM is given). It reads a source several times in one thread, and counts the processor time of each
 turn alone, first of the reading, from bytes to abstract tree, and then of the removal.
 
-All sources are read in each of several rounds, so that each has its turns in moments that lie apart: on a machine that shares
-its cores with others, the same program takes up to twice as long while another one uses the other half of its core. The quickest
-of a source's turns is taken, as that in which it had a core to itself; the speed of each round by itself is told beside it.
+All sources are read in each of several rounds, so that each has its turns in moments that lie apart: the same program was seen
+to take up to twice as long from one moment to the next, with nothing else running here. The quickest of a source's turns is
+taken, which can only get quicker with more rounds. The speed of each round by itself is told beside it: that is what one reading
+of all of them gets.
 
 Two memories are told, both without the source: the most that the program holds in one turn (VmHWM) less that in a turn with an
 empty source; and what it keeps, the abstract tree alone: how much VmHWM grows with each further tree where all are kept.
