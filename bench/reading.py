@@ -9,9 +9,9 @@ which is called where no PROGRAM is given). It reads a source several times in o
 turn alone, first of the reading, from bytes to abstract tree, and then of the removal.
 
 All sources are read in each of several rounds, so that each has its turns in moments that lie apart: the same program was seen
-to take up to twice as long from one moment to the next, with nothing else running here. The quickest of a source's turns is
-taken, which can only get quicker with more rounds. The speed of each round by itself is told beside it: that is what one reading
-of all of them gets.
+to take up to twice as long from one moment to the next, with nothing else running here. The quickest of a source's turns in all
+rounds is taken, which can only get quicker with more rounds. Beside it is told each round by itself, with the quickest of the
+round's turns of each source; a single turn is slower still.
 
 Two memories are told, both without the source: the most that the program holds in one turn (VmHWM) less that in a turn with an
 empty source; and what it keeps, the abstract tree alone: how much VmHWM grows with each further tree where all are kept.
