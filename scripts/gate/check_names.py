@@ -3,15 +3,14 @@
 
     scripts/gate/check_names.py
 
+In `crates.txt` a comment of one word begins a room. Each folder of `crates/` is listed there once, in one room, and the rooms
+have no cycle: a crate names crates of its own room and of earlier ones, and none of the attic, which is the last room.
+ARCHITECTURE.md has a heading for each room, in the same order, with a table of just its crates.
+
 In README.md and docs/*.md each link to a file of the repository has its target, and the heading that it may name. Where
 a link's text is one name in backticks and its target a file of code, of definitions, an edit or a row, that file defines
 the name, or is that edit or row. In ARCHITECTURE.md, INDEX.md, THEOREMS.md and README.md each crate in backticks is listed, and
-each path in backticks is the end of one of the repository.
-
-In `crates.txt` a comment of one word begins a room. Each folder of `crates/` is listed there once, in one room, and the rooms
-have no cycle: a crate names crates of its own room and of earlier ones, and none of the attic, which is the last room.
-ARCHITECTURE.md has a heading for each room, in the same order, with a table of just its crates. The last line is
-`N passed, M failed`.
+each path in backticks is the end of one of the repository. The last line is `N passed, M failed`.
 """
 
 import os
@@ -85,6 +84,11 @@ def fault_of_link(page, text, target):
     return None
 
 
+def crates():
+    """The crates of `crates.txt`."""
+    return {name for name, _, _ in listed()}
+
+
 def listed():
     """The lines of `crates.txt`: each crate with its room, or None before the first, and the libraries that it names."""
     found, room = [], None
@@ -130,7 +134,7 @@ def judgements_of_rooms():
     lines = listed()
     order = list(dict.fromkeys(room for _, room, _ in lines))
     folders = {path.name for path in (ROOT / "crates").iterdir() if (path / "src").is_dir()}
-    for name in sorted(folders.union(name for name, _, _ in lines)):
+    for name in sorted(folders | crates()):
         yield name, fault_of_crate(name, lines)
     yield from judgements_of_uses(lines, order)
     wanted = [(room, {name for name, its, _ in lines if its == room}) for room in order]
@@ -164,7 +168,7 @@ def judgements(page, there):
             yield found[2], fault_of_link(page, found[1], found[2])
     if page.name not in MAPS:
         return
-    known = {name for name, _, _ in listed()}
+    known = crates()
     for word in sorted({found[1] for found in CODE.finditer(LINK.sub("", text))}):
         if CRATE.fullmatch(word):
             yield word, None if word in known else f"{word}: no such crate"
