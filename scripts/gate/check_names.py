@@ -1,7 +1,11 @@
 #!/usr/bin/env python3
-"""Looks whether what the documents name is there.
+"""Checks that what the documents name is there, and that each crate stands in its room.
 
     scripts/gate/check_names.py
+
+In `crates.txt` a comment of one word begins a room. Each folder of `crates/` is listed there once, in one room, and the rooms
+have no cycle: a crate names crates of its own room and of earlier ones, and none of the attic, which is the last room.
+ARCHITECTURE.md has a heading for each room, in the same order, with a table of just its crates.
 
 In README.md and docs/*.md each link to a file of the repository has its target, and the heading that it may name. Where
 a link's text is one name in backticks and its target a file of code, of definitions, an edit or a row, that file defines
@@ -30,6 +34,11 @@ NOT_OURS = {".git", "out", "__pycache__"}
 FIRST = {"crates", "scripts", "docs", "bench", ".ci", "src", "specs", "proofs", "must-fail"}
 # no path of the repository: made by `rt`, or words that stand for a name
 NO_PATH = re.compile(r"(^|/)out(/|$)|NAME|\.\.|^\.git/")
+ATTIC = "attic"
+ROOM = re.compile(r"# (\w+)")
+# a heading of ARCHITECTURE.md with what stands below it, and the crate that a line of a table is on
+SECTION = re.compile(r"^### (\w+)\n(.*?)(?=^#|\Z)", re.DOTALL | re.MULTILINE)
+ROW = re.compile(r"^\| `(\w+)` \|", re.MULTILINE)
 
 ITEM = r"^\s*(?:pub(?:\(\w+\))? )?(?:const |unsafe )?(?:fn|struct|enum|trait|type|const|static|mod)\s+{}\b"
 VARIANT = r"^    {}\s*(?:,|\(|\{{|$)"
@@ -77,8 +86,59 @@ def fault_of_link(page, text, target):
 
 def crates():
     """The crates of `crates.txt`."""
-    lines = (ROOT / "crates.txt").read_text(encoding="utf-8").splitlines()
-    return {line.partition("#")[0].partition(":")[0].strip() for line in lines} - {""}
+    return {name for name, _, _ in listed()}
+
+
+def listed():
+    """The lines of `crates.txt`: each crate with its room, or None before the first, and the libraries that it names."""
+    found, room = [], None
+    for line in (ROOT / "crates.txt").read_text(encoding="utf-8").splitlines():
+        begun = ROOM.fullmatch(line)
+        room = begun[1] if begun else room
+        name, colon, uses = line.partition("#")[0].partition(":")
+        found += [(name.strip(), room, uses.split())] if colon else []
+    return found
+
+
+def described():
+    """The rooms of ARCHITECTURE.md in order, each with the crates of its table."""
+    text = (DOCS / "ARCHITECTURE.md").read_text(encoding="utf-8")
+    return [(found[1].lower(), set(ROW.findall(found[2]))) for found in SECTION.finditer(text) if ROW.search(found[2])]
+
+
+def fault_of_crate(name, lines):
+    """What is wrong with where a crate stands among these lines of `crates.txt`, or None."""
+    places = [room for other, room, _ in lines if other == name]
+    if len(places) != 1:
+        return f"crates.txt: {name} is listed {len(places)} times"
+    return None if places[0] else f"crates.txt: {name} is in no room"
+
+
+def fault_of_use(room, other, order):
+    """What is wrong where a crate of one room names one of another, by the order of the rooms, or None."""
+    if other == ATTIC:
+        return "is of the attic"
+    return None if order.index(other) <= order.index(room) else f"is of the later room {other}"
+
+
+def judgements_of_uses(lines, order):
+    """Each crate that a crate names, with what is wrong with that, or None."""
+    room_of = {name: room for name, room, _ in lines}
+    for name, use in ((name, use) for name, _, uses in lines for use in uses if use in room_of):
+        fault = fault_of_use(room_of[name], room_of[use], order)
+        yield use, fault and f"crates.txt: {name} names {use}, which {fault}"
+
+
+def judgements_of_rooms():
+    """Each crate, each crate that one names, and the rooms of the map, with what is wrong with them, or None."""
+    lines = listed()
+    order = list(dict.fromkeys(room for _, room, _ in lines))
+    folders = {path.name for path in (ROOT / "crates").iterdir() if (path / "src").is_dir()}
+    for name in sorted(folders | crates()):
+        yield name, fault_of_crate(name, lines)
+    yield from judgements_of_uses(lines, order)
+    wanted = [(room, {name for name, its, _ in lines if its == room}) for room in order]
+    yield "rooms", None if described() == wanted else "docs/ARCHITECTURE.md: its rooms are not those of crates.txt"
 
 
 def is_path(word):
@@ -117,15 +177,13 @@ def judgements(page, there):
 
 
 def main():
-    passed = failed = 0
     there = paths()
+    faults = [fault for _, fault in judgements_of_rooms()]
     for page in PAGES:
-        for _, fault in judgements(page, there):
-            if fault:
-                print(f"{page.relative_to(ROOT)}: {fault}")
-            failed += fault is not None
-            passed += fault is None
-    print(f"{passed} passed, {failed} failed")
+        faults += [fault and f"{page.relative_to(ROOT)}: {fault}" for _, fault in judgements(page, there)]
+    failed = [fault for fault in faults if fault]
+    print("".join(f"{fault}\n" for fault in failed), end="")
+    print(f"{len(faults) - len(failed)} passed, {len(failed)} failed")
     return 1 if failed else 0
 
 
