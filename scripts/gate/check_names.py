@@ -91,7 +91,8 @@ def texts_of_messages(page, text):
             target = LINK.search(cell)[2]
             path = page.parent / target
             printed = path.with_suffix(".stdout")
-            shown = (printed if printed.exists() else path).read_text(encoding="utf-8")
+            files = [file for file in (printed, path) if file.is_file()]
+            shown = files[0].read_text(encoding="utf-8") if files else ""
             if cell == cells[4] and path.suffix != ".rt" and cells[1].startswith("`"):
                 pattern += re.escape(f"  [{cells[1].strip('`')}]")
             is_there = re.search(pattern, re.sub(r"\\\n\s*", "", shown))
