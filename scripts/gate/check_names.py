@@ -5,9 +5,10 @@
 
 In README.md and docs/*.md each link to a file of the repository has its target, and the heading that it may name. Where
 a link's text is one name in backticks and its target a file of code, of definitions, an edit or a row, that file defines
-the name, or is that edit or row. The text of each message of INDEX.md stands in the definition, the code and the row that
-its line links. In ARCHITECTURE.md, INDEX.md, THEOREMS.md and README.md each crate in backticks is listed, and
+the name, or is that edit or row. In ARCHITECTURE.md, INDEX.md, THEOREMS.md and README.md each crate in backticks is listed, and
 each path in backticks is the end of one of the repository. The last line is `N passed, M failed`.
+
+The text of each message of INDEX.md stands in the definition, in the code and in the row that its line links.
 """
 
 import os
