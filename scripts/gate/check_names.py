@@ -11,6 +11,8 @@ In README.md and docs/*.md each link to a file of the repository has its target,
 a link's text is one name in backticks and its target a file of code, of definitions, an edit or a row, that file defines
 the name, or is that edit or row. In ARCHITECTURE.md, INDEX.md, THEOREMS.md and README.md each crate in backticks is listed, and
 each path in backticks is the end of one of the repository. The last line is `N passed, M failed`.
+
+The text of each message of INDEX.md stands in the definition, in the code and in the row that its line links.
 """
 
 import os
@@ -82,6 +84,29 @@ def fault_of_link(page, text, target):
     if name and path.suffix in (".edit", ".session") and path.stem != name[1]:
         return f"{target}: is not {name[1]}"
     return None
+
+
+def texts_of_messages(page, text):
+    """Each place that a row of the page's messages gives for its text, with what is wrong where it does not have it."""
+    for line in text.partition("\n## Messages\n")[2].splitlines():
+        cells = line.split(" | ")
+        message = re.match(r"\| `([^`]+)`", line)
+        if not message or not LINK.search(line):
+            continue
+        # a definition, the code and a row: what stands between the parts of the text in each of them
+        plain = [re.escape(part) for part in re.split(r"\{\w+\}", message[1])]
+        quoted = [part.replace('"', r'\\"') for part in plain]
+        patterns = (r'"[^"]*"'.join(filter(None, quoted)), r"\{\w+\}".join(quoted), r"[^\n]+".join(plain))
+        for cell, pattern in zip(cells[2:], patterns):
+            target = LINK.search(cell)[2]
+            path = page.parent / target
+            printed = path.with_suffix(".stdout")
+            files = [file for file in (printed, path) if file.is_file()]
+            shown = files[0].read_text(encoding="utf-8") if files else ""
+            if cell == cells[4] and path.suffix != ".rt" and cells[1].startswith("`"):
+                pattern += re.escape(f"  [{cells[1].strip('`')}]")
+            is_there = re.search(pattern, re.sub(r"\\\n\s*", "", shown))
+            yield target, None if is_there else f"{target}: does not have the text {message[1]}"
 
 
 def crates():
@@ -168,6 +193,7 @@ def judgements(page, there):
             yield found[2], fault_of_link(page, found[1], found[2])
     if page.name not in MAPS:
         return
+    yield from texts_of_messages(page, text)
     known = crates()
     for word in sorted({found[1] for found in CODE.finditer(LINK.sub("", text))}):
         if CRATE.fullmatch(word):
