@@ -1,5 +1,5 @@
-//! Tests of classes: what class statements bind, what annotations are written as, what classes have under names, and
-//! their orders, in a crate of their own.
+//! Tests of classes: what class statements bind, what classes have under names, and their orders; in a crate of their
+//! own.
 #![tactic(auto)]
 
 #[cfg(test)]
@@ -16,5 +16,3 @@ mod methods;
 mod orders;
 #[cfg(test)]
 mod sources;
-#[cfg(test)]
-mod type_exprs;

@@ -1,22 +1,11 @@
 //! Modules that imports name, and which modules are there.
 
-use pyc_ast::Text;
+use crate::sources::dotted;
 use pyc_names::{
     FixedModule, FixedName, ModuleName, fixed_module, fixed_name, is_there, named_module,
 };
 use std::alloc::{AllocError, Global};
 use std::test::Fail;
-
-/// The parts of a dotted name.
-fn dotted(alloc: Global, name: &str) -> Result<Vec<Text>, AllocError> {
-    let mut parts = Vec::new(alloc);
-    for part in name.split('.') {
-        if !part.is_empty() {
-            parts.push(Text::new(alloc, part)?)?;
-        }
-    }
-    Ok(parts)
-}
 
 /// Whether an import in the file of a path names this module, or none.
 fn names(

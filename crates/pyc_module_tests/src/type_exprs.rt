@@ -1,6 +1,6 @@
 //! Annotations, with what they are written as.
 
-use crate::sources::module_of;
+use crate::sources::tree_of;
 use pyc_ast::{AnnotatedAssignment, Expr, Stmt, StmtForm, Text};
 use pyc_type_exprs::{ArgumentShape, TypeArgument, TypeExpr, dotted_names, innermost, type_expr};
 use std::alloc::Global;
@@ -24,7 +24,7 @@ fn first_annotated(statements: &[Stmt]) -> Result<Rc<AnnotatedAssignment>, Fail>
 /// The assignment `x: ANNOTATION` with this annotation.
 fn annotated(alloc: Global, annotation: &str) -> Result<Rc<AnnotatedAssignment>, Fail> {
     let source = format!(in alloc; "x: {annotation}\n")?;
-    first_annotated(&module_of(alloc, source.as_str())?.statements)
+    first_annotated(&tree_of(alloc, source.as_str())?.statements)
 }
 
 /// Writes names with dots between them.
