@@ -5,16 +5,15 @@
 
 A row is a file below the folder, `rows` if no other is given, in one of two forms:
 
-- NAME.test has sources, with each expected message at its line: source_rows.py says how it is written. The files are added
-  and checked once, and the whole output is compared. A row has this form where it can.
-- NAME.session is a session: the bytes on standard input. It is there for commands, for changes, and for sources that no
-  line of text can hold. NAME.stdout has the bytes on standard output. Where there are such files, NAME.args has options
-  of the program, one a line, NAME.status its status, which is else 0, and the folder NAME.files what lies in the folder in
-  which it runs.
+- NAME.test has sources, with each expected message at its line; source_rows.py says how. The files are added and checked
+  once, and the whole output is compared. A row has this form where it can.
+- NAME.session is a session, the bytes on standard input: for commands, for changes, and for sources that cannot be written
+  so. NAME.stdout has the bytes on standard output. Where there are such files, NAME.args has options of the program, one a
+  line, NAME.status its status, which is else 0, and the folder NAME.files what lies in the folder in which it runs.
 
-Nothing is to be told on standard error. The rows at the limits are not stored: limits.py makes them. A row has a limit of
-time. Each file that belongs to no whole row is a failure, and so is a NAME.test that is no row. Before the rows one of the
-first form is run as it stands, and with changes with each of which it has to fail (source_rows_test.py).
+A row prints nothing on standard error, and has a limit of time. The rows at the limits are not stored: limits.py makes them.
+Each file that belongs to no whole row is a failure, and so is a NAME.test that is no row. Before the rows, one of the first
+form is run as it stands, and with changes with each of which it has to fail (source_rows_test.py).
 
 Ends with the line `rows: P passed, F failed`, and with status 0 or 1.
 """
@@ -109,7 +108,7 @@ def fault(row, program):
             return str(error)
     if (done.stdout, done.stderr, done.returncode) == (row.stdout, b"", row.status):
         return None
-    return f"status {done.returncode}, {done.stderr!r} told{difference(row.stdout, done.stdout)}"
+    return f"status {done.returncode}, standard error {done.stderr!r}{difference(row.stdout, done.stdout)}"
 
 
 def judge(row, program, tally):

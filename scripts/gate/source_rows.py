@@ -8,18 +8,18 @@
     # file: prices.py
     def total() -> str: ...
 
-- `# flags: OPTIONS`, where there are any, is the first line: options of the program.
-- `# file: PATH` begins a file. Each line below it, up to the next such line or to the end, is a line of its source.
-- `# E: TEXT` at the end of a line says that an error is reported at that line: what is printed after `error: `, with its
-  code. `# N: TEXT` says that a note is: what is printed after `note: `.
-- A line of the source that has such a comment alone says the same of the nearest line above that has more than one. So the
-  second message of a line, and the third, stand in lines below it, in the order in which they are printed.
+- `# flags: OPTIONS` is the first line, where the program has options.
+- `# file: PATH` begins a file. The lines below it, up to the next such line or to the end, are its source.
+- `# E: TEXT` at the end of a line says that the check reports an error at this line, and what is printed after `error: `, the
+  code too. `# N: TEXT` says that it reports a note, and what is printed after `note: `.
+- Where a line has such a comment and nothing before it, the comment speaks of the nearest line above that has more. So the
+  second message of a line stands below it, then the third, in the order in which they are printed.
 
 The session adds the files in the order in which they stand, checks once, and stops. The whole output is compared, byte for
-byte: the reply to each command, and the report with these messages and no other, and with the summary that they give.
+byte: each `ok`, and the report, which has these messages and no other, and the summary and the status that follow from them.
 
-These comments are sent as parts of the source, so they stand where a comment changes nothing: not inside a string, not
-after a line that a backslash continues. What cannot be written so is written as a session.
+These comments are sent as parts of the source, so they stand where a comment changes nothing: not inside a string, and not
+on a line that a backslash continues. What cannot be written so is written as a session.
 """
 
 import re
@@ -38,26 +38,26 @@ class NoRow(Exception):
 
 
 class Source:
-    """A file of a row: its path, its lines, its messages, and the number of the line that a comment alone speaks of."""
+    """A file of a row: its path, its lines, its messages, and the number of the last line that is more than a message."""
 
     def __init__(self, path):
         self.path = path
         self.lines = []
         self.messages = []
-        self.above = 0
+        self.spoken_of = 0
 
     def take(self, line):
         """Takes the next line."""
         self.lines.append(line)
         found = MESSAGE.search(line)
         if len(NEARLY.findall(line)) > (found is not None):
-            raise NoRow(f"{self.path}:{len(self.lines)}: neither a comment of a row nor another one")
+            raise NoRow(f"{self.path}:{len(self.lines)}: nearly a comment of a row")
         if not found or line[: found.start()].strip():
-            self.above = len(self.lines)
-        if found and not self.above:
-            raise NoRow(f"{self.path}:{len(self.lines)}: a message above the first line")
+            self.spoken_of = len(self.lines)
+        if found and not self.spoken_of:
+            raise NoRow(f"{self.path}:{len(self.lines)}: a message of no line")
         if found:
-            self.messages.append(Message(self.path, self.above, KINDS[found[1]], found[2]))
+            self.messages.append(Message(self.path, self.spoken_of, KINDS[found[1]], found[2]))
 
     def text(self):
         """Its source."""
