@@ -135,6 +135,14 @@ def judge_form(program, tally):
         tally.judge(not source_rows_test.is_row(change), f"a row of sources is still one with this change: {change}")
 
 
+def judge_rows(folder, program, tally):
+    """Judges the runs of the rows below a folder, and of those at the limits where these rows are the stored ones."""
+    for path in filter(is_row, sorted(folder.rglob("*"))):
+        judge_stored(path, folder, program, tally)
+    for limit in LIMITS if folder == ROWS else ():
+        judge(Row(*limit), program, tally)
+
+
 def main():
     words = argparse.ArgumentParser(description="Runs rows on the built program.")
     words.add_argument("--program", type=Path, default=PROGRAM, help="another program")
@@ -143,16 +151,13 @@ def main():
     folder = given.folder.resolve()
     tally = Tally("rows")
     program = given.program.resolve()
-    if not program.is_file():
-        tally.judge(False, f"{program} is not built")
+    if not program.is_file() or not folder.is_dir():
+        tally.judge(False, f"{folder} is no folder" if program.is_file() else f"{program} is not built")
         return tally.close()
     judge_form(program, tally)
     for path in strays(folder):
         tally.judge(False, f"{path} belongs to no whole row, or to two")
-    for path in filter(is_row, sorted(folder.rglob("*"))):
-        judge_stored(path, folder, program, tally)
-    for limit in LIMITS if folder == ROWS else ():
-        judge(Row(*limit), program, tally)
+    judge_rows(folder, program, tally)
     return tally.close()
 
 
