@@ -30,7 +30,7 @@ LINK = re.compile(r"\[((?:`[^`]*`|[^\]`])*)\]\(([^)\s]+)\)")
 CODE = re.compile(r"`([^`\n]+)`")
 NAME = re.compile(r"`((?:[A-Za-z_]\w*::)*[A-Za-z_]\w*)`")
 CRATE = re.compile(r"(?:pyc_\w+|dmypy)")
-SUFFIXES = (".rt", ".antt", ".py", ".sh", ".c", ".md", ".txt", ".edit", ".session", ".stdout")
+SUFFIXES = (".rt", ".antt", ".py", ".sh", ".c", ".md", ".txt", ".edit", ".test", ".session", ".stdout")
 NOT_OURS = {".git", "out", "__pycache__"}
 # what begins a path of the repository
 FIRST = {"crates", "scripts", "docs", "bench", ".ci", "src", "specs", "proofs", "must-fail"}
@@ -81,7 +81,7 @@ def fault_of_link(page, text, target):
     name = NAME.fullmatch(text)
     if name and path.suffix in (".rt", ".antt") and not defines(path, name[1]):
         return f"{target}: does not define {name[1]}"
-    if name and path.suffix in (".edit", ".session") and path.stem != name[1]:
+    if name and path.suffix in (".edit", ".test", ".session") and path.stem != name[1]:
         return f"{target}: is not {name[1]}"
     return None
 

@@ -1,6 +1,7 @@
 """Sessions at the limits, each with its name and what it prints: too large, or too regular, to be stored."""
 
-OK = b"ok\n"
+from replies import OK, Message, add, report
+
 COMMAND = b"refused 1 command\n"
 PATH = b"refused 2 path\n"
 LARGE = b"refused 5 large\n"
@@ -10,22 +11,15 @@ MOST_BYTES = 1_048_576
 MOST_FILES = 1024
 
 
-def add(path, text=""):
-    """The command that adds a file."""
-    return f"add {path} {len(text.encode())}\n{text}".encode()
-
-
 def clean(files):
     """What a check prints for so many files without an error."""
-    return f"Success: no issues found in {files} source file{'' if files == 1 else 's'}\nstatus 0\n".encode()
+    return report([], files)
 
 
 def checked(path, text, errors=()):
     """A session that adds one file and checks it, and what it prints: these errors, each a line and its message."""
-    lines = "".join(f"{path}:{line}: error: {message}\n" for line, message in errors)
-    count = f"{len(errors)} error{'' if len(errors) == 1 else 's'}"
-    found = f"{lines}Found {count} in 1 file (checked 1 source file)\nstatus 1\n".encode()
-    return add(path, text) + b"check\n", OK + (found if errors else clean(1))
+    messages = [Message(path, line, "error", message) for line, message in errors]
+    return add(path, text) + b"check\n", OK + report(messages, 1)
 
 
 def path_of(count):
@@ -54,12 +48,11 @@ def full():
 def ring(count):
     """A session with so many files that import one name around, until the first declares it, and what it prints."""
     files = {f"m{at}.py": f"from m{(at + 1) % count} import x\n" for at in range(count)}
-    told = 'error: Cannot resolve name "x" (possible cyclic definition)  [misc]'
-    report = "".join(f"{path}:1: {told}\n" for path in sorted(files))
-    counts = f"Found {count} errors in {count} files (checked {count} source files)\nstatus 1\n"
+    told = 'Cannot resolve name "x" (possible cyclic definition)  [misc]'
+    messages = [Message(path, 1, "error", told) for path in sorted(files)]
     session = b"".join(add(path, text) for path, text in files.items()) + b"check\n"
     session += b"change m0.py 11\nx: int = 1\ncheck\n"
-    return session, OK * count + (report + counts).encode() + OK + clean(count)
+    return session, OK * count + report(messages, count) + OK + clean(count)
 
 
 TOO_DEEP = "Too deeply nested  [syntax]"

@@ -1,0 +1,18 @@
+//! Tests of classes: what class statements bind, what classes have under names, and their orders; in a crate of their
+//! own.
+#![tactic(auto)]
+
+#[cfg(test)]
+mod attributes;
+#[cfg(test)]
+mod class_body;
+#[cfg(test)]
+mod declared_classes;
+#[cfg(test)]
+mod members;
+#[cfg(test)]
+mod methods;
+#[cfg(test)]
+mod orders;
+#[cfg(test)]
+mod sources;
