@@ -87,8 +87,8 @@ quick() {
 # Makes the copy in which the crates are proved.
 copy() {
     local left_out=(--exclude=./.git --exclude='./crates/*/out' --exclude='./crates/*/must-fail' --exclude='./crates/*tests')
-    tar -c --no-wildcards-match-slash "${left_out[@]}" . | tar -x -C "$tree" || exit 1
-    sed -i '/^[a-z_]*tests:/d' "$tree/crates.txt" || exit 1
+    tar -c --no-wildcards-match-slash "${left_out[@]}" . | tar -x -C "$tree" &&
+        sed -i '/^[a-z_]*tests:/d' "$tree/crates.txt"
 }
 
 # Proves and builds the crates in the copy.
@@ -124,31 +124,32 @@ fi
 
 quick || { echo "gate: it ends here, since what is told in seconds failed" && close; }
 [[ $part != --quick ]] || close
-copy
+copy || { echo "gate: failed: no copy of the repository" && failed=1 && close; }
 
 # Four checks side by side, each with one job: `rt ci` alone reckons with twice the memory that these crates take, and lets
 # half of the processors wait for it.
 export RT_JOBS="${RT_JOBS:-4}"
 nice -n 19 python3 scripts/gate/tests.py > "$tested" 2>&1 &
 tests=$!
-if [[ $part != --proofs ]]; then
-    nice -n 19 python3 scripts/gate/edits_test.py > "$edits_tested" 2>&1 &
-    edits_test=$!
-    how=(--libraries "$tree/crates" --follow "$proofs" --begun "$begun" "${anew[@]}")
-    nice -n 19 python3 scripts/gate/edits.py "${how[@]}" > "$tried" 2>&1 &
-    edits=$!
+if [[ $part == --proofs ]]; then
+    prove
+    judge_beside "$tests" "$tested" scripts/gate/tests.py
+    tell
+    close
 fi
+
+nice -n 19 python3 scripts/gate/edits_test.py > "$edits_tested" 2>&1 &
+edits_test=$!
+how=(--libraries "$tree/crates" --follow "$proofs" --begun "$begun" "${anew[@]}")
+nice -n 19 python3 scripts/gate/edits.py "${how[@]}" > "$tried" 2>&1 &
+edits=$!
 prove
-if [[ $part != --proofs ]]; then
-    run python3 "$tree/scripts/gate/readme.py"
-    run python3 "$tree/scripts/gate/rows.py"
-    run python3 "$tree/scripts/gate/refused_growths.py"
-    run python3 "$tree/scripts/gate/real_files.py"
-fi
+run python3 "$tree/scripts/gate/readme.py"
+run python3 "$tree/scripts/gate/rows.py"
+run python3 "$tree/scripts/gate/refused_growths.py"
+run python3 "$tree/scripts/gate/real_files.py"
 judge_beside "$tests" "$tested" scripts/gate/tests.py
-if [[ $part != --proofs ]]; then
-    judge_beside "$edits_test" "$edits_tested" scripts/gate/edits_test.py
-    judge_beside "$edits" "$tried" scripts/gate/edits.py
-fi
+judge_beside "$edits_test" "$edits_tested" scripts/gate/edits_test.py
+judge_beside "$edits" "$tried" scripts/gate/edits.py
 tell
 close

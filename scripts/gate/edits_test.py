@@ -5,7 +5,9 @@
 
 The lower crate gives back what it is given; the upper one gives back the first of two numbers, which its contract says, and
 tells whether a number is small, of which its contract says nothing. So an edit of the first must be refused, and one of the
-second is let through. What is kept of edits lies in a folder of this test. The last line is `edits_test: P passed, F failed`."""
+second is let through. What is kept of edits lies in a folder of this test.
+
+The last line is `edits_test: P passed, F failed`."""
 
 import os
 import shutil
@@ -88,9 +90,9 @@ class Repository:
         """Begins to try the edits, and returns the process."""
         given = {"RT_JOBS": "1", "TMPDIR": str(self.work), **({"GATE_MINUTES": minutes} if minutes else {})}
         around = {name: it for name, it in os.environ.items() if name != "GATE_MINUTES"}
-        command = [sys.executable, SCRIPT, "--root", self.root, "--libraries", self.tree / "crates", "--kept", self.kept, *words]
+        places = ["--root", self.root, "--libraries", self.tree / "crates", "--kept", self.kept]
         how = {"stdin": subprocess.DEVNULL, "stdout": subprocess.PIPE, "stderr": subprocess.STDOUT, "text": True}
-        return subprocess.Popen(command, env={**around, **given}, **how)
+        return subprocess.Popen([sys.executable, SCRIPT, *places, *words], env={**around, **given}, **how)
 
     def edits(self, *words, minutes=None):
         """Tries the edits, and returns the status and what was said."""
@@ -123,8 +125,8 @@ class Test:
     def no_time(self):
         """Where there is no time none is tried, and that is said and is no failure."""
         ran = self.repository.edits(minutes="0")
-        lines = ("edits: upper: 1 not tried: ", "edits: 0 tried, 0 kept, 1 by hand, 1 not tried\n", "edits: 0 passed, 0 failed\n")
-        self.judge("no time", ran, 0, *lines)
+        counts = ("edits: 0 tried, 0 kept, 1 by hand, 1 not tried\n", "edits: 0 passed, 0 failed\n")
+        self.judge("no time", ran, 0, "edits: upper: 1 not tried: ", *counts)
         self.keeps("no time", 0)
 
     def twice(self):
@@ -160,27 +162,31 @@ class Test:
             time.sleep(0.05)
         self.repository.write(name, FILES[name].replace("The upper crate.", "The crate above."))
         said, _ = process.communicate()
-        self.judge("changed meanwhile", (process.returncode, said), 0, "edits: upper: not kept, ", "edits: 1 passed, 0 failed\n")
+        lines = ("edits: upper: not kept, ", "edits: 1 passed, 0 failed\n")
+        self.judge("changed meanwhile", (process.returncode, said), 0, *lines)
         self.keeps("changed meanwhile", 2)
 
     def let_through(self):
         """An edit that is let through fails, and then nothing is kept."""
-        lines = ("five_is_small.edit: NOT REFUSED\n", "edits: 2 tried, 0 kept, 0 by hand, 0 not tried\n", "edits: 1 passed, 1 failed\n")
-        self.judge("let through", self.repository.edits("--all"), 1, *lines)
+        counts = ("edits: 2 tried, 0 kept, 0 by hand, 0 not tried\n", "edits: 1 passed, 1 failed\n")
+        self.judge("let through", self.repository.edits("--all"), 1, "five_is_small.edit: NOT REFUSED\n", *counts)
         self.keeps("let through", 2)
 
     def unfit(self):
         """An edit that does not fit its text fails, whether it is tried or not."""
         self.judge("all fit", self.repository.edits("--fit"), 0, "edits: 2 passed, 0 failed\n")
         self.repository.write("crates/upper/must-fail/unfit.edit", UNFIT)
-        self.judge("one does not fit", self.repository.edits("--fit"), 1, "upper/unfit.edit: BAD EDIT: ", "edits: 2 passed, 1 failed\n")
-        self.judge("unfit and tried", self.repository.edits(), 1, "upper/unfit.edit: BAD EDIT: ", "edits: 1 passed, 1 failed\n")
+        fault = "upper/unfit.edit: BAD EDIT: "
+        self.judge("one does not fit", self.repository.edits("--fit"), 1, fault, "edits: 2 passed, 1 failed\n")
+        self.judge("unfit and tried", self.repository.edits(), 1, fault, "edits: 1 passed, 1 failed\n")
         self.keeps("unfit", 2)
 
     def run(self):
         """Runs all steps."""
         self.tally.judge(self.repository.build(), "the crates are not proved")
-        for step in (self.no_time, self.twice, self.not_whole, self.comment_below, self.changed_meanwhile, self.let_through, self.unfit):
+        for step in (self.no_time, self.twice, self.not_whole, self.comment_below):
+            step()
+        for step in (self.changed_meanwhile, self.let_through, self.unfit):
             step()
 
 

@@ -94,7 +94,8 @@ def sum_of_kit():
     folders = [KIT / it for it in ("bin", "logic_built", "rattle/logic", "rattle/antt")]
     files = [Path(at) / name for folder in folders for at, _, names in os.walk(folder) for name in names]
     # (the other files of a library are held to the sum in its `format`)
-    for path in sorted([*files, *KIT.glob("rlibs/*.rlib/format")]):
+    files += [it for part in ("format", "toolchain/*") for it in KIT.glob(f"rlibs/*.rlib/{part}")]
+    for path in sorted(files):
         status = path.lstat()
         found.update(f"{path} {status.st_mode} {status.st_size} {status.st_mtime_ns}\n".encode())
     return found.hexdigest()
