@@ -38,6 +38,8 @@ class Edit:
         for old, new in self.pairs:
             if text.count(old) != 1 or old == new:
                 return f"{old!r} stands in {self.file} {text.count(old)} times, or is not changed"
+        if self.refuses and not declared(self.folder, self.refuses):
+            return f"{self.refuses} is no function of its crate"
         return None
 
     def find_function(self):

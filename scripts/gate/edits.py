@@ -83,6 +83,7 @@ def run_all(turns, jobs):
     """Runs trials side by side, and returns the sum of their counts."""
 
     def work():
+        """Runs one trial after another."""
         counts = Counter()
         while turn := turns.take():
             trial, is_proved = turn

@@ -59,7 +59,10 @@ pub fn is_small(x: usize) -> bool {
     "crates/upper/must-fail/second_of_the_two.edit": "file: src/lib.rt\nold:     same(x)\nnew:     same(_y)\n",
     "crates/upper/must-fail/five_is_small.edit": "file: src/lib.rt\ntried: by hand\nold:     x < 5\nnew:     x <= 5\n",
 }
-UNFIT = "file: src/lib.rt\nold:     same(z)\nnew:     same(x)\n"
+UNFIT = {
+    "crates/upper/must-fail/of_no_text.edit": "file: src/lib.rt\nold:     same(z)\nnew:     same(x)\n",
+    "crates/upper/must-fail/of_no_function.edit": "file: src/lib.rt\nrefuses: last\nold:     same(x)\nnew:     same(_y)\n",
+}
 
 
 class Repository:
@@ -140,11 +143,13 @@ class Test:
         self.judge("anew", self.repository.edits("--anew"), 0, *tried)
 
     def not_whole(self):
-        """An entry that is not whole counts for nothing."""
+        """An entry that is not whole, or that says nothing of the edit, counts for nothing."""
         entry = self.repository.kept / self.repository.entries()[0]
-        entry.write_bytes(entry.read_bytes()[:-1])
-        self.judge("entry cut short", self.repository.edits(), 0, "edits: 1 tried, 0 kept, ")
-        self.keeps("entry cut short", 1)
+        whole = entry.read_text(encoding="utf-8")
+        for text in (whole[:-1], whole.replace("second_of_the_two", "another")):
+            entry.write_text(text, encoding="utf-8")
+            self.judge(f"entry {text}", self.repository.edits(), 0, "edits: 1 tried, 0 kept, ")
+            self.tally.judge(entry.read_text(encoding="utf-8") == whole, f"entry {text}: not written anew")
 
     def comment_below(self):
         """A changed comment in a library below has the edits tried again."""
@@ -173,12 +178,13 @@ class Test:
         self.keeps("let through", 2)
 
     def unfit(self):
-        """An edit that does not fit its text fails, whether it is tried or not."""
+        """An edit that does not fit its text, or names no function, fails, whether it is tried or not."""
         self.judge("all fit", self.repository.edits("--fit"), 0, "edits: 2 passed, 0 failed\n")
-        self.repository.write("crates/upper/must-fail/unfit.edit", UNFIT)
-        fault = "upper/unfit.edit: BAD EDIT: "
-        self.judge("one does not fit", self.repository.edits("--fit"), 1, fault, "edits: 2 passed, 1 failed\n")
-        self.judge("unfit and tried", self.repository.edits(), 1, fault, "edits: 1 passed, 1 failed\n")
+        for name, text in UNFIT.items():
+            self.repository.write(name, text)
+        faults = [f"upper/{Path(it).name}: BAD EDIT: " for it in UNFIT]
+        self.judge("two do not fit", self.repository.edits("--fit"), 1, *faults, "edits: 2 passed, 2 failed\n")
+        self.judge("unfit and tried", self.repository.edits(), 1, *faults, "edits: 1 passed, 2 failed\n")
         self.keeps("unfit", 2)
 
     def run(self):

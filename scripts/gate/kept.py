@@ -55,31 +55,31 @@ class Kept:
             add_file(found, built, built / it / "out" / "rlib" / f"{it}.rlib" / "format")
         return found.hexdigest()
 
-    def has(self, sum, edits):
+    def has(self, key, edits):
         """Returns whether an entry of this sum says that all these edits were refused."""
         if self.folder is None or self.is_anew:
             return False
         try:
-            found = json.loads((self.folder / sum).read_text(encoding="utf-8"))
-            return found == entry(sum, edits)
+            found = json.loads((self.folder / key).read_text(encoding="utf-8"))
+            return found == entry(key, edits)
         except (OSError, ValueError):
             return False
 
-    def keep(self, sum, edits):
+    def keep(self, key, edits):
         """Keeps that all these edits were refused."""
         if self.folder is None:
             return
         try:
             with tempfile.NamedTemporaryFile("w", prefix="new-", dir=self.folder, delete=False, encoding="utf-8") as file:
-                json.dump(entry(sum, edits), file)
-            os.replace(file.name, self.folder / sum)
+                json.dump(entry(key, edits), file)
+            os.replace(file.name, self.folder / key)
         except OSError as fault:
             print(f"edits: {edits[0].crate}: not kept: {fault}", flush=True)
 
 
-def entry(sum, edits):
+def entry(key, edits):
     """Returns what an entry says: its sum, the crate, and the edits that were refused."""
-    return {"sum": sum, "crate": edits[0].crate, "refused": [it.path.name for it in edits]}
+    return {"sum": key, "crate": edits[0].crate, "refused": [it.path.name for it in edits]}
 
 
 def scripts():

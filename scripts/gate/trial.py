@@ -2,6 +2,7 @@
 
 import shutil
 import tempfile
+import threading
 import time
 from collections import Counter
 from dataclasses import dataclass
@@ -13,6 +14,9 @@ from kept import Kept
 from proofs import Proofs
 from repository import KIT, below
 from verdict import answer_refused, refusal, refusal_in_check, refusal_of_crate
+
+# Held while something is said, so that what several trials say at once stands in lines of its own.
+SAYS = threading.Lock()
 
 
 @dataclass
@@ -120,11 +124,13 @@ class Trial:
         for it in [*self.left]:
             self.judge(it, self.alone(it))
         shutil.rmtree(self.proved, ignore_errors=True)
-        print("\n".join(self.said), flush=True)
+        with SAYS:
+            print("\n".join(self.said), flush=True)
 
     def say(self, what):
         """Says something of the crate's edits."""
-        print(f"edits: {self.name}: {what}", flush=True)
+        with SAYS:
+            print(f"edits: {self.name}: {what}", flush=True)
 
     def run(self, is_proved):
         """Tries all edits, unless their crate is not proved, an earlier run tried them, or the time is over. Returns how many
