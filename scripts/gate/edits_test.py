@@ -18,6 +18,7 @@ import time
 from pathlib import Path
 
 from judging import Tally
+from repository import last_changes
 
 SCRIPT = Path(__file__).resolve().with_name("edits.py")
 FILES = {
@@ -88,6 +89,12 @@ class Repository:
         if ran.returncode:
             print(ran.stdout, end="")
         return ran.returncode == 0
+
+    def commit(self, seconds):
+        """Commits all files at that time."""
+        given = {"GIT_COMMITTER_DATE": f"@{seconds} +0000", "GIT_AUTHOR_DATE": f"@{seconds} +0000"}
+        for words in (["init", "-q"], ["add", "-A"], ["-c", "user.name=t", "-c", "user.email=t@t", "commit", "-qm", "t"]):
+            subprocess.run(["git", *words], cwd=self.root, env={**os.environ, **given}, check=True)
 
     def begin(self, *words, minutes=None):
         """Begins to try the edits, and returns the process."""
@@ -187,12 +194,24 @@ class Test:
         self.judge("unfit and tried", self.repository.edits(), 1, *faults, "edits: 1 passed, 2 failed\n")
         self.keeps("unfit", 2)
 
+    def last_changed(self):
+        """The crates that were changed last are told by their commits, and by what is not committed."""
+        root, name = self.repository.root, "crates/low/src/lib.rt"
+        self.repository.commit(1000)
+        self.repository.write("crates/upper/src/lib.rt", FILES["crates/upper/src/lib.rt"] + "\n")
+        self.repository.commit(2000)
+        found = last_changes(root)
+        self.tally.judge(found == {"low": 1000, "upper": 2000}, f"last changes: {found}")
+        self.repository.write(name, FILES[name] + "\n")
+        found = last_changes(root)
+        self.tally.judge(found == {"low": float("inf"), "upper": 2000}, f"last changes, one not committed: {found}")
+
     def run(self):
         """Runs all steps."""
         self.tally.judge(self.repository.build(), "the crates are not proved")
         for step in (self.no_time, self.twice, self.not_whole, self.comment_below):
             step()
-        for step in (self.changed_meanwhile, self.let_through, self.unfit):
+        for step in (self.changed_meanwhile, self.let_through, self.unfit, self.last_changed):
             step()
 
 
