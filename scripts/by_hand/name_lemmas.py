@@ -18,7 +18,10 @@ from pathlib import Path
 
 ROOT = Path(__file__).resolve().parents[2]
 sys.path.insert(0, str(ROOT / "scripts" / "gate"))
-import edits  # noqa: E402
+from edit import edits_of  # noqa: E402
+from repository import libraries  # noqa: E402
+from source import cycles_of, ends_alike, functions, key_of  # noqa: E402
+from trial import words  # noqa: E402
 
 STD = "Rattle.std.proofs.Common"
 STEPS = ("Rattle.std.proofs.lemmas.Grind", "common_steps")
@@ -71,7 +74,7 @@ def attributes(crate, folder):
     for file in sorted(folder.glob("src/**/*.rt")):
         text = file.read_text(encoding="utf-8")
         lines = text.split("\n")
-        for begin, end, path in edits.functions(str(file.relative_to(folder)), text):
+        for begin, end, path in functions(str(file.relative_to(folder)), text):
             whole = "\n".join(lines[begin - 1 : end])
             said = re.search(r"#\[tactic\(auto(.*)\)\]\n", whole) or re.search(r"#!\[tactic\(auto(.*)\)\]\n", text)
             named = {it: re.search(rf"{it}\(([^)]*)\)", said[1] if said else "") for it in ("using", "unfolding")}
@@ -120,7 +123,7 @@ def new_answers(crate, folder, path, proof, known):
     """Returns an answer for each goal of a function, or of a cycle of calls, that has none."""
     last = path.rpartition(".")[2]
     # (a function that calls itself is a cycle by itself, which has its name)
-    own = known.get(edits.key_of(known, path.replace("+", "")))
+    own = known.get(key_of(known, path.replace("+", "")))
     members = [it for it in known.values() if it[1] and f"+{it[1]}" == last] or ([own] if own else [])
     file = folder / "proofs" / path.replace(".", "/") / "Answers.antt"
     text = file.read_text(encoding="utf-8") if file.is_file() else ""
@@ -167,13 +170,13 @@ def is_tried(path, tried, cycles):
     """Returns whether a proof is of a function, or of a cycle of calls, of which the gate tries an edit."""
     last, own = path.rpartition(".")[2], path.replace("+", "").replace(".", "::")
     members = [own, *(it for it, cycle in cycles.items() if cycle and f"+{cycle}" == last)]
-    return any(edits.ends_alike(it, one) for it in members for one in tried)
+    return any(ends_alike(it, one) for it in members for one in tried)
 
 
 def add_answers(crate, folder, command, kept, least):
     """Adds answers to a crate over what a check of it kept, and returns how many, how many stay, and what the prover said."""
-    known, cycles, answers = attributes(crate, folder), edits.cycles_of(folder), []
-    tried = {it.place[3] for it in edits.edits_of(crate) if it.place and not it.by_hand}
+    known, cycles, answers = attributes(crate, folder), cycles_of(folder), []
+    tried = {it.place[3] for it in edits_of(crate) if it.place and not it.by_hand}
     for file, took in proofs_in(kept).items():
         path = file.name.removeprefix(f"Rattle-{crate}-proofs.").removesuffix(".Proof.oantt")
         if took >= least or is_tried(path, tried, cycles):
@@ -196,7 +199,7 @@ def add_answers(crate, folder, command, kept, least):
 def run(crate, built, least):
     """Adds answers to a crate, and returns whether it is proved."""
     folder = ROOT / "crates" / crate
-    command = edits.words(edits.libraries(), crate, built)
+    command = words(libraries(), folder, built)
     with tempfile.TemporaryDirectory(prefix="lemmas-") as kept:
         said = check(command, folder, kept)
         added, left, said_last = add_answers(crate, folder, command, kept, least)

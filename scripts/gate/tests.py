@@ -18,7 +18,7 @@ import sys
 import tempfile
 from pathlib import Path
 
-from edits import libraries
+from repository import libraries
 from judging import Tally
 
 ROOT = Path(__file__).resolve().parents[2]
