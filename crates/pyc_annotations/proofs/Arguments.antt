@@ -6,33 +6,33 @@ use Rattle.pyc_annotations.specs.Annotations.{subscripted_rule, form_subscripted
 use Rattle.pyc_annotations.specs.declared.type_form.TypeForm.{TypeForm}
 use Rattle.pyc_annotations.specs.declared.type_form.TypeForm.TheVariants as type_form
 use Rattle.pyc_ast.specs.declared.position.Position.{Position}
-use Rattle.pyc_names.specs.SourceFiles.{SourceFile}
+use Rattle.pyc_names.specs.Interfaces.{Interface}
 use Rattle.pyc_type_exprs.specs.declared.forms.ArgumentShape.TheFolds.{the_lemmas}
 use Rattle.pyc_type_exprs.specs.declared.forms.TypeArgument.{TypeArgument}
 use Rattle.pyc_type_exprs.specs.TypeExprs.{DottedName, type_arguments, type_argument}
 use Rattle.pyc_type_exprs.specs.TypeExprView.{type_argument_of, type_expr_of, shape_in}
 
 -- how arguments of the code are read
-abbrev pub readings_of : SourceFile → List TypeArgument → List ArgumentReading
+abbrev pub readings_of : Interface → List TypeArgument → List ArgumentReading
 readings_of file xs = argument_readings file (type_arguments (map type_argument_of xs))
 
-abbrev pub reading_of : SourceFile → TypeArgument → ArgumentReading
+abbrev pub reading_of : Interface → TypeArgument → ArgumentReading
 reading_of file x = record { read = read_type file (type_expr_of x.written); shape = shape_reading file (shape_in x.shape) }
 
 view_argument : (x : TypeArgument) → type_argument_of x ≡ type_argument (type_expr_of x.written) (shape_in x.shape)
 view_argument x = search (rules, the_lemmas)
 
 -- one is read as its parts are
-pub one_reading : (file : SourceFile) (x : TypeArgument) → argument_reading file (type_argument_of x) ≡ reading_of file x
+pub one_reading : (file : Interface) (x : TypeArgument) → argument_reading file (type_argument_of x) ≡ reading_of file x
 one_reading file x = ap (argument_reading file) (view_argument x)
 
 -- as many are read as there are
-pub length_readings : (file : SourceFile) (xs : List TypeArgument) → length (readings_of file xs) ≡ length xs
+pub length_readings : (file : Interface) (xs : List TypeArgument) → length (readings_of file xs) ≡ length xs
 length_readings file [] = refl
 length_readings file (x ∷ xs) = omega (arith, length_readings file xs)
 
 -- two arguments
-pub two_readings : (file : SourceFile) (xs : List TypeArgument) (a b : TypeArgument) → 2 ≤ length xs → length xs < 3
+pub two_readings : (file : Interface) (xs : List TypeArgument) (a b : TypeArgument) → 2 ≤ length xs → length xs < 3
     → a ≡ get_or xs 0 a → b ≡ get_or xs 1 b → readings_of file xs ≡ reading_of file a ∷ reading_of file b ∷ []
 two_readings file [] a b long short is next = absurd (omega arith)
 two_readings file (x ∷ []) a b long short is next = absurd (omega arith)
@@ -56,7 +56,7 @@ callable_other at (x ∷ []) other = refl
 callable_other at (x ∷ y ∷ []) other = absurd (other refl)
 callable_other at (x ∷ y ∷ z ∷ xs) other = refl
 
-pub callable_two : (file : SourceFile) (at : Position) (xs : List TypeArgument) (a b : TypeArgument) → 2 ≤ length xs → length xs < 3
+pub callable_two : (file : Interface) (at : Position) (xs : List TypeArgument) (a b : TypeArgument) → 2 ≤ length xs → length xs < 3
     → a ≡ get_or xs 0 a → b ≡ get_or xs 1 b
     → callable_rule at (readings_of file xs) ≡ callable_of at (shape_reading file (shape_in a.shape)) (read_type file (type_expr_of b.written))
 callable_two file at xs a b long short is next = ap (callable_rule at) (two_readings file xs a b long short is next)

@@ -5,7 +5,7 @@ use Rattle.pyc_annotations.specs.Bases.{Base, base_of_argument, more_bases, with
 use Rattle.pyc_annotations.proofs.Arguments.{readings_of, one_reading}
 use Rattle.pyc_ast.specs.declared.expr.Argument.{Argument}
 use Rattle.pyc_ast.specs.ExprView.{argument_of}
-use Rattle.pyc_names.specs.SourceFiles.{SourceFile}
+use Rattle.pyc_names.specs.Interfaces.{Interface}
 use Rattle.pyc_reading.proofs.RunLemmas.{one_turn}
 use Rattle.pyc_reading.specs.Desks.{Step, Desk, run}
 use Rattle.pyc_reading.specs.Readings.{and_then}
@@ -16,20 +16,20 @@ use Rattle.pyc_type_exprs.specs.TypeExprView.{type_expr_of}
 use Rattle.pyc_type_forms.specs.Types.{Ty}
 
 -- the types of arguments
-abbrev pub arguments_left : SourceFile → List TypeArgument → List (Step Annotation)
+abbrev pub arguments_left : Interface → List TypeArgument → List (Step Annotation)
 arguments_left file xs = map (λ a. a.read) (readings_of file xs)
 
-abbrev pub types_left : SourceFile → List TypeExpr → List (Step Annotation)
+abbrev pub types_left : Interface → List TypeExpr → List (Step Annotation)
 types_left file xs = type_readings file (type_exprs (map type_expr_of xs))
 
-more_argument : (file : SourceFile) (tys : List Ty) (x : TypeArgument) (xs : List TypeArgument)
+more_argument : (file : Interface) (tys : List Ty) (x : TypeArgument) (xs : List TypeArgument)
     → more_types tys (arguments_left file (x ∷ xs))
     ≡ and_then (read_type file (type_expr_of x.written)) (λ found. more_types (tys ++ (found.ty ∷ [])) (arguments_left file xs))
 unfolding more_types
 more_argument file tys x xs =
     ap (λ (r : ArgumentReading). and_then r.read (λ found. more_types (tys ++ (found.ty ∷ [])) (arguments_left file xs))) (one_reading file x)
 
-pub argument_turn : (file : SourceFile) (tys more : List Ty) (xs : List TypeArgument) (i : ℕ) (x : TypeArgument) (found : Annotation) (desk middle : Desk)
+pub argument_turn : (file : Interface) (tys more : List Ty) (xs : List TypeArgument) (i : ℕ) (x : TypeArgument) (found : Annotation) (desk middle : Desk)
     → i < length xs → x ≡ get_or xs i x → run (read_type file (type_expr_of x.written)) desk ≡ (found, middle)
     → more ≡ tys ++ (found.ty ∷ [])
     → run (more_types more (arguments_left file (drop (i + 1) xs))) middle ≡ run (more_types tys (arguments_left file (drop i xs))) desk
@@ -39,13 +39,13 @@ argument_turn file tys more xs i x found desk middle within is first pushed =
     (λ a l. more_types (tys ++ (a.ty ∷ [])) (arguments_left file l)) (more_argument file tys) xs i x desk middle found within is first)
 
 -- the types in a list
-more_type : (file : SourceFile) (tys : List Ty) (x : TypeExpr) (xs : List TypeExpr)
+more_type : (file : Interface) (tys : List Ty) (x : TypeExpr) (xs : List TypeExpr)
     → more_types tys (types_left file (x ∷ xs))
     ≡ and_then (read_type file (type_expr_of x)) (λ found. more_types (tys ++ (found.ty ∷ [])) (types_left file xs))
 unfolding more_types
 more_type file tys x xs = refl
 
-pub type_turn : (file : SourceFile) (tys more : List Ty) (xs : List TypeExpr) (i : ℕ) (x : TypeExpr) (found : Annotation) (desk middle : Desk)
+pub type_turn : (file : Interface) (tys more : List Ty) (xs : List TypeExpr) (i : ℕ) (x : TypeExpr) (found : Annotation) (desk middle : Desk)
     → i < length xs → x ≡ get_or xs i x → run (read_type file (type_expr_of x)) desk ≡ (found, middle)
     → more ≡ tys ++ (found.ty ∷ [])
     → run (more_types more (types_left file (drop (i + 1) xs))) middle ≡ run (more_types tys (types_left file (drop i xs))) desk
@@ -55,13 +55,13 @@ type_turn file tys more xs i x found desk middle within is first pushed =
     (λ a l. more_types (tys ++ (a.ty ∷ [])) (types_left file l)) (more_type file tys) xs i x desk middle found within is first)
 
 -- the bases of a class
-more_base : (file : SourceFile) (bases : List Base) (x : Argument) (xs : List Argument)
+more_base : (file : Interface) (bases : List Base) (x : Argument) (xs : List Argument)
     → more_bases file bases (map argument_of (x ∷ xs))
     ≡ and_then (base_of_argument file (argument_of x)) (λ more. more_bases file (with_base bases more) (map argument_of xs))
 unfolding more_bases
 more_base file bases x xs = refl
 
-pub base_turn : (file : SourceFile) (bases more : List Base) (xs : List Argument) (i : ℕ) (x : Argument) (found : Option Base) (desk middle : Desk)
+pub base_turn : (file : Interface) (bases more : List Base) (xs : List Argument) (i : ℕ) (x : Argument) (found : Option Base) (desk middle : Desk)
     → i < length xs → x ≡ get_or xs i x → run (base_of_argument file (argument_of x)) desk ≡ (found, middle)
     → more ≡ with_base bases found
     → run (more_bases file more (map argument_of (drop (i + 1) xs))) middle ≡ run (more_bases file bases (map argument_of (drop i xs))) desk

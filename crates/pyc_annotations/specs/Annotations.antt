@@ -18,7 +18,7 @@ use Rattle.pyc_class.specs.declared.builtin_class.BuiltinClass.TheVariants as cl
 use Rattle.pyc_class.specs.Class.{Id, builtin, user}
 use Rattle.pyc_names.specs.declared.fixed.FixedName.{FixedName}
 use Rattle.pyc_names.specs.declared.fixed.FixedName.TheVariants as special
-use Rattle.pyc_names.specs.SourceFiles.{SourceFile}
+use Rattle.pyc_names.specs.Interfaces.{Interface}
 use Rattle.pyc_reading.specs.Desks.{Step}
 use Rattle.pyc_reading.specs.Readings.{Done, Tell, and_then}
 use Rattle.pyc_report.specs.declared.message.Code.TheVariants.{ValidType}
@@ -105,7 +105,7 @@ attributes r at [] found = Done found
 attributes r at (n ∷ names) found = and_then (attribute_meaning r at n found) (attributes r at names)
 
 -- what names joined by dots mean that begin at a position in a file
-unfoldable pub dotted_meaning : Role → SourceFile → Position → List (List ℕ) → Step Meaning
+unfoldable pub dotted_meaning : Role → Interface → Position → List (List ℕ) → Step Meaning
 dotted_meaning r file at [] = Done nothing_meant
 dotted_meaning r file at (x ∷ names) = and_then (own_name file at x) (attributes r at names)
 
@@ -127,7 +127,7 @@ named at name (fixed_meant found) = bare_form at found
 named at name nothing_meant = invalid at
 named at name _ = not_a_type name
 
-unfoldable pub name_rule : SourceFile → Position → DottedName → Step Annotation
+unfoldable pub name_rule : Interface → Position → DottedName → Step Annotation
 name_rule file at name = and_then (dotted_meaning role.Annotation file name.at name.names) (named at name)
 
 -- ---- forms with arguments
@@ -289,7 +289,7 @@ subscripted_rule at name arguments any_subscripted = Done (of_type any)
 subscripted_rule at name arguments value_subscripted = not_a_type name
 subscripted_rule at name arguments wrong_subscripted = invalid at
 
-unfoldable pub subscript_rule : SourceFile → Position → DottedName → Bool → List ArgumentReading → Step Annotation
+unfoldable pub subscript_rule : Interface → Position → DottedName → Bool → List ArgumentReading → Step Annotation
 subscript_rule file at name is_nested arguments =
     and_then (dotted_meaning role.Annotation file name.at name.names)
     (λ found. subscripted_rule at name arguments (with_arguments is_nested found))
@@ -302,7 +302,7 @@ union_rule left right = and_then left (λ l. and_then right (λ r. Done (of_type
 
 abbrev mutual
   -- what an annotation means that stands in a file
-  pub read_type : SourceFile → TypeExpr → Step Annotation
+  pub read_type : Interface → TypeExpr → Step Annotation
   read_type file none_written = Done (of_type none)
   read_type file (name_written at name) = name_rule file at name
   read_type file (union_written left right) = union_rule (read_type file left) (read_type file right)
@@ -310,19 +310,19 @@ abbrev mutual
       subscript_rule file at name is_nested (argument_readings file arguments)
   read_type file (wrong_written at) = invalid at
 
-  pub argument_readings : SourceFile → TypeArguments → List ArgumentReading
+  pub argument_readings : Interface → TypeArguments → List ArgumentReading
   argument_readings file no_argument = []
   argument_readings file (another_argument x rest) = argument_reading file x ∷ argument_readings file rest
 
-  pub argument_reading : SourceFile → TypeArgument → ArgumentReading
+  pub argument_reading : Interface → TypeArgument → ArgumentReading
   argument_reading file (type_argument written shape) =
       record { read = read_type file written; shape = shape_reading file shape }
 
-  pub shape_reading : SourceFile → ArgumentShape → ShapeReading
+  pub shape_reading : Interface → ArgumentShape → ShapeReading
   shape_reading file ellipsis_shape = ellipsis_read
   shape_reading file (list_shape types) = list_read (type_readings file types)
   shape_reading file other_shape = other_read
 
-  pub type_readings : SourceFile → TypeExprs → List (Step Annotation)
+  pub type_readings : Interface → TypeExprs → List (Step Annotation)
   type_readings file no_type = []
   type_readings file (another_type x rest) = read_type file x ∷ type_readings file rest

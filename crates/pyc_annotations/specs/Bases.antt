@@ -9,7 +9,7 @@ use Rattle.pyc_ast.specs.declared.expr.ArgumentKind.TheVariants as argument_kind
 use Rattle.pyc_ast.specs.declared.position.Position.{Position}
 use Rattle.pyc_ast.specs.Exprs.{Expr, Argument, argument, at_of, inside_of}
 use Rattle.pyc_class.specs.Class.{Id}
-use Rattle.pyc_names.specs.SourceFiles.{SourceFile}
+use Rattle.pyc_names.specs.Interfaces.{Interface}
 use Rattle.pyc_reading.specs.Desks.{Step}
 use Rattle.pyc_reading.specs.Readings.{Done, Tell, and_then}
 use Rattle.pyc_report.specs.declared.message.Code.TheVariants.{Misc}
@@ -46,7 +46,7 @@ base_named at names (function_meant true) = Done any_base
 base_named at names _ = invalid_base at names
 
 -- names joined by dots, or another expression, as a base: where the base begins, and where its names do
-abbrev pub written_base : SourceFile → (at inside : Position) → Option (List (List ℕ)) → Step Base
+abbrev pub written_base : Interface → (at inside : Position) → Option (List (List ℕ)) → Step Base
 written_base file at inside (Some names) =
     and_then (dotted_meaning role.Base file inside names) (base_named at (joined_names names))
 written_base file at inside None = invalid_base at unnamed
@@ -56,16 +56,16 @@ abbrev pub names_at : Expr → Position
 names_at e = inside_of (innermost e)
 
 -- a base that stands in a file: a subscript on it is ignored
-unfoldable pub base : SourceFile → Expr → Step Base
+unfoldable pub base : Interface → Expr → Step Base
 base file e = written_base file (at_of e) (names_at e) (dotted_names (innermost e))
 
 -- an argument of a class: one by place is a base, one after `*` is none that is known, and one by name is not asked for
-abbrev pub argument_base : SourceFile → Position → ArgumentKind → Expr → Step (Option Base)
+abbrev pub argument_base : Interface → Position → ArgumentKind → Expr → Step (Option Base)
 argument_base file at argument_kind.Positional e = and_then (base file e) (λ found. Done (Some found))
 argument_base file at argument_kind.Starred e = and_then (invalid_base at unnamed) (λ found. Done (Some found))
 argument_base file at _ e = Done None
 
-unfoldable pub base_of_argument : SourceFile → Argument → Step (Option Base)
+unfoldable pub base_of_argument : Interface → Argument → Step (Option Base)
 base_of_argument file (argument at kind e) = argument_base file at kind e
 
 -- some bases, and one more where there is one
@@ -74,11 +74,11 @@ with_base found (Some more) = found ++ (more ∷ [])
 with_base found None = found
 
 -- these bases, and then those of arguments, in turn
-unfoldable pub more_bases : SourceFile → List Base → List Argument → Step (List Base)
+unfoldable pub more_bases : Interface → List Base → List Argument → Step (List Base)
 more_bases file found [] = Done found
 more_bases file found (x ∷ rest) =
     and_then (base_of_argument file x) (λ more. more_bases file (with_base found more) rest)
 
 -- the bases of a class whose arguments are these, in turn
-abbrev pub bases : SourceFile → List Argument → Step (List Base)
+abbrev pub bases : Interface → List Argument → Step (List Base)
 bases file arguments = more_bases file [] arguments

@@ -13,7 +13,7 @@ use Rattle.pyc_class.specs.Class.{Id, builtin}
 use Rattle.pyc_names.specs.declared.fixed.FixedModule.{FixedModule}
 use Rattle.pyc_names.specs.declared.fixed.FixedName.{FixedName}
 use Rattle.pyc_names.specs.FixedModules.{fixed_module, fixed_name}
-use Rattle.pyc_names.specs.SourceFiles.{SourceFile}
+use Rattle.pyc_names.specs.Interfaces.{Interface}
 use Rattle.pyc_reading.specs.Answers.{Answer, NameAnswer, NameKind, name_is}
 use Rattle.pyc_reading.specs.Answers as kind
 use Rattle.pyc_reading.specs.Desks.{Step}
@@ -120,7 +120,7 @@ own_meaning at x true found = Done found
 own_meaning at x false found = unbound at x
 
 -- whether a file binds a name at its top level
-abbrev pub binds : SourceFile → List ℕ → Bool
+abbrev pub binds : Interface → List ℕ → Bool
 binds file x = is_some (declaration file.bindings x)
 
 -- a name of a module, of a fixed one or by its key
@@ -132,7 +132,7 @@ unfoldable pub module_name_meaning : List (List ℕ) → List ℕ → Step Meani
 module_name_meaning m x = name_in_module m x (fixed_module m)
 
 -- a name that stands in a file, where it begins
-unfoldable pub own_name : SourceFile → Position → List ℕ → Step Meaning
+unfoldable pub own_name : Interface → Position → List ℕ → Step Meaning
 own_name file at x = and_then (module_name_meaning file.name x) (own_meaning at x (binds file x))
 
 -- an attribute of a module, as the answer to its key tells it

@@ -4,7 +4,7 @@ ghost use Rattle.std.specs.Prelude.{◌≡◌, ◌++◌, ◌∷◌, [], IfOk, On
 ghost use Rattle.pyc_annotations.specs.Bases as spec;
 ghost use Rattle.pyc_annotations.specs.Views.{base_of, meaning_of};
 ghost use Rattle.pyc_ast.specs.ExprView.{expr_of, argument_of};
-ghost use Rattle.pyc_names.specs.SourceFileView.{source_in};
+ghost use Rattle.pyc_names.specs.InterfaceView.{interface_in};
 ghost use Rattle.pyc_reading.specs.Desks.{Performs};
 
 use crate::lookup::dotted_meaning;
@@ -60,7 +60,7 @@ fn named_base<N: Notes>(
     inside: Position,
     names: &[Text],
 ) -> Result<Base, AllocError>
-    ensures { Performs base_of (spec.written_base (source_in file.now) at inside (Some names.now)) (N.desk notes.old)
+    ensures { Performs base_of (spec.written_base (interface_in file.now) at inside (Some names.now)) (N.desk notes.old)
         result (N.desk notes.new) }
 {
     let meaning = dotted_meaning(alloc, notes, Role::Base, file, inside, names)?;
@@ -76,7 +76,7 @@ fn read_base<N: Notes>(
     file: &SourceFile,
     e: &Expr,
 ) -> Result<Base, AllocError>
-    ensures { Performs base_of (spec.base (source_in file.now) (expr_of e.now)) (N.desk notes.old) result
+    ensures { Performs base_of (spec.base (interface_in file.now) (expr_of e.now)) (N.desk notes.old) result
         (N.desk notes.new) }
 {
     let inner = innermost(e);
@@ -93,7 +93,7 @@ fn written_base<N: Notes>(
     inside: Position,
     names: Option<Vec<Text>>,
 ) -> Result<Base, AllocError>
-    ensures { Performs base_of (spec.written_base (source_in file.now) at inside (option_map (λ v. v.items) names))
+    ensures { Performs base_of (spec.written_base (interface_in file.now) at inside (option_map (λ v. v.items) names))
         (N.desk notes.old) result (N.desk notes.new) }
 {
     match names {
@@ -112,7 +112,7 @@ fn argument_base<N: Notes>(
     argument: &Argument,
 ) -> Result<Option<Base>, AllocError>
     ensures { Performs (option_map base_of)
-        (spec.base_of_argument (source_in file.now) (argument_of argument.now)) (N.desk notes.old) result
+        (spec.base_of_argument (interface_in file.now) (argument_of argument.now)) (N.desk notes.old) result
         (N.desk notes.new) }
 {
     match &argument.kind {
@@ -149,7 +149,7 @@ pub fn read_bases<N: Notes>(
     arguments: &[Argument],
 ) -> Result<Vec<Base>, AllocError>
     ensures { Performs (λ found. map base_of found.items)
-        (spec.bases (source_in file.now) (map argument_of arguments.now)) (N.desk notes.old) result
+        (spec.bases (interface_in file.now) (map argument_of arguments.now)) (N.desk notes.old) result
         (N.desk notes.new) }
 {
     let mut found = Vec::with_capacity(alloc, arguments.len())?;

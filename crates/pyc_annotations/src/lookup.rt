@@ -5,7 +5,7 @@ ghost use Rattle.pyc_annotations.specs.Annotations as rule;
 ghost use Rattle.pyc_annotations.specs.Meanings as spec;
 ghost use Rattle.pyc_annotations.specs.Views.{meaning_of};
 ghost use Rattle.pyc_names.specs.FixedModules as fixed;
-ghost use Rattle.pyc_names.specs.SourceFileView.{source_in};
+ghost use Rattle.pyc_names.specs.InterfaceView.{interface_in};
 ghost use Rattle.pyc_reading.specs.AnswerView.{answer_in, kind_of, name_answer_of};
 ghost use Rattle.pyc_reading.specs.Desks.{Performs};
 
@@ -123,7 +123,7 @@ fn no_builtin<N: Notes>(
 
 /// Whether a file binds a name at its top level.
 fn binds(file: &SourceFile, name: &Text) -> bool
-    ensures { result ≡ spec.binds (source_in file.now) name.now }
+    ensures { result ≡ spec.binds (interface_in file.now) name.now }
 {
     file.declaration(name).is_some()
 }
@@ -137,7 +137,7 @@ fn own_name<N: Notes>(
     at: Position,
     name: &Text,
 ) -> Result<Meaning, AllocError>
-    ensures { Performs meaning_of (spec.own_name (source_in file.now) at name.now) (N.desk notes.old) result
+    ensures { Performs meaning_of (spec.own_name (interface_in file.now) at name.now) (N.desk notes.old) result
         (N.desk notes.new) }
 {
     let found = module_name_meaning(alloc, notes, file.name(), name)?;
@@ -297,7 +297,7 @@ pub(crate) fn dotted_meaning<N: Notes>(
     at: Position,
     names: &[Text],
 ) -> Result<Meaning, AllocError>
-    ensures { Performs meaning_of (rule.dotted_meaning role (source_in file.now) at names.now) (N.desk notes.old)
+    ensures { Performs meaning_of (rule.dotted_meaning role (interface_in file.now) at names.now) (N.desk notes.old)
         result (N.desk notes.new) }
 {
     match names {

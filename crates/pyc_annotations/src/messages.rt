@@ -14,8 +14,8 @@ use crate::meaning::Meaning;
 use crate::reading::{Annotation, of_type};
 use crate::type_form::TypeForm;
 use pyc_ast::{Position, Text};
-use pyc_reading::Notes;
-use pyc_report::{Code, Message, push_names};
+use pyc_reading::{Notes, tell_error};
+use pyc_report::{Code, push_names};
 use pyc_type_exprs::DottedName;
 use pyc_type_forms::Ty;
 use std::alloc::{AllocError, Global};
@@ -25,7 +25,7 @@ fn wrong<N: Notes>(notes: &mut N, at: Position, text: String) -> Result<Annotati
     ensures { Performs annotation_in (spec.wrong at (string_bytes text)) (N.desk notes.old) result
         (N.desk notes.new) }
 {
-    notes.tell(Message::error_at(at, Code::ValidType, text))?;
+    tell_error(notes, at, Code::ValidType, text)?;
     Ok(of_type(Ty::Any))
 }
 
@@ -123,7 +123,7 @@ pub(crate) fn invalid_base<N: Notes>(
     ensures { Performs base_of (base_spec.invalid_base at shown.now) (N.desk notes.old) result (N.desk notes.new) }
 {
     let text = invalid_base_text(alloc, shown)?;
-    notes.tell(Message::error_at(at, Code::Misc, text))?;
+    tell_error(notes, at, Code::Misc, text)?;
     Ok(Base::Invalid)
 }
 
@@ -146,7 +146,7 @@ pub(crate) fn not_defined<N: Notes>(
     ensures { Performs meaning_of (name_spec.not_defined at name.now) (N.desk notes.old) result (N.desk notes.new) }
 {
     let text = not_defined_text(alloc, name)?;
-    notes.tell(Message::error_at(at, Code::NameDefined, text))?;
+    tell_error(notes, at, Code::NameDefined, text)?;
     Ok(Meaning::Any)
 }
 
@@ -169,6 +169,6 @@ pub(crate) fn no_attribute<N: Notes>(
     ensures { Performs meaning_of (name_spec.no_attribute at name.now) (N.desk notes.old) result (N.desk notes.new) }
 {
     let text = no_attribute_text(alloc, name)?;
-    notes.tell(Message::error_at(at, Code::AttrDefined, text))?;
+    tell_error(notes, at, Code::AttrDefined, text)?;
     Ok(Meaning::Any)
 }

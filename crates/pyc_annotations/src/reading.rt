@@ -4,7 +4,7 @@ ghost use Rattle.std.specs.Prelude.{◌≡◌, ◌∷◌, [], IfOk, map};
 ghost use Rattle.pyc_annotations.specs.Annotations as spec;
 ghost use Rattle.pyc_annotations.specs.Views.{annotation_in, meaning_of, subscripted_of};
 ghost use Rattle.pyc_ast.specs.ExprView.{expr_of};
-ghost use Rattle.pyc_names.specs.SourceFileView.{source_in};
+ghost use Rattle.pyc_names.specs.InterfaceView.{interface_in};
 ghost use Rattle.pyc_reading.specs.Desks.{Performs};
 ghost use Rattle.pyc_reading.specs.Readings.{Done, and_then};
 ghost use Rattle.pyc_type_exprs.specs.TypeExprs.{type_expr as type_expr_in, type_exprs, type_arguments};
@@ -61,7 +61,7 @@ pub fn read_annotation<N: Notes>(
     file: &SourceFile,
     e: &Expr,
 ) -> Result<Annotation, AllocError>
-    ensures { Performs annotation_in (spec.read_type (source_in file.now) (type_expr_in (expr_of e.now)))
+    ensures { Performs annotation_in (spec.read_type (interface_in file.now) (type_expr_in (expr_of e.now)))
         (N.desk notes.old) result (N.desk notes.new) }
 {
     let written = type_expr(alloc, e)?;
@@ -117,7 +117,7 @@ fn read_name<N: Notes>(
     at: Position,
     name: &DottedName,
 ) -> Result<Annotation, AllocError>
-    ensures { Performs annotation_in (spec.name_rule (source_in file.now) at (dotted_name_of name.now))
+    ensures { Performs annotation_in (spec.name_rule (interface_in file.now) at (dotted_name_of name.now))
         (N.desk notes.old) result (N.desk notes.new) }
 {
     let meaning = dotted_meaning(alloc, notes, Role::Annotation, file, name.at, &name.names)?;
@@ -133,7 +133,7 @@ fn read_type<N: Notes>(
     file: &SourceFile,
     written: &TypeExpr,
 ) -> Result<Annotation, AllocError>
-    ensures { Performs annotation_in (spec.read_type (source_in file.now) (type_expr_of written.now))
+    ensures { Performs annotation_in (spec.read_type (interface_in file.now) (type_expr_of written.now))
         (N.desk notes.old) result (N.desk notes.new) }
 {
     match written {
@@ -167,8 +167,8 @@ fn read_subscript<N: Notes>(
     arguments: &[TypeArgument],
 ) -> Result<Annotation, AllocError>
     ensures { Performs annotation_in
-        (spec.subscript_rule (source_in file.now) at (dotted_name_of name.now) is_nested
-        (spec.argument_readings (source_in file.now) (type_arguments (map type_argument_of arguments.now))))
+        (spec.subscript_rule (interface_in file.now) at (dotted_name_of name.now) is_nested
+        (spec.argument_readings (interface_in file.now) (type_arguments (map type_argument_of arguments.now))))
         (N.desk notes.old) result (N.desk notes.new) }
 {
     let meaning = dotted_meaning(alloc, notes, Role::Annotation, file, name.at, &name.names)?;
@@ -187,7 +187,7 @@ fn read_right<N: Notes>(
     left: &Ty,
 ) -> Result<Annotation, AllocError>
     ensures { Performs annotation_in
-        (and_then (spec.read_type (source_in file.now) (type_expr_of right.now))
+        (and_then (spec.read_type (interface_in file.now) (type_expr_of right.now))
         (λ found. Done (spec.of_type (union_of (ty_of left.now ∷ found.ty ∷ []))))) (N.desk notes.old) result
         (N.desk notes.new) }
 {
@@ -210,7 +210,7 @@ fn read_subscripted<N: Notes>(
 ) -> Result<Annotation, AllocError>
     ensures { Performs annotation_in
         (spec.subscripted_rule at (dotted_name_of name.now)
-        (spec.argument_readings (source_in file.now) (type_arguments (map type_argument_of arguments.now)))
+        (spec.argument_readings (interface_in file.now) (type_arguments (map type_argument_of arguments.now)))
         (subscripted_of subscripted)) (N.desk notes.old) result (N.desk notes.new) }
 {
     match subscripted {
@@ -241,7 +241,7 @@ fn read_form<N: Notes>(
 ) -> Result<Annotation, AllocError>
     ensures { Performs annotation_in
         (spec.form_rule at form
-        (spec.argument_readings (source_in file.now) (type_arguments (map type_argument_of arguments.now))))
+        (spec.argument_readings (interface_in file.now) (type_arguments (map type_argument_of arguments.now))))
         (N.desk notes.old) result (N.desk notes.new) }
 {
     match form {
@@ -264,7 +264,7 @@ fn read_built<N: Notes>(
 ) -> Result<Annotation, AllocError>
     ensures { Performs annotation_in
         (spec.built_rule form
-        (spec.argument_readings (source_in file.now) (type_arguments (map type_argument_of arguments.now))))
+        (spec.argument_readings (interface_in file.now) (type_arguments (map type_argument_of arguments.now))))
         (N.desk notes.old) result (N.desk notes.new) }
 {
     let types = argument_types(alloc, notes, file, arguments)?;
@@ -282,7 +282,7 @@ fn read_class_object<N: Notes>(
 ) -> Result<Annotation, AllocError>
     ensures { Performs annotation_in
         (spec.class_object_rule
-        (spec.argument_readings (source_in file.now) (type_arguments (map type_argument_of arguments.now))))
+        (spec.argument_readings (interface_in file.now) (type_arguments (map type_argument_of arguments.now))))
         (N.desk notes.old) result (N.desk notes.new) }
 {
     match arguments {
@@ -301,7 +301,7 @@ fn read_object<N: Notes>(
     written: &TypeExpr,
 ) -> Result<Annotation, AllocError>
     ensures { Performs annotation_in
-        (spec.object_rule (spec.read_type (source_in file.now) (type_expr_of written.now))) (N.desk notes.old) result
+        (spec.object_rule (spec.read_type (interface_in file.now) (type_expr_of written.now))) (N.desk notes.old) result
         (N.desk notes.new) }
 {
     let found = read_type(alloc, notes, file, written)?;
@@ -318,7 +318,7 @@ fn read_tuple<N: Notes>(
 ) -> Result<Annotation, AllocError>
     ensures { Performs annotation_in
         (spec.tuple_rule
-        (spec.argument_readings (source_in file.now) (type_arguments (map type_argument_of arguments.now))))
+        (spec.argument_readings (interface_in file.now) (type_arguments (map type_argument_of arguments.now))))
         (N.desk notes.old) result (N.desk notes.new) }
 {
     match arguments {
@@ -340,7 +340,7 @@ fn read_any_length<N: Notes>(
     written: &TypeExpr,
 ) -> Result<Annotation, AllocError>
     ensures { Performs annotation_in
-        (spec.any_length_rule (spec.read_type (source_in file.now) (type_expr_of written.now))) (N.desk notes.old)
+        (spec.any_length_rule (spec.read_type (interface_in file.now) (type_expr_of written.now))) (N.desk notes.old)
         result (N.desk notes.new) }
 {
     let found = read_type(alloc, notes, file, written)?;
@@ -359,7 +359,7 @@ fn read_callable<N: Notes>(
 ) -> Result<Annotation, AllocError>
     ensures { Performs annotation_in
         (spec.callable_rule at
-        (spec.argument_readings (source_in file.now) (type_arguments (map type_argument_of arguments.now))))
+        (spec.argument_readings (interface_in file.now) (type_arguments (map type_argument_of arguments.now))))
         (N.desk notes.old) result (N.desk notes.new) }
 {
     match arguments {
@@ -386,7 +386,7 @@ fn read_any_callable<N: Notes>(
     answer: &TypeExpr,
 ) -> Result<Annotation, AllocError>
     ensures { Performs annotation_in
-        (spec.any_callable (spec.read_type (source_in file.now) (type_expr_of answer.now))) (N.desk notes.old) result
+        (spec.any_callable (spec.read_type (interface_in file.now) (type_expr_of answer.now))) (N.desk notes.old) result
         (N.desk notes.new) }
 {
     let found = read_type(alloc, notes, file, answer)?;
@@ -405,7 +405,7 @@ fn read_plain_callable<N: Notes>(
     types: &[Ty],
 ) -> Result<Annotation, AllocError>
     ensures { Performs annotation_in
-        (and_then (spec.read_type (source_in file.now) (type_expr_of answer.now))
+        (and_then (spec.read_type (interface_in file.now) (type_expr_of answer.now))
         (λ found. Done (spec.of_type (spec.plain_callable (map ty_of types.now) found.ty)))) (N.desk notes.old) result
         (N.desk notes.new) }
 {
@@ -425,7 +425,7 @@ fn argument_types<N: Notes>(
 ) -> Result<Vec<Ty>, AllocError>
     ensures { Performs (λ types. map ty_of types.items)
         (spec.argument_types
-        (spec.argument_readings (source_in file.now) (type_arguments (map type_argument_of arguments.now))))
+        (spec.argument_readings (interface_in file.now) (type_arguments (map type_argument_of arguments.now))))
         (N.desk notes.old) result (N.desk notes.new) }
 {
     let mut types = Vec::with_capacity(alloc, arguments.len())?;
@@ -446,7 +446,7 @@ fn listed_types<N: Notes>(
     listed: &[TypeExpr],
 ) -> Result<Vec<Ty>, AllocError>
     ensures { Performs (λ types. map ty_of types.items)
-        (spec.more_types [] (spec.type_readings (source_in file.now) (type_exprs (map type_expr_of listed.now))))
+        (spec.more_types [] (spec.type_readings (interface_in file.now) (type_exprs (map type_expr_of listed.now))))
         (N.desk notes.old) result (N.desk notes.new) }
 {
     let mut types = Vec::with_capacity(alloc, listed.len())?;

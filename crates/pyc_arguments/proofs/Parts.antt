@@ -1,5 +1,5 @@
 -- What arguments of the code are, by their own parts, and readings of arguments that were read.
-use Rattle.std.proofs.Common.{◌≡◌, ◌≤◌, ℕ, Bool, ◌||◌, List, [], ◌∷◌, ◌++◌, map, refl, sym, ap, ◌∙◌, None, append_assoc, append-nil, rules}
+use Rattle.std.proofs.Common.{◌≡◌, ◌≤◌, ℕ, ◌||◌, List, [], ◌∷◌, ◌++◌, map, refl, sym, ap, ◌∙◌, append_assoc, append-nil, rules}
 use Rattle.std.specs.List.{list_any}
 use Rattle.pyc_ast.specs.declared.expr.Argument.{Argument}
 use Rattle.pyc_ast.specs.declared.expr.DictItem.TheFolds.{the_lemmas}

@@ -1,13 +1,12 @@
 -- One turn of the loops that perform readings in turn.
-use Rattle.std.proofs.Common.{◌≡◌, ℕ, suc, ◌+◌, ◌<◌, List, [], ◌∷◌, ◌++◌, length, map, drop, get_or, add-one, drop-cons, None, Some, refl, ap, sym, ◌∙◌}
+use Rattle.std.proofs.Common.{◌≡◌, ℕ, suc, ◌+◌, ◌<◌, List, [], ◌∷◌, ◌++◌, length, map, drop, get_or, add-one, drop-cons, None, refl, ap, sym, ◌∙◌}
 use Rattle.pyc_ast.specs.declared.expr.Argument.{Argument}
 use Rattle.pyc_ast.specs.ExprView.{argument_of, expr_of}
 use Rattle.pyc_arguments.proofs.Parts.{view_unread}
 use Rattle.pyc_arguments.specs.Arguments.{Arg, Reads, unread, read_before, once_read, all_read, more_read, given_by, places_of}
-use Rattle.pyc_arguments.specs.declared.arguments.ReadArgument.{ReadArgument}
 use Rattle.pyc_arguments.specs.Matched.{Filling, argument_matched, arguments_matched, number_after}
 use Rattle.pyc_arguments.specs.Telling.{Call}
-use Rattle.pyc_arguments.specs.Views.{read_in, unread_in}
+use Rattle.pyc_arguments.specs.Views.{unread_in}
 use Rattle.pyc_reading.proofs.RunLemmas.{run_then}
 use Rattle.pyc_reading.specs.Desks.{Step, Desk, run}
 use Rattle.pyc_reading.specs.Readings.{and_then}

@@ -1,17 +1,16 @@
 -- The arguments of a call and the parameters that they fill (Python reference 3.13, "Calls"; typing specification,
 -- "Callables"): what is told where they do not fit.
-use Rattle.std.specs.Prelude.{ℕ, ◌+◌, Bool, true, false, ◌||◌, if◌then◌else◌, List, [], ◌∷◌, Option, None, Some}
+use Rattle.std.specs.Prelude.{ℕ, ◌+◌, Bool, true, false, ◌||◌, List, [], ◌∷◌, Option, None, Some}
 use Rattle.std.specs.List.{list_any}
 use Rattle.pyc_ast.specs.declared.position.Position.{Position}
 use Rattle.pyc_arguments.specs.Arguments.{Arg, all_read, given_by, is_unpacked, places_of}
-use Rattle.pyc_arguments.specs.Telling.{Call, argument_message, repeated_message, unexpected_message, too_many_message}
+use Rattle.pyc_arguments.specs.Telling.{Call, owed_argument, repeated_message, unexpected_message, too_many_message}
 use Rattle.pyc_arguments.specs.Telling.{missing_message}
 use Rattle.pyc_matching.specs.Matching.{Given, by_place, by_name, Fill, Match, fills, gathered, too_many, repeated}
 use Rattle.pyc_matching.specs.Matching.{unexpected, match_of, fill_after, nothing_filled}
 use Rattle.pyc_matching.specs.Missing.{MissingArgument, missing}
-use Rattle.pyc_obligations.specs.Telling.{owed}
-use Rattle.pyc_reading.specs.Desks.{Step, telling}
-use Rattle.pyc_reading.specs.Readings.{Done, and_then, each}
+use Rattle.pyc_reading.specs.Desks.{Step, owed, telling}
+use Rattle.pyc_reading.specs.Readings.{Done, and_then, each, ◌>>=◌}
 use Rattle.pyc_type_forms.specs.Types.{Ty, Params, Listed, dots, listed}
 
 -- what arguments have filled: which parameters, and whether there were too many of them
@@ -50,14 +49,14 @@ refused call (by_name name) found = name_refused call name found
 -- an argument of this number must be of the type that is wanted, if one is
 abbrev pub argument_owed : Call → Position → Given → ℕ → Ty → Option Ty → Step (Unit {0})
 argument_owed call at given number got None = Done tt
-argument_owed call at given number got (Some want) = owed got want (argument_message call at given number got want)
+argument_owed call at given number got (Some want) = owed (owed_argument call at given number got want)
 
 -- an argument that comes to this is read, and is told of
 unfoldable pub argument_read : Call → ℕ → Given → Match → Arg → Step (Unit {0})
-argument_read call number given found arg =
-    and_then (refused call given found) (λ u.
-    and_then (arg.got (wanted found)) (λ got.
-    argument_owed call arg.at given number got (wanted found)))
+argument_read call number given found arg = do
+  u ← refused call given found
+  got ← arg.got (wanted found)
+  argument_owed call arg.at given number got (wanted found)
 
 -- what is filled after an argument that comes to this
 abbrev pub filling_after : Filling → Given → Match → Filling

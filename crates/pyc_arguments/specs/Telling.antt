@@ -1,5 +1,5 @@
 -- What is told of the arguments of calls (Python reference 3.13, "Calls").
-use Rattle.std.specs.Prelude.{ℕ, List, ◌++◌, codes, Option, None, Some}
+use Rattle.std.specs.Prelude.{ℕ, List, [], ◌++◌, codes, Option, None, Some}
 use Rattle.std.specs.Fmt.{decimal}
 use Rattle.pyc_ast.specs.declared.position.Position.{Position}
 use Rattle.pyc_class.specs.BuiltinClasses.{builtin_name}
@@ -7,8 +7,10 @@ use Rattle.pyc_class.specs.Class.{name_of}
 use Rattle.pyc_class.specs.declared.builtin_class.BuiltinClass.TheVariants as class
 use Rattle.pyc_matching.specs.Matching.{Given, by_place, by_name}
 use Rattle.pyc_matching.specs.Missing.{MissingArgument, missing_place, missing_name, missing_text}
+use Rattle.pyc_reading.specs.Owing.{Obligation}
 use Rattle.pyc_report.specs.declared.message.Code.TheVariants as code
-use Rattle.pyc_report.specs.Message.{Message, error_at}
+use Rattle.pyc_report.specs.declared.message.Duty.TheVariants as duty
+use Rattle.pyc_report.specs.Message.{Remark, error_at}
 use Rattle.pyc_type_forms.specs.Text.{text_of}
 use Rattle.pyc_type_forms.specs.Types.{Ty, instance, class_object, list, dict, tuple, tuple_of}
 
@@ -63,24 +65,36 @@ abbrev pub argument_text : Given → ℕ → (shown got want : List ℕ) → Lis
 argument_text by_place number shown got want = placed_text number shown got want
 argument_text (by_name name) number shown got want = named_text name shown got want
 
--- the message on an argument of another type than is wanted, at the argument
-unfoldable pub argument_message : Call → Position → Given → ℕ → (got want : Ty) → Message
-argument_message call at given number got want =
-    error_at at code.ArgType (argument_text given number (shown_text call.shown) (text_of got) (text_of want))
+-- the text on an argument of a call, by its type and the type that is wanted
+unfoldable pub owed_argument_text : Call → Given → ℕ → (got want : Ty) → List ℕ
+owed_argument_text call given number got want =
+    argument_text given number (shown_text call.shown) (text_of got) (text_of want)
+
+-- an argument has to be of the type that is wanted of it, which is told at the argument
+abbrev pub owed_argument : Call → Position → Given → ℕ → (got want : Ty) → Obligation
+owed_argument call at given number got want =
+    record {
+      duty = duty.Argument;
+      at = at;
+      got = got;
+      want = want;
+      details = [];
+      text = owed_argument_text call given number got want;
+    }
 
 unfoldable pub repeated_text : (name shown : List ℕ) → List ℕ
 repeated_text name shown =
     shown ++ (codes " gets multiple values for keyword argument \"" ++ (name ++ codes "\""))
 
 -- the message on an argument by the name of a parameter that is filled already
-unfoldable pub repeated_message : Call → List ℕ → Message
+unfoldable pub repeated_message : Call → List ℕ → Remark
 repeated_message call name = error_at call.at code.CallArg (repeated_text name (shown_text call.shown))
 
 unfoldable pub unexpected_text : (name shown : List ℕ) → List ℕ
 unexpected_text name shown = codes "Unexpected keyword argument \"" ++ (name ++ (codes "\" for " ++ shown))
 
 -- the message on an argument by the name of no parameter
-unfoldable pub unexpected_message : Call → List ℕ → Message
+unfoldable pub unexpected_message : Call → List ℕ → Remark
 unexpected_message call name = error_at call.at code.CallArg (unexpected_text name (shown_text call.shown))
 
 -- ---- after all arguments
@@ -89,7 +103,7 @@ unfoldable pub too_many_text : List ℕ → List ℕ
 too_many_text shown = codes "Too many arguments for " ++ shown
 
 -- the message on arguments for whose places no parameter is left
-unfoldable pub too_many_message : Call → Message
+unfoldable pub too_many_message : Call → Remark
 too_many_message call = error_at call.at code.CallArg (too_many_text (shown_text call.shown))
 
 unfoldable pub missing_place_text : (name shown : List ℕ) → List ℕ
@@ -105,6 +119,6 @@ missing_argument_text (missing_place own number) name shown = missing_place_text
 missing_argument_text (missing_name own) name shown = missing_name_text name shown
 
 -- the message on a parameter that no argument fills
-unfoldable pub missing_message : Call → MissingArgument → Message
+unfoldable pub missing_message : Call → MissingArgument → Remark
 missing_message call missing =
     error_at call.at code.CallArg (missing_argument_text missing (missing_text missing) (shown_text call.shown))

@@ -6,14 +6,16 @@ use Rattle.pyc_arguments.specs.declared.arguments.Arguments.{Arguments}
 use Rattle.pyc_arguments.specs.declared.arguments.Arguments.TheVariants as a
 use Rattle.pyc_arguments.specs.declared.arguments.ReadArgument.{ReadArgument}
 use Rattle.pyc_arguments.specs.declared.filling.Filling.{Filling as FillingOf}
+use Rattle.pyc_arguments.specs.declared.owed_argument.OwedArgument.{OwedArgument}
 use Rattle.pyc_arguments.specs.declared.telling.Call.{Call as CallOf}
 use Rattle.pyc_arguments.specs.declared.telling.Shown.{Shown as ShownOf}
 use Rattle.pyc_arguments.specs.declared.telling.Shown.TheVariants as s
 use Rattle.pyc_arguments.specs.Matched.{Filling}
-use Rattle.pyc_arguments.specs.Telling.{Call, Shown, shown_name, shown_member, shown_nameless}
+use Rattle.pyc_arguments.specs.Telling.{Call, Shown, owed_argument, shown_name, shown_member, shown_nameless}
 use Rattle.pyc_ast.specs.declared.expr.Argument.{Argument}
 use Rattle.pyc_ast.specs.ExprView.{argument_of}
-use Rattle.pyc_matching.specs.Views.{fill_of}
+use Rattle.pyc_matching.specs.Views.{fill_of, given_in}
+use Rattle.pyc_reading.specs.Owing.{Obligation}
 use Rattle.pyc_type_forms.specs.TypeView.{ty_of}
 
 -- what is called, as messages show it
@@ -47,3 +49,7 @@ args_in read (a.Read arguments) = map read_in arguments.now
 -- what arguments have filled
 abbrev pub filling_in : FillingOf → Filling
 filling_in filling = record { fill = fill_of filling.fill; has_too_many = filling.has_too_many }
+
+-- an argument that has to be of the type that is wanted of it
+abbrev pub owed_in : OwedArgument → Obligation
+owed_in o = owed_argument (call_in o.call.now) o.at (given_in o.given) o.number (ty_of o.got.now) (ty_of o.want.now)

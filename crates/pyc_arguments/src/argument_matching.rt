@@ -4,23 +4,20 @@ ghost use Rattle.std.specs.Prelude.{map, option_map};
 ghost use Rattle.pyc_ast.specs.ExprView.{argument_of};
 ghost use Rattle.pyc_arguments.specs.Arguments as spec_arguments;
 ghost use Rattle.pyc_arguments.specs.Matched as spec;
-ghost use Rattle.pyc_arguments.specs.Telling.{argument_message};
 ghost use Rattle.pyc_arguments.specs.Views.{args_in, call_in, filling_in, read_in, unread_in};
 ghost use Rattle.pyc_matching.specs.Missing as unfilled;
 ghost use Rattle.pyc_matching.specs.Views.{fill_of, given_in, match_in, missing_in};
-ghost use Rattle.pyc_obligations.specs.Telling.{owed};
 ghost use Rattle.pyc_reading.specs.Desks.{Performs};
 ghost use Rattle.pyc_reading.specs.Readings.{each};
 ghost use Rattle.pyc_type_forms.specs.TypeView.{param_row, params_of, ty_of};
 
 use crate::arguments::{Arguments, ReadArgument, given_by, has_unpacked, places_of, read_all};
 use crate::filling::{Filling, wanted};
-use crate::telling::{
-    Call, tell_argument_unless, tell_missing, tell_repeated, tell_too_many, tell_unexpected,
-};
+use crate::owed_argument::OwedArgument;
+use crate::telling::{Call, tell_missing, tell_repeated, tell_too_many, tell_unexpected};
 use pyc_ast::{Argument, Position};
 use pyc_matching::{Fill, Given, Match, MissingArgument, matched, missing};
-use pyc_obligations::{Judge, Reader, judged};
+use pyc_obligations::{Judge, Reader, owe};
 use pyc_reading::Notes;
 use pyc_type_forms::{Param, Params, Ty};
 use std::alloc::{AllocError, Global};
@@ -46,7 +43,7 @@ pub fn match_arguments<N: Judge, R: Reader<N>>(
     }
 }
 
-/// The same of a row of parameters. The only error is that memory runs out.
+/// Matches arguments to a row of parameters, and reports where they do not fit. The only error is that memory runs out.
 pub fn match_listed<N: Judge, R: Reader<N>>(
     alloc: Global,
     notes: &mut N,
@@ -72,7 +69,7 @@ pub fn match_listed<N: Judge, R: Reader<N>>(
     )
 }
 
-/// The same, by whether some arguments stand after `*` or `**`.
+/// Matches arguments to a row of parameters, unless some arguments stand after `*` or `**`: then it reads them alone.
 fn match_unless<N: Judge, R: Reader<N>>(
     alloc: Global,
     notes: &mut N,
@@ -95,7 +92,7 @@ fn match_unless<N: Judge, R: Reader<N>>(
     }
 }
 
-/// The same where none stands after `*` or `**`.
+/// Matches arguments to a row of parameters, where none stands after `*` or `**`.
 #[tactic(auto, using(pyc_obligations::proofs::Steps::performing), unfolding(crate::specs::Matched::plainly_matched))]
 fn match_plainly<N: Judge, R: Reader<N>>(
     alloc: Global,
@@ -263,7 +260,7 @@ fn read_argument<N: Judge, R: Reader<N>>(
     refuse(alloc, notes, call, given, found)?;
     let want = wanted(found);
     let got = reader.read(alloc, notes, &argument.value, want)?;
-    owe(alloc, notes, call, argument.at, given, number, &got, want)?;
+    owe_argument(alloc, notes, call, argument.at, given, number, &got, want)?;
     Ok(())
 }
 
@@ -284,7 +281,7 @@ fn tell_of_read<N: Judge>(
         (N.desk notes.old) result (N.desk notes.new) }
 {
     refuse(alloc, notes, call, given, found)?;
-    owe(
+    owe_argument(
         alloc,
         notes,
         call,
@@ -331,8 +328,8 @@ fn refuse_name<N: Judge>(
     }
 }
 
-/// An argument must be of the type that is wanted of it, if one is, and what is not is told.
-fn owe<N: Judge>(
+/// Owes that an argument is of the type that is wanted of it, if one is.
+fn owe_argument<N: Judge>(
     alloc: Global,
     notes: &mut N,
     call: &Call<'_>,
@@ -348,30 +345,19 @@ fn owe<N: Judge>(
         (N.desk notes.old) result (N.desk notes.new) }
 {
     match want {
-        Some(want) => owe_type(alloc, notes, call, at, given, number, got, want),
+        Some(want) => {
+            let owed = OwedArgument {
+                call,
+                at,
+                given,
+                number,
+                got,
+                want,
+            };
+            owe(alloc, notes, &owed)
+        }
         None => Ok(()),
     }
-}
-
-/// An argument must be of a type, and what is not is told.
-#[tactic(auto, using(pyc_obligations::proofs::Steps::performing), unfolding(pyc_obligations::specs::Telling::owed))]
-fn owe_type<N: Judge>(
-    alloc: Global,
-    notes: &mut N,
-    call: &Call<'_>,
-    at: Position,
-    given: Given<'_>,
-    number: usize,
-    got: &Ty,
-    want: &Ty,
-) -> Result<(), AllocError>
-    ensures { Performs (λ u. u)
-        (owed (ty_of got.now) (ty_of want.now)
-        (argument_message (call_in call.now) at (given_in given.entry) number (ty_of got.now) (ty_of want.now)))
-        (N.desk notes.old) result (N.desk notes.new) }
-{
-    let holds = judged(alloc, notes, got, want)?;
-    tell_argument_unless(alloc, notes, holds, call, at, given, number, got, want)
 }
 
 /// Tells what is told after all arguments.

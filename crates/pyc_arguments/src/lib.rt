@@ -4,6 +4,7 @@
 mod argument_matching;
 mod arguments;
 mod filling;
+mod owed_argument;
 mod telling;
 mod texts;
 

@@ -3,21 +3,20 @@
 ghost use Rattle.std.specs.Prelude.{◌≡◌, IfOk, option_map};
 ghost use Rattle.pyc_arguments.specs.Telling as spec;
 ghost use Rattle.pyc_arguments.specs.Views.{call_in};
-ghost use Rattle.pyc_matching.specs.Views.{given_in, missing_in};
-ghost use Rattle.pyc_obligations.specs.Telling.{told_unless};
+ghost use Rattle.pyc_matching.specs.Views.{missing_in};
 ghost use Rattle.pyc_reading.specs.Desks.{Performs, telling};
 ghost use Rattle.pyc_type_forms.specs.TypeView.{ty_of};
 
 use crate::texts::{
-    argument_text, missing_argument_text, repeated_text, shown_text, too_many_text, unexpected_text,
+    missing_argument_text, repeated_text, shown_text, too_many_text, unexpected_text,
 };
 use pyc_ast::Position;
 use pyc_class::BuiltinClass;
-use pyc_matching::{Given, MissingArgument, missing_text};
+use pyc_matching::{MissingArgument, missing_text};
 use pyc_obligations::tell_error;
 use pyc_reading::Notes;
 use pyc_report::Code;
-use pyc_type_forms::{Ty, show};
+use pyc_type_forms::Ty;
 use std::alloc::{AllocError, Global};
 
 /// What is called, as messages show it.
@@ -50,62 +49,6 @@ pub fn owner_name(ty: &Ty) -> Option<&str>
         Ty::Tuple(_) => Some(BuiltinClass::Tuple.name()),
         Ty::TupleOf(_) => Some(BuiltinClass::Tuple.name()),
         _ => None,
-    }
-}
-
-/// Tells that an argument is of another type than is wanted.
-#[tactic(auto, unfolding(crate::specs::Telling::argument_message))]
-fn tell_argument<N: Notes>(
-    alloc: Global,
-    notes: &mut N,
-    call: &Call<'_>,
-    at: Position,
-    given: Given<'_>,
-    number: usize,
-    got: &Ty,
-    want: &Ty,
-) -> Result<(), AllocError>
-    ensures { Performs (λ u. u)
-        (telling (spec.argument_message (call_in call.now) at (given_in given.entry) number (ty_of got.now)
-        (ty_of want.now)))
-        (N.desk notes.old) result (N.desk notes.new) }
-{
-    let shown = shown_text(alloc, call.shown)?;
-    let got = show(alloc, got)?;
-    let want = show(alloc, want)?;
-    let text = argument_text(
-        alloc,
-        given,
-        number,
-        shown.as_str(),
-        got.as_str(),
-        want.as_str(),
-    )?;
-    tell_error(notes, at, Code::ArgType, text)
-}
-
-/// Tells that an argument is of another type than is wanted, unless it holds that it is not.
-pub(crate) fn tell_argument_unless<N: Notes>(
-    alloc: Global,
-    notes: &mut N,
-    holds: bool,
-    call: &Call<'_>,
-    at: Position,
-    given: Given<'_>,
-    number: usize,
-    got: &Ty,
-    want: &Ty,
-) -> Result<(), AllocError>
-    ensures { Performs (λ u. u)
-        (told_unless holds
-        (spec.argument_message (call_in call.now) at (given_in given.entry) number (ty_of got.now)
-        (ty_of want.now)))
-        (N.desk notes.old) result (N.desk notes.new) }
-{
-    if holds {
-        Ok(())
-    } else {
-        tell_argument(alloc, notes, call, at, given, number, got, want)
     }
 }
 

@@ -13,7 +13,7 @@ use Rattle.pyc_ast.specs.Targets.{Target, target, TargetForm, name, unpacking, T
 use Rattle.pyc_ast.specs.Targets.{another_target, target_element}
 use Rattle.pyc_places.specs.States.{State}
 use Rattle.pyc_reading.specs.Desks.{Step}
-use Rattle.pyc_reading.specs.Readings.{Done, and_then}
+use Rattle.pyc_reading.specs.Readings.{Done, and_then, ◌>>=◌}
 use Rattle.pyc_targets.specs.Slots.{Slot, plain_slot}
 use Rattle.pyc_type_forms.specs.Types.{Ty}
 
@@ -113,9 +113,10 @@ late_want read declares want early (target at inside form) = late_form_want read
 -- the value of an annotation of this type, once it was read: what is known afterwards goes by what the target takes
 unfoldable pub value_stored : Reads → Bool → Target → (want : Ty) → Option Ty → Position → (got : Ty) → State
     → Step State
-value_stored read declares to want early at got s =
-    and_then (late_want read declares want early to) (λ declared.
-    and_then (assignment_owed at false got want) (λ u. renarrowed to declared got s))
+value_stored read declares to want early at got s = do
+  declared ← late_want read declares want early to
+  u ← assignment_owed at false got want
+  renarrowed to declared got s
 
 -- a value of which this type is wanted, once the target was read
 unfoldable pub value_assigned : Reads → Bool → Target → (want : Ty) → Expr → State → Option Ty → Step State

@@ -1,17 +1,16 @@
 -- What is owed to a target, and what is known of it after the assignment (Python reference 3.13, "Assignment
 -- statements"; typing specification, "Type system concepts" and "Type narrowing").
-use Rattle.std.specs.Prelude.{ℕ, Bool, true, false, not, ◌&&◌, codes, if◌then◌else◌, List, ◌++◌, Option, None, Some}
+use Rattle.std.specs.Prelude.{ℕ, Bool, true, false, not, ◌&&◌, codes, if◌then◌else◌, List, [], ◌++◌, Option, None, Some}
 use Rattle.pyc_ast.specs.declared.position.Position.{Position}
 use Rattle.pyc_ast.specs.Targets.{Target}
 use Rattle.pyc_obligations.specs.Judging.{judged}
-use Rattle.pyc_obligations.specs.Telling.{told_unless}
 use Rattle.pyc_places.specs.Places.{Place}
 use Rattle.pyc_places.specs.States.{State, with_place, dropped_at}
 use Rattle.pyc_places.specs.TargetPlaces.{target_place}
-use Rattle.pyc_reading.specs.Desks.{Step}
-use Rattle.pyc_reading.specs.Readings.{Done, and_then}
-use Rattle.pyc_report.specs.declared.message.Code.TheVariants as code
-use Rattle.pyc_report.specs.Message.{Message, error_at}
+use Rattle.pyc_reading.specs.Desks.{Step, owed}
+use Rattle.pyc_reading.specs.Owing.{Obligation}
+use Rattle.pyc_reading.specs.Readings.{Done, ◌>>=◌}
+use Rattle.pyc_report.specs.declared.message.Duty.TheVariants as duty
 use Rattle.pyc_targets.specs.Slots.{Slot}
 use Rattle.pyc_type_forms.specs.Text.{text_of}
 use Rattle.pyc_type_forms.specs.Types.{Ty, any, union}
@@ -33,18 +32,28 @@ abbrev pub assignment_text : Bool → (got want : List ℕ) → List ℕ
 assignment_text true got want = item_text got want
 assignment_text false got want = variable_text got want
 
-unfoldable pub assignment_message : Position → Bool → (got want : Ty) → Message
-assignment_message at is_item got want =
-    error_at at code.Assignment (assignment_text is_item (text_of got) (text_of want))
+-- the text on a value of a type, by its type and the type that its target takes
+unfoldable pub owed_assignment_text : Bool → (got want : Ty) → List ℕ
+owed_assignment_text is_item got want = assignment_text is_item (text_of got) (text_of want)
 
 -- ---- obligations
 
--- a value that begins at a position must be of the type that its target takes
-unfoldable pub assignment_owed : Position → Bool → (got want : Ty) → Step (Unit {0})
-assignment_owed at is_item got want =
-    and_then (judged got want) (λ holds. told_unless holds (assignment_message at is_item got want))
+-- a value has to be of the type that its target takes, which is told where the value begins
+abbrev pub owed_assignment : Position → Bool → (got want : Ty) → Obligation
+owed_assignment at is_item got want =
+    record {
+      duty = duty.Assignment;
+      at = at;
+      got = got;
+      want = want;
+      details = [];
+      text = owed_assignment_text is_item got want;
+    }
 
--- the same, where something is owed
+unfoldable pub assignment_owed : Position → Bool → (got want : Ty) → Step (Unit {0})
+assignment_owed at is_item got want = owed (owed_assignment at is_item got want)
+
+-- a value has to be of the type that its target takes, if it takes one
 abbrev pub want_owed : Position → Bool → Ty → Option Ty → Step (Unit {0})
 want_owed at is_item got (Some want) = assignment_owed at is_item got want
 want_owed at is_item got None = Done tt
@@ -64,7 +73,9 @@ narrowed_if goes place ty s = if goes then with_place place ty s else s
 
 -- a place of a type that takes a value: it is narrowed to the value's type where that is assignable
 unfoldable pub narrowed_by : Place → (want got : Ty) → State → Step State
-narrowed_by place want got s = and_then (judged got want) (λ goes. Done (narrowed_if goes place got s))
+narrowed_by place want got s = do
+  goes ← judged got want
+  Done (narrowed_if goes place got s)
 
 -- only a place that is declared as a union is narrowed, and not to Any
 abbrev pub narrowed_to : Place → (want got : Ty) → State → Step State
@@ -85,5 +96,6 @@ renarrowed to want got s = place_assigned (target_place to) want got s
 
 -- a value of a type that begins at a position is assigned to a target that meets this
 unfoldable pub stored : Position → Target → Slot → Ty → State → Step State
-stored at to slot got s =
-    and_then (want_owed at slot.is_item got slot.want) (λ u. renarrowed to slot.want got s)
+stored at to slot got s = do
+  u ← want_owed at slot.is_item got slot.want
+  renarrowed to slot.want got s

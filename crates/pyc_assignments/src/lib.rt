@@ -14,3 +14,4 @@ pub use annotated::annotated_assignment;
 pub use assigning::assigned;
 pub use assignments::assignment;
 pub use reading::AssignmentReader;
+pub use storing::assignment_owed;

@@ -3,15 +3,14 @@
 ghost use Rattle.std.specs.Prelude.{◌≡◌, IfOk, string_bytes};
 ghost use Rattle.pyc_assignments.specs.Storing as spec;
 ghost use Rattle.pyc_assignments.specs.Unpacking as unpacking;
-ghost use Rattle.pyc_assignments.specs.Views.{shares_in};
-ghost use Rattle.pyc_obligations.specs.Telling.{told_unless};
+ghost use Rattle.pyc_assignments.specs.Views.{owed_in, shares_in};
 ghost use Rattle.pyc_reading.specs.Desks.{Performs, telling};
 ghost use Rattle.pyc_type_forms.specs.TypeView.{ty_of};
 
 use crate::unpacking::Shares;
 use pyc_ast::Position;
-use pyc_obligations::{Judge, tell_error};
-use pyc_report::Code;
+use pyc_obligations::{Judge, Owed, tell_error};
+use pyc_report::{Code, Duty, Message};
 use pyc_type_forms::{Ty, show};
 use std::alloc::{AllocError, Global};
 
@@ -51,43 +50,36 @@ fn assignment_text(
     }
 }
 
-/// Tells that a value is of another type than its target takes.
-#[tactic(auto, unfolding(crate::specs::Storing::assignment_message))]
-fn tell_assignment<N: Judge>(
-    alloc: Global,
-    notes: &mut N,
-    at: Position,
-    is_item: bool,
-    got: &Ty,
-    want: &Ty,
-) -> Result<(), AllocError>
-    ensures { Performs (λ u. u) (telling (spec.assignment_message at is_item (ty_of got.now) (ty_of want.now)))
-        (N.desk notes.old) result (N.desk notes.new) }
-{
-    let got = show(alloc, got)?;
-    let want = show(alloc, want)?;
-    let text = assignment_text(alloc, is_item, got.as_str(), want.as_str())?;
-    tell_error(notes, at, Code::Assignment, text)
+/// A value, where it begins, its type and the type that its target takes, and whether that is an item of a subscript.
+#[derive(Clone, Copy)]
+pub(crate) struct OwedAssignment<'a> {
+    pub(crate) at: Position,
+    pub(crate) is_item: bool,
+    pub(crate) got: &'a Ty,
+    pub(crate) want: &'a Ty,
 }
 
-/// Tells that a value is of another type than its target takes, unless it holds that it is not.
-pub(crate) fn tell_assignment_unless<N: Judge>(
-    alloc: Global,
-    notes: &mut N,
-    holds: bool,
-    at: Position,
-    is_item: bool,
-    got: &Ty,
-    want: &Ty,
-) -> Result<(), AllocError>
-    ensures { Performs (λ u. u)
-        (told_unless holds (spec.assignment_message at is_item (ty_of got.now) (ty_of want.now))) (N.desk notes.old)
-        result (N.desk notes.new) }
-{
-    if holds {
+impl<N: Judge> Owed<N> for OwedAssignment<'_> {
+    ghost obligation = { owed_in };
+
+    fn got(&self) -> &Ty {
+        self.got
+    }
+
+    fn want(&self) -> &Ty {
+        self.want
+    }
+
+    fn ask_details(&self, _alloc: Global, _notes: &mut N) -> Result<(), AllocError> {
         Ok(())
-    } else {
-        tell_assignment(alloc, notes, at, is_item, got, want)
+    }
+
+    #[tactic(auto, unfolding(crate::specs::Storing::owed_assignment_text))]
+    fn message(&self, alloc: Global, _notes: &N) -> Result<Message, AllocError> {
+        let got = show(alloc, self.got)?;
+        let want = show(alloc, self.want)?;
+        let text = assignment_text(alloc, self.is_item, got.as_str(), want.as_str())?;
+        Ok(Message::failing_at(self.at, Duty::Assignment, text))
     }
 }
 

@@ -9,9 +9,9 @@ ghost use Rattle.pyc_reading.specs.Desks.{Performs};
 ghost use Rattle.pyc_targets.specs.Views.{slot_of};
 ghost use Rattle.pyc_type_forms.specs.TypeView.{ty_of};
 
-use crate::messages::tell_assignment_unless;
+use crate::messages::OwedAssignment;
 use pyc_ast::{Position, Target};
-use pyc_obligations::{Judge, judged};
+use pyc_obligations::{Judge, judged, owe};
 use pyc_places::{Place, State, target_place};
 use pyc_targets::Slot;
 use pyc_type_forms::Ty;
@@ -55,9 +55,10 @@ fn want_owed<N: Judge>(
     }
 }
 
-/// A value that begins at a position must be of the type that its target takes.
+/// Owes that a value, which begins at `at`, is of the type that its target takes; `is_item` says whether the target is
+/// an item of a subscript. The only error is that memory runs out.
 #[tactic(auto, using(pyc_obligations::proofs::Steps::performing), unfolding(crate::specs::Storing::assignment_owed))]
-pub(crate) fn assignment_owed<N: Judge>(
+pub fn assignment_owed<N: Judge>(
     alloc: Global,
     notes: &mut N,
     at: Position,
@@ -68,8 +69,13 @@ pub(crate) fn assignment_owed<N: Judge>(
     ensures { Performs (λ u. u) (spec.assignment_owed at is_item (ty_of got.now) (ty_of want.now)) (N.desk notes.old)
         result (N.desk notes.new) }
 {
-    let holds = judged(alloc, notes, got, want)?;
-    tell_assignment_unless(alloc, notes, holds, at, is_item, got, want)
+    let owed = OwedAssignment {
+        at,
+        is_item,
+        got,
+        want,
+    };
+    owe(alloc, notes, &owed)
 }
 
 /// What is known after a target that takes a type was assigned a value of a type.
@@ -89,7 +95,7 @@ pub(crate) fn renarrowed<N: Judge>(
     place_assigned(alloc, notes, place, want, got, state)
 }
 
-/// The same of a target that is a place, if it is one.
+/// What is known after a place, if the target is one, was assigned a value of a type.
 fn place_assigned<N: Judge>(
     alloc: Global,
     notes: &mut N,
@@ -108,7 +114,7 @@ fn place_assigned<N: Judge>(
     }
 }
 
-/// The same of a place: what was known of it and of all below it is dropped.
+/// What is known after a place was assigned a value of a type: what was known of it and of all below it is dropped.
 fn dropped_narrowed<N: Judge>(
     alloc: Global,
     notes: &mut N,

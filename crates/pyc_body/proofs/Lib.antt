@@ -1,4 +1,4 @@
-pub mod LiteralLemmas
 pub mod BlockLemmas
+pub mod OrderLemmas
 pub mod ReadLemmas
 pub mod Steps

@@ -3,29 +3,24 @@
 -- outside blocks; in a function or method what is told of its signature, in a class what is told of its bases, its
 -- order, the names that its body defines again and those that its ancestors declare as well. Each unit is one reading,
 -- and its reads are the keys that this asks.
-use Rattle.std.specs.Prelude.{◌≡◌, List, [], ◌∷◌, flat_map}
+use Rattle.std.specs.Prelude.{◌≡◌, List, [], flat_map}
 use Rattle.pyc_ast.specs.Modules.{Outcome, tree, fault}
-use Rattle.pyc_ast.specs.Statements.{Stmts}
-use Rattle.pyc_bindings.specs.Bindings.{Binding}
 use Rattle.pyc_units.specs.DefinitionReadings.{definition_reading}
 use Rattle.pyc_units.specs.Header.{header_reading}
-use Rattle.pyc_units.specs.declared.literals.LiteralForm.{LiteralForm}
-use Rattle.pyc_units.specs.LiteralForms.{literal_forms}
-use Rattle.pyc_body.specs.ModuleBodies.{assignment_message, literals_told, module_reading}
+use Rattle.pyc_body.specs.ModuleBodies.{module_reading}
+use Rattle.pyc_class.specs.Class.{Id}
 use Rattle.pyc_units.specs.Units as units
-use Rattle.pyc_builtins.specs.Builtin.{builtin_type}
-use Rattle.pyc_builtins.specs.Orders.{builtin_orders}
-use Rattle.pyc_iface.specs.Answers.{answer_of}
+use Rattle.pyc_iface.specs.Answers.{answer_of, class_orders}
 use Rattle.pyc_iface.specs.declared.options.Options.{Options}
 use Rattle.pyc_names.specs.SourceFiles.{SourceFile}
-use Rattle.pyc_reading.specs.Answers.{Answer}
 use Rattle.pyc_reading.specs.Desks.{Step, with_keys}
 use Rattle.pyc_reading.specs.Frames.{Agree}
 use Rattle.pyc_reading.specs.Keys.{Key}
+use Rattle.pyc_reading.specs.Listings.{Tells, listed}
+use Rattle.pyc_reading.specs.Owing.{orders_by}
 use Rattle.pyc_reading.specs.Readings.{asked, told}
 use Rattle.pyc_report.specs.Message.{Message}
 use Rattle.pyc_report.specs.Silencing.{without_silenced}
-use Rattle.pyc_types.specs.Assignable.{Assignable}
 
 -- ---- one unit
 
@@ -69,23 +64,15 @@ UnitsHaveTheirReads =
     → (found options files file unit ≡ found options others file unit)
     × (reads options files file unit ≡ reads options others file unit)
 
--- whether the rules of assignability lead from the type of a literal to its annotation
-abbrev pub IsAssignable : LiteralForm → Type 0
-IsAssignable form = Assignable builtin_orders (builtin_type form.value) (builtin_type form.annotation)
+-- what is found in a unit is what its reading lists tells: each remark, and of each row of obligations that it owes the
+-- first whose type is not assignable by the written rules, over the orders that the files answer
+abbrev pub FoundIsListed : Type 0
+FoundIsListed =
+    (options : Options) (files : List SourceFile) (file : SourceFile) (unit : units.Unit)
+    → Tells (answer_of files) (listed (answer_of files) (unit_reading options file unit))
+    (found options files file unit)
 
--- the messages report the annotated literals, by exactly these rules
-pub data Reports : List LiteralForm → List Message → Type 0 where
-  -- where there is none there is no message
-  nothing : Reports [] []
-  -- one by the rules of assignability has no message
-  passed : {form : LiteralForm} {forms : List LiteralForm} {messages : List Message}
-      → IsAssignable form → Reports forms messages → Reports (form ∷ forms) messages
-  -- any other has one, before those on the later ones
-  refused : {form : LiteralForm} {forms : List LiteralForm} {messages : List Message}
-      → ¬ (IsAssignable form) → Reports forms messages → Reports (form ∷ forms) (assignment_message form ∷ messages)
-
--- what is told of annotated literals reports them, whatever the files answer
-abbrev pub ReportsExactly : Type 0
-ReportsExactly =
-    (answers : Key → Answer) (bindings : List Binding) (statements : Stmts)
-    → Reports (literal_forms bindings statements) (told answers (literals_told bindings statements))
+-- the orders over which obligations hold or not are those of the classes that the files declare
+abbrev pub OrdersAreTheFiles : Type 0
+OrdersAreTheFiles =
+    (files : List SourceFile) (c : Id) → orders_by (answer_of files) c ≡ class_orders files c

@@ -1,48 +1,30 @@
--- What is told of the body of a module, as a reading: of the annotations in its blocks, and of each annotated literal
--- there that is not assignable to its annotation; and of the expressions and assignments outside blocks (Python
--- reference 3.13, "Annotated assignment statements", "Compound statements").
-use Rattle.std.specs.Prelude.{ℕ, Bool, true, false, List, ◌++◌, if◌then◌else◌, codes}
+-- The body of a module, as a reading: the annotations in its blocks, what each annotated literal there owes to its
+-- annotation, and the expressions and assignments outside blocks (Python reference 3.13, "Annotated assignment
+-- statements", "Compound statements").
+use Rattle.std.specs.Prelude.{Bool, true, false, List, if◌then◌else◌}
+use Rattle.pyc_assignments.specs.Storing.{assignment_owed}
 use Rattle.pyc_ast.specs.Modules.{Outcome, tree, fault}
 use Rattle.pyc_ast.specs.Statements.{Stmt, StmtForm, Stmts, no_stmt, another_stmt}
 use Rattle.pyc_ast.specs.Statements as plain
 use Rattle.pyc_bindings.specs.Bindings.{Binding, form_of}
+use Rattle.pyc_builtins.specs.Builtin.{builtin_type}
+use Rattle.pyc_names.specs.SourceFiles.{SourceFile}
+use Rattle.pyc_reading.specs.Desks.{Step}
+use Rattle.pyc_reading.specs.Readings.{Done, each, ◌>>=◌}
+use Rattle.pyc_statements.specs.Statements.{top_level_read}
 use Rattle.pyc_units.specs.AnnotationReadings.{body_reading}
 use Rattle.pyc_units.specs.declared.literals.LiteralForm.{LiteralForm}
 use Rattle.pyc_units.specs.LiteralForms.{literal_forms}
-use Rattle.pyc_builtins.specs.Builtin.{builtin_type}
-use Rattle.pyc_builtins.specs.Orders.{builtin_orders}
-use Rattle.pyc_names.specs.SourceFiles.{SourceFile}
-use Rattle.pyc_reading.specs.Desks.{Step, telling}
-use Rattle.pyc_reading.specs.Readings.{Done, and_then, each}
-use Rattle.pyc_report.specs.declared.message.Code.TheVariants.{Assignment}
-use Rattle.pyc_report.specs.Message.{Message, error_at}
-use Rattle.pyc_statements.specs.Statements.{top_level_read}
-use Rattle.pyc_type_forms.specs.Text.{text_of}
-use Rattle.pyc_type_forms.specs.Types.{Ty}
-use Rattle.pyc_types.specs.Ways.{assignable}
 
 -- ---- annotated literals
 
--- what is told of a value of one type for a variable of another
-unfoldable pub assignment_text : Ty → Ty → List ℕ
-assignment_text got want =
-    codes "Incompatible types in assignment (expression has type \""
-    ++ (text_of got ++ (codes "\", variable has type \"" ++ (text_of want ++ codes "\")")))
-
--- the message on an annotated literal that is not assignable
-abbrev pub assignment_message : LiteralForm → Message
-assignment_message form =
-    error_at form.at Assignment (assignment_text (builtin_type form.value) (builtin_type form.annotation))
-
--- what is told of an annotated literal: nothing where its type is assignable to its annotation
-unfoldable pub form_told : LiteralForm → Step (Unit {0})
-form_told form =
-    if assignable builtin_orders (builtin_type form.value) (builtin_type form.annotation) then Done tt
-    else telling (assignment_message form)
+-- an annotated literal has to be of the type of its annotation
+abbrev pub form_owed : LiteralForm → Step (Unit {0})
+form_owed form = assignment_owed form.at false (builtin_type form.value) (builtin_type form.annotation)
 
 -- the annotated literals of these statements, in text order
-abbrev pub literals_told : List Binding → Stmts → Step (Unit {0})
-literals_told bindings statements = each form_told (literal_forms bindings statements)
+abbrev pub literals_owed : List Binding → Stmts → Step (Unit {0})
+literals_owed bindings statements = each form_owed (literal_forms bindings statements)
 
 -- ---- blocks
 
@@ -57,8 +39,9 @@ opens_blocks form = false
 
 -- the annotations in these statements and their blocks, and the annotated literals
 abbrev pub block_reading : SourceFile → Stmts → Step (Unit {0})
-block_reading file statements =
-    and_then (body_reading file statements) (λ u. literals_told file.bindings statements)
+block_reading file statements = do
+  u ← body_reading file statements
+  literals_owed file.bindings statements
 
 -- the blocks of a statement
 abbrev pub statement_reading : SourceFile → Stmt → Step (Unit {0})
@@ -68,13 +51,15 @@ statement_reading file found =
 -- the blocks among statements
 unfoldable pub blocks_reading : SourceFile → Stmts → Step (Unit {0})
 blocks_reading file no_stmt = Done tt
-blocks_reading file (another_stmt found rest) =
-    and_then (statement_reading file found) (λ u. blocks_reading file rest)
+blocks_reading file (another_stmt found rest) = do
+  u ← statement_reading file found
+  blocks_reading file rest
 
 -- ---- the body of a module
 
 -- first what stands in its blocks, then the expressions and assignments outside blocks
 abbrev pub module_reading : SourceFile → Outcome → Step (Unit {0})
-module_reading file (tree m) =
-    and_then (blocks_reading file m.statements) (λ u. top_level_read file m.statements)
+module_reading file (tree m) = do
+  u ← blocks_reading file m.statements
+  top_level_read file m.statements
 module_reading file (fault line text) = Done tt

@@ -1,6 +1,6 @@
-//! What is told of the body of a module: of its blocks, and of the statements outside them.
+//! The body of a module: its blocks, and the statements outside them.
 
-ghost use Rattle.std.specs.Prelude.{◌≡◌, map, IfOk, string_bytes};
+ghost use Rattle.std.specs.Prelude.{◌≡◌, map};
 ghost use Rattle.pyc_ast.specs.Modules.{tree, module_of};
 ghost use Rattle.pyc_ast.specs.Statements.{stmts};
 ghost use Rattle.pyc_ast.specs.StatementView.{stmt_of, stmt_form_of};
@@ -8,15 +8,13 @@ ghost use Rattle.pyc_body.specs.ModuleBodies as spec;
 ghost use Rattle.pyc_names.specs.SourceFileView.{source_in};
 ghost use Rattle.pyc_reading.specs.Desks.{Performs};
 ghost use Rattle.pyc_reading.specs.Readings.{each};
-ghost use Rattle.pyc_type_forms.specs.TypeView.{ty_of};
 
+use pyc_assignments::assignment_owed;
 use pyc_ast::{Module, Outcome, Stmt, StmtForm};
-use pyc_iface::Notes;
 use pyc_names::SourceFile;
 use pyc_obligations::Judge;
-use pyc_report::{Code, Message};
 use pyc_statements::read_top_level;
-use pyc_types::{Builtins, Ty, assignable, show};
+use pyc_types::Builtins;
 use pyc_units::{LiteralForm, literal_forms, read_annotations};
 use std::alloc::{AllocError, Global};
 use std::slice;
@@ -56,7 +54,7 @@ fn read_module<N: Judge>(
 
 /// Reads the blocks among statements, in turn.
 #[tactic(auto, unfolding(crate::specs::ModuleBodies::blocks_reading))]
-fn read_blocks<N: Notes>(
+fn read_blocks<N: Judge>(
     alloc: Global,
     notes: &mut N,
     builtins: &Builtins,
@@ -73,7 +71,7 @@ fn read_blocks<N: Notes>(
 }
 
 /// Reads the blocks of a statement.
-fn read_statement<N: Notes>(
+fn read_statement<N: Judge>(
     alloc: Global,
     notes: &mut N,
     builtins: &Builtins,
@@ -105,7 +103,7 @@ fn opens_blocks(form: &StmtForm) -> bool
 
 /// Reads the annotations and the annotated literals in statements and their blocks.
 #[tactic(auto, using(crate::proofs::Steps::performing))]
-fn read_block<N: Notes>(
+fn read_block<N: Judge>(
     alloc: Global,
     notes: &mut N,
     builtins: &Builtins,
@@ -117,51 +115,34 @@ fn read_block<N: Notes>(
 {
     read_annotations(alloc, notes, file, statements)?;
     let forms = literal_forms(alloc, file, statements)?;
-    tell_forms(alloc, notes, builtins, &forms)
+    owe_forms(alloc, notes, builtins, &forms)
 }
 
-/// Tells of annotated literals, in turn.
-fn tell_forms<N: Notes>(
+/// Owes that annotated literals are of the types of their annotations, in turn.
+fn owe_forms<N: Judge>(
     alloc: Global,
     notes: &mut N,
     builtins: &Builtins,
     forms: &[LiteralForm],
 ) -> Result<(), AllocError>
-    ensures { Performs (λ u. u) (each spec.form_told forms.now) (N.desk notes.old) result (N.desk notes.new) }
+    ensures { Performs (λ u. u) (each spec.form_owed forms.now) (N.desk notes.old) result (N.desk notes.new) }
 {
     for form in forms {
-        tell_form(alloc, notes, builtins, form)?;
+        owe_form(alloc, notes, builtins, form)?;
     }
     Ok(())
 }
 
-/// Tells of an annotated literal whose type is not assignable to its annotation.
-#[tactic(auto, unfolding(crate::specs::ModuleBodies::form_told))]
-fn tell_form<N: Notes>(
+/// Owes that an annotated literal is of the type of its annotation.
+fn owe_form<N: Judge>(
     alloc: Global,
     notes: &mut N,
     builtins: &Builtins,
     form: &LiteralForm,
 ) -> Result<(), AllocError>
-    ensures { Performs (λ u. u) (spec.form_told form.now) (N.desk notes.old) result (N.desk notes.new) }
+    ensures { Performs (λ u. u) (spec.form_owed form.now) (N.desk notes.old) result (N.desk notes.new) }
 {
     let got = builtins.ty(form.value);
     let want = builtins.ty(form.annotation);
-    if assignable(builtins, got, want) {
-        return Ok(());
-    }
-    let text = assignment_text(alloc, got, want)?;
-    notes.tell(Message::error_at(form.at, Code::Assignment, text))
-}
-
-/// What is told of a value of type `got` for a variable of type `want`.
-#[tactic(auto, unfolding(crate::specs::ModuleBodies::assignment_text))]
-fn assignment_text(alloc: Global, got: &Ty, want: &Ty) -> Result<String, AllocError>
-    ensures { IfOk result (λ text. string_bytes text ≡ spec.assignment_text (ty_of got.now) (ty_of want.now)) }
-{
-    let got = show(alloc, got)?;
-    let want = show(alloc, want)?;
-    format!(in alloc;
-        "Incompatible types in assignment (expression has type \"{got}\", variable has type \"{want}\")"
-    )
+    assignment_owed(alloc, notes, form.at, false, got, want)
 }

@@ -18,8 +18,8 @@ use Rattle.pyc_report.specs.declared.message.Code.TheVariants as code
 use Rattle.pyc_report.specs.Message.{error_at}
 use Rattle.pyc_type_forms.specs.Instances.{instance_of}
 use Rattle.pyc_type_forms.specs.Text.{text_of}
-use Rattle.pyc_type_forms.specs.Types.{Ty, Tys, Params, any, none, module_type, instance, class_object, list, dict}
-use Rattle.pyc_type_forms.specs.Types.{tuple, tuple_of, union, callable, nil, cons}
+use Rattle.pyc_type_forms.specs.Types.{Ty, Tys, Params, any, instance, class_object}
+use Rattle.pyc_type_forms.specs.Types.{union, callable, nil, cons}
 use Rattle.pyc_type_forms.specs.Unions.{union_of}
 
 -- ---- what cannot be called

@@ -8,7 +8,8 @@ use Rattle.pyc_class.specs.declared.builtin_class.BuiltinClass.{BuiltinClass}
 use Rattle.pyc_class.specs.declared.builtin_class.BuiltinClass.TheVariants as class
 use Rattle.pyc_class.specs.Class.{Id, builtin, user, same_class}
 use Rattle.pyc_class.specs.Order.{Order, is_unknown}
-use Rattle.pyc_obligations.specs.Asking.{asked_member, order_in}
+use Rattle.pyc_obligations.specs.Asking.{asked_member}
+use Rattle.pyc_reading.specs.Owing.{order_in}
 use Rattle.pyc_reading.specs.Answers.{MemberAnswer}
 use Rattle.pyc_reading.specs.Desks.{Step}
 use Rattle.pyc_reading.specs.Keys as key

@@ -6,7 +6,7 @@ use Rattle.pyc_ast.specs.declared.expr.ArgumentKind.TheVariants as kind
 use Rattle.pyc_ast.specs.declared.position.Position.{Position}
 use Rattle.pyc_attributes.specs.Binding.{through_instance}
 use Rattle.pyc_calls.specs.Called.{called}
-use Rattle.pyc_obligations.specs.Quiet.{Heard, quiet}
+use Rattle.pyc_obligations.specs.Quiet.{quiet}
 use Rattle.pyc_reading.specs.Answers.{MemberAnswer}
 use Rattle.pyc_reading.specs.Desks.{Step}
 use Rattle.pyc_reading.specs.Readings.{Done, and_then}

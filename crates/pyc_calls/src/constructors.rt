@@ -5,6 +5,7 @@ ghost use Rattle.pyc_calls.specs.Constructors as spec;
 ghost use Rattle.pyc_calls.specs.Views.{class_params_in};
 ghost use Rattle.pyc_obligations.specs.Asking as asking;
 ghost use Rattle.pyc_reading.specs.AnswerView.{answer_in, class_order_of, member_answer_of};
+ghost use Rattle.pyc_reading.specs.Owing.{order_in};
 ghost use Rattle.pyc_reading.specs.Desks.{Performs};
 
 use pyc_attributes::through_instance;
@@ -81,7 +82,7 @@ fn answered_constructor<N: Judge>(
     class: &ClassId,
     answer: &Answer,
 ) -> Result<ClassParams, AllocError>
-    ensures { Performs class_params_in (spec.if_known class.now (asking.order_in (answer_in answer.now)))
+    ensures { Performs class_params_in (spec.if_known class.now (order_in (answer_in answer.now)))
         (N.desk notes.old) result (N.desk notes.new) }
 {
     match answer {

@@ -1,5 +1,5 @@
-//! Tests of classes: what class statements bind, what classes have under names, and their orders; in a crate of their
-//! own.
+//! Tests of classes and files: what class statements bind, what classes have under names, and their orders; when files
+//! have one interface; in a crate of their own.
 #![tactic(auto)]
 
 #[cfg(test)]
@@ -8,6 +8,8 @@ mod attributes;
 mod class_body;
 #[cfg(test)]
 mod declared_classes;
+#[cfg(test)]
+mod interfaces;
 #[cfg(test)]
 mod members;
 #[cfg(test)]

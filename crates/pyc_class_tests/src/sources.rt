@@ -19,7 +19,11 @@ pub(crate) fn module_of(alloc: Global, source: &str) -> Result<Module, Fail> {
 }
 
 /// A file of this path and source, shared.
-fn file_of(alloc: Global, path: &str, source: &str) -> Result<Rc<SourceFile>, AllocError> {
+pub(crate) fn file_of(
+    alloc: Global,
+    path: &str,
+    source: &str,
+) -> Result<Rc<SourceFile>, AllocError> {
     let name = ModuleName::of_path(alloc, path)?;
     let outcome = read(alloc, source.as_bytes())?;
     Ok(Rc::new(alloc, SourceFile::new(alloc, path, name, outcome)?)?)

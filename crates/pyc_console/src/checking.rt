@@ -4,6 +4,7 @@ ghost use Rattle.std.specs.Prelude.{◌≡◌, ◌<◌, [], ℕ, Result, Ok, map
 ghost use Rattle.std.specs.Prelude.{OnErr, OnOk};
 ghost use Rattle.std.specs.Io.KnownBytes.{Appends};
 ghost use Rattle.pyc_daemon.specs.Counted.{inner_of, faults_of, zeros_of, IsSound, FailsOnce};
+ghost use Rattle.pyc_daemon.specs.Counted.{GivesRoom};
 ghost use Rattle.pyc_session.specs.Event.{Event, FetchStep};
 ghost use Rattle.pyc_workspace.specs.Fresh.{fresh};
 ghost use Rattle.pyc_daemon.specs.Replies.{WritesPart};
@@ -45,6 +46,8 @@ pub fn check_files<S: Sources, O: Write, E: Write>(
         × (result ≡ exit_status answer)
         × ComesOfCheck answer out.old out.new err.old err.new }
     ensures sound { result < 2 → IsSound out.old out.new × IsSound err.old err.new }
+    // No write was without a byte, however it ended.
+    ensures buffers { GivesRoom out.old out.new × GivesRoom err.old err.new }
 {
     match check_and_tell(alloc, sources, out, err, options, files) {
         Ok(status) => status,
@@ -67,6 +70,7 @@ fn check_and_tell<S: Sources, O: Write, E: Write>(
         (map string_bytes files.now) result }
     ensures fault { IfErr result (λ e. e ≡ RunFault.Write) }
     ensures counts { ComesOfCheck result out.old out.new err.old err.new }
+    ensures buffers { GivesRoom out.old out.new × GivesRoom err.old err.new }
 {
     let mut daemon = Daemon::new(alloc, *options);
     let refused = update_all(&mut daemon, sources, err, files)?;
@@ -90,6 +94,7 @@ fn update_all<S: Sources, E: Write>(
     ensures sound { OnOk result (IsSound err.old err.new) }
     ensures fault { IfErr result (λ e. e ≡ RunFault.Write) }
     ensures cause { OnErr result (FailsOnce err.old err.new) }
+    ensures buffers { GivesRoom err.old err.new }
 {
     let mut refused = false;
     for file in files {
@@ -111,6 +116,7 @@ fn update_one<S: Sources, E: Write>(
     ensures sound { OnOk result (IsSound err.old err.new) }
     ensures fault { IfErr result (λ e. e ≡ RunFault.Write) }
     ensures cause { OnErr result (FailsOnce err.old err.new) }
+    ensures buffers { GivesRoom err.old err.new }
 {
     match daemon.update(sources, file.as_bytes()) {
         Ok(()) => Ok(false),
@@ -130,6 +136,7 @@ fn tell_refusal<E: Write>(err: &mut Counted<E>, file: &str, why: Refusal) -> Res
     ensures sound { OnOk result (IsSound err.old err.new) }
     ensures fault { IfErr result (λ e. e ≡ RunFault.Write) }
     ensures cause { OnErr result (FailsOnce err.old err.new) }
+    ensures buffers { GivesRoom err.old err.new }
 {
     write_parts(err, &["dmypy: ", file, ": "])?;
     write_bytes(err, why.text().as_bytes())
@@ -147,6 +154,7 @@ fn print_report<O: Write, E: Write>(
         refused result }
     ensures fault { IfErr result (λ e. e ≡ RunFault.Write) }
     ensures counts { ComesOfCheck result out.old out.new err.old err.new }
+    ensures buffers { GivesRoom out.old out.new × GivesRoom err.old err.new }
 {
     let Ok(report) = daemon.check() else {
         write_parts(err, &["dmypy: ", Refusal::Memory.text()])?;

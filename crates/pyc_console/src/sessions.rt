@@ -2,6 +2,7 @@
 
 ghost use Rattle.std.specs.Prelude.{◌≡◌, Result};
 ghost use Rattle.pyc_daemon.specs.Counted.{inner_of, calls_of, faults_of, zeros_of, IsSound};
+ghost use Rattle.pyc_daemon.specs.Counted.{GivesRoom};
 ghost use Rattle.pyc_daemon.specs.Runs.{Runs, ComesOfRun, streams};
 ghost use Rattle.pyc_session.specs.declared.ending.End.{End};
 ghost use Rattle.pyc_session.specs.declared.ending.RunFault.{RunFault};
@@ -34,6 +35,8 @@ pub fn session<R: Read, W: Write, E: Write, S: Sources>(
         × TellsLine err.old err.new (E.contents (inner_of err.old)) (E.contents (inner_of err.new))
         (ending_line answer) }
     ensures sound { result ≡ 0 → IsSound reader.old reader.new × IsSound writer.old writer.new }
+    // No read was without room and no write without a byte, however it ended.
+    ensures buffers { GivesRoom reader.old reader.new × GivesRoom writer.old writer.new × GivesRoom err.old err.new }
 {
     let answer = run(alloc, reader, writer, sources, options);
     if let Err(why) = &answer {

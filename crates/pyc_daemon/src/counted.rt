@@ -1,4 +1,4 @@
-//! A reader or a writer whose calls, faults and empty writes are counted.
+//! A reader or a writer whose calls are counted: those that fail, and those that are given an empty buffer.
 
 ghost use Rattle.std.specs.Prelude.{◌≡◌, is_ok, if◌then◌else◌};
 ghost use Rattle.std.specs.Io.{ReadsAtMost, WritesAtMost};
@@ -13,10 +13,12 @@ pub struct Counted<T> {
     calls: u64,
     faults: u64,
     zeros: u64,
+    empty_buffers: u64,
 }
 
 impl<T> Counted<T> {
-    ghost use Rattle.pyc_daemon.specs.Counted.{inner_of, calls_of, faults_of, zeros_of};
+    ghost use Rattle.pyc_daemon.specs.Counted.{inner_of, calls_of, faults_of, zeros_of, empty_buffers_of};
+    ghost use Rattle.pyc_daemon.specs.Counted.{one_more, with_buffer};
 
     /// Wraps `inner`, with nothing counted yet.
     pub fn new(inner: T) -> Self
@@ -24,12 +26,14 @@ impl<T> Counted<T> {
         ensures calls { calls_of result ≡ 0 }
         ensures faults { faults_of result ≡ 0 }
         ensures zeros { zeros_of result ≡ 0 }
+        ensures buffers { empty_buffers_of result ≡ 0 }
     {
         Counted {
             inner,
             calls: 0,
             faults: 0,
             zeros: 0,
+            empty_buffers: 0,
         }
     }
 
@@ -47,16 +51,38 @@ impl<T> Counted<T> {
         self.faults
     }
 
-    /// How many writes took no byte.
+    /// How many writes took no byte, though they were given some.
     pub fn zeros(&self) -> u64
         ensures { result ≡ zeros_of self.now }
     {
         self.zeros
     }
+
+    /// How many calls were given an empty buffer: such a call can move no byte, whatever the reader or the writer is.
+    pub fn empty_buffers(&self) -> u64
+        ensures { result ≡ empty_buffers_of self.now }
+    {
+        self.empty_buffers
+    }
+
+    /// Counts a call that is given `buf`.
+    fn count_call(&mut self, buf: &[u8])
+        ensures inner { inner_of self.new ≡ inner_of self.old }
+        ensures calls { calls_of self.new ≡ one_more (calls_of self.old) }
+        ensures faults { faults_of self.new ≡ faults_of self.old }
+        ensures zeros { zeros_of self.new ≡ zeros_of self.old }
+        ensures buffers { empty_buffers_of self.new ≡ with_buffer buf.now (empty_buffers_of self.old) }
+    {
+        self.calls = self.calls.saturating_add(1);
+        if buf.is_empty() {
+            self.empty_buffers = self.empty_buffers.saturating_add(1);
+        }
+    }
 }
 
 impl<R: Read> Read for Counted<R> {
-    ghost use Rattle.pyc_daemon.specs.Counted.{inner_of, calls_of, faults_of, zeros_of, one_more};
+    ghost use Rattle.pyc_daemon.specs.Counted.{inner_of, calls_of, faults_of, zeros_of, empty_buffers_of};
+    ghost use Rattle.pyc_daemon.specs.Counted.{one_more, with_buffer};
 
     ghost remaining = { λ c. R.remaining c.inner };
 
@@ -68,8 +94,9 @@ impl<R: Read> Read for Counted<R> {
         ensures faults { faults_of self.new
             ≡ (if is_ok result then faults_of self.old else one_more (faults_of self.old)) }
         ensures zeros { zeros_of self.new ≡ zeros_of self.old }
+        ensures buffers { empty_buffers_of self.new ≡ with_buffer buf.old (empty_buffers_of self.old) }
     {
-        self.calls = self.calls.saturating_add(1);
+        self.count_call(buf);
         let answer = self.inner.read(buf);
         if answer.is_err() {
             self.faults = self.faults.saturating_add(1);
@@ -79,7 +106,8 @@ impl<R: Read> Read for Counted<R> {
 }
 
 impl<W: Write> Write for Counted<W> {
-    ghost use Rattle.pyc_daemon.specs.Counted.{inner_of, calls_of, faults_of, zeros_of, one_more, is_zero};
+    ghost use Rattle.pyc_daemon.specs.Counted.{inner_of, calls_of, faults_of, zeros_of, empty_buffers_of};
+    ghost use Rattle.pyc_daemon.specs.Counted.{one_more, takes_none, with_buffer};
 
     ghost contents = { λ c. W.contents c.inner };
 
@@ -90,12 +118,13 @@ impl<W: Write> Write for Counted<W> {
         ensures faults { faults_of self.new
             ≡ (if is_ok result then faults_of self.old else one_more (faults_of self.old)) }
         ensures zeros { zeros_of self.new
-            ≡ (if is_zero result then one_more (zeros_of self.old) else zeros_of self.old) }
+            ≡ (if takes_none buf.now result then one_more (zeros_of self.old) else zeros_of self.old) }
+        ensures buffers { empty_buffers_of self.new ≡ with_buffer buf.now (empty_buffers_of self.old) }
     {
-        self.calls = self.calls.saturating_add(1);
+        self.count_call(buf);
         let answer = self.inner.write(buf);
         match &answer {
-            Ok(0) => self.zeros = self.zeros.saturating_add(1),
+            Ok(0) if !buf.is_empty() => self.zeros = self.zeros.saturating_add(1),
             Ok(_) => {}
             Err(_) => self.faults = self.faults.saturating_add(1),
         }
@@ -107,6 +136,7 @@ impl<W: Write> Write for Counted<W> {
         ensures calls { calls_of self.new ≡ calls_of self.old }
         ensures faults { faults_of self.new ≡ faults_of self.old }
         ensures zeros { zeros_of self.new ≡ zeros_of self.old }
+        ensures buffers { empty_buffers_of self.new ≡ empty_buffers_of self.old }
     {
         self.inner.flush()
     }

@@ -2,7 +2,8 @@
 
 ghost use Rattle.std.specs.Prelude.{◌≡◌, ◌≤◌, [], false, List, Some, vec_capacity, IfOk, IfSome, IsErrOf, OnOk};
 ghost use Rattle.std.specs.Io.KnownBytes.{Appends};
-ghost use Rattle.pyc_daemon.specs.Counted.{inner_of, calls_of, faults_of, zeros_of, IsSound, FailsOnce};
+ghost use Rattle.pyc_daemon.specs.Counted.{inner_of, calls_of, faults_of, zeros_of, IsSound};
+ghost use Rattle.pyc_daemon.specs.Counted.{FailsOnce, GivesRoom};
 ghost use Rattle.pyc_session.specs.Event.{Event, Links};
 ghost use Rattle.pyc_daemon.specs.Reading.{IsReading};
 ghost use Rattle.pyc_daemon.specs.Runs.{Runs, ComesOfServing, streams};
@@ -51,6 +52,8 @@ pub fn run<R: Read, W: Write, S: Sources>(
         × IsSound writer.old writer.new × (calls_of reader.new ≡ options.now.turns) }
     ensures memory { IsErrOf result RunFault.Memory → (reader.new ≡ reader.old) × (writer.new ≡ writer.old)
         × (sources.new ≡ sources.old) }
+    // No read was without room and no write without a byte, however it ended.
+    ensures buffers { GivesRoom reader.old reader.new × GivesRoom writer.old writer.new }
 {
     let Ok(mut window) = Window::new(alloc) else {
         return Err(RunFault::Memory);
@@ -91,6 +94,7 @@ fn serve_all<R: Read, W: Write, S: Sources>(
         (W.contents (inner_of writer.old)))
         (streams sources.new (R.remaining (inner_of reader.new)) (W.contents (inner_of writer.new))) result }
     ensures fault { ComesOfServing result reader.old reader.new writer.old writer.new turns }
+    ensures buffers { GivesRoom reader.old reader.new × GivesRoom writer.old writer.new }
 {
     'commands: while !window.is_ended() {
         let Some(answer) = serve(alloc, reader, window, line, sources, daemon, turns)? else {

@@ -2,7 +2,7 @@
 
 ghost use Rattle.std.specs.Prelude.{◌≡◌, ◌+◌, ◌-◌, ◌*◌, ◌<◌, ◌≤◌, ◌∷◌, ◌++◌, [], ℕ, List, length, true, false, vec_len};
 ghost use Rattle.std.specs.Prelude.{vec_capacity, IfOk, IfErr, OnErr, OnOk, take, drop, if◌then◌else◌};
-ghost use Rattle.pyc_daemon.specs.Counted.{inner_of, calls_of, IsSound};
+ghost use Rattle.pyc_daemon.specs.Counted.{inner_of, calls_of, IsSound, GivesRoom};
 ghost use Rattle.pyc_daemon.specs.Reading.{Advances, IsReading, ComesOfReading, work_left};
 ghost use Rattle.pyc_daemon.specs.Window.{held_of, used_of, ended_of};
 ghost use Rattle.pyc_session.specs.Input.{has_line_feed, command_line};
@@ -49,6 +49,7 @@ pub fn read_line<R: Read>(
         < work_left (ended_of window.old) (length (held_of window.old)) (calls_of reader.old) turns) }
     ensures sound { OnOk result (IsSound reader.old reader.new) }
     ensures fault { IfErr result (λ e. ComesOfReading e reader.old reader.new turns) }
+    ensures buffers { GivesRoom reader.old reader.new }
 {
     line.clear();
     while !window.is_ended() {
@@ -116,6 +117,7 @@ pub fn read_body<R: Read>(
         ≤ work_left (ended_of window.old) (length (held_of window.old)) (calls_of reader.old) turns) }
     ensures sound { OnOk result (IsSound reader.old reader.new) }
     ensures fault { IfErr result (λ e. ComesOfReading e reader.old reader.new turns) }
+    ensures buffers { GivesRoom reader.old reader.new }
 {
     let mut bytes = Vec::new(alloc);
     let mut kept = wanted && bytes.reserve(size).is_ok();

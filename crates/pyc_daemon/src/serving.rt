@@ -4,7 +4,7 @@ ghost use Rattle.std.specs.Prelude.{◌≡◌, ◌==◌, ◌&&◌, not, ◌<◌,
 ghost use Rattle.std.specs.Prelude.{vec_capacity, Some, IfOk, IfErr, OnErr, OnOk};
 ghost use Rattle.pyc_daemon.specs.Body.{CameAs, IsWanted};
 ghost use Rattle.pyc_session.specs.Command.{said, bytes_after};
-ghost use Rattle.pyc_daemon.specs.Counted.{inner_of, calls_of, IsSound};
+ghost use Rattle.pyc_daemon.specs.Counted.{inner_of, calls_of, IsSound, GivesRoom};
 ghost use Rattle.pyc_session.specs.Event.{Event, FetchStep};
 ghost use Rattle.pyc_daemon.specs.Reading.{Advances, IsReading, ComesOfReading, work_left};
 ghost use Rattle.pyc_session.specs.Refusal.{early_refusal};
@@ -54,6 +54,7 @@ pub fn serve<R: Read, S: Sources>(
         < work_left (ended_of window.old) (length (held_of window.old)) (calls_of reader.old) turns) }
     ensures sound { OnOk result (IsSound reader.old reader.new) }
     ensures fault { IfErr result (λ e. ComesOfReading e reader.old reader.new turns) }
+    ensures buffers { GivesRoom reader.old reader.new }
 {
     let fed = read_line(reader, window, line, turns)?;
     if is_end(line, fed) {
@@ -103,6 +104,7 @@ fn obey<R: Read, S: Sources>(
         ≤ work_left (ended_of window.old) (length (held_of window.old)) (calls_of reader.old) turns) }
     ensures sound { OnOk result (IsSound reader.old reader.new) }
     ensures fault { IfErr result (λ e. ComesOfReading e reader.old reader.new turns) }
+    ensures buffers { GivesRoom reader.old reader.new }
 {
     match command {
         Command::Add { path, size } => {
@@ -185,6 +187,7 @@ fn keep_file<R: Read>(
         ≤ work_left (ended_of window.old) (length (held_of window.old)) (calls_of reader.old) turns) }
     ensures sound { OnOk result (IsSound reader.old reader.new) }
     ensures fault { IfErr result (λ e. ComesOfReading e reader.old reader.new turns) }
+    ensures buffers { GivesRoom reader.old reader.new }
 {
     let refusal = daemon.early_refusal(keep, path, size);
     let body = read_body(alloc, reader, window, size, refusal.is_none(), turns)?;

@@ -27,7 +27,7 @@ pub struct Window {
 
 impl Window {
     ghost use Rattle.std.specs.Prelude.{false, None};
-    ghost use Rattle.pyc_daemon.specs.Counted.{inner_of, calls_of, IsSound};
+    ghost use Rattle.pyc_daemon.specs.Counted.{inner_of, calls_of, IsSound, GivesRoom};
     ghost use Rattle.pyc_daemon.specs.Reading.{Advances, IsReading, ComesOfReading, work_left};
     ghost use Rattle.pyc_daemon.specs.Window.{held_of, used_of, ended_of};
 
@@ -102,6 +102,7 @@ impl Window {
         ensures empty { OnErr result (held_of self.new ≡ []) }
         ensures sound { OnOk result (IsSound reader.old reader.new) }
         ensures fault { IfErr result (λ e. ComesOfReading e reader.old reader.new turns) }
+        ensures buffers { GivesRoom reader.old reader.new }
         ensures work { OnOk result
             (work_left (ended_of self.new) (length (held_of self.new)) (calls_of reader.new) turns
             < work_left false 0 (calls_of reader.old) turns) }

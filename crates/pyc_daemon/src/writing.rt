@@ -3,7 +3,7 @@
 ghost use Rattle.std.specs.Prelude.{◌≡◌, ◌<◌, ◌≤◌, [], length, take, codes, if◌then◌else◌, IfOk, IfErr, OnErr};
 ghost use Rattle.std.specs.Prelude.{OnOk};
 ghost use Rattle.std.specs.Io.KnownBytes.{Appends};
-ghost use Rattle.pyc_daemon.specs.Counted.{inner_of, IsSound, FailsOnce};
+ghost use Rattle.pyc_daemon.specs.Counted.{inner_of, IsSound, FailsOnce, GivesRoom};
 ghost use Rattle.pyc_daemon.specs.Replies.{reply_bytes, status_text, joined, WritesPart};
 ghost use Rattle.pyc_report.specs.Report.{report_in};
 ghost use Rattle.pyc_session.specs.Session.{check_reply};
@@ -24,6 +24,7 @@ pub(crate) fn write_reply<W: Write>(writer: &mut Counted<W>, reply: Reply) -> Re
     ensures fault { IfErr result (λ e. e ≡ RunFault.Write) }
     ensures sound { OnOk result (IsSound writer.old writer.new) }
     ensures cause { OnErr result (FailsOnce writer.old writer.new) }
+    ensures buffers { GivesRoom writer.old writer.new }
 {
     match reply {
         Reply::Line(text) => write_bytes(writer, text.as_bytes()),
@@ -43,6 +44,7 @@ fn write_report<W: Write>(writer: &mut Counted<W>, report: &Report) -> Result<()
     ensures fault { IfErr result (λ e. e ≡ RunFault.Write) }
     ensures sound { OnOk result (IsSound writer.old writer.new) }
     ensures cause { OnErr result (FailsOnce writer.old writer.new) }
+    ensures buffers { GivesRoom writer.old writer.new }
 {
     write_bytes(writer, report.text.as_bytes())?;
     write_bytes(writer, status_line(report.clean).as_bytes())
@@ -64,6 +66,7 @@ fn write_counts<W: Write>(writer: &mut Counted<W>, counts: Status) -> Result<(),
     ensures fault { IfErr result (λ e. e ≡ RunFault.Write) }
     ensures sound { OnOk result (IsSound writer.old writer.new) }
     ensures cause { OnErr result (FailsOnce writer.old writer.new) }
+    ensures buffers { GivesRoom writer.old writer.new }
 {
     let mut files = Buffer::new();
     let mut bodies = Buffer::new();
@@ -92,6 +95,7 @@ pub fn write_parts<W: Write>(writer: &mut Counted<W>, parts: &[&str]) -> Result<
     ensures fault { IfErr result (λ e. e ≡ RunFault.Write) }
     ensures sound { OnOk result (IsSound writer.old writer.new) }
     ensures cause { OnErr result (FailsOnce writer.old writer.new) }
+    ensures buffers { GivesRoom writer.old writer.new }
 {
     for part in parts {
         write_bytes(writer, part.as_bytes())?;
@@ -108,6 +112,7 @@ pub fn write_bytes<W: Write>(writer: &mut Counted<W>, bytes: &[u8]) -> Result<()
     ensures fault { IfErr result (λ e. e ≡ RunFault.Write) }
     ensures sound { OnOk result (IsSound writer.old writer.new) }
     ensures cause { OnErr result (FailsOnce writer.old writer.new) }
+    ensures buffers { GivesRoom writer.old writer.new }
 {
     let mut rest = bytes;
     while !rest.is_empty() {
@@ -128,6 +133,7 @@ fn write_some<W: Write>(writer: &mut Counted<W>, bytes: &[u8]) -> Result<usize, 
     ensures fault { IfErr result (λ e. e ≡ RunFault.Write) }
     ensures sound { OnOk result (IsSound writer.old writer.new) }
     ensures cause { OnErr result (FailsOnce writer.old writer.new) }
+    ensures buffers { GivesRoom writer.old writer.new }
 {
     match writer.write(bytes) {
         Ok(0) | Err(_) => Err(RunFault::Write),

@@ -1,8 +1,8 @@
 -- What a recorder that has performed a reading holds.
-use Rattle.std.proofs.Common.{◌≡◌, List, ◌++◌, [], sym, ap, ◌∙◌}
+use Rattle.std.proofs.Common.{◌≡◌, ◌++◌, sym, ap, ◌∙◌}
 use Rattle.pyc_declarations.specs.RecorderView.{new_desk}
 use Rattle.pyc_reading.specs.Answers.{Answer}
-use Rattle.pyc_reading.specs.Desks.{Step, Desk, run, desk_after}
+use Rattle.pyc_reading.specs.Desks.{Step, Desk, run}
 use Rattle.pyc_reading.specs.Keys.{Key}
 use Rattle.pyc_reading.specs.Readings.{result_of, told}
 use Rattle.pyc_reading.proofs.RunLemmas.{runs_are_folds}

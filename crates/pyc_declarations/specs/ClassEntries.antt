@@ -9,7 +9,7 @@ use Rattle.pyc_classes.specs.Entries.{Entry}
 use Rattle.pyc_declarations.specs.Declarations.{declared_answer}
 use Rattle.pyc_members.specs.ClassBodies.{own_member}
 use Rattle.pyc_members.specs.DeclaredClasses.{DeclaredClass}
-use Rattle.pyc_names.specs.SourceFiles.{SourceFile}
+use Rattle.pyc_names.specs.Interfaces.{Interface}
 use Rattle.pyc_reading.specs.Readings.{result_of}
 
 -- a base as it counts: of what is no class nothing is known
@@ -18,11 +18,11 @@ written_base (class_base c) = written.Class c
 written_base _ = written.Unknown
 
 -- the bases of a class that stands in a file and has these arguments
-unfoldable pub written_bases : List SourceFile → SourceFile → List Argument → List WrittenBase
+unfoldable pub written_bases : List Interface → Interface → List Argument → List WrittenBase
 written_bases files file arguments = map written_base (result_of (declared_answer files) (bases file arguments))
 
 -- a class that a file declares
-abbrev pub class_entry : List SourceFile → SourceFile → DeclaredClass → Entry
+abbrev pub class_entry : List Interface → Interface → DeclaredClass → Entry
 class_entry files file c =
     record {
       id = user file.name c.name;
@@ -30,9 +30,9 @@ class_entry files file c =
       has_call = is_some (own_member c.body (codes "__call__"));
     }
 
-abbrev pub file_entries : List SourceFile → SourceFile → List Entry
+abbrev pub file_entries : List Interface → Interface → List Entry
 file_entries files file = map (class_entry files file) file.classes
 
 -- the classes that files declare
-unfoldable pub class_entries : List SourceFile → List Entry
+unfoldable pub class_entries : List Interface → List Entry
 class_entries files = flat_map (file_entries files) files

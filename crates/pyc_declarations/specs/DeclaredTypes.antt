@@ -1,6 +1,6 @@
 -- The types that declarations declare (typing specification, "Type annotations"; mypy's documentation, "Type inference
 -- and type annotations"): those of annotations that are `None` or a builtin class by its own name, and of literals.
-use Rattle.std.specs.Prelude.{ℕ, ◌||◌, bytes_eq, codes, if◌then◌else◌, is_some, List, Option, None, Some}
+use Rattle.std.specs.Prelude.{ℕ, bytes_eq, codes, if◌then◌else◌, is_some, List, Option, None, Some}
 use Rattle.pyc_ast.specs.declared.constant.Constant.{Constant}
 use Rattle.pyc_ast.specs.declared.constant.Constant.TheVariants as constant
 use Rattle.pyc_ast.specs.Exprs.{Expr, expr}

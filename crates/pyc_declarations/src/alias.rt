@@ -5,7 +5,7 @@ ghost use Rattle.pyc_ast.specs.ExprView.{expr_of};
 ghost use Rattle.pyc_declarations.specs.Kinds as spec;
 ghost use Rattle.pyc_names.specs.Following.{follow};
 ghost use Rattle.pyc_names.specs.FollowingView.{referent_of};
-ghost use Rattle.pyc_names.specs.SourceFileView.{source_in};
+ghost use Rattle.pyc_names.specs.InterfaceView.{interface_in};
 ghost use Rattle.pyc_reading.specs.AnswerView.{kind_of};
 ghost use Rattle.pyc_type_exprs.specs.TypeExprView.{type_expr_of};
 
@@ -30,7 +30,7 @@ impl Kinds<'_> {
         annotation: &Expr,
     ) -> Result<bool, AllocError>
         ensures { IfOk result (λ found. found
-            ≡ spec.is_alias (kinds_in self.now) (source_in file.now) (expr_of annotation.now)) }
+            ≡ spec.is_alias (kinds_in self.now) (interface_in file.now) (expr_of annotation.now)) }
     {
         let written = type_expr(alloc, annotation)?;
         self.is_alias_type(alloc, file, &written)
@@ -44,7 +44,7 @@ impl Kinds<'_> {
         written: &TypeExpr,
     ) -> Result<bool, AllocError>
         ensures { IfOk result (λ found. found
-            ≡ spec.is_alias_type (kinds_in self.now) (source_in file.now) (type_expr_of written.now)) }
+            ≡ spec.is_alias_type (kinds_in self.now) (interface_in file.now) (type_expr_of written.now)) }
     {
         match written {
             TypeExpr::Name { name, .. } => {
@@ -63,7 +63,7 @@ impl Kinds<'_> {
         names: &[Text],
     ) -> Result<Referent, AllocError>
         ensures { IfOk result (λ found. referent_of found
-            ≡ spec.dotted_referent (kinds_in self.now) (source_in file.now) names.now) }
+            ≡ spec.dotted_referent (kinds_in self.now) (interface_in file.now) names.now) }
     {
         match names.split_first() {
             Some((first, rest)) => {
@@ -82,7 +82,7 @@ impl Kinds<'_> {
         name: &Text,
     ) -> Result<Referent, AllocError>
         ensures { IfOk result (λ found. referent_of found
-            ≡ spec.own_referent (kinds_in self.now) (source_in file.now) name.now) }
+            ≡ spec.own_referent (kinds_in self.now) (interface_in file.now) name.now) }
     {
         match file.declaration(name) {
             Some(_) => self.follow(alloc, file.name(), name),

@@ -9,7 +9,7 @@ ghost use Rattle.pyc_declarations.specs.KindsView.{declarations_in};
 ghost use Rattle.pyc_members.specs.ClassBodies.{own_member};
 ghost use Rattle.pyc_members.specs.ClassBodyView.{class_body_of};
 ghost use Rattle.pyc_members.specs.DeclaredClassView.{declared_class_of, declared_class_in};
-ghost use Rattle.pyc_names.specs.SourceFileView.{source_in};
+ghost use Rattle.pyc_names.specs.InterfaceView.{interface_in};
 
 use crate::declarations::Declarations;
 use crate::kinds::own_class;
@@ -45,7 +45,7 @@ impl Declarations<'_> {
     ) -> Result<(), AllocError>
         ensures { OnOk result (map entry_in entries.new.items
             ≡ map entry_in entries.old.items
-            ++ map (spec.class_entry (declarations_in self.now) (source_in file.now))
+            ++ map (spec.class_entry (declarations_in self.now) (interface_in file.now))
             (map declared_class_in classes.now)) }
     {
         for class in classes {
@@ -62,7 +62,7 @@ impl Declarations<'_> {
         class: &DeclaredClass,
     ) -> Result<ClassEntry, AllocError>
         ensures { IfOk result (λ entry. entry_in entry
-            ≡ spec.class_entry (declarations_in self.now) (source_in file.now) (declared_class_of class.now)) }
+            ≡ spec.class_entry (declarations_in self.now) (interface_in file.now) (declared_class_of class.now)) }
     {
         let id = own_class(alloc, file, &class.name)?;
         let bases = self.written_bases(alloc, file, &class.head.arguments)?;
@@ -83,7 +83,7 @@ impl Declarations<'_> {
         arguments: &[Argument],
     ) -> Result<Vec<WrittenBase>, AllocError>
         ensures { IfOk result (λ bases. bases.items
-            ≡ spec.written_bases (declarations_in self.now) (source_in file.now) (map argument_of arguments.now)) }
+            ≡ spec.written_bases (declarations_in self.now) (interface_in file.now) (map argument_of arguments.now)) }
     {
         let mut notes = Recorder::new(alloc, *self);
         let found = read_bases(alloc, &mut notes, file, arguments)?;

@@ -7,8 +7,8 @@ ghost use Rattle.pyc_ast.specs.StatementView.{function_of};
 ghost use Rattle.pyc_bindings.specs.BindingView.{binding_form_of};
 ghost use Rattle.pyc_declarations.specs.Declarations as spec;
 ghost use Rattle.pyc_names.specs.FollowingView.{qualified_of};
-ghost use Rattle.pyc_names.specs.SourceFileView.{source_in, sources_in};
-ghost use Rattle.pyc_names.specs.TableView.{table_in};
+ghost use Rattle.pyc_names.specs.InterfaceView.{interface_in, interfaces_in};
+ghost use Rattle.pyc_names.specs.TableView.{table_interfaces};
 ghost use Rattle.pyc_reading.specs.AnswerView.{answer_in, name_answer_of};
 ghost use Rattle.pyc_reading.specs.KeyView.{key_of};
 ghost use Rattle.pyc_type_forms.specs.TypeView.{ty_of};
@@ -55,7 +55,7 @@ impl<'a> Declarations<'a> {
 
     /// What is declared under the names of the files of a table. It takes no memory.
     pub fn new(table: &'a Table) -> Declarations<'a>
-        ensures { declarations_in result ≡ table_in table.now }
+        ensures { declarations_in result ≡ table_interfaces table.now }
     {
         Declarations {
             kinds: Kinds { table },
@@ -64,7 +64,7 @@ impl<'a> Declarations<'a> {
 
     /// The files.
     pub fn files(&self) -> &'a [Rc<SourceFile>]
-        ensures { sources_in result.now ≡ declarations_in self.now }
+        ensures { interfaces_in result.now ≡ declarations_in self.now }
     {
         self.kinds.table.files()
     }
@@ -88,7 +88,7 @@ impl<'a> Declarations<'a> {
         form: &BindingForm,
     ) -> Result<NameAnswer, AllocError>
         ensures { IfOk result (λ found. name_answer_of found
-            ≡ spec.form_answer (declarations_in self.now) (source_in file.now) (binding_form_of form.now)) }
+            ≡ spec.form_answer (declarations_in self.now) (interface_in file.now) (binding_form_of form.now)) }
     {
         match form {
             BindingForm::Function(head) => Ok(NameAnswer {
@@ -115,7 +115,7 @@ impl<'a> Declarations<'a> {
         annotation: &Expr,
     ) -> Result<Ty, AllocError>
         ensures { IfOk result (λ ty. ty_of ty
-            ≡ spec.annotated_type (declarations_in self.now) (source_in file.now) (expr_of annotation.now)) }
+            ≡ spec.annotated_type (declarations_in self.now) (interface_in file.now) (expr_of annotation.now)) }
     {
         let mut notes = Recorder::new(alloc, self.kinds);
         let found = read_annotation(alloc, &mut notes, file, annotation)?;
@@ -133,7 +133,7 @@ impl<'a> Declarations<'a> {
         head: &FunctionDefinition,
     ) -> Result<Ty, AllocError>
         ensures { IfOk result (λ ty. ty_of ty
-            ≡ spec.declared_function (declarations_in self.now) (source_in file.now) (ty_of receiver)
+            ≡ spec.declared_function (declarations_in self.now) (interface_in file.now) (ty_of receiver)
             (function_of head.now)) }
     {
         let mut notes = Recorder::new(alloc, self.kinds);

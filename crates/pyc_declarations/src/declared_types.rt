@@ -3,7 +3,7 @@
 ghost use Rattle.std.specs.Prelude.{◌≡◌};
 ghost use Rattle.pyc_ast.specs.ExprView.{expr_of};
 ghost use Rattle.pyc_declarations.specs.DeclaredTypes as spec;
-ghost use Rattle.pyc_names.specs.SourceFileView.{source_in};
+ghost use Rattle.pyc_names.specs.InterfaceView.{interface_in};
 ghost use Rattle.pyc_type_forms.specs.TypeView.{ty_of};
 
 use pyc_ast::{Constant, Expr, Form, Text};
@@ -13,7 +13,7 @@ use pyc_types::{Builtin, BuiltinClass, ClassId, Ty};
 /// The type that an annotation means at the top level of a file, if it is understood: `None`, or a builtin class by its
 /// own name, which nothing there binds. It takes no memory.
 pub fn annotation_builtin(file: &SourceFile, annotation: &Expr) -> Option<Builtin>
-    ensures { result ≡ spec.annotation_builtin (source_in file.now).bindings (expr_of annotation.now) }
+    ensures { result ≡ spec.annotation_builtin (interface_in file.now).bindings (expr_of annotation.now) }
 {
     match &annotation.form {
         Form::Name(name) => unbound_builtin(file, name),
@@ -24,7 +24,7 @@ pub fn annotation_builtin(file: &SourceFile, annotation: &Expr) -> Option<Builti
 
 /// The builtin class that a name means at the top level of a file.
 fn unbound_builtin(file: &SourceFile, name: &Text) -> Option<Builtin>
-    ensures { result ≡ spec.unbound_builtin (source_in file.now).bindings name.now }
+    ensures { result ≡ spec.unbound_builtin (interface_in file.now).bindings name.now }
 {
     match file.declaration(name) {
         Some(_) => None,

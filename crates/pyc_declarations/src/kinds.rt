@@ -8,7 +8,7 @@ ghost use Rattle.pyc_declarations.specs.Kinds as spec;
 ghost use Rattle.pyc_declarations.specs.KindsView.{found_in};
 ghost use Rattle.pyc_names.specs.FixedModules.{fixed_module as fixed_module_of};
 ghost use Rattle.pyc_names.specs.FollowingView.{qualified_of, referent_of};
-ghost use Rattle.pyc_names.specs.SourceFileView.{source_in};
+ghost use Rattle.pyc_names.specs.InterfaceView.{interface_in};
 ghost use Rattle.pyc_classes.specs.ClassOrders.{undeclared};
 ghost use Rattle.pyc_reading.specs.AnswerView.{answer_in, class_order_of, kind_of, name_answer_of};
 ghost use Rattle.pyc_reading.specs.KeyView.{key_of};
@@ -129,7 +129,7 @@ impl<'a> Kinds<'a> {
         form: &BindingForm,
     ) -> Result<NameAnswer, AllocError>
         ensures { IfOk result (λ found. name_answer_of found
-            ≡ spec.form_kind (kinds_in self.now) (source_in file.now) (binding_form_of form.now)) }
+            ≡ spec.form_kind (kinds_in self.now) (interface_in file.now) (binding_form_of form.now)) }
     {
         match form {
             BindingForm::Function(_) => Ok(of_kind(NameKind::Function)),
@@ -167,7 +167,7 @@ fn module_answer(alloc: Global, name: ModuleName) -> Result<NameAnswer, AllocErr
 
 /// The kind of a name that leads to none.
 fn absent_name(file: Option<&SourceFile>, name: &Text) -> NameKind
-    ensures { kind_of result ≡ spec.absent_name (option_map (λ file. source_in file.now) file.entry) name.now }
+    ensures { kind_of result ≡ spec.absent_name (option_map (λ file. interface_in file.now) file.entry) name.now }
 {
     match file {
         Some(file) => {
@@ -194,7 +194,7 @@ fn fixed_found<'a>(found: Option<FixedName>) -> Found<'a>
 /// What a file declares under a name.
 fn found_in_file<'a>(q: &QualifiedName, file: Option<&'a SourceFile>) -> Found<'a>
     ensures { found_in result
-        ≡ spec.found_in_file (qualified_of q.now) (option_map (λ file. source_in file.now) file.entry) }
+        ≡ spec.found_in_file (qualified_of q.now) (option_map (λ file. interface_in file.now) file.entry) }
 {
     match file {
         Some(file) => found_binding(file, file.declaration(&q.name)),
@@ -205,7 +205,7 @@ fn found_in_file<'a>(q: &QualifiedName, file: Option<&'a SourceFile>) -> Found<'
 /// What a binding declares in a file.
 fn found_binding<'a>(file: &'a SourceFile, found: Option<&'a Binding>) -> Found<'a>
     ensures { found_in result
-        ≡ spec.found_binding (source_in file.now) (option_map (λ b. binding_of b.now) found.entry) }
+        ≡ spec.found_binding (interface_in file.now) (option_map (λ b. binding_of b.now) found.entry) }
 {
     match found {
         Some(binding) => {
@@ -225,7 +225,7 @@ fn class_kind(
     file: &SourceFile,
     head: &ClassDefinition,
 ) -> Result<NameAnswer, AllocError>
-    ensures { IfOk result (λ found. name_answer_of found ≡ spec.class_kind (source_in file.now).name head.now.name) }
+    ensures { IfOk result (λ found. name_answer_of found ≡ spec.class_kind (interface_in file.now).name head.now.name) }
 {
     let class = own_class(alloc, file, &head.name)?;
     Ok(NameAnswer {
@@ -247,7 +247,7 @@ pub(crate) fn unknown_order(alloc: Global) -> ClassOrder
 
 /// The class of this name of a file. The only error is that memory runs out.
 pub fn own_class(alloc: Global, file: &SourceFile, name: &Text) -> Result<ClassId, AllocError>
-    ensures { IfOk result (λ class. class ≡ user (source_in file.now).name name.now) }
+    ensures { IfOk result (λ class. class ≡ user (interface_in file.now).name name.now) }
 {
     let home = copied(alloc, file.name().parts())?;
     ClassId::user(alloc, home, name.clone()?)

@@ -1,14 +1,12 @@
 //! Whether modules and names are there.
 
 ghost use Rattle.std.specs.Prelude.{◌≡◌, IfOk, option_map};
-ghost use Rattle.pyc_ast.specs.Modules.{outcome_of};
 ghost use Rattle.pyc_bindings.specs.BindingView.{binding_of};
 ghost use Rattle.pyc_declarations.specs.Presences as spec;
 ghost use Rattle.pyc_names.specs.FollowingView.{qualified_of};
-ghost use Rattle.pyc_names.specs.SourceFileView.{source_in};
+ghost use Rattle.pyc_names.specs.InterfaceView.{interface_in};
 
 use crate::kinds::Kinds;
-use pyc_ast::Outcome;
 use pyc_bindings::Binding;
 use pyc_names::{ModuleName, QualifiedName, SourceFile, fixed_module, joined};
 use pyc_reading::Presence;
@@ -60,28 +58,28 @@ impl Kinds<'_> {
         file: Option<&SourceFile>,
     ) -> Result<Presence, AllocError>
         ensures { IfOk result (λ found. found ≡ spec.name_in_file (kinds_in self.now) (qualified_of q.now)
-            (option_map (λ file. source_in file.now) file.entry)) }
+            (option_map (λ file. interface_in file.now) file.entry)) }
     {
         match file {
-            Some(file) => self.name_in_outcome(alloc, q, file),
+            Some(file) => self.name_in_source(alloc, q, file),
             None => self.submodule_presence(alloc, q),
         }
     }
 
     /// Whether a file has a name.
-    fn name_in_outcome(
+    fn name_in_source(
         &self,
         alloc: Global,
         q: &QualifiedName,
         file: &SourceFile,
     ) -> Result<Presence, AllocError>
-        ensures { IfOk result (λ found. found ≡ spec.name_in_outcome (kinds_in self.now) (qualified_of q.now)
-            (source_in file.now) (source_in file.now).outcome) }
+        ensures { IfOk result (λ found. found ≡ spec.name_in_source (kinds_in self.now) (qualified_of q.now)
+            (interface_in file.now) (interface_in file.now).has_fault) }
     {
-        match file.outcome() {
-            Outcome::Tree(_) => self.binding_presence(alloc, q, file.declaration(&q.name)),
-            Outcome::Fault(_) => Ok(Presence::Opaque),
+        if file.has_fault() {
+            return Ok(Presence::Opaque);
         }
+        self.binding_presence(alloc, q, file.declaration(&q.name))
     }
 
     /// Whether a name that has this declaration is there.
@@ -121,20 +119,21 @@ impl Kinds<'_> {
 
 /// Whether a module with this file is there.
 fn file_presence(file: Option<&SourceFile>) -> Presence
-    ensures { result ≡ spec.file_presence (option_map (λ file. source_in file.now) file.entry) }
+    ensures { result ≡ spec.file_presence (option_map (λ file. interface_in file.now) file.entry) }
 {
     match file {
-        Some(file) => outcome_presence(file.outcome()),
+        Some(file) => source_presence(file.has_fault()),
         None => Presence::There,
     }
 }
 
-/// Whether a module with this source is there.
-fn outcome_presence(outcome: &Outcome) -> Presence
-    ensures { result ≡ spec.outcome_presence (outcome_of outcome.now) }
+/// Whether a module with a source that has a fault, or none, is there.
+fn source_presence(has_fault: bool) -> Presence
+    ensures { result ≡ spec.source_presence has_fault }
 {
-    match outcome {
-        Outcome::Tree(_) => Presence::There,
-        Outcome::Fault(_) => Presence::Opaque,
+    if has_fault {
+        Presence::Opaque
+    } else {
+        Presence::There
     }
 }

@@ -1,14 +1,12 @@
 -- The types of displays, and what their parts are told to be (Python reference 3.13, "Displays for lists, sets and
 -- dictionaries" and "Parenthesized forms"; typing specification, "Type system concepts").
-use Rattle.std.specs.Prelude.{ℕ, ◌+◌, Bool, true, false, ◌&&◌, List, [], ◌∷◌, ◌++◌, length, Option, None, Some}
+use Rattle.std.specs.Prelude.{ℕ, ◌+◌, Bool, true, false, List, [], ◌∷◌, ◌++◌, length, Option, None, Some}
 use Rattle.std.specs.List.{list_any, slice_get}
 use Rattle.pyc_ast.specs.Exprs.{Expr, Element, DictItem, element, entry, unpacking, at_of}
 use Rattle.pyc_displays.specs.Expecting.{Entry, expected_item, expected_entry, expected_places}
-use Rattle.pyc_displays.specs.Messages.{list_item_message, dict_entry_message}
-use Rattle.pyc_obligations.specs.Judging.{judged}
-use Rattle.pyc_obligations.specs.Telling.{told_unless, owed}
-use Rattle.pyc_reading.specs.Desks.{Step}
-use Rattle.pyc_reading.specs.Readings.{Done, and_then}
+use Rattle.pyc_displays.specs.Messages.{owed_item, owed_entry}
+use Rattle.pyc_reading.specs.Desks.{Step, owed, owing}
+use Rattle.pyc_reading.specs.Readings.{Done, and_then, ◌>>=◌}
 use Rattle.pyc_type_forms.specs.Types.{Ty, any, list, dict, tuple, tuple_of}
 use Rattle.pyc_type_forms.specs.TypeView.{tys_of}
 use Rattle.pyc_type_forms.specs.Unions.{union_of, limited}
@@ -46,8 +44,9 @@ types_of read places items = more_types read places 0 [] items
 
 -- an item that must be of a type: one after `*` is read alone
 unfoldable pub value_to : Reads → Ty → ℕ → Expr → Step (Unit {0})
-value_to read want index x =
-    and_then (read x (Some want)) (λ got. owed got want (list_item_message (at_of x) index got want))
+value_to read want index x = do
+  got ← read x (Some want)
+  owed (owed_item (at_of x) index got want)
 
 abbrev pub item_to : Reads → Ty → ℕ → Element → Step (Unit {0})
 item_to read want index (element true x) = only_read read x
@@ -94,24 +93,11 @@ entry_types read key value want_key want_value =
     and_then (read value want_value) (λ got_value.
     Done (record { key = got_key; value = got_value })))
 
--- whether the types of an entry are both assignable to those of another
-unfoldable pub entry_judged : (got want : Entry) → Step Bool
-entry_judged got want =
-    and_then (judged got.key want.key) (λ key_holds.
-    and_then (judged got.value want.value) (λ value_holds.
-    Done (key_holds && value_holds)))
-
--- an entry must be of these types, and where one is not that is told at its key
-unfoldable pub entry_owed : Expr → ℕ → (got want : Entry) → Step (Unit {0})
-entry_owed key index got want =
-    and_then (entry_judged got want) (λ holds.
-    told_unless holds (dict_entry_message (at_of key) index got want))
-
 -- a key and its value that must be of these types
 unfoldable pub pair_to : Reads → Entry → ℕ → (key value : Expr) → Step (Unit {0})
-pair_to read want index key value =
-    and_then (entry_types read key value (Some want.key) (Some want.value))
-    (λ got. entry_owed key index got want)
+pair_to read want index key value = do
+  got ← entry_types read key value (Some want.key) (Some want.value)
+  owing (owed_entry (at_of key) index got want)
 
 -- an entry that must be of these types: what stands after `**` is read alone
 abbrev pub entry_to : Reads → Entry → ℕ → DictItem → Step (Unit {0})

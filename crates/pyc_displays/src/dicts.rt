@@ -1,19 +1,21 @@
 //! Dict displays.
 
-ghost use Rattle.std.specs.Prelude.{◌≡◌, ◌&&◌, [], OnOk, map, option_map};
+ghost use Rattle.std.specs.Prelude.{◌≡◌, [], OnOk, map, option_map};
 ghost use Rattle.std.specs.List.{list_any};
 ghost use Rattle.pyc_ast.specs.ExprView.{expr_of, dict_item_of};
+ghost use Rattle.pyc_ast.specs.Exprs.{at_of};
 ghost use Rattle.pyc_displays.specs.Displays as spec;
+ghost use Rattle.pyc_displays.specs.Messages.{owed_entry};
 ghost use Rattle.pyc_displays.specs.Views.{entry_in, entry_types_in};
-ghost use Rattle.pyc_reading.specs.Desks.{Performs};
+ghost use Rattle.pyc_reading.specs.Desks.{Performs, owing};
 ghost use Rattle.pyc_type_forms.specs.TypeView.{ty_of};
 
 use crate::built::{dict_of, dict_type};
 use crate::expecting::expected_entry;
 use crate::items::only_read;
-use crate::messages::tell_dict_entry_unless;
+use crate::messages::OwedPart;
 use pyc_ast::{DictItem, Expr};
-use pyc_obligations::{Judge, Reader, judged};
+use pyc_obligations::{Judge, Reader, owe_row};
 use pyc_type_forms::{DictTypes, Ty};
 use std::alloc::{AllocError, Global};
 
@@ -299,12 +301,11 @@ fn pair_to<N: Judge, R: Reader<N>>(
         Some(&want.key),
         Some(&want.value),
     )?;
-    entry_owed(alloc, notes, key, index, &got, want)
+    owe_entry(alloc, notes, key, index, &got, want)
 }
 
-/// An entry must be of these types, and where one is not that is told at its key.
-#[tactic(auto, using(pyc_obligations::proofs::Steps::performing), unfolding(crate::specs::Displays::entry_owed))]
-fn entry_owed<N: Judge>(
+/// Owes that the key and the value of an entry are of the types that are expected.
+fn owe_entry<N: Judge>(
     alloc: Global,
     notes: &mut N,
     key: &Expr,
@@ -313,34 +314,24 @@ fn entry_owed<N: Judge>(
     want: &DictTypes,
 ) -> Result<(), AllocError>
     ensures { Performs (λ u. u)
-        (spec.entry_owed (expr_of key.now) index (entry_in got.now) (entry_in want.now)) (N.desk notes.old) result
-        (N.desk notes.new) }
-{
-    let holds = entry_judged(alloc, notes, got, want)?;
-    tell_dict_entry_unless(alloc, notes, holds, key.at, index, got, want)?;
-    Ok(())
-}
-
-/// Whether the types of an entry are both assignable to those of another.
-#[tactic(auto, using(pyc_obligations::proofs::Steps::performing), unfolding(crate::specs::Displays::entry_judged))]
-fn entry_judged<N: Judge>(
-    alloc: Global,
-    notes: &mut N,
-    got: &DictTypes,
-    want: &DictTypes,
-) -> Result<bool, AllocError>
-    ensures { Performs (λ holds. holds) (spec.entry_judged (entry_in got.now) (entry_in want.now)) (N.desk notes.old)
+        (owing (owed_entry (at_of (expr_of key.now)) index (entry_in got.now) (entry_in want.now))) (N.desk notes.old)
         result (N.desk notes.new) }
 {
-    let key_holds = judged(alloc, notes, &got.key, &want.key)?;
-    let value_holds = judged(alloc, notes, &got.value, &want.value)?;
-    let holds = both(key_holds, value_holds);
-    Ok(holds)
-}
-
-/// Whether both hold.
-fn both(first: bool, second: bool) -> bool
-    ensures { result ≡ first && second }
-{
-    first && second
+    let owed_key = OwedPart {
+        at: key.at,
+        index,
+        got_entry: got,
+        want_entry: want,
+        got: &got.key,
+        want: &want.key,
+    };
+    let owed_value = OwedPart {
+        at: key.at,
+        index,
+        got_entry: got,
+        want_entry: want,
+        got: &got.value,
+        want: &want.value,
+    };
+    owe_row(alloc, notes, &[owed_key, owed_value])
 }

@@ -9,9 +9,9 @@ ghost use Rattle.pyc_type_forms.specs.TypeView.{ty_of};
 use crate::built::{list_of, list_type};
 use crate::expecting::expected_item;
 use crate::items::{has_starred, only_read, read_types};
-use crate::messages::tell_list_item_unless;
+use crate::messages::OwedItem;
 use pyc_ast::{Element, Expr};
-use pyc_obligations::{Judge, Reader, judged};
+use pyc_obligations::{Judge, Reader, owe};
 use pyc_type_forms::Ty;
 use std::alloc::{AllocError, Global};
 
@@ -134,7 +134,7 @@ fn item_to<N: Judge, R: Reader<N>>(
     }
 }
 
-/// A value that must be of a type, and is told where it is not.
+/// A value that must be of a type.
 #[tactic(auto, using(pyc_obligations::proofs::Steps::performing), unfolding(crate::specs::Displays::value_to))]
 fn value_to<N: Judge, R: Reader<N>>(
     alloc: Global,
@@ -150,7 +150,12 @@ fn value_to<N: Judge, R: Reader<N>>(
         (N.desk notes.new) }
 {
     let got = reader.read(alloc, notes, part, Some(want))?;
-    let holds = judged(alloc, notes, &got, want)?;
-    tell_list_item_unless(alloc, notes, holds, part.at, index, &got, want)?;
+    let owed = OwedItem {
+        at: part.at,
+        index,
+        got: &got,
+        want,
+    };
+    owe(alloc, notes, &owed)?;
     Ok(())
 }

@@ -2,15 +2,11 @@
 
 ghost use Rattle.std.specs.Prelude.{◌≡◌, IfOk, string_bytes};
 ghost use Rattle.pyc_displays.specs.Messages as spec;
-ghost use Rattle.pyc_displays.specs.Views.{entry_in};
-ghost use Rattle.pyc_obligations.specs.Telling.{told_unless};
-ghost use Rattle.pyc_reading.specs.Desks.{Performs, telling};
-ghost use Rattle.pyc_type_forms.specs.TypeView.{ty_of};
+ghost use Rattle.pyc_displays.specs.Views.{item_in, part_in};
 
 use pyc_ast::Position;
-use pyc_obligations::tell_error;
-use pyc_reading::Notes;
-use pyc_report::Code;
+use pyc_obligations::{Judge, Owed};
+use pyc_report::{Duty, Message};
 use pyc_type_forms::{DictTypes, Ty, show};
 use std::alloc::{AllocError, Global};
 
@@ -22,43 +18,36 @@ fn list_item_text(alloc: Global, index: usize, got: &str, want: &str) -> Result<
     format!(in alloc; "List item {index} has incompatible type \"{got}\"; expected \"{want}\"")
 }
 
-/// Tells that an item of a list is of another type than is expected.
-#[tactic(auto, unfolding(crate::specs::Messages::list_item_message))]
-fn tell_list_item<N: Notes>(
-    alloc: Global,
-    notes: &mut N,
-    at: Position,
-    index: usize,
-    got: &Ty,
-    want: &Ty,
-) -> Result<(), AllocError>
-    ensures { Performs (λ u. u) (telling (spec.list_item_message at index (ty_of got.now) (ty_of want.now)))
-        (N.desk notes.old) result (N.desk notes.new) }
-{
-    let got = show(alloc, got)?;
-    let want = show(alloc, want)?;
-    let text = list_item_text(alloc, index, got.as_str(), want.as_str())?;
-    tell_error(notes, at, Code::ListItem, text)
+/// An item of a list, its type, and the type that is expected.
+#[derive(Clone, Copy)]
+pub(crate) struct OwedItem<'a> {
+    pub(crate) at: Position,
+    pub(crate) index: usize,
+    pub(crate) got: &'a Ty,
+    pub(crate) want: &'a Ty,
 }
 
-/// Tells that an item of a list is of another type than is expected, unless it holds that it is not.
-pub(crate) fn tell_list_item_unless<N: Notes>(
-    alloc: Global,
-    notes: &mut N,
-    holds: bool,
-    at: Position,
-    index: usize,
-    got: &Ty,
-    want: &Ty,
-) -> Result<(), AllocError>
-    ensures { Performs (λ u. u)
-        (told_unless holds (spec.list_item_message at index (ty_of got.now) (ty_of want.now))) (N.desk notes.old)
-        result (N.desk notes.new) }
-{
-    if holds {
+impl<N: Judge> Owed<N> for OwedItem<'_> {
+    ghost obligation = { item_in };
+
+    fn got(&self) -> &Ty {
+        self.got
+    }
+
+    fn want(&self) -> &Ty {
+        self.want
+    }
+
+    fn ask_details(&self, _alloc: Global, _notes: &mut N) -> Result<(), AllocError> {
         Ok(())
-    } else {
-        tell_list_item(alloc, notes, at, index, got, want)
+    }
+
+    #[tactic(auto, unfolding(crate::specs::Messages::owed_item_text))]
+    fn message(&self, alloc: Global, _notes: &N) -> Result<Message, AllocError> {
+        let got = show(alloc, self.got)?;
+        let want = show(alloc, self.want)?;
+        let text = list_item_text(alloc, self.index, got.as_str(), want.as_str())?;
+        Ok(Message::failing_at(self.at, Duty::ListItem, text))
     }
 }
 
@@ -81,51 +70,47 @@ fn dict_entry_text(
     )
 }
 
-/// Tells that an entry of a dictionary is of other types than are expected.
-#[tactic(auto, unfolding(crate::specs::Messages::dict_entry_message))]
-fn tell_dict_entry<N: Notes>(
-    alloc: Global,
-    notes: &mut N,
-    at: Position,
-    index: usize,
-    got: &DictTypes,
-    want: &DictTypes,
-) -> Result<(), AllocError>
-    ensures { Performs (λ u. u) (telling (spec.dict_entry_message at index (entry_in got.now) (entry_in want.now)))
-        (N.desk notes.old) result (N.desk notes.new) }
-{
-    let got_key = show(alloc, &got.key)?;
-    let got_value = show(alloc, &got.value)?;
-    let want_key = show(alloc, &want.key)?;
-    let want_value = show(alloc, &want.value)?;
-    let text = dict_entry_text(
-        alloc,
-        index,
-        got_key.as_str(),
-        got_value.as_str(),
-        want_key.as_str(),
-        want_value.as_str(),
-    )?;
-    tell_error(notes, at, Code::DictItem, text)
+/// The key or the value of an entry of a dictionary, its type and the type that is expected of it, with those of the
+/// whole entry.
+#[derive(Clone, Copy)]
+pub(crate) struct OwedPart<'a> {
+    pub(crate) at: Position,
+    pub(crate) index: usize,
+    pub(crate) got_entry: &'a DictTypes,
+    pub(crate) want_entry: &'a DictTypes,
+    pub(crate) got: &'a Ty,
+    pub(crate) want: &'a Ty,
 }
 
-/// Tells that an entry of a dictionary is of other types than are expected, unless it holds that it is not.
-pub(crate) fn tell_dict_entry_unless<N: Notes>(
-    alloc: Global,
-    notes: &mut N,
-    holds: bool,
-    at: Position,
-    index: usize,
-    got: &DictTypes,
-    want: &DictTypes,
-) -> Result<(), AllocError>
-    ensures { Performs (λ u. u)
-        (told_unless holds (spec.dict_entry_message at index (entry_in got.now) (entry_in want.now))) (N.desk notes.old)
-        result (N.desk notes.new) }
-{
-    if holds {
+impl<N: Judge> Owed<N> for OwedPart<'_> {
+    ghost obligation = { part_in };
+
+    fn got(&self) -> &Ty {
+        self.got
+    }
+
+    fn want(&self) -> &Ty {
+        self.want
+    }
+
+    fn ask_details(&self, _alloc: Global, _notes: &mut N) -> Result<(), AllocError> {
         Ok(())
-    } else {
-        tell_dict_entry(alloc, notes, at, index, got, want)
+    }
+
+    #[tactic(auto, unfolding(crate::specs::Messages::owed_entry_text))]
+    fn message(&self, alloc: Global, _notes: &N) -> Result<Message, AllocError> {
+        let got_key = show(alloc, &self.got_entry.key)?;
+        let got_value = show(alloc, &self.got_entry.value)?;
+        let want_key = show(alloc, &self.want_entry.key)?;
+        let want_value = show(alloc, &self.want_entry.value)?;
+        let text = dict_entry_text(
+            alloc,
+            self.index,
+            got_key.as_str(),
+            got_value.as_str(),
+            want_key.as_str(),
+            want_value.as_str(),
+        )?;
+        Ok(Message::failing_at(self.at, Duty::DictEntry, text))
     }
 }

@@ -13,7 +13,7 @@ use Rattle.pyc_places.specs.States.{State, unreachable, reachable}
 use Rattle.pyc_reading.specs.Answers.{Answer}
 use Rattle.pyc_reading.specs.Desks.{Step}
 use Rattle.pyc_reading.specs.Keys.{Key}
-use Rattle.pyc_reading.specs.Readings.{Done, Ask, Tell, and_then, result_of}
+use Rattle.pyc_reading.specs.Readings.{Done, Ask, Tell, Owe, and_then, result_of}
 use Rattle.pyc_type_forms.specs.Types.{Ty}
 
 module _ (answers : Key → Answer) where
@@ -22,7 +22,8 @@ module _ (answers : Key → Answer) where
   unfolding and_then
   then_result (Done a) next = refl
   then_result (Ask key go) next = then_result (go (answers key)) next
-  then_result (Tell message rest) next = then_result rest next
+  then_result (Tell remark rest) next = then_result rest next
+  then_result (Owe row rest) next = then_result rest next
 
   -- ---- what a condition says
 

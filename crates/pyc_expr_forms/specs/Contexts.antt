@@ -4,6 +4,7 @@ use Rattle.std.specs.Prelude.{ℕ, List, Option, None}
 use Rattle.pyc_annotations.specs.Annotations.{read_type}
 use Rattle.pyc_ast.specs.declared.position.Position.{Position}
 use Rattle.pyc_ast.specs.Exprs.{Expr}
+use Rattle.pyc_names.specs.Interfaces.{interface_of}
 use Rattle.pyc_narrowing.specs.Splitting.{Looks}
 use Rattle.pyc_obligations.specs.Values.{Value, plain_value}
 use Rattle.pyc_places.specs.States.{State}
@@ -24,7 +25,7 @@ abbrev pub scope_context : Scope → Context
 scope_context scope =
     record {
       named = named scope;
-      annotated = λ x. and_then (read_type scope.file (type_expr x)) (λ found. Done found.ty);
+      annotated = λ x. and_then (read_type (interface_of scope.file) (type_expr x)) (λ found. Done found.ty);
     }
 
 -- what the parts of an expression are in a state, by what is expected of them

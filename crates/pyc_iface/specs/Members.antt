@@ -29,7 +29,7 @@ use Rattle.pyc_members.specs.ClassBodies.{is_settable}
 use Rattle.pyc_members.specs.ClassBodies as own
 use Rattle.pyc_members.specs.DeclaredClasses.{DeclaredClass}
 use Rattle.pyc_members.specs.Methods.{method_kind}
-use Rattle.pyc_names.specs.SourceFiles.{SourceFile, file_of}
+use Rattle.pyc_names.specs.Interfaces.{Interface, file_of}
 use Rattle.pyc_reading.specs.Answers.{MemberAnswer}
 use Rattle.pyc_reading.specs.declared.answer.MemberKind.{MemberKind}
 use Rattle.pyc_reading.specs.declared.answer.MemberKind.TheVariants as kind
@@ -41,23 +41,23 @@ use Rattle.pyc_type_forms.specs.Types.{Ty, any, callable, class_object, instance
 -- a class where it is declared
 pub record Declared : Type 0 where
   pub id : Id
-  pub file : SourceFile
+  pub file : Interface
   pub body : ClassBody
 
 -- a class of this name among those that a file declares
 abbrev pub class_named : List DeclaredClass → List ℕ → Option DeclaredClass
 class_named classes x = find (λ c. bytes_eq c.name x) classes
 
-abbrev pub declared_class : Id → SourceFile → Option DeclaredClass → Option Declared
+abbrev pub declared_class : Id → Interface → Option DeclaredClass → Option Declared
 declared_class id file (Some c) = Some (record { id = id; file = file; body = c.body })
 declared_class id file None = None
 
-abbrev pub class_in_file : Id → Option SourceFile → Option Declared
+abbrev pub class_in_file : Id → Option Interface → Option Declared
 class_in_file id (Some file) = declared_class id file (class_named file.classes (name_of id))
 class_in_file id None = None
 
 -- the class of a source, where its module's file declares it
-abbrev pub declared_of : List SourceFile → Id → Option Declared
+abbrev pub declared_of : List Interface → Id → Option Declared
 declared_of files id = class_in_file id (file_of files (module_of id))
 
 -- ---- methods
@@ -79,16 +79,16 @@ abbrev pub property_kind : Bool → MemberKind
 property_kind is_settable = if is_settable then kind.SettableProperty else kind.Property
 
 -- the type of a method that is given the instance
-abbrev pub method_type : List SourceFile → Declared → FunctionDefinition → Ty
+abbrev pub method_type : List Interface → Declared → FunctionDefinition → Ty
 method_type files c head = declared_function files c.file (instance c.id) head
 
 -- the type of a property; of one that its setter declares none is known
-abbrev pub property_type : List SourceFile → Declared → FunctionDefinition → Ty
+abbrev pub property_type : List Interface → Declared → FunctionDefinition → Ty
 property_type files c head =
     if has_setter head.decorators then any else given (method_type files c head)
 
 -- a method of this name: its first parameter, without annotation, is the instance, or the class
-abbrev pub method_member : List SourceFile → Declared → List ℕ → FunctionDefinition → MethodKind → MemberAnswer
+abbrev pub method_member : List Interface → Declared → List ℕ → FunctionDefinition → MethodKind → MemberAnswer
 method_member files c x head method.Property =
     member_of c (property_kind (is_settable c.body x)) (property_type files c head)
 method_member files c x head method.Static = member_of c kind.StaticMethod (declared_function files c.file any head)
@@ -100,24 +100,24 @@ method_member files c x head method.Plain = member_of c kind.Method (method_type
 
 -- what the declaration of a name in the body gives, where no unknown decorator stands before it: an import, a class and
 -- what is bound otherwise is a variable of which no type is known
-abbrev pub form_member : List SourceFile → Declared → List ℕ → BindingForm → MemberAnswer
+abbrev pub form_member : List Interface → Declared → List ℕ → BindingForm → MemberAnswer
 form_member files c x (function head) = method_member files c x head (method_kind head.decorators)
 form_member files c x (annotated found) = variable c (annotated_type files c.file found.annotation)
 form_member files c x (assigned value) = variable c (initialiser_type value)
 form_member files c x _ = variable c any
 
-abbrev pub bound_member : List SourceFile → Declared → List ℕ → Binding → MemberAnswer
+abbrev pub bound_member : List Interface → Declared → List ℕ → Binding → MemberAnswer
 bound_member files c x b = if is_decorated b.form then variable c any else form_member files c x b.form
 
 -- ---- what a class binds through the instance
 
 -- the type of a parameter that an argument at its place fills, where it has an annotation
-abbrev pub plain_type : List SourceFile → SourceFile → ParameterKind → Option Expr → Ty
+abbrev pub plain_type : List Interface → Interface → ParameterKind → Option Expr → Ty
 plain_type files file parameter.Plain (Some annotation) = annotated_type files file annotation
 plain_type files file _ _ = any
 
 -- the type of the parameter of this name, the first of them
-abbrev pub parameter_type : List SourceFile → SourceFile → Option Parameter → Ty
+abbrev pub parameter_type : List Interface → Interface → Option Parameter → Ty
 parameter_type files file (Some p) = plain_type files file p.kind p.annotation
 parameter_type files file None = any
 
@@ -131,25 +131,25 @@ name_written (expr at inside (form.name n)) = Some n
 name_written _ = None
 
 -- the type of a value that an attribute is assigned: that of a literal, or of a parameter of the method
-abbrev pub value_by_name : List SourceFile → SourceFile → List Parameter → Expr → Option (List ℕ) → Ty
+abbrev pub value_by_name : List Interface → Interface → List Parameter → Expr → Option (List ℕ) → Ty
 value_by_name files file params value (Some n) = parameter_type files file (parameter_named params n)
 value_by_name files file params value None = initialiser_type value
 
-abbrev pub value_type : List SourceFile → SourceFile → List Parameter → Expr → Ty
+abbrev pub value_type : List Interface → Interface → List Parameter → Expr → Ty
 value_type files file params value = value_by_name files file params value (name_written value)
 
-abbrev pub attribute_type : List SourceFile → SourceFile → FunctionDefinition → AttributeForm → Ty
+abbrev pub attribute_type : List Interface → Interface → FunctionDefinition → AttributeForm → Ty
 attribute_type files file head (attribute.annotated found) = annotated_type files file found.annotation
 attribute_type files file head (attribute.assigned value) = value_type files file head.parameters value
 attribute_type files file head attribute.other = any
 
-abbrev pub attribute_member : List SourceFile → Declared → SelfAttribute → MemberAnswer
+abbrev pub attribute_member : List Interface → Declared → SelfAttribute → MemberAnswer
 attribute_member files c a = variable c (attribute_type files c.file a.method a.form)
 
 -- ---- members
 
 -- what decides of a name in a class, as a member of it
-abbrev pub own_answer : List SourceFile → Declared → List ℕ → OwnMember → MemberAnswer
+abbrev pub own_answer : List Interface → Declared → List ℕ → OwnMember → MemberAnswer
 own_answer files c x (own.bound b) = bound_member files c x b
 own_answer files c x (own.annotated a) = attribute_member files c a
 own_answer files c x (own.assigned a) = attribute_member files c a
@@ -173,27 +173,27 @@ own_builtin_answer class x = option_map (builtin_answer class) (builtins.own_mem
 
 -- what a class has of its own under a name that decides before what others assign through the instance: a binding of
 -- its body, or an annotation through the instance
-abbrev pub declared_in_user : List SourceFile → List ℕ → Option Declared → Option MemberAnswer
+abbrev pub declared_in_user : List Interface → List ℕ → Option Declared → Option MemberAnswer
 declared_in_user files x (Some c) = option_map (own_answer files c x) (in_body_or_annotated c.body x)
 declared_in_user files x None = None
 
-abbrev pub declared_by_kind : List SourceFile → Id → List ℕ → Option BuiltinClass → Option MemberAnswer
+abbrev pub declared_by_kind : List Interface → Id → List ℕ → Option BuiltinClass → Option MemberAnswer
 declared_by_kind files c x (Some class) = own_builtin_answer class x
 declared_by_kind files c x None = declared_in_user files x (declared_of files c)
 
-abbrev pub declared_in : List SourceFile → Id → List ℕ → Option MemberAnswer
+abbrev pub declared_in : List Interface → Id → List ℕ → Option MemberAnswer
 declared_in files c x = declared_by_kind files c x (builtin_of c)
 
 -- what a class assigns under a name through the instance
-abbrev pub assigned_in_user : List SourceFile → List ℕ → Option Declared → Option MemberAnswer
+abbrev pub assigned_in_user : List Interface → List ℕ → Option Declared → Option MemberAnswer
 assigned_in_user files x (Some c) = option_map (own_answer files c x) (assigned_through_self c.body x)
 assigned_in_user files x None = None
 
-abbrev pub assigned_by_kind : List SourceFile → Id → List ℕ → Option BuiltinClass → Option MemberAnswer
+abbrev pub assigned_by_kind : List Interface → Id → List ℕ → Option BuiltinClass → Option MemberAnswer
 assigned_by_kind files c x (Some class) = None
 assigned_by_kind files c x None = assigned_in_user files x (declared_of files c)
 
-abbrev pub assigned_in : List SourceFile → Id → List ℕ → Option MemberAnswer
+abbrev pub assigned_in : List Interface → Id → List ℕ → Option MemberAnswer
 assigned_in files c x = assigned_by_kind files c x (builtin_of c)
 
 -- the first of two that is there
@@ -202,16 +202,16 @@ or_else (Some found) next = Some found
 or_else None next = next
 
 -- the first of these classes that declares a name, and the first that assigns it
-abbrev pub first_declared : List SourceFile → List Id → List ℕ → Option MemberAnswer
+abbrev pub first_declared : List Interface → List Id → List ℕ → Option MemberAnswer
 first_declared files [] x = None
 first_declared files (c ∷ rest) x = or_else (declared_in files c x) (first_declared files rest x)
 
-abbrev pub first_assigned : List SourceFile → List Id → List ℕ → Option MemberAnswer
+abbrev pub first_assigned : List Interface → List Id → List ℕ → Option MemberAnswer
 first_assigned files [] x = None
 first_assigned files (c ∷ rest) x = or_else (assigned_in files c x) (first_assigned files rest x)
 
 -- what a class has under a name: what the first class of its order declares, else what the first assigns
-abbrev pub member_answer : List SourceFile → Orders → MemberName → Option MemberAnswer
+abbrev pub member_answer : List Interface → Orders → MemberName → Option MemberAnswer
 member_answer files orders name =
     or_else (first_declared files (orders name.class).classes name.name)
     (first_assigned files (orders name.class).classes name.name)

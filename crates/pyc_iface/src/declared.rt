@@ -3,9 +3,9 @@
 ghost use Rattle.std.specs.Prelude.{◌≡◌, map, IfOk, option_map};
 ghost use Rattle.pyc_iface.specs.DeclaredView.{declared_at};
 ghost use Rattle.pyc_iface.specs.Members as spec;
-ghost use Rattle.pyc_iface.specs.WorldView.{world_in};
+ghost use Rattle.pyc_iface.specs.WorldView.{world_interfaces};
 ghost use Rattle.pyc_members.specs.DeclaredClassView.{declared_class_in, declared_class_of};
-ghost use Rattle.pyc_names.specs.SourceFileView.{source_in};
+ghost use Rattle.pyc_names.specs.InterfaceView.{interface_in};
 ghost use Rattle.pyc_reading.specs.AnswerView.{member_answer_of};
 ghost use Rattle.pyc_type_forms.specs.TypeView.{ty_of};
 
@@ -29,7 +29,7 @@ pub(crate) struct Declared<'a> {
 impl World {
     /// The class of a source, where its module's file declares it.
     pub(crate) fn declared<'a>(&'a self, class: &'a ClassId) -> Option<Declared<'a>>
-        ensures { option_map declared_at result ≡ spec.declared_of (world_in self.now) class.now }
+        ensures { option_map declared_at result ≡ spec.declared_of (world_interfaces self.now) class.now }
     {
         class_in_file(class, self.table.file(class.module()))
     }
@@ -37,7 +37,7 @@ impl World {
 
 fn class_in_file<'a>(id: &'a ClassId, file: Option<&'a SourceFile>) -> Option<Declared<'a>>
     ensures { option_map declared_at result
-        ≡ spec.class_in_file id.now (option_map (λ file. source_in file.now) file.entry) }
+        ≡ spec.class_in_file id.now (option_map (λ file. interface_in file.now) file.entry) }
 {
     match file {
         Some(file) => declared_class(id, file, class_named(file.classes(), id.name())),
@@ -51,7 +51,7 @@ fn declared_class<'a>(
     found: Option<&'a DeclaredClass>,
 ) -> Option<Declared<'a>>
     ensures { option_map declared_at result
-        ≡ spec.declared_class id.now (source_in file.now) (option_map (λ c. declared_class_of c.now) found.entry) }
+        ≡ spec.declared_class id.now (interface_in file.now) (option_map (λ c. declared_class_of c.now) found.entry) }
 {
     match found {
         Some(class) => Some(Declared {

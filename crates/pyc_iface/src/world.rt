@@ -4,10 +4,10 @@ ghost use Rattle.std.specs.Prelude.{◌≡◌, IfOk};
 ghost use Rattle.pyc_class.specs.Class.{Id};
 ghost use Rattle.pyc_classes.specs.OrderView.{orders_in};
 ghost use Rattle.pyc_iface.specs.Answers as spec;
-ghost use Rattle.pyc_iface.specs.Answers.{class_orders};
+ghost use Rattle.pyc_iface.specs.Answers.{class_orders, orders_by};
 ghost use Rattle.pyc_declarations.specs.KindsView.{declarations_in};
 ghost use Rattle.pyc_names.specs.SourceFileView.{sources_in};
-ghost use Rattle.pyc_names.specs.TableView.{table_in};
+ghost use Rattle.pyc_names.specs.TableView.{table_in, table_interfaces};
 ghost use Rattle.pyc_reading.specs.AnswerView.{answer_in, class_order_of};
 ghost use Rattle.pyc_reading.specs.KeyView.{key_of};
 
@@ -56,7 +56,7 @@ impl Lins for World {
 }
 
 impl World {
-    ghost use Rattle.pyc_iface.specs.WorldView.{answers_in, world_in};
+    ghost use Rattle.pyc_iface.specs.WorldView.{answers_in, world_in, world_interfaces};
 
     /// The world of these files, which it shares. The only error is that memory runs out.
     pub fn build(alloc: Global, files: &[Rc<SourceFile>]) -> Result<World, AllocError>
@@ -94,7 +94,7 @@ impl World {
 
     /// What is declared in the files.
     pub(crate) fn declarations(&self) -> Declarations<'_>
-        ensures { declarations_in result ≡ world_in self.now }
+        ensures { declarations_in result ≡ world_interfaces self.now }
     {
         Declarations::new(&self.table)
     }
@@ -113,9 +113,9 @@ impl World {
 }
 
 /// The classes that the files of a table declare, with their orders.
-#[tactic(auto, unfolding(crate::specs::Answers::class_orders))]
+#[tactic(auto, unfolding(crate::specs::Answers::orders_by))]
 fn class_table(alloc: Global, table: &Table) -> Result<ClassTable, AllocError>
-    ensures { IfOk result (λ classes. (c : Id) → orders_in classes c ≡ class_orders (table_in table.now) c) }
+    ensures { IfOk result (λ classes. (c : Id) → orders_in classes c ≡ orders_by (table_interfaces table.now) c) }
 {
     let entries = Declarations::new(table).class_entries(alloc)?;
     ClassTable::build(alloc, entries)

@@ -1,6 +1,7 @@
 -- What is told of imports: modules and names that are not there (Python reference 3.13, "The import statement"; mypy's
 -- documentation, "Missing imports").
-use Rattle.std.specs.Prelude.{ℕ, zero, suc, is_some, if◌then◌else◌, List, [], ◌∷◌, ◌++◌, codes, Option, None, Some}
+use Rattle.std.specs.Prelude.{ℕ, zero, suc, Bool, true, false, is_some, if◌then◌else◌, List, [], ◌∷◌, ◌++◌, codes}
+use Rattle.std.specs.Prelude.{Option, None, Some}
 use Rattle.pyc_ast.specs.declared.position.Position.{Position}
 use Rattle.pyc_ast.specs.declared.stmt.Alias.{Alias}
 use Rattle.pyc_ast.specs.Statements.{StmtForm, ImportedModule, ImportFrom}
@@ -59,11 +60,21 @@ abbrev pub module_told : Options → Position → List ℕ → Option Presence �
 module_told options at shown (Some presence.NoModule) = missing options at shown
 module_told options at shown _ = Done tt
 
--- a module that is imported; a fixed one is there
-abbrev pub module_reading : Options → Position → ImportedModule → Step (Unit {0})
+-- whether a module is there, as its presence tells it
+abbrev pub is_there : Option Presence → Bool
+is_there (Some presence.NoModule) = false
+is_there _ = true
+
+-- a module that is imported, and whether it is there; a fixed one is
+abbrev pub module_reading : Options → Position → ImportedModule → Step Bool
 module_reading options at m =
-    if is_some (fixed_module m.path) then Done tt
-    else and_then (asked_presence (has_module m.path)) (module_told options at (written_module 0 m.path))
+    if is_some (fixed_module m.path) then Done true
+    else and_then (asked_presence (has_module m.path))
+    (λ found. and_then (module_told options at (written_module 0 m.path) found) (λ u. Done (is_there found)))
+
+-- a module of a statement, which does not ask whether it is there
+abbrev pub module_checked : Options → Position → ImportedModule → Step (Unit {0})
+module_checked options at m = and_then (module_reading options at m) (λ is_there. Done tt)
 
 -- a name that is imported from a module, by whether it is there
 abbrev pub name_told : Options → Position → List ℕ → List ℕ → Option Presence → Step (Unit {0})
@@ -73,19 +84,20 @@ name_told options at shown name (Some presence.NoName) =
 name_told options at shown name _ = Done tt
 
 -- a name that is imported from a module, or from above the root, where nothing is there
-abbrev pub imported_reading : Options → Position → List ℕ → List ℕ → Option (List (List ℕ)) → Step (Unit {0})
-imported_reading options at shown name None = missing options at shown
-imported_reading options at shown name (Some m) =
+abbrev pub name_reading : Options → Position → List ℕ → List ℕ → Option (List (List ℕ)) → Step (Unit {0})
+name_reading options at shown name None = missing options at shown
+name_reading options at shown name (Some m) =
     if is_some (fixed_module m) then Done tt
     else and_then (asked_presence (has_name (record { home = m; name = name }))) (name_told options at shown name)
 
-abbrev pub alias_reading : Options → SourceFile → Position → ImportFrom → Alias → Step (Unit {0})
-alias_reading options file at from alias =
-    imported_reading options at (written_module from.dots from.path) alias.name
+-- one name of a from-import
+abbrev pub imported_reading : Options → SourceFile → Position → ImportFrom → Alias → Step (Unit {0})
+imported_reading options file at from alias =
+    name_reading options at (written_module from.dots from.path) alias.name
     (named_module file.is_package file.name from.dots from.path)
 
 -- a statement: an import asks for each of its modules or names
 abbrev pub import_reading : Options → SourceFile → Position → StmtForm → Step (Unit {0})
-import_reading options file at (plain.import modules) = each (module_reading options at) modules
-import_reading options file at (plain.import_from from) = each (alias_reading options file at from) from.names
+import_reading options file at (plain.import modules) = each (module_checked options at) modules
+import_reading options file at (plain.import_from from) = each (imported_reading options file at from) from.names
 import_reading options file at _ = Done tt

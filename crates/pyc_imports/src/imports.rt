@@ -12,8 +12,8 @@ use crate::texts::{missing_text, no_attribute_text, written_module};
 use pyc_ast::{Alias, ImportFrom, ImportedModule, Position, StmtForm, Text};
 use pyc_iface::Options;
 use pyc_names::{ModuleName, QualifiedName, SourceFile, fixed_module, joined, named_module};
-use pyc_reading::{Key, Notes, Presence};
-use pyc_report::{Code, Message};
+use pyc_reading::{Key, Notes, Presence, tell_error};
+use pyc_report::Code;
 use std::alloc::{AllocError, Global};
 use std::rc::Rc;
 
@@ -45,34 +45,62 @@ fn read_modules<N: Notes>(
     at: Position,
     modules: &[Rc<ImportedModule>],
 ) -> Result<(), AllocError>
-    ensures { Performs (λ u. u) (each (spec.module_reading options at) (map imported_of modules.now))
+    ensures { Performs (λ u. u) (each (spec.module_checked options at) (map imported_of modules.now))
         (N.desk notes.old) result (N.desk notes.new) }
 {
     for imported in modules {
-        read_module(alloc, notes, options, at, imported)?;
+        check_module(alloc, notes, options, at, imported)?;
     }
     Ok(())
 }
 
-/// Reads an import of a module; a fixed one is there.
+/// Reads an import of a module, where nothing hangs on whether it is there.
 #[tactic(auto, using(crate::proofs::Steps::performing))]
-fn read_module<N: Notes>(
+fn check_module<N: Notes>(
     alloc: Global,
     notes: &mut N,
     options: Options,
     at: Position,
     imported: &ImportedModule,
 ) -> Result<(), AllocError>
-    ensures { Performs (λ u. u) (spec.module_reading options at (imported_module_of imported.now)) (N.desk notes.old)
+    ensures { Performs (λ u. u) (spec.module_checked options at (imported_module_of imported.now)) (N.desk notes.old)
         result (N.desk notes.new) }
 {
+    let _is_there = read_module(alloc, notes, options, at, imported)?;
+    Ok(())
+}
+
+/// Reads an import of a module, and answers whether it is there; a fixed one is. The only error is that memory runs
+/// out.
+#[tactic(auto, using(crate::proofs::Steps::performing))]
+pub fn read_module<N: Notes>(
+    alloc: Global,
+    notes: &mut N,
+    options: Options,
+    at: Position,
+    imported: &ImportedModule,
+) -> Result<bool, AllocError>
+    ensures { Performs (λ found. found) (spec.module_reading options at (imported_module_of imported.now))
+        (N.desk notes.old) result (N.desk notes.new) }
+{
     if fixed_module(&imported.path).is_some() {
-        return Ok(());
+        return Ok(true);
     }
     let key = Key::HasModule(joined(alloc, &[], &imported.path)?);
     let found = asked_presence(alloc, notes, key)?;
     let shown = written_module(alloc, 0, &imported.path)?;
-    tell_module(alloc, notes, options, at, shown.as_str(), found)
+    tell_module(alloc, notes, options, at, shown.as_str(), found)?;
+    Ok(is_there(found))
+}
+
+/// Whether a module is there, as its presence tells it.
+fn is_there(found: Option<Presence>) -> bool
+    ensures { result ≡ spec.is_there found }
+{
+    match found {
+        Some(Presence::NoModule) => false,
+        _ => true,
+    }
 }
 
 /// Tells of a module, by whether it is there.
@@ -107,7 +135,7 @@ fn tell_missing<N: Notes>(
         return Ok(());
     }
     let text = missing_text(alloc, shown)?;
-    notes.tell(Message::error_at(at, Code::ImportNotFound, text))
+    tell_error(notes, at, Code::ImportNotFound, text)
 }
 
 /// Reads from-imports, in turn.
@@ -120,17 +148,18 @@ fn read_aliases<N: Notes>(
     from: &ImportFrom,
 ) -> Result<(), AllocError>
     ensures { Performs (λ u. u)
-        (each (spec.alias_reading options (source_in file.now) at (import_from_of from.now)) from.now.names.items)
+        (each (spec.imported_reading options (source_in file.now) at (import_from_of from.now)) from.now.names.items)
         (N.desk notes.old) result (N.desk notes.new) }
 {
     for alias in &from.names {
-        read_alias(alloc, notes, options, file, at, from, alias)?;
+        read_imported(alloc, notes, options, file, at, from, alias)?;
     }
     Ok(())
 }
 
-/// Reads a from-import.
-fn read_alias<N: Notes>(
+/// Reads one name of a from-import, which asks whether it is there; what is not there is told. The only error is that
+/// memory runs out.
+pub fn read_imported<N: Notes>(
     alloc: Global,
     notes: &mut N,
     options: Options,
@@ -140,17 +169,17 @@ fn read_alias<N: Notes>(
     alias: &Alias,
 ) -> Result<(), AllocError>
     ensures { Performs (λ u. u)
-        (spec.alias_reading options (source_in file.now) at (import_from_of from.now) alias.now) (N.desk notes.old)
+        (spec.imported_reading options (source_in file.now) at (import_from_of from.now) alias.now) (N.desk notes.old)
         result (N.desk notes.new) }
 {
     let home = named_module(alloc, file.name(), file.is_package(), from.dots, &from.path)?;
     let shown = written_module(alloc, from.dots, &from.path)?;
-    read_imported(alloc, notes, options, at, shown.as_str(), &alias.name, home)
+    read_name(alloc, notes, options, at, shown.as_str(), &alias.name, home)
 }
 
 /// Reads a name that is imported from a module, or from above the root, where nothing is there.
 #[tactic(auto, using(crate::proofs::Steps::performing))]
-fn read_imported<N: Notes>(
+fn read_name<N: Notes>(
     alloc: Global,
     notes: &mut N,
     options: Options,
@@ -159,7 +188,7 @@ fn read_imported<N: Notes>(
     name: &Text,
     home: Option<ModuleName>,
 ) -> Result<(), AllocError>
-    ensures { Performs (λ u. u) (spec.imported_reading options at shown.now name.now home) (N.desk notes.old) result
+    ensures { Performs (λ u. u) (spec.name_reading options at shown.now name.now home) (N.desk notes.old) result
         (N.desk notes.new) }
 {
     let Some(home) = home else {
@@ -193,7 +222,7 @@ fn tell_name<N: Notes>(
         Some(Presence::NoModule) => tell_missing(alloc, notes, options, at, shown),
         Some(Presence::NoName) => {
             let text = no_attribute_text(alloc, shown, name.as_str())?;
-            notes.tell(Message::error_at(at, Code::AttrDefined, text))
+            tell_error(notes, at, Code::AttrDefined, text)
         }
         _ => Ok(()),
     }

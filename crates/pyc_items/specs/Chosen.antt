@@ -1,5 +1,5 @@
 -- Which place of a tuple an index chooses (typing specification, "Tuples"): one digit, or `-1` for the last.
-use Rattle.std.specs.Prelude.{ℕ, Bool, true, false, ◌+◌, ◌-◌, ◌==◌, zero, suc, if◌then◌else◌, Option, None, Some}
+use Rattle.std.specs.Prelude.{ℕ, Bool, true, false, ◌-◌, ◌==◌, zero, suc, if◌then◌else◌, Option, None, Some}
 use Rattle.pyc_ast.specs.declared.constant.Constant.{Constant}
 use Rattle.pyc_ast.specs.declared.constant.Constant.TheVariants as constant
 use Rattle.pyc_ast.specs.declared.operator.UnaryOperator.{UnaryOperator}

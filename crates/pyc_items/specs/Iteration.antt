@@ -2,7 +2,7 @@
 use Rattle.std.specs.Prelude.{ℕ, codes, List, [], ◌∷◌, ◌++◌}
 use Rattle.pyc_ast.specs.declared.position.Position.{Position}
 use Rattle.pyc_class.specs.declared.builtin_class.BuiltinClass.TheVariants as class
-use Rattle.pyc_class.specs.Class.{Id, builtin, user}
+use Rattle.pyc_class.specs.Class.{Id, builtin}
 use Rattle.pyc_items.specs.Owners.{Owner, unknown_owner, method_owner, builtin_owner, no_owner, iterable, int_type}
 use Rattle.pyc_items.specs.Owners.{str_type}
 use Rattle.pyc_reading.specs.Desks.{Step}

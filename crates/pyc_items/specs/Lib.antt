@@ -3,3 +3,4 @@ pub mod Owners
 pub mod OwnerView
 pub mod Subscripts
 pub mod Iteration
+pub mod OwedView

@@ -1,6 +1,6 @@
 -- What a subscript and an iteration go by (Python reference 3.13, "Emulating container types"): a method of the class, or
 -- what its instances are as a builtin.
-use Rattle.std.specs.Prelude.{Bool, codes, if◌then◌else◌, Option, None, Some}
+use Rattle.std.specs.Prelude.{codes, if◌then◌else◌, Option, None, Some}
 use Rattle.pyc_attributes.specs.Binding.{through_instance}
 use Rattle.pyc_class.specs.declared.builtin_class.BuiltinClass.{BuiltinClass}
 use Rattle.pyc_class.specs.declared.builtin_class.BuiltinClass.TheVariants as class
@@ -8,7 +8,8 @@ use Rattle.pyc_class.specs.Class.{Id, builtin, user}
 use Rattle.pyc_class.specs.Order.{Order, is_unknown, order_contains}
 use Rattle.pyc_items.specs.declared.owners.Counts.{Counts}
 use Rattle.pyc_items.specs.declared.owners.Counts.TheVariants as counts
-use Rattle.pyc_obligations.specs.Asking.{asked_member, order_in}
+use Rattle.pyc_obligations.specs.Asking.{asked_member}
+use Rattle.pyc_reading.specs.Owing.{order_in}
 use Rattle.pyc_reading.specs.Answers.{MemberAnswer}
 use Rattle.pyc_reading.specs.Desks.{Step}
 use Rattle.pyc_reading.specs.Keys as key

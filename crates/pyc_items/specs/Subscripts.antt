@@ -2,19 +2,18 @@
 use Rattle.std.specs.Prelude.{ℕ, Bool, true, false, codes, if◌then◌else◌, List, [], ◌∷◌, ◌++◌, Option, None, Some}
 use Rattle.pyc_ast.specs.declared.position.Position.{Position}
 use Rattle.pyc_ast.specs.Exprs.{Index}
-use Rattle.pyc_class.specs.declared.builtin_class.BuiltinClass.{BuiltinClass}
 use Rattle.pyc_class.specs.declared.builtin_class.BuiltinClass.TheVariants as class
-use Rattle.pyc_class.specs.Class.{Id, builtin, user}
+use Rattle.pyc_class.specs.Class.{Id, builtin}
 use Rattle.pyc_items.specs.declared.chosen.Chosen.{Chosen}
 use Rattle.pyc_items.specs.Chosen.{at_of, is_slice, chosen_by, chosen_type}
 use Rattle.pyc_items.specs.Owners.{Owner, unknown_owner, method_owner, builtin_owner, no_owner, int_type}
 use Rattle.pyc_items.specs.Owners.{str_type, bytes_type, subscript_owner}
-use Rattle.pyc_obligations.specs.Judging.{judged}
-use Rattle.pyc_obligations.specs.Telling.{owed, told_unless}
-use Rattle.pyc_reading.specs.Desks.{Step}
-use Rattle.pyc_reading.specs.Readings.{Done, Tell, and_then}
+use Rattle.pyc_reading.specs.Desks.{Step, owed}
+use Rattle.pyc_reading.specs.Owing.{Obligation}
+use Rattle.pyc_reading.specs.Readings.{Done, Tell, and_then, ◌>>=◌}
 use Rattle.pyc_report.specs.declared.message.Code.TheVariants as code
-use Rattle.pyc_report.specs.Message.{Message, error_at}
+use Rattle.pyc_report.specs.declared.message.Duty.TheVariants as duty
+use Rattle.pyc_report.specs.Message.{error_at}
 use Rattle.pyc_type_forms.specs.Text.{text_of}
 use Rattle.pyc_type_forms.specs.Types.{Ty, Tys, any, instance, list, dict, tuple, tuple_of}
 use Rattle.pyc_type_forms.specs.Unions.{items_of, union_of}
@@ -26,8 +25,21 @@ index_text got whole want =
     codes "Invalid index type \"" ++ (got ++ (codes "\" for \"" ++ (whole ++ (codes "\"; expected type \"" ++ (want
     ++ codes "\"")))))
 
-unfoldable pub index_message : Position → Ty → Ty → Ty → Message
-index_message at got whole want = error_at at code.Index (index_text (text_of got) (text_of whole) (text_of want))
+-- the text on an index of a type, by its type, that of what it is an index of, and the type that this takes
+unfoldable pub owed_index_text : (got whole want : Ty) → List ℕ
+owed_index_text got whole want = index_text (text_of got) (text_of whole) (text_of want)
+
+-- an index has to be of the type that is taken, which is told at the index
+abbrev pub owed_index : Position → (got whole want : Ty) → Obligation
+owed_index at got whole want =
+    record {
+      duty = duty.Index;
+      at = at;
+      got = got;
+      want = want;
+      details = [];
+      text = owed_index_text got whole want;
+    }
 
 unfoldable pub range_text : List ℕ
 range_text = codes "Tuple index out of range"
@@ -43,13 +55,11 @@ not_indexable at ty = Tell (error_at at code.Index (not_indexable_text (text_of 
 
 -- ---- builtins
 
--- an index of this type is owed where another is wanted
-unfoldable pub index_owed : Position → Ty → Ty → Ty → Step (Unit {0})
-index_owed at got whole want = and_then (judged got want) (λ holds. told_unless holds (index_message at got whole want))
-
 -- an item that an index of a wanted type gives
 unfoldable pub owed_item : Position → Ty → Ty → Ty → Ty → Step (Option Ty)
-owed_item at got whole want given = and_then (index_owed at got whole want) (λ u. Done (Some given))
+owed_item at got whole want given = do
+  u ← owed (owed_index at got whole want)
+  Done (Some given)
 
 -- a slice keeps the type, and an int gives an item
 abbrev pub sequence_item : Index → Ty → Ty → Ty → Step (Option Ty)

@@ -11,10 +11,10 @@ ghost use Rattle.pyc_type_forms.specs.Types as plain;
 ghost use Rattle.pyc_type_forms.specs.TypeView.{row, ty_of};
 
 use crate::chosen::{Chosen, chosen_by, chosen_type, is_slice};
-use crate::messages::{index_told, out_of_range};
+use crate::messages::{OwedIndex, out_of_range};
 use pyc_ast::{Index, Position};
 use pyc_class::{BuiltinClass, ClassId};
-use pyc_obligations::{Judge, judged};
+use pyc_obligations::{Judge, owe};
 use pyc_type_forms::{DictTypes, Ty};
 use std::alloc::{AllocError, Global};
 
@@ -146,25 +146,14 @@ fn owed_item<N: Judge>(
         (spec.owed_item at (ty_of got.now) (ty_of whole.now) (ty_of want.now) (ty_of given.now)) (N.desk notes.old)
         result (N.desk notes.new) }
 {
-    index_owed(alloc, notes, at, got, whole, want)?;
+    let owed = OwedIndex {
+        at,
+        got,
+        whole,
+        want,
+    };
+    owe(alloc, notes, &owed)?;
     Ok(Some(given.clone()?))
-}
-
-/// An index of this type is owed where another is wanted.
-#[tactic(auto, using(crate::proofs::Steps::performing), unfolding(crate::specs::Subscripts::index_owed))]
-fn index_owed<N: Judge>(
-    alloc: Global,
-    notes: &mut N,
-    at: Position,
-    got: &Ty,
-    whole: &Ty,
-    want: &Ty,
-) -> Result<(), AllocError>
-    ensures { Performs (λ u. u) (spec.index_owed at (ty_of got.now) (ty_of whole.now) (ty_of want.now))
-        (N.desk notes.old) result (N.desk notes.new) }
-{
-    let holds = judged(alloc, notes, got, want)?;
-    index_told(alloc, notes, holds, at, got, whole, want)
 }
 
 /// The item at a place of a fixed tuple.

@@ -3,13 +3,13 @@
 ghost use Rattle.std.specs.Prelude.{◌≡◌, IfOk, Some, option_map, string_bytes};
 ghost use Rattle.pyc_items.specs.Iteration as iteration;
 ghost use Rattle.pyc_items.specs.Subscripts as spec;
-ghost use Rattle.pyc_obligations.specs.Telling.{told_unless};
+ghost use Rattle.pyc_items.specs.OwedView.{owed_in};
 ghost use Rattle.pyc_reading.specs.Desks.{Performs};
 ghost use Rattle.pyc_type_forms.specs.TypeView.{ty_of};
 
 use pyc_ast::Position;
-use pyc_obligations::{Judge, tell_error};
-use pyc_report::Code;
+use pyc_obligations::{Judge, Owed, tell_error};
+use pyc_report::{Code, Duty, Message};
 use pyc_type_forms::{Ty, show};
 use std::alloc::{AllocError, Global};
 
@@ -21,29 +21,38 @@ fn index_text(alloc: Global, got: &str, whole: &str, want: &str) -> Result<Strin
     format!(in alloc; "Invalid index type \"{got}\" for \"{whole}\"; expected type \"{want}\"")
 }
 
-/// Tells, unless it holds, that an index is of another type than is wanted.
-#[tactic(auto, using(crate::proofs::Steps::performing), unfolding(crate::specs::Subscripts::index_message))]
-pub(crate) fn index_told<N: Judge>(
-    alloc: Global,
-    notes: &mut N,
-    holds: bool,
-    at: Position,
-    got: &Ty,
-    whole: &Ty,
-    want: &Ty,
-) -> Result<(), AllocError>
-    ensures { Performs (λ u. u)
-        (told_unless holds (spec.index_message at (ty_of got.now) (ty_of whole.now) (ty_of want.now)))
-        (N.desk notes.old) result (N.desk notes.new) }
-{
-    if holds {
-        return Ok(());
+/// An index, its type, that of what it is an index of, and the type that this takes.
+#[derive(Clone, Copy)]
+pub(crate) struct OwedIndex<'a> {
+    pub(crate) at: Position,
+    pub(crate) got: &'a Ty,
+    pub(crate) whole: &'a Ty,
+    pub(crate) want: &'a Ty,
+}
+
+impl<N: Judge> Owed<N> for OwedIndex<'_> {
+    ghost obligation = { owed_in };
+
+    fn got(&self) -> &Ty {
+        self.got
     }
-    let got = show(alloc, got)?;
-    let whole = show(alloc, whole)?;
-    let want = show(alloc, want)?;
-    let text = index_text(alloc, got.as_str(), whole.as_str(), want.as_str())?;
-    tell_error(notes, at, Code::Index, text)
+
+    fn want(&self) -> &Ty {
+        self.want
+    }
+
+    fn ask_details(&self, _alloc: Global, _notes: &mut N) -> Result<(), AllocError> {
+        Ok(())
+    }
+
+    #[tactic(auto, unfolding(crate::specs::Subscripts::owed_index_text))]
+    fn message(&self, alloc: Global, _notes: &N) -> Result<Message, AllocError> {
+        let got = show(alloc, self.got)?;
+        let whole = show(alloc, self.whole)?;
+        let want = show(alloc, self.want)?;
+        let text = index_text(alloc, got.as_str(), whole.as_str(), want.as_str())?;
+        Ok(Message::failing_at(self.at, Duty::Index, text))
+    }
 }
 
 /// The text on a place that a tuple does not have.

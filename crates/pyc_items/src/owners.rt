@@ -6,6 +6,7 @@ ghost use Rattle.pyc_items.specs.Owners as spec;
 ghost use Rattle.pyc_items.specs.OwnerView.{owner_of};
 ghost use Rattle.pyc_obligations.specs.Asking as asking;
 ghost use Rattle.pyc_reading.specs.AnswerView.{answer_in, class_order_of, member_answer_of};
+ghost use Rattle.pyc_reading.specs.Owing.{order_in};
 ghost use Rattle.pyc_reading.specs.Desks.{Performs};
 ghost use Rattle.pyc_type_forms.specs.TypeView.{ty_of};
 
@@ -160,7 +161,7 @@ fn source_iterable<N: Judge>(
 
 /// What the instances of a class count as, by the order that an answer tells.
 fn counts_in(answer: &Answer) -> Counts
-    ensures { result ≡ spec.counts_as (asking.order_in (answer_in answer.now)) }
+    ensures { result ≡ spec.counts_as (order_in (answer_in answer.now)) }
 {
     match answer {
         Answer::Order(order) => counts_as(order),

@@ -1,24 +1,20 @@
 //! What was found in files, with the report of it.
 
-use pyc_report::{Code, Found, Message, MessageKind, report};
+use pyc_report::{Duty, Found, Message, MessageKind, report};
 use std::alloc::{AllocError, Global};
 use std::test::Fail;
 
 const INCOMPATIBLE: &str =
     "Incompatible types in assignment (expression has type \"str\", variable has type \"int\")";
 
-/// A message: its place, its code, which a note has not, and its text. The only error is that memory runs out.
+/// A message: its place, its kind and its text. The only error is that memory runs out.
 fn message(
     alloc: Global,
     line: usize,
     column: usize,
-    code: Option<Code>,
+    kind: MessageKind,
     text: &str,
 ) -> Result<Message, AllocError> {
-    let kind = match code {
-        Some(code) => MessageKind::Error(code),
-        None => MessageKind::Note,
-    };
     Ok(Message {
         line,
         column,
@@ -27,25 +23,25 @@ fn message(
     })
 }
 
-/// What was found in a file: messages, each of its line, its column, its code, which a note has not, and its text. The
-/// only error is that memory runs out.
+/// What was found in a file: messages, each of its line, its column, its kind and its text. The only error is that
+/// memory runs out.
 fn found<'a>(
     alloc: Global,
     path: &'a str,
-    rows: &[(usize, usize, Option<Code>, &str)],
+    rows: &[(usize, usize, MessageKind, &str)],
 ) -> Result<Found<'a>, AllocError> {
     let mut messages = Vec::new(alloc);
-    for (line, column, code, text) in rows {
-        messages.push(message(alloc, *line, *column, *code, text)?)?;
+    for (line, column, kind, text) in rows {
+        messages.push(message(alloc, *line, *column, *kind, text)?)?;
     }
     Ok(Found { path, messages })
 }
 
 /// The error of a file with one.
-const ONE_ERROR: &[(usize, usize, Option<Code>, &str)] = &[(
+const ONE_ERROR: &[(usize, usize, MessageKind, &str)] = &[(
     1,
     10,
-    Some(Code::Assignment),
+    MessageKind::Owed(Duty::Assignment),
     INCOMPATIBLE,
 )];
 

@@ -1,9 +1,9 @@
 -- A walk by its first step.
-use Rattle.std.proofs.Common.{◌≡◌, ℕ, suc, ◌||◌, List, Bool, false, sym, ap, ◌∙◌}
-use Rattle.pyc_names.specs.Following.{QualifiedName, Referent, Step, ends, leads, step, same_name, arrive, walk, comes_to, leads_to}
-use Rattle.pyc_names.specs.SourceFiles.{SourceFile}
+use Rattle.std.proofs.Common.{◌≡◌, ℕ, suc, ◌||◌, List, false, sym, ap, ◌∙◌}
+use Rattle.pyc_names.specs.Following.{QualifiedName, Referent, ends, leads, step, same_name, arrive, walk, comes_to, leads_to}
+use Rattle.pyc_names.specs.Interfaces.{Interface}
 
-module _ (files : List SourceFile) (q : QualifiedName) where
+module _ (files : List Interface) (q : QualifiedName) where
   -- a walk whose first step ends
   pub walk-ends : (n m : ℕ) (found : Referent) → n ≡ suc m → step files q ≡ ends found → walk n files q ≡ found
   walk-ends n m found e h = ap (λ k. walk k files q) e ∙ ap (arrive (walk m files)) h

@@ -3,3 +3,4 @@ pub mod FollowingLemmas
 pub mod RingLemmas
 pub mod ReturnLemmas
 pub mod PlaceLemmas
+pub mod OuterLemmas

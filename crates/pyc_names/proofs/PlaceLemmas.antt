@@ -1,20 +1,16 @@
 -- Places of files by their modules.
-use Rattle.std.proofs.Common.{◌≡◌, ℕ, zero, suc, ◌+◌, ◌-◌, ◌<◌, ◌≤◌, Bool, true, false, cond, ◌||◌, bytes_eq, is_some, List, [], ◌∷◌, map, drop, length, get_or, slice_get, Option, Some, true≢false, refl, sym, ap, ◌∙◌, arith, drop-cons}
+use Rattle.std.proofs.Common.{◌≡◌, ℕ, zero, suc, ◌+◌, ◌-◌, ◌<◌, ◌≤◌, Bool, true, false, cond, List, [], ◌∷◌, drop, length, get_or, slice_get, Option, Some, true≢false, refl, sym, ap, ◌∙◌, arith, drop-cons}
 use Rattle.std.specs.declared.alloc.Global.{Global}
 use Rattle.std.specs.declared.rc.Rc.{Rc}
 use Rattle.std.specs.declared.vec.Vec.{Vec}
-use Rattle.std.specs.List.{position_from, list_any, starts_with}
+use Rattle.std.specs.List.{position_from}
 use Rattle.std.specs.Map.{lookup}
 use Rattle.indexmap.specs.IndexMap.{insert_entry}
 use Rattle.pyc_bindings.proofs.PlaceLemmas.{chosen, found_at, place_within}
 use Rattle.pyc_names.specs.declared.source_file.SourceFile.{SourceFile as SourceFileOf}
-use Rattle.pyc_names.specs.FixedModules.{fixed_module}
-use Rattle.pyc_names.specs.Following.{has_module}
 use Rattle.pyc_names.specs.ModuleName.{same_module}
-use Rattle.pyc_names.specs.Presence.{is_root, is_within}
-use Rattle.pyc_names.specs.SourceFiles.{SourceFile, file_of}
-use Rattle.pyc_names.specs.SourceFileView.{source_in, sources_in}
-use Rattle.std.proofs.lemmas.Slice.Eq.{bytes_eq-Decides}
+use Rattle.pyc_names.specs.Interfaces.{Interface, file_of}
+use Rattle.pyc_names.specs.InterfaceView.{interface_in, interfaces_in}
 use Rattle.pyc_names.proofs.RingLemmas.{same_module-is, same_module-same}
 
 module _ {K V : Type 0} (eq : K → K → Bool) (test : K → Bool) (alike : (x y : K) → eq x y ≡ true → test x ≡ test y) (one : (x y : K) → test x ≡ true → test y ≡ true → eq x y ≡ true) (k : K) (v : V) where
@@ -43,13 +39,13 @@ module _ {K V : Type 0} (eq : K → K → Bool) (test : K → Bool) (alike : (x 
 
 -- the index of the file that each module is, one file more
 pub place_more : (m : List (List ℕ)) (files : List (Rc SourceFileOf Global)) (left : ℕ) (file : Rc SourceFileOf Global) (old new : List (Vec (List ℕ) Global × ℕ)) (key : Vec (List ℕ) Global)
-    → 0 < left → left ≤ length files → file ≡ get_or files (left - 1) file → key.items ≡ (source_in file.value).name
+    → 0 < left → left ≤ length files → file ≡ get_or files (left - 1) file → key.items ≡ (interface_in file.value).name
     → new ≡ insert_entry (λ x y. same_module x.items y.items) old key (left - 1)
-    → lookup (λ parts. same_module m parts.items) old ≡ position_from (λ f. same_module m f.name) left (sources_in (drop left files))
-    → lookup (λ parts. same_module m parts.items) new ≡ position_from (λ f. same_module m f.name) (left - 1) (sources_in (drop (left - 1) files))
+    → lookup (λ parts. same_module m parts.items) old ≡ position_from (λ f. same_module m f.name) left (interfaces_in (drop left files))
+    → lookup (λ parts. same_module m parts.items) new ≡ position_from (λ f. same_module m f.name) (left - 1) (interfaces_in (drop (left - 1) files))
 place_more m files left file old new key some within is named put before =
     let test : Vec (List ℕ) Global → Bool = λ parts. same_module m parts.items in
-    let t : SourceFile → Bool = λ f. same_module m f.name in
+    let t : Interface → Bool = λ f. same_module m f.name in
     let below : left - 1 < length files = omega arith in
     let next : suc (left - 1) ≡ left = omega arith in
     let onward : left - 1 + 1 ≡ left = omega arith in
@@ -57,55 +53,26 @@ place_more m files left file old new key some within is named put before =
     let found = lookup-insert (λ x y. same_module x.items y.items) test (λ x y h. ap (same_module m) (same_module-is x.items y.items h))
     (λ x y g h. same_module-same x.items y.items (sym (same_module-is m x.items g) ∙ same_module-is m y.items h)) key (left - 1) old in
     ap (lookup test) put ∙ found ∙ ap (λ n. cond (same_module m n) (Some (left - 1)) (lookup test old)) named
-    ∙ ap (cond (t (source_in file.value)) (Some (left - 1))) (before ∙ ap (λ n. position_from t n (sources_in (drop left files))) (sym onward))
-    ∙ ap (λ l. position_from t (left - 1) (sources_in l)) (sym first)
+    ∙ ap (cond (t (interface_in file.value)) (Some (left - 1))) (before ∙ ap (λ n. position_from t n (interfaces_in (drop left files))) (sym onward))
+    ∙ ap (λ l. position_from t (left - 1) (interfaces_in l)) (sym first)
 
-length-sources : (files : List (Rc SourceFileOf Global)) → length (sources_in files) ≡ length files
-length-sources [] = refl
-length-sources (f ∷ files) = ap suc (length-sources files)
+length-interfaces : (files : List (Rc SourceFileOf Global)) → length (interfaces_in files) ≡ length files
+length-interfaces [] = refl
+length-interfaces (f ∷ files) = ap suc (length-interfaces files)
 
 -- the source of a file is the source at its place
-pub source_at : (files : List (Rc SourceFileOf Global)) (i : ℕ) (file : Rc SourceFileOf Global) → i < length files → file ≡ get_or files i file → Some (source_in file.value) ≡ slice_get (sources_in files) i
+pub source_at : (files : List (Rc SourceFileOf Global)) (i : ℕ) (file : Rc SourceFileOf Global) → i < length files → file ≡ get_or files i file → Some (interface_in file.value) ≡ slice_get (interfaces_in files) i
 source_at [] i file within is = absurd (omega arith)
-source_at (f ∷ files) zero file within is = ap (λ (x : Rc SourceFileOf Global). Some (source_in x.value)) is
+source_at (f ∷ files) zero file within is = ap (λ (x : Rc SourceFileOf Global). Some (interface_in x.value)) is
 source_at (f ∷ files) (suc i) file within is = let below : i < length files = omega arith in source_at files i file below is
 
 module _ (files : List (Rc SourceFileOf Global)) (m : List (List ℕ)) where
   -- the place of a module is within the files
-  pub module_within : (i : ℕ) → position_from (λ (f : SourceFile). same_module m f.name) 0 (sources_in files) ≡ Some i → i < length files
+  pub module_within : (i : ℕ) → position_from (λ (f : Interface). same_module m f.name) 0 (interfaces_in files) ≡ Some i → i < length files
   module_within i h =
-      let below : i < 0 + length (sources_in files) = place_within (λ (f : SourceFile). same_module m f.name) 0 i (sources_in files) h in
-      omega (arith, length-sources files)
+      let below : i < 0 + length (interfaces_in files) = place_within (λ (f : Interface). same_module m f.name) 0 i (interfaces_in files) h in
+      omega (arith, length-interfaces files)
 
   -- the file of a module is the one at its place
-  pub module_at : (o : Option ℕ) → o ≡ position_from (λ (f : SourceFile). same_module m f.name) 0 (sources_in files) → chosen o (sources_in files) ≡ file_of (sources_in files) m
-  module_at o h = ap (λ p. chosen p (sources_in files)) h ∙ sym (found_at (λ (f : SourceFile). same_module m f.name) [] (sources_in files))
-
--- a list begins with itself
-begins_with_itself : (parts : List (List ℕ)) → starts_with bytes_eq parts parts ≡ true
-begins_with_itself [] = refl
-begins_with_itself (part ∷ parts) = rw ((bytes_eq-Decides part part).1 refl) (begins_with_itself parts)
-
-above_here : (m : List (List ℕ)) (n : ℕ) (file : SourceFile) (files : List SourceFile) (b : Bool) → (b ≡ true → is_within m file.name ≡ true)
-    → (is_some (position_from (λ f. same_module m f.name) (n + 1) files) ≡ true → list_any (is_within m) (map (λ f. f.name) files) ≡ true)
-    → is_some (cond b (Some n) (position_from (λ f. same_module m f.name) (n + 1) files)) ≡ true → (is_within m file.name || list_any (is_within m) (map (λ f. f.name) files)) ≡ true
-above_here m n file files true here later h = ap (λ b. b || list_any (is_within m) (map (λ f. f.name) files)) (here refl)
-above_here m n file files false here later h = ap (λ b. is_within m file.name || b) (later h) ∙ or_true (is_within m file.name)
-  where
-    or_true : (b : Bool) → (b || true) ≡ true
-    or_true true = refl
-    or_true false = refl
-
--- a module that has a place is above a file
-above_placed : (m : List (List ℕ)) (n : ℕ) (files : List SourceFile) → is_some (position_from (λ f. same_module m f.name) n files) ≡ true → list_any (is_within m) (map (λ f. f.name) files) ≡ true
-above_placed m n [] h = cc
-above_placed m n (file ∷ files) h =
-    above_here m n file files (same_module m file.name) (λ same. let is = same_module-is m file.name same in ap (λ p. starts_with bytes_eq file.name p) is ∙ begins_with_itself file.name) (above_placed m (n + 1) files) h
-
--- a module that has a place is there
-pub there_placed : (m : List (List ℕ)) (files : List SourceFile) → is_some (position_from (λ f. same_module m f.name) 0 files) ≡ true → true ≡ has_module files m
-there_placed m files h = by (is_root m || is_some (fixed_module m)) ∙ ap (λ b. (is_root m || is_some (fixed_module m)) || b) (sym (above_placed m 0 files h))
-  where
-    by : (b : Bool) → true ≡ (b || true)
-    by true = refl
-    by false = refl
+  pub module_at : (o : Option ℕ) → o ≡ position_from (λ (f : Interface). same_module m f.name) 0 (interfaces_in files) → chosen o (interfaces_in files) ≡ file_of (interfaces_in files) m
+  module_at o h = ap (λ p. chosen p (interfaces_in files)) h ∙ sym (found_at (λ (f : Interface). same_module m f.name) [] (interfaces_in files))

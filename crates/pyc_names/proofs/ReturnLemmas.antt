@@ -5,15 +5,14 @@ use Rattle.std.proofs.lemmas.Bool.{and_from, and_left, and_parts, and_right, cas
 use Rattle.std.proofs.lemmas.List.Sums.{sum_by-cons}
 use Rattle.std.proofs.lemmas.Option.{none-some, same_Some}
 use Rattle.std.proofs.lemmas.Slice.Eq.{slice_eq-Decides, bytes_eq-Decides}
-use Rattle.pyc_ast.specs.Modules.{Outcome, tree, fault}
 use Rattle.pyc_bindings.specs.Bindings.{Binding, BindingForm, import, import_from, function, class, annotated, assigned, other}
 use Rattle.pyc_bindings.specs.Redefinitions.{declaration}
-use Rattle.pyc_names.specs.Following.{QualifiedName, Step, ends, leads, no_module, step, same_name, has_module, module_step, file_step, outcome_step, binding_step, form_step, is_import_from, import_count, comes_to, leads_to, on_ring}
+use Rattle.pyc_names.specs.Following.{QualifiedName, Step, ends, leads, no_module, step, same_name, has_module, module_step, file_step, source_step, binding_step, form_step, is_import_from, import_count, comes_to, leads_to, on_ring}
 use Rattle.pyc_names.specs.declared.fixed.FixedModule.{FixedModule}
 use Rattle.pyc_names.specs.FixedModules.{fixed_module}
 use Rattle.pyc_names.specs.ModuleName.{same_module}
 use Rattle.pyc_names.specs.Rings.{onward, reached, RingsAreTold}
-use Rattle.pyc_names.specs.SourceFiles.{SourceFile, file_of}
+use Rattle.pyc_names.specs.Interfaces.{Interface, file_of}
 use Rattle.pyc_names.proofs.RingLemmas.{same_module-is, same_name-is}
 
 -- ---- equal names
@@ -57,15 +56,15 @@ one-le false b more = omega arith
 -- ---- the from-imports of the names that may be stepped from
 
 -- the name that a binding of a file binds
-abbrev bound_in : SourceFile → Binding → QualifiedName
+abbrev bound_in : Interface → Binding → QualifiedName
 bound_in file b = record { home = file.name; name = b.name }
 
 -- whether a binding is a from-import of such a name
-abbrev is_open : (QualifiedName → Bool) → SourceFile → Binding → Bool
+abbrev is_open : (QualifiedName → Bool) → Interface → Binding → Bool
 is_open may file b = may (bound_in file b) && is_import_from b.form
 
 -- how many from-imports of such names stand in files
-abbrev open_count : (QualifiedName → Bool) → List SourceFile → ℕ
+abbrev open_count : (QualifiedName → Bool) → List Interface → ℕ
 open_count may files = sum_by (λ file. count_by (is_open may file) file.bindings) files
 
 -- these names but for one
@@ -73,15 +72,15 @@ abbrev without : (QualifiedName → Bool) → QualifiedName → QualifiedName �
 without may out q = may q && not (same_name q out)
 
 -- of all names, all from-imports
-open_count-all : (files : List SourceFile) → open_count (λ q. true) files ≡ import_count files
+open_count-all : (files : List Interface) → open_count (λ q. true) files ≡ import_count files
 open_count-all [] = refl
 open_count-all (file ∷ files) =
-    sum_by-cons (λ (file : SourceFile). count_by (λ b. is_import_from b.form) file.bindings) file files
+    sum_by-cons (λ (file : Interface). count_by (λ b. is_import_from b.form) file.bindings) file files
     ∙ ap (λ n. count_by (λ b. is_import_from b.form) file.bindings + n) (open_count-all files)
 
 module _ (may : QualifiedName → Bool) (out : QualifiedName) where
   -- without a name, no binding counts for more
-  one_without-le : (file : SourceFile) (b : Binding) → cond (is_open (without may out) file b) 1 0 ≤ cond (is_open may file b) 1 0
+  one_without-le : (file : Interface) (b : Binding) → cond (is_open (without may out) file b) 1 0 ≤ cond (is_open may file b) 1 0
   one_without-le file b =
       let q : QualifiedName = bound_in file b in
       one-le (is_open (without may out) file b) (is_open may file b)
@@ -90,7 +89,7 @@ module _ (may : QualifiedName → Bool) (out : QualifiedName) where
       and_from (may q) (is_import_from b.form) (and_parts (may q) (not (same_name q out)) parts.0).0 parts.1)
 
   -- without the name that a from-import binds, that one counts for less
-  one_without-lt : (file : SourceFile) (b : Binding) → bound_in file b ≡ out → IsTrue (may out) → IsTrue (is_import_from b.form)
+  one_without-lt : (file : Interface) (b : Binding) → bound_in file b ≡ out → IsTrue (may out) → IsTrue (is_import_from b.form)
       → cond (is_open (without may out) file b) 1 0 < cond (is_open may file b) 1 0
   one_without-lt file b is it imports =
       let less : is_open (without may out) file b ≡ false =
@@ -101,16 +100,16 @@ module _ (may : QualifiedName → Bool) (out : QualifiedName) where
 -- ---- where a name that leads on is imported
 
 -- a name is bound by a from-import: its file, and the declaration there
-record IsImported (files : List SourceFile) (q : QualifiedName) : Type 0 where
-  file : SourceFile
+record IsImported (files : List Interface) (q : QualifiedName) : Type 0 where
+  file : Interface
   b : Binding
   is_file : file_of files q.home ≡ Some file
   is_declaration : declaration file.bindings q.name ≡ Some b
   is_import : IsTrue (is_import_from b.form)
 
-module _ (files : List SourceFile) (q next : QualifiedName) where
+module _ (files : List Interface) (q next : QualifiedName) where
   -- of the forms of a declaration, only a from-import leads on
-  leads_by_form : (file : SourceFile) (form : BindingForm) → form_step files q file form ≡ leads next → IsTrue (is_import_from form)
+  leads_by_form : (file : Interface) (form : BindingForm) → form_step files q file form ≡ leads next → IsTrue (is_import_from form)
   leads_by_form file (import path) e = absurd (cc)
   leads_by_form file (import_from dots path name) e = refl
   leads_by_form file (function head) e = absurd (cc)
@@ -120,19 +119,19 @@ module _ (files : List SourceFile) (q next : QualifiedName) where
   leads_by_form file other e = absurd (cc)
 
   -- a name without a declaration does not lead on
-  leads_by_binding : (file : SourceFile) (found : Option Binding) → file_of files q.home ≡ Some file → declaration file.bindings q.name ≡ found → binding_step files q file found ≡ leads next → IsImported files q
+  leads_by_binding : (file : Interface) (found : Option Binding) → file_of files q.home ≡ Some file → declaration file.bindings q.name ≡ found → binding_step files q file found ≡ leads next → IsImported files q
   leads_by_binding file None is_file is e = absurd (cc)
   leads_by_binding file (Some b) is_file is e = record { file = file; b = b; is_file = is_file; is_declaration = is; is_import = leads_by_form file b.form e }
 
   -- nor does a name of a file with a fault
-  leads_by_outcome : (file : SourceFile) (outcome : Outcome) → file_of files q.home ≡ Some file → outcome_step files q file outcome ≡ leads next → IsImported files q
-  leads_by_outcome file (tree m) is_file e = leads_by_binding file (declaration file.bindings q.name) is_file refl e
-  leads_by_outcome file (fault line text) is_file e = absurd (cc)
+  leads_by_source : (file : Interface) (has_fault : Bool) → file_of files q.home ≡ Some file → source_step files q file has_fault ≡ leads next → IsImported files q
+  leads_by_source file false is_file e = leads_by_binding file (declaration file.bindings q.name) is_file refl e
+  leads_by_source file true is_file e = absurd (cc)
 
   -- nor a name of a module that no file names
-  leads_by_file : (found : Option SourceFile) → file_of files q.home ≡ found → file_step files q found ≡ leads next → IsImported files q
+  leads_by_file : (found : Option Interface) → file_of files q.home ≡ found → file_step files q found ≡ leads next → IsImported files q
   leads_by_file None is e = absurd (cc)
-  leads_by_file (Some file) is e = leads_by_outcome file file.outcome is e
+  leads_by_file (Some file) is e = leads_by_source file file.has_fault is e
 
   -- nor a name of a fixed module
   leads_by_module : (fixed : Option FixedModule) → module_step files q fixed ≡ leads next → IsImported files q
@@ -148,10 +147,10 @@ module _ (files : List SourceFile) (q next : QualifiedName) where
   ] e
 
 -- without a name that leads on, there are fewer from-imports
-open_count-lt : (files : List SourceFile) (may : QualifiedName → Bool) (q : QualifiedName) → IsImported files q → IsTrue (may q) → open_count (without may q) files < open_count may files
+open_count-lt : (files : List Interface) (may : QualifiedName → Bool) (q : QualifiedName) → IsImported files q → IsTrue (may q) → open_count (without may q) files < open_count may files
 open_count-lt files may q at it =
-    let count : (QualifiedName → Bool) → SourceFile → ℕ = λ may file. count_by (is_open may file) file.bindings in
-    let one : (QualifiedName → Bool) → SourceFile → Binding → ℕ = λ may file b. cond (is_open may file b) 1 0 in
+    let count : (QualifiedName → Bool) → Interface → ℕ = λ may file. count_by (is_open may file) file.bindings in
+    let one : (QualifiedName → Bool) → Interface → Binding → ℕ = λ may file b. cond (is_open may file b) 1 0 in
     let named : List (List ℕ) → List ℕ → QualifiedName = λ home name. record { home = home; name = name } in
     let home : at.file.name ≡ q.home = sym (same_module-is q.home at.file.name (find_passes (λ file. same_module q.home file.name) files at.file at.is_file)) in
     let name : at.b.name ≡ q.name = (bytes_eq-Decides at.b.name q.name).0 (find_passes (λ b. bytes_eq b.name q.name) at.file.bindings at.b at.is_declaration) in
@@ -169,7 +168,7 @@ abbrev ToNext : (QualifiedName → Type 0) → Step → Type 0
 ToNext holds (ends found) = ⊥
 ToNext holds (leads next) = holds next
 
-module _ (files : List SourceFile) where
+module _ (files : List Interface) where
   -- so many steps lead to a name, each from a name that may be stepped from
   abbrev Way : (QualifiedName → Bool) → ℕ → QualifiedName → QualifiedName → Type 0
   Way may zero to q = q ≡ to

@@ -6,7 +6,7 @@ use Rattle.std.proofs.lemmas.Slice.Eq.{slice_eq-Decides, bytes_eq-Decides}
 use Rattle.pyc_names.specs.Following.{QualifiedName, cycle, ends, leads, step, same_name, arrive, walk, follow, import_count, comes_to, leads_to, on_ring}
 use Rattle.pyc_names.specs.ModuleName.{same_module}
 use Rattle.pyc_names.specs.Rings.{onward, reached, IsOnRing, RingsAreCycles, RingsStayRings, ToldRingsAreRings}
-use Rattle.pyc_names.specs.SourceFiles.{SourceFile}
+use Rattle.pyc_names.specs.Interfaces.{Interface}
 
 -- ---- equal names
 
@@ -31,7 +31,7 @@ abbrev from_there : (QualifiedName → Option QualifiedName) → Option Qualifie
 from_there further None = None
 from_there further (Some q) = further q
 
-module _ (files : List SourceFile) where
+module _ (files : List Interface) where
   -- steps, and then more
   reached-add : (n m : ℕ) (q : QualifiedName) → reached (n + m) files q ≡ from_there (reached m files) (reached n files q)
   reached-add zero m q = let e : zero + m ≡ m = omega arith in ap (λ k. reached k files q) e

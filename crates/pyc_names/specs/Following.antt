@@ -2,7 +2,6 @@
 -- import statement", "Submodules").
 use Rattle.std.specs.Prelude.{ℕ, zero, suc, ◌+◌, Bool, true, false, ◌&&◌, ◌||◌, if◌then◌else◌, List, [], ◌∷◌, ◌++◌}
 use Rattle.std.specs.Prelude.{map, count_by, Option, None, Some, bytes_eq}
-use Rattle.pyc_ast.specs.Modules.{Outcome, tree, fault}
 use Rattle.pyc_bindings.specs.Bindings.{Binding, BindingForm, import, import_from}
 use Rattle.pyc_bindings.specs.Redefinitions.{declaration}
 use Rattle.pyc_names.specs.declared.fixed.FixedModule.{FixedModule}
@@ -11,7 +10,7 @@ use Rattle.pyc_names.specs.FixedModules.{fixed_module, fixed_name}
 use Rattle.pyc_names.specs.Imports.{named_module}
 use Rattle.pyc_names.specs.ModuleName.{same_module}
 use Rattle.pyc_names.specs.Presence.{is_there}
-use Rattle.pyc_names.specs.SourceFiles.{SourceFile, file_of}
+use Rattle.pyc_names.specs.Interfaces.{Interface, file_of}
 
 -- a name of a module
 pub record QualifiedName : Type 0 where
@@ -44,11 +43,11 @@ abbrev pub same_name : QualifiedName → QualifiedName → Bool
 same_name a b = same_module a.home b.home && bytes_eq a.name b.name
 
 -- whether a module is there among files
-abbrev pub has_module : List SourceFile → List (List ℕ) → Bool
+abbrev pub has_module : List Interface → List (List ℕ) → Bool
 has_module files m = is_there (map (λ file. file.name) files) m
 
 -- a module, if it is there
-abbrev pub module_referent : List SourceFile → List (List ℕ) → Referent
+abbrev pub module_referent : List Interface → List (List ℕ) → Referent
 module_referent files m = if has_module files m then module_itself m else no_module
 
 -- the module that lies under another by a name
@@ -56,38 +55,38 @@ abbrev pub submodule : QualifiedName → List (List ℕ)
 submodule q = q.home ++ (q.name ∷ [])
 
 -- a name that its module does not bind: its submodule of that name, if it is there
-abbrev pub unbound_referent : List SourceFile → QualifiedName → Referent
+abbrev pub unbound_referent : List Interface → QualifiedName → Referent
 unbound_referent files q = if has_module files (submodule q) then module_itself (submodule q) else no_name
 
 -- a from-import that leads to a name: where that is the name that it binds, the submodule stands first
-abbrev pub step_to : List SourceFile → QualifiedName → QualifiedName → Step
+abbrev pub step_to : List Interface → QualifiedName → QualifiedName → Step
 step_to files q next =
     if same_name next q && has_module files (submodule q) then ends (module_itself (submodule q)) else leads next
 
 -- a from-import of a name from a module, or from above the root
-abbrev pub import_step : List SourceFile → QualifiedName → Option (List (List ℕ)) → List ℕ → Step
+abbrev pub import_step : List Interface → QualifiedName → Option (List (List ℕ)) → List ℕ → Step
 import_step files q None name = ends no_module
 import_step files q (Some m) name = step_to files q (record { home = m; name = name })
 
 -- the step from a declaration in a file
-abbrev pub form_step : List SourceFile → QualifiedName → SourceFile → BindingForm → Step
+abbrev pub form_step : List Interface → QualifiedName → Interface → BindingForm → Step
 form_step files q file (import_from dots path name) =
     import_step files q (named_module file.is_package file.name dots path) name
 form_step files q file (import path) = ends (module_referent files path)
 form_step files q file _ = ends (declared q)
 
-abbrev pub binding_step : List SourceFile → QualifiedName → SourceFile → Option Binding → Step
+abbrev pub binding_step : List Interface → QualifiedName → Interface → Option Binding → Step
 binding_step files q file (Some b) = form_step files q file b.form
 binding_step files q file None = ends (unbound_referent files q)
 
--- the step from a name of a file: of one with a fault nothing is known
-abbrev pub outcome_step : List SourceFile → QualifiedName → SourceFile → Outcome → Step
-outcome_step files q file (tree m) = binding_step files q file (declaration file.bindings q.name)
-outcome_step files q file (fault line text) = ends opaque
+-- the step from a name of a file, by whether its source has a fault: of one that has nothing is known
+abbrev pub source_step : List Interface → QualifiedName → Interface → Bool → Step
+source_step files q file false = binding_step files q file (declaration file.bindings q.name)
+source_step files q file true = ends opaque
 
 -- the step from a name of a module that is no fixed one; one that no file names binds nothing
-abbrev pub file_step : List SourceFile → QualifiedName → Option SourceFile → Step
-file_step files q (Some file) = outcome_step files q file file.outcome
+abbrev pub file_step : List Interface → QualifiedName → Option Interface → Step
+file_step files q (Some file) = source_step files q file file.has_fault
 file_step files q None = ends (unbound_referent files q)
 
 -- what a name of a fixed module stands for
@@ -96,12 +95,12 @@ fixed_referent q (Some name) = declared q
 fixed_referent q None = fixed_any
 
 -- the step from a name of a module that is there; a file that is named as a fixed module never stands in its place
-abbrev pub module_step : List SourceFile → QualifiedName → Option FixedModule → Step
+abbrev pub module_step : List Interface → QualifiedName → Option FixedModule → Step
 module_step files q (Some fixed) = ends (fixed_referent q (fixed_name fixed q.name))
 module_step files q None = file_step files q (file_of files q.home)
 
 -- the step from a name
-unfoldable pub step : List SourceFile → QualifiedName → Step
+unfoldable pub step : List Interface → QualifiedName → Step
 step files q =
     if has_module files q.home then module_step files q (fixed_module q.home) else ends no_module
 
@@ -113,7 +112,7 @@ is_import_from (import_from dots path name) = true
 is_import_from _ = false
 
 -- how many from-imports stand at the top level of files
-abbrev pub import_count : List SourceFile → ℕ
+abbrev pub import_count : List Interface → ℕ
 import_count [] = 0
 import_count (file ∷ files) = count_by (λ b. is_import_from b.form) file.bindings + import_count files
 
@@ -123,12 +122,12 @@ arrive further (ends found) = found
 arrive further (leads next) = further next
 
 -- what a name stands for where at most so many steps are made: a cycle if they do not end
-abbrev pub walk : ℕ → List SourceFile → QualifiedName → Referent
+abbrev pub walk : ℕ → List Interface → QualifiedName → Referent
 walk zero files q = cycle
 walk (suc n) files q = arrive (walk n files) (step files q)
 
 -- what a name stands for: there is a step for each from-import, and a last one
-unfoldable pub follow : List SourceFile → QualifiedName → Referent
+unfoldable pub follow : List Interface → QualifiedName → Referent
 follow files q = walk (suc (import_count files)) files q
 
 -- whether a step leads to a name, or a name that it leads to does so further on
@@ -137,10 +136,10 @@ comes_to further to (ends found) = false
 comes_to further to (leads next) = same_name next to || further next
 
 -- whether at most so many steps from a name lead to another
-abbrev pub leads_to : ℕ → List SourceFile → QualifiedName → QualifiedName → Bool
+abbrev pub leads_to : ℕ → List Interface → QualifiedName → QualifiedName → Bool
 leads_to zero files to q = false
 leads_to (suc n) files to q = comes_to (leads_to n files to) to (step files q)
 
 -- whether a name is on a ring: following it comes back to it
-unfoldable pub on_ring : List SourceFile → QualifiedName → Bool
+unfoldable pub on_ring : List Interface → QualifiedName → Bool
 on_ring files q = leads_to (import_count files) files q q

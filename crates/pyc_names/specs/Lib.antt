@@ -1,9 +1,12 @@
 pub mod ModuleName
+pub mod ModuleHash
 pub mod FixedModules
 pub mod Imports
 pub mod Presence
 pub mod SourceFiles
 pub mod SourceFileView
+pub mod Interfaces
+pub mod InterfaceView
 pub mod Following
 pub mod Rings
 pub mod FollowingView

@@ -1,13 +1,13 @@
 -- Files as names see them: the module of each, and what its top level binds (Python reference 3.13, "The import
 -- system", "Naming and binding").
-use Rattle.std.specs.Prelude.{ℕ, Bool, nat_eq, codes, is_some, if◌then◌else◌, List, [], Option, None, Some}
-use Rattle.std.specs.List.{ends_with, find}
+use Rattle.std.specs.Prelude.{ℕ, Bool, nat_eq, codes, is_some, if◌then◌else◌, List, []}
+use Rattle.std.specs.List.{ends_with}
 use Rattle.pyc_ast.specs.Modules.{Outcome, tree, fault}
 use Rattle.pyc_bindings.specs.Bindings.{Binding, bindings_of}
 use Rattle.pyc_bindings.specs.Redefinitions.{Redefinition, redefinitions}
 use Rattle.pyc_members.specs.DeclaredClasses.{DeclaredClass, declared_classes}
 use Rattle.pyc_names.specs.FixedModules.{fixed_module}
-use Rattle.pyc_names.specs.ModuleName.{module_of, same_module}
+use Rattle.pyc_names.specs.ModuleName.{module_of}
 
 -- a file: its path, the module that it is, whether it is the `__init__.py` of a package, what its source is, the
 -- bindings of its top level in text order, the names that they define again, and the classes that it declares
@@ -48,7 +48,3 @@ source_file path outcome =
       again = redefinitions (top_bindings outcome);
       classes = classes_in (module_of path) (top_bindings outcome) outcome;
     }
-
--- the file that names a module
-abbrev pub file_of : List SourceFile → List (List ℕ) → Option SourceFile
-file_of files m = find (λ file. same_module m file.name) files

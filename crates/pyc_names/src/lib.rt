@@ -5,6 +5,7 @@ mod fixed;
 mod imports;
 pub mod laws;
 mod module_name;
+mod outer_modules;
 mod presence;
 mod qualified_name;
 mod source_file;

@@ -6,6 +6,7 @@ ghost use Rattle.pyc_names.specs.ModuleName.{is_slash, stem, spelled_parts, modu
 
 use pyc_ast::Text;
 use std::alloc::{AllocError, Global};
+use std::hash::{Hash, Hasher};
 use std::marker::Model;
 
 /// The name of a module. Contracts see its parts in Normalization Form KC, those of its folders first.
@@ -76,6 +77,18 @@ impl Eq for ModuleName {
     ghost use Rattle.std.proofs.Common.{rules};
 
     ghost laws = { Prim.search (comparing, rules) };
+}
+
+impl Hash for ModuleName {
+    ghost use Rattle.pyc_names.specs.ModuleHash.{module_input, same_module_fed};
+
+    ghost hash_input = { module_input };
+
+    ghost respects_eq = { same_module_fed };
+
+    fn hash<H: Hasher>(&self, state: &mut H) {
+        self.parts.as_slice().hash(state);
+    }
 }
 
 /// The parts of the module that a path names, as they are spelled.

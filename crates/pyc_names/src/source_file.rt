@@ -97,6 +97,7 @@ impl Drop for SourceFile {
 }
 
 impl SourceFile {
+    ghost use Rattle.pyc_names.specs.InterfaceView.{interface_in};
     ghost use Rattle.pyc_names.specs.SourceFileView.{source_in};
 
     /// The file of a path, of the module that the path names, whose source is this. The only error is that memory runs
@@ -149,6 +150,13 @@ impl SourceFile {
         ensures { outcome_of result.now ≡ (source_in self.now).outcome }
     {
         &self.outcome
+    }
+
+    /// Whether the file's source has a fault.
+    pub fn has_fault(&self) -> bool
+        ensures { result ≡ (interface_in self.now).has_fault }
+    {
+        matches!(self.outcome, Outcome::Fault(_))
     }
 
     /// The bindings of the file's top level, in text order; a file with a fault has none.

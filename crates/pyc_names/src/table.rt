@@ -8,18 +8,21 @@ ghost use Rattle.pyc_names.specs.Following as spec;
 ghost use Rattle.pyc_names.specs.Following.{import_count};
 ghost use Rattle.pyc_names.specs.FollowingView.{qualified_of, referent_of, step_of};
 ghost use Rattle.pyc_names.specs.Presence.{is_within};
-ghost use Rattle.pyc_names.specs.SourceFiles.{file_of};
+ghost use Rattle.pyc_names.specs.Interfaces.{file_of};
+ghost use Rattle.pyc_names.specs.InterfaceView.{interface_in, interfaces_in};
 ghost use Rattle.pyc_names.specs.ModuleName.{same_module};
 ghost use Rattle.indexmap.specs.IndexMap.{get_by};
-ghost use Rattle.pyc_names.specs.SourceFileView.{source_in, sources_in};
+ghost use Rattle.indexmap.specs.IndexSet.{contains_by};
+ghost use Rattle.pyc_names.specs.SourceFileView.{sources_in};
 
 use crate::fixed::{FixedName, fixed_module, fixed_name};
 use crate::imports::{joined, named_module};
 use crate::module_name::ModuleName;
+use crate::outer_modules::outer_modules;
 use crate::qualified_name::{QualifiedName, Referent, Step};
 use crate::source_file::SourceFile;
-use indexmap::IndexMap;
-use pyc_ast::{Outcome, Text};
+use indexmap::{IndexMap, IndexSet};
+use pyc_ast::Text;
 use pyc_bindings::{Binding, BindingForm};
 use std::alloc::{AllocError, Global};
 use std::rc::Rc;
@@ -31,15 +34,19 @@ pub struct Table {
     files: Vec<Rc<SourceFile>>,
     /// The index of the file that each module is.
     places: IndexMap<Vec<Text>, usize>,
+    /// The modules that the files name or lie under.
+    outer: IndexSet<Vec<Text>>,
     /// How many steps following takes at most: one for each from-import at the top level of the files, and a last one.
     steps: u128,
     ghost places_are: { (m : List (List ℕ)) → get_by (λ parts. same_module m parts.items) places
-        ≡ position_from (λ file. same_module m file.name) 0 (sources_in files.items) },
-    ghost steps_is: { steps ≡ suc (import_count (sources_in files.items)) },
+        ≡ position_from (λ file. same_module m file.name) 0 (interfaces_in files.items) },
+    ghost outer_are: { (m : List (List ℕ)) → contains_by (λ parts. same_module m parts.items) outer
+        ≡ list_any (is_within m) (map (λ file. file.name) (interfaces_in files.items)) },
+    ghost steps_is: { steps ≡ suc (import_count (interfaces_in files.items)) },
 }
 
 impl Table {
-    ghost use Rattle.pyc_names.specs.TableView.{table_in};
+    ghost use Rattle.pyc_names.specs.TableView.{table_in, table_interfaces};
 
     /// The table of these files, which it shares. The only error is that memory runs out.
     pub fn build(alloc: Global, files: &[Rc<SourceFile>]) -> Result<Table, AllocError>
@@ -51,6 +58,7 @@ impl Table {
         }
         Ok(Table {
             places: places_of(alloc, &shared)?,
+            outer: outer_modules(alloc, &shared)?,
             steps: count_imports(&shared) + 1,
             files: shared,
         })
@@ -66,17 +74,14 @@ impl Table {
     /// Whether the module with these parts is there: the root, a fixed one, or one that a file names or lies under. It
     /// takes no memory.
     pub fn has_module(&self, parts: &[Text]) -> bool
-        ensures { result ≡ spec.has_module (table_in self.now) parts.now }
+        ensures { result ≡ spec.has_module (table_interfaces self.now) parts.now }
     {
-        if self.places.get(parts).is_some() {
-            return true;
-        }
-        parts.is_empty() || fixed_module(parts).is_some() || is_above_a_file(&self.files, parts)
+        parts.is_empty() || fixed_module(parts).is_some() || self.outer.contains(parts)
     }
 
     /// The file that is the module with these parts. It takes no memory.
     pub fn file(&self, parts: &[Text]) -> Option<&SourceFile>
-        ensures { option_map (λ file. source_in file.now) result ≡ file_of (table_in self.now) parts.now }
+        ensures { option_map (λ file. interface_in file.now) result ≡ file_of (table_interfaces self.now) parts.now }
     {
         match self.places.get(parts) {
             Some(place) => Some(&self.files[*place]),
@@ -87,7 +92,8 @@ impl Table {
     /// What a name stands for. The only error is that memory runs out.
     #[tactic(auto, unfolding(crate::specs::Following::follow))]
     pub fn follow(&self, alloc: Global, q: &QualifiedName) -> Result<Referent, AllocError>
-        ensures { IfOk result (λ found. referent_of found ≡ spec.follow (table_in self.now) (qualified_of q.now)) }
+        ensures { IfOk result (λ found. referent_of found
+            ≡ spec.follow (table_interfaces self.now) (qualified_of q.now)) }
     {
         let mut at = q.clone()?;
         for turn in 0..self.steps {
@@ -102,7 +108,7 @@ impl Table {
     /// Whether a name is on a ring: following it comes back to it. The only error is that memory runs out.
     #[tactic(auto, unfolding(crate::specs::Following::on_ring))]
     pub fn is_on_ring(&self, alloc: Global, q: &QualifiedName) -> Result<bool, AllocError>
-        ensures { IfOk result (λ found. found ≡ spec.on_ring (table_in self.now) (qualified_of q.now)) }
+        ensures { IfOk result (λ found. found ≡ spec.on_ring (table_interfaces self.now) (qualified_of q.now)) }
     {
         let mut at = q.clone()?;
         for turn in 1..self.steps {
@@ -120,7 +126,7 @@ impl Table {
     /// The step from a name.
     #[tactic(auto, unfolding(crate::specs::Following::step))]
     fn step(&self, alloc: Global, q: &QualifiedName) -> Result<Step, AllocError>
-        ensures { IfOk result (λ found. step_of found ≡ spec.step (table_in self.now) (qualified_of q.now)) }
+        ensures { IfOk result (λ found. step_of found ≡ spec.step (table_interfaces self.now) (qualified_of q.now)) }
     {
         if !self.has_module(q.home.parts()) {
             return Ok(Step::Ends(Referent::NoModule));
@@ -131,7 +137,7 @@ impl Table {
     /// The step from a name of a module that is there.
     fn module_step(&self, alloc: Global, q: &QualifiedName) -> Result<Step, AllocError>
         ensures { IfOk result (λ found. step_of found
-            ≡ spec.module_step (table_in self.now) (qualified_of q.now) (fixed_module_of q.now.home)) }
+            ≡ spec.module_step (table_interfaces self.now) (qualified_of q.now) (fixed_module_of q.now.home)) }
     {
         match fixed_module(q.home.parts()) {
             Some(fixed) => Ok(Step::Ends(fixed_referent(q, fixed_name(fixed, q.name.as_str()))?)),
@@ -142,29 +148,30 @@ impl Table {
     /// The step from a name of a module that is no fixed one.
     fn file_step(&self, alloc: Global, q: &QualifiedName) -> Result<Step, AllocError>
         ensures { IfOk result (λ found. step_of found
-            ≡ spec.file_step (table_in self.now) (qualified_of q.now) (file_of (table_in self.now) q.now.home)) }
+            ≡ spec.file_step (table_interfaces self.now) (qualified_of q.now)
+            (file_of (table_interfaces self.now) q.now.home)) }
     {
         match self.file(q.home.parts()) {
-            Some(file) => self.outcome_step(alloc, q, file),
+            Some(file) => self.source_step(alloc, q, file),
             None => Ok(Step::Ends(self.unbound_referent(alloc, q)?)),
         }
     }
 
     /// The step from a name of a file.
-    fn outcome_step(
+    fn source_step(
         &self,
         alloc: Global,
         q: &QualifiedName,
         file: &SourceFile,
     ) -> Result<Step, AllocError>
         ensures { IfOk result (λ found. step_of found
-            ≡ spec.outcome_step (table_in self.now) (qualified_of q.now) (source_in file.now)
-            (source_in file.now).outcome) }
+            ≡ spec.source_step (table_interfaces self.now) (qualified_of q.now) (interface_in file.now)
+            (interface_in file.now).has_fault) }
     {
-        match file.outcome() {
-            Outcome::Tree(_) => self.binding_step(alloc, q, file, file.declaration(&q.name)),
-            Outcome::Fault(_) => Ok(Step::Ends(Referent::Opaque)),
+        if file.has_fault() {
+            return Ok(Step::Ends(Referent::Opaque));
         }
+        self.binding_step(alloc, q, file, file.declaration(&q.name))
     }
 
     /// The step from a name of a file with this declaration.
@@ -176,7 +183,7 @@ impl Table {
         found: Option<&Binding>,
     ) -> Result<Step, AllocError>
         ensures { IfOk result (λ step. step_of step
-            ≡ spec.binding_step (table_in self.now) (qualified_of q.now) (source_in file.now)
+            ≡ spec.binding_step (table_interfaces self.now) (qualified_of q.now) (interface_in file.now)
             (option_map (λ b. binding_of b.now) found.entry)) }
     {
         match found {
@@ -194,7 +201,8 @@ impl Table {
         form: &BindingForm,
     ) -> Result<Step, AllocError>
         ensures { IfOk result (λ found. step_of found
-            ≡ spec.form_step (table_in self.now) (qualified_of q.now) (source_in file.now) (binding_form_of form.now)) }
+            ≡ spec.form_step (table_interfaces self.now) (qualified_of q.now) (interface_in file.now)
+            (binding_form_of form.now)) }
     {
         match form {
             BindingForm::ImportFrom(from, name) => {
@@ -226,7 +234,7 @@ impl Table {
         name: &Text,
     ) -> Result<Step, AllocError>
         ensures { IfOk result (λ found. step_of found
-            ≡ spec.import_step (table_in self.now) (qualified_of q.now) home name.now) }
+            ≡ spec.import_step (table_interfaces self.now) (qualified_of q.now) home name.now) }
     {
         match home {
             Some(home) => self.step_to(
@@ -249,7 +257,7 @@ impl Table {
         next: QualifiedName,
     ) -> Result<Step, AllocError>
         ensures { IfOk result (λ found. step_of found
-            ≡ spec.step_to (table_in self.now) (qualified_of q.now) (qualified_of next)) }
+            ≡ spec.step_to (table_interfaces self.now) (qualified_of q.now) (qualified_of next)) }
     {
         if next.is_same(q) {
             let under = joined(alloc, q.home.parts(), slice::from_ref(&q.name))?;
@@ -263,7 +271,7 @@ impl Table {
     /// What a name that its module does not bind stands for.
     fn unbound_referent(&self, alloc: Global, q: &QualifiedName) -> Result<Referent, AllocError>
         ensures { IfOk result (λ found. referent_of found
-            ≡ spec.unbound_referent (table_in self.now) (qualified_of q.now)) }
+            ≡ spec.unbound_referent (table_interfaces self.now) (qualified_of q.now)) }
     {
         let under = joined(alloc, q.home.parts(), slice::from_ref(&q.name))?;
         if self.has_module(under.parts()) {
@@ -275,7 +283,8 @@ impl Table {
 
     /// The module with these parts, if it is there.
     fn module_referent(&self, alloc: Global, parts: &[Text]) -> Result<Referent, AllocError>
-        ensures { IfOk result (λ found. referent_of found ≡ spec.module_referent (table_in self.now) parts.now) }
+        ensures { IfOk result (λ found. referent_of found
+            ≡ spec.module_referent (table_interfaces self.now) parts.now) }
     {
         if self.has_module(parts) {
             Ok(Referent::Module(joined(alloc, &[], parts)?))
@@ -295,25 +304,13 @@ fn fixed_referent(q: &QualifiedName, found: Option<FixedName>) -> Result<Referen
     }
 }
 
-/// Whether a file names the module with these parts or lies under it.
-fn is_above_a_file(files: &[Rc<SourceFile>], parts: &[Text]) -> bool
-    ensures { result ≡ list_any (is_within parts.now) (map (λ file. file.name) (sources_in files.now)) }
-{
-    for file in files {
-        if file.name().parts().starts_with(parts) {
-            return true;
-        }
-    }
-    false
-}
-
 /// The index of the file that each module is, which is the first that names it.
 fn places_of(
     alloc: Global,
     files: &[Rc<SourceFile>],
 ) -> Result<IndexMap<Vec<Text>, usize>, AllocError>
     ensures { IfOk result (λ places. (m : List (List ℕ)) → get_by (λ parts. same_module m parts.items) places
-        ≡ position_from (λ file. same_module m file.name) 0 (sources_in files.now)) }
+        ≡ position_from (λ file. same_module m file.name) 0 (interfaces_in files.now)) }
 {
     let mut places = IndexMap::new(alloc);
     let mut left = files.len();
@@ -327,7 +324,7 @@ fn places_of(
 
 /// How many from-imports stand at the top level of files.
 fn count_imports(files: &[Rc<SourceFile>]) -> u128
-    ensures counted { result ≡ spec.import_count (sources_in files.now) }
+    ensures counted { result ≡ spec.import_count (interfaces_in files.now) }
     ensures fits { result + 1 < 2 ^ 128 }
 {
     let mut count = 0u128;

@@ -9,9 +9,12 @@ use Rattle.pyc_class.specs.Order.{Order, Orders, is_unknown, order_contains}
 use Rattle.pyc_narrowing.specs.SplitStates.{States, instance_states, narrowed_state}
 use Rattle.pyc_narrowing.specs.Splitting.{instance_test}
 use Rattle.pyc_obligations.proofs.Asked.{run_two}
-use Rattle.pyc_obligations.proofs.Known.{AgreeEach, after, after_agrees, agree_left, agree_right, keeps, run_known}
-use Rattle.pyc_obligations.specs.Asking.{orders_at, orders_by}
-use Rattle.pyc_obligations.specs.Judging.{written, row_written, classes_asked, known_after}
+use Rattle.pyc_obligations.proofs.Known.{after, after_agrees, keeps, run_known}
+use Rattle.pyc_reading.proofs.OwingLemmas.{AgreeEach, each_left, each_right}
+use Rattle.pyc_obligations.specs.Asking.{orders_at}
+use Rattle.pyc_reading.specs.Owing.{orders_by}
+use Rattle.pyc_obligations.specs.Judging.{classes_asked, known_after}
+use Rattle.pyc_reading.specs.Owing.{written, row_written}
 use Rattle.pyc_places.specs.Places.{Place}
 use Rattle.pyc_places.specs.States.{State}
 use Rattle.pyc_reading.proofs.RunLemmas.{run_then}
@@ -57,8 +60,8 @@ mutual
   row_agrees : (o p : Orders) (xs : Tys) → AgreeBuiltins o p → AgreeEach o p (row_written xs) → AgreeItems o p (row_items xs)
   row_agrees o p nil b h = tt
   row_agrees o p (cons x xs) b h =
-      both_agree o p (items_of x) (row_items xs) (items_agree o p x b (agree_left o p (written x) (row_written xs) h))
-      (row_agrees o p xs b (agree_right o p (written x) (row_written xs) h))
+      both_agree o p (items_of x) (row_items xs) (items_agree o p x b (each_left o p (written x) (row_written xs) h))
+      (row_agrees o p xs b (each_right o p (written x) (row_written xs) h))
 
 -- ---- what a test leaves
 
@@ -129,6 +132,6 @@ tested_done s place ty classes d middle e states first second answers is =
     let builtins : AgreeBuiltins known (orders_at d) = λ c. keeps cs builtin_orders d.answers (builtin c) refl in
     run_then (known_after cs builtin_orders) (λ orders. Done (instance_states orders s place ty classes)) d
     ∙ ap (λ (found : Orders × Desk). run (Done (instance_states found.0 s place ty classes)) found.1) (run_known cs builtin_orders d)
-    ∙ ap (λ (found : States). (found, (run (classes_asked cs) d).1)) (same_states known (orders_at d) s place ty classes builtins (agree_left known (orders_at d) (written ty) classes agree) (agree_right known (orders_at d) (written ty) classes agree))
+    ∙ ap (λ (found : States). (found, (run (classes_asked cs) d).1)) (same_states known (orders_at d) s place ty classes builtins (each_left known (orders_at d) (written ty) classes agree) (each_right known (orders_at d) (written ty) classes agree))
     ∙ ap (λ (found : Unit × Desk). (instance_states (orders_at d) s place ty classes, found.1)) (run_two (written ty) classes d middle first ∙ second)
     ∙ ap (λ (found : States). (found, e)) (ap (λ a. instance_states (orders_by a) s place ty classes) (sym answers) ∙ sym is)

@@ -22,7 +22,8 @@ use Rattle.pyc_class.specs.Class.{Id}
 use Rattle.pyc_names.specs.declared.fixed.FixedName.TheVariants as fixed
 use Rattle.pyc_narrowing.specs.SplitStates.{States, unchanged, always, literal_states, truth_states, none_states}
 use Rattle.pyc_narrowing.specs.SplitStates.{instance_states, swapped, in_sense, and_states, or_states}
-use Rattle.pyc_obligations.specs.Judging.{written, known_after}
+use Rattle.pyc_obligations.specs.Judging.{known_after}
+use Rattle.pyc_reading.specs.Owing.{written}
 use Rattle.pyc_obligations.specs.Quiet.{quiet}
 use Rattle.pyc_obligations.specs.Values.{Thing, Value, fixed_thing, isinstance_thing}
 use Rattle.pyc_places.specs.Places.{Place, place_of}

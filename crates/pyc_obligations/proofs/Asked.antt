@@ -1,7 +1,8 @@
 -- Asking classes one after another.
 use Rattle.std.proofs.Common.{◌≡◌, ℕ, suc, ◌+◌, ◌<◌, List, [], ◌∷◌, ◌++◌, drop, length, get_or, add-one, drop-cons, refl, sym, ap, ◌∙◌, subst, IfOk}
 use Rattle.pyc_class.specs.Class.{Id, builtin, user}
-use Rattle.pyc_obligations.specs.Judging.{class_asked, classes_asked, written, row_written, listed_written}
+use Rattle.pyc_obligations.specs.Judging.{class_asked, classes_asked}
+use Rattle.pyc_reading.specs.Owing.{written, row_written, listed_written}
 use Rattle.std.specs.declared.alloc.AllocError.{AllocError}
 use Rattle.std.specs.declared.result.Result.{Result}
 use Rattle.pyc_reading.proofs.RunLemmas.{run_then, grown_trans}

@@ -1,13 +1,16 @@
 -- Readings of which nothing is told, performed.
-use Rattle.std.proofs.Common.{◌≡◌, ℕ, Bool, true, false, ◌||◌, not, List, [], ◌∷◌, ◌++◌, length, nat_lt, refl, sym, ap, ◌∙◌, append-nil, length-append, arith}
+use Rattle.std.proofs.Common.{◌≡◌, Bool, true, false, ◌||◌, not, List, [], ◌∷◌, ◌++◌, length, nat_lt, refl, sym, ap, ◌∙◌, append-nil, length-append, arith}
 use Rattle.std.proofs.lemmas.Bool.{le-ltb, lt-ltb}
 use Rattle.std.proofs.Math.Nat.{le_refl}
 use Rattle.std.proofs.Math.Seq.{take-append_seam}
 use Rattle.pyc_obligations.specs.Asking.{first_messages}
-use Rattle.pyc_obligations.specs.Quiet.{Heard, quiet, quiet_after}
-use Rattle.pyc_reading.proofs.RunLemmas.{runs_are_folds}
-use Rattle.pyc_reading.specs.Desks.{Step, Desk, run, noted, with_keys, desk_after}
-use Rattle.pyc_reading.specs.Readings.{Done, Ask, Tell, result_of, told, asked}
+use Rattle.pyc_obligations.specs.Quiet.{quiet, quiet_after}
+use Rattle.pyc_obligations.proofs.OwingLemmas.{all_hold, run_row}
+use Rattle.pyc_obligations.specs.Judging.{row_judged}
+use Rattle.pyc_reading.proofs.RunLemmas.{run_then, runs_are_folds, with_keys-append}
+use Rattle.pyc_reading.specs.Desks.{Step, Desk, run, noted, all_noted, with_keys, desk_after}
+use Rattle.pyc_reading.specs.Owing.{row_keys, row_told}
+use Rattle.pyc_reading.specs.Readings.{Done, Ask, Tell, Owe, result_of, told, asked}
 use Rattle.pyc_report.specs.Message.{Message}
 
 -- whether some messages are there
@@ -27,15 +30,29 @@ or_nothing : (b : Bool) → b || false ≡ b
 or_nothing true = refl
 or_nothing false = refl
 
+there_after : (b : Bool) (xs ys : List Message) → (b || not (all_hold xs)) || are_there ys ≡ b || are_there (xs ++ ys)
+there_after true [] ys = refl
+there_after true (x ∷ xs) ys = refl
+there_after false [] ys = refl
+there_after false (x ∷ xs) ys = refl
+
 -- what it comes to
 pub run_quiet_after : {A : Type 0} (b : Bool) (r : Step A) (d : Desk)
     → run (quiet_after b r) d ≡ (record { result = result_of d.answers r; is_told = b || are_there (told d.answers r) }, quiet_desk r d)
 unfolding quiet_after
 run_quiet_after b (Done a) d = ap (λ told. (record { result = a; is_told = told }, d)) (sym (or_nothing b))
 run_quiet_after b (Ask key go) d = run_quiet_after b (go (d.answers key)) (noted d key)
-run_quiet_after b (Tell message rest) d =
+run_quiet_after b (Tell remark rest) d =
     run_quiet_after true rest d
     ∙ ap (λ told. (record { result = result_of d.answers rest; is_told = told }, quiet_desk rest d)) (sym (or_there b))
+run_quiet_after b (Owe row rest) d =
+    run_then (row_judged row) (λ goes. quiet_after (b || not goes) rest) d
+    ∙ ap (λ (found : Bool × Desk). run (quiet_after (b || not found.0) rest) found.1) (run_row row d)
+    ∙ run_quiet_after (b || not (all_hold (row_told d.answers row))) rest (all_noted d (row_keys row))
+    ∙ (λ i. (
+      record { result = result_of d.answers rest; is_told = there_after b (row_told d.answers row) (told d.answers rest) i },
+      record { answers = d.answers; keys = sym (with_keys-append d.keys (row_keys row) (asked d.answers rest)) i; messages = d.messages },
+    ))
 
 -- a row is longer with some messages behind it
 longer : (xs ys : List Message) → nat_lt (length xs) (length (xs ++ ys)) ≡ are_there ys

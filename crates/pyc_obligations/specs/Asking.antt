@@ -4,24 +4,13 @@ use Rattle.std.specs.Prelude.{ℕ, Bool, List, Option, None, take}
 use Rattle.pyc_builtins.specs.Orders.{builtin_orders}
 use Rattle.pyc_class.specs.Class.{Id, builtin, user}
 use Rattle.pyc_class.specs.Order.{Order, Orders, is_unknown}
-use Rattle.pyc_classes.specs.ClassOrders.{undeclared}
 use Rattle.pyc_names.specs.Following.{QualifiedName}
-use Rattle.pyc_reading.specs.Answers.{Answer, MemberAnswer, NameAnswer, name_is, order_is, member_is, unknown}
+use Rattle.pyc_reading.specs.Answers.{Answer, MemberAnswer, NameAnswer, name_is, member_is, unknown}
 use Rattle.pyc_reading.specs.Desks.{Step, Desk}
-use Rattle.pyc_reading.specs.Keys.{Key}
 use Rattle.pyc_reading.specs.Keys as key
-use Rattle.pyc_reading.specs.Readings.{Done, Ask, and_then}
+use Rattle.pyc_reading.specs.Owing.{order_in, orders_by}
+use Rattle.pyc_reading.specs.Readings.{Done, Ask}
 use Rattle.pyc_type_forms.specs.Types.{any}
-
--- the order that an answer tells
-abbrev pub order_in : Answer → Order
-order_in (order_is found) = found
-order_in _ = undeclared
-
--- the orders of classes, as answers tell them
-abbrev pub orders_by : (Key → Answer) → Orders
-orders_by answers (builtin c) = builtin_orders (builtin c)
-orders_by answers (user m x) = order_in (answers (key.class (user m x)))
 
 -- the orders of classes at a desk
 abbrev pub orders_at : Desk → Orders
@@ -55,6 +44,6 @@ name_in _ = record { kind = unknown; ty = any }
 abbrev pub asked_name : QualifiedName → Step NameAnswer
 asked_name q = Ask (key.name q) (λ answer. Done (name_in answer))
 
--- a desk at which the messages after so many were taken back
+-- a desk at which all messages but the first `count` were taken back
 abbrev pub first_messages : ℕ → Desk → Desk
 first_messages count desk = record { answers = desk.answers; keys = desk.keys; messages = take count desk.messages }

@@ -1,44 +1,16 @@
 -- Whether a type is assignable to another, by the orders of the classes that are written in both, each of which is
 -- asked (typing specification, "Type system concepts").
-use Rattle.std.specs.Prelude.{ℕ, Bool, if◌then◌else◌, List, [], ◌∷◌, ◌++◌}
+use Rattle.std.specs.Prelude.{Bool, true, ◌&&◌, if◌then◌else◌, List, [], ◌∷◌, ◌++◌}
 use Rattle.pyc_builtins.specs.Orders.{builtin_orders}
 use Rattle.pyc_class.specs.Class.{Id, builtin, user, same_class}
 use Rattle.pyc_class.specs.Order.{Order, Orders}
 use Rattle.pyc_obligations.specs.Asking.{class_order}
 use Rattle.pyc_reading.specs.Desks.{Step}
 use Rattle.pyc_reading.specs.Keys as key
-use Rattle.pyc_reading.specs.Readings.{Done, Ask, and_then, each}
-use Rattle.pyc_type_forms.specs.Types.{Ty, Tys, Params, Listed, any, none, module_type, instance, class_object}
-use Rattle.pyc_type_forms.specs.Types.{list, dict, tuple, tuple_of, union, callable, nil, cons, dots, listed, no_param}
-use Rattle.pyc_type_forms.specs.Types.{param}
+use Rattle.pyc_reading.specs.Owing.{Obligation, Detail, written}
+use Rattle.pyc_reading.specs.Readings.{Done, Ask, and_then, each, ◌>>=◌}
+use Rattle.pyc_type_forms.specs.Types.{Ty}
 use Rattle.pyc_types.specs.Ways.{assignable}
-
-abbrev mutual
-  -- the classes that are written in a type, in the order in which they are written
-  pub written : Ty → List Id
-  written any = []
-  written none = []
-  written (module_type m) = []
-  written (instance c) = c ∷ []
-  written (class_object c) = c ∷ []
-  written (list x) = written x
-  written (dict k v) = written k ++ written v
-  written (tuple xs) = row_written xs
-  written (tuple_of x) = written x
-  written (union xs) = row_written xs
-  written (callable ps r) = params_written ps ++ written r
-
-  pub row_written : Tys → List Id
-  row_written nil = []
-  row_written (cons x xs) = written x ++ row_written xs
-
-  pub params_written : Params → List Id
-  params_written dots = []
-  params_written (listed ps) = listed_written ps
-
-  pub listed_written : Listed → List Id
-  listed_written no_param = []
-  listed_written (param slot x ps) = written x ++ listed_written ps
 
 -- to ask the order of a class
 abbrev pub class_asked : Id → Step (Unit {0})
@@ -60,5 +32,22 @@ known_after (c ∷ rest) orders = and_then (class_order c) (λ order. known_afte
 
 -- whether a type is assignable to another
 unfoldable pub judged : Ty → Ty → Step Bool
-judged got want =
-    and_then (known_after (written got ++ written want) builtin_orders) (λ orders. Done (assignable orders got want))
+judged got want = do
+  orders ← known_after (written got ++ written want) builtin_orders
+  Done (assignable orders got want)
+
+-- to ask the classes by which details are known
+abbrev pub detail_asked : Detail → Step (Unit {0})
+detail_asked detail = classes_asked (written detail.got ++ written detail.want)
+
+abbrev pub details_asked : List Detail → Step (Unit {0})
+details_asked = each detail_asked
+
+-- whether all obligations of a row hold
+unfoldable pub row_judged : List Obligation → Step Bool
+row_judged [] = Done true
+row_judged (o ∷ rest) = do
+  goes ← judged o.got o.want
+  asked ← details_asked o.details
+  others ← row_judged rest
+  Done (goes && others)

@@ -1,11 +1,12 @@
--- What an obligation tells.
-use Rattle.std.specs.Prelude.{◌≡◌, [], ◌∷◌, ◌↔◌}
-use Rattle.pyc_obligations.specs.Asking.{orders_by}
-use Rattle.pyc_obligations.specs.Telling.{owed}
+-- What an obligation tells, and what comes of a test of assignability.
+use Rattle.std.specs.Prelude.{◌≡◌, [], ◌∷◌, ◌↔◌, IsTrue}
+use Rattle.pyc_obligations.specs.Judging.{judged}
 use Rattle.pyc_reading.specs.Answers.{Answer}
+use Rattle.pyc_reading.specs.Desks.{owed}
 use Rattle.pyc_reading.specs.Keys.{Key}
-use Rattle.pyc_reading.specs.Readings.{told}
-use Rattle.pyc_report.specs.Message.{Message}
+use Rattle.pyc_reading.specs.Listings.{Holds}
+use Rattle.pyc_reading.specs.Owing.{Obligation, orders_by, message_by}
+use Rattle.pyc_reading.specs.Readings.{result_of, told}
 use Rattle.pyc_type_forms.specs.Types.{Ty}
 use Rattle.pyc_types.specs.Assignable.{Assignable}
 
@@ -13,6 +14,12 @@ use Rattle.pyc_types.specs.Assignable.{Assignable}
 -- other, by the orders that are answered
 abbrev pub ToldWhereNotAssignable : Type 0
 ToldWhereNotAssignable =
-    (answers : Key → Answer) (got want : Ty) (message : Message)
-    → ((told answers (owed got want message) ≡ []) ↔ Assignable (orders_by answers) got want)
-    × ((told answers (owed got want message) ≡ message ∷ []) ↔ (Assignable (orders_by answers) got want → ⊥))
+    (answers : Key → Answer) (o : Obligation)
+    → ((told answers (owed o) ≡ []) ↔ Holds answers o)
+    × ((told answers (owed o) ≡ message_by (orders_by answers) o ∷ []) ↔ (Holds answers o → ⊥))
+
+-- a type is judged to be assignable exactly where the written rules lead, by the orders that are answered
+abbrev pub JudgedAsWritten : Type 0
+JudgedAsWritten =
+    (answers : Key → Answer) (got want : Ty)
+    → IsTrue (result_of answers (judged got want)) ↔ Assignable (orders_by answers) got want

@@ -6,6 +6,7 @@ ghost use Rattle.pyc_names.specs.FollowingView.{qualified_of};
 ghost use Rattle.pyc_obligations.specs.Asking as spec;
 ghost use Rattle.pyc_reading.specs.AnswerView.{answer_in, member_answer_of, name_answer_of};
 ghost use Rattle.pyc_reading.specs.Desks.{Performs};
+ghost use Rattle.pyc_reading.specs.Owing.{order_in};
 
 use crate::judging::Judge;
 use pyc_ast::Text;
@@ -33,7 +34,7 @@ pub fn is_unknown_class<N: Judge>(
 
 /// Whether the order that an answer tells is not known.
 fn is_unknown_in(answer: &Answer) -> bool
-    ensures { result ≡ is_unknown (spec.order_in (answer_in answer.now)) }
+    ensures { result ≡ is_unknown (order_in (answer_in answer.now)) }
 {
     match answer {
         Answer::Order(order) => order.unknown.is_some(),

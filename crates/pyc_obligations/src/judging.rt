@@ -5,8 +5,10 @@ ghost use Rattle.pyc_class.specs.Order.{order_of};
 ghost use Rattle.pyc_obligations.specs.Asking.{orders_at, first_messages};
 ghost use Rattle.pyc_obligations.specs.Judging as spec;
 ghost use Rattle.pyc_obligations.specs.Judging.{class_asked, classes_asked};
-ghost use Rattle.pyc_reading.specs.Desks.{Performs};
+ghost use Rattle.pyc_reading.specs.Desks.{Asks, Performs};
+ghost use Rattle.pyc_reading.specs.Owing as owing;
 ghost use Rattle.pyc_type_forms.specs.TypeView.{ty_of, row, params_of, param_row};
+ghost use Rattle.pyc_types.specs.Ways as ways;
 
 use pyc_class::{ClassId, Lin, Lins};
 use pyc_reading::{Key, Notes};
@@ -14,8 +16,8 @@ use pyc_type_forms::{DictTypes, Param, Params, Signature, Ty};
 use pyc_types::assignable;
 use std::alloc::{AllocError, Global};
 
-/// Who performs readings of expressions: it knows the orders of the classes that were asked, and can take back what was
-/// told last.
+/// What performs readings of expressions: it knows the orders of the classes that were asked, and can take back the
+/// last messages.
 pub trait Judge: Notes {
     /// The order of a class. It takes no memory, and takes nothing down.
     fn lin(&self, class: &ClassId) -> Lin<'_>
@@ -25,7 +27,7 @@ pub trait Judge: Notes {
     fn told_count(&self) -> usize
         ensures { result ≡ length (Self.desk self.now).messages };
 
-    /// Takes back the messages after so many. It takes no memory.
+    /// Takes back all messages but the first `count`. It takes no memory.
     fn forget_after(&mut self, count: usize)
         ensures { Self.desk self.new ≡ first_messages count (Self.desk self.old) };
 }
@@ -63,6 +65,13 @@ pub fn ask_class<N: Judge>(alloc: Global, notes: &mut N, class: &ClassId) -> Res
     Ok(())
 }
 
+/// Whether a type is assignable to another, by the orders as they are known. It takes no memory.
+pub fn is_assignable<N: Judge>(notes: &N, got: &Ty, want: &Ty) -> bool
+    ensures { result ≡ ways.assignable (orders_at (N.desk notes.now)) (ty_of got.now) (ty_of want.now) }
+{
+    assignable(&known_orders(notes), got, want)
+}
+
 /// Whether a type is assignable to another, by the orders of the classes that are written in both, each of which is
 /// asked. The only error is that memory runs out.
 pub fn judged<N: Judge>(
@@ -74,17 +83,28 @@ pub fn judged<N: Judge>(
     ensures { Performs (λ holds. holds) (spec.judged (ty_of got.now) (ty_of want.now)) (N.desk notes.old) result
         (N.desk notes.new) }
 {
+    ask_types(alloc, notes, got, want)?;
+    Ok(is_assignable(notes, got, want))
+}
+
+/// Asks the orders of the classes that are written in two types. The only error is that memory runs out.
+pub fn ask_types<N: Judge>(
+    alloc: Global,
+    notes: &mut N,
+    got: &Ty,
+    want: &Ty,
+) -> Result<(), AllocError>
+    ensures { Asks (owing.pair_keys (ty_of got.now) (ty_of want.now)) (N.desk notes.old) result (N.desk notes.new) }
+{
     ask_written(alloc, notes, got)?;
-    ask_written(alloc, notes, want)?;
-    let holds = assignable(&known_orders(notes), got, want);
-    Ok(holds)
+    ask_written(alloc, notes, want)
 }
 
 /// Asks the orders of the classes that are written in a type. The only error is that memory runs out.
 #[cycle(written)]
 #[tactic(auto, using(crate::proofs::Steps::performing))]
 pub fn ask_written<N: Judge>(alloc: Global, notes: &mut N, ty: &Ty) -> Result<(), AllocError>
-    ensures { Performs (λ u. u) (classes_asked (spec.written (ty_of ty.now))) (N.desk notes.old) result
+    ensures { Performs (λ u. u) (classes_asked (owing.written (ty_of ty.now))) (N.desk notes.old) result
         (N.desk notes.new) }
 {
     match ty {
@@ -98,7 +118,7 @@ pub fn ask_written<N: Judge>(alloc: Global, notes: &mut N, ty: &Ty) -> Result<()
     }
 }
 
-/// The same of the types of a dictionary.
+/// Asks the orders of the classes that are written in the types of a dictionary.
 #[cycle(written)]
 #[tactic(auto, using(crate::proofs::Steps::performing))]
 fn ask_dict_written<N: Judge>(
@@ -107,14 +127,14 @@ fn ask_dict_written<N: Judge>(
     types: &DictTypes,
 ) -> Result<(), AllocError>
     ensures { Performs (λ u. u)
-        (classes_asked (spec.written (ty_of types.now.key) ++ spec.written (ty_of types.now.value)))
+        (classes_asked (owing.written (ty_of types.now.key) ++ owing.written (ty_of types.now.value)))
         (N.desk notes.old) result (N.desk notes.new) }
 {
     ask_written(alloc, notes, &types.key)?;
     ask_written(alloc, notes, &types.value)
 }
 
-/// The same of the types of a signature.
+/// Asks the orders of the classes that are written in a signature.
 #[cycle(written)]
 #[tactic(auto, using(crate::proofs::Steps::performing))]
 fn ask_signature_written<N: Judge>(
@@ -124,18 +144,18 @@ fn ask_signature_written<N: Judge>(
 ) -> Result<(), AllocError>
     ensures { Performs (λ u. u)
         (classes_asked
-        (spec.params_written (params_of signature.now.params) ++ spec.written (ty_of signature.now.result)))
+        (owing.params_written (params_of signature.now.params) ++ owing.written (ty_of signature.now.result)))
         (N.desk notes.old) result (N.desk notes.new) }
 {
     ask_params_written(alloc, notes, &signature.params)?;
     ask_written(alloc, notes, &signature.result)
 }
 
-/// The same of the types of a row.
+/// Asks the orders of the classes that are written in a row of types.
 #[cycle(written)]
 #[tactic(auto, using(crate::proofs::Steps::performing))]
 fn ask_row_written<N: Judge>(alloc: Global, notes: &mut N, types: &[Ty]) -> Result<(), AllocError>
-    ensures { Performs (λ u. u) (classes_asked (spec.row_written (row types.now))) (N.desk notes.old) result
+    ensures { Performs (λ u. u) (classes_asked (owing.row_written (row types.now))) (N.desk notes.old) result
         (N.desk notes.new) }
 {
     for ty in types {
@@ -144,7 +164,7 @@ fn ask_row_written<N: Judge>(alloc: Global, notes: &mut N, types: &[Ty]) -> Resu
     Ok(())
 }
 
-/// The same of the types of what a call takes.
+/// Asks the orders of the classes that are written in what a call takes.
 #[cycle(written)]
 #[tactic(auto, using(crate::proofs::Steps::performing))]
 fn ask_params_written<N: Judge>(
@@ -152,7 +172,7 @@ fn ask_params_written<N: Judge>(
     notes: &mut N,
     params: &Params,
 ) -> Result<(), AllocError>
-    ensures { Performs (λ u. u) (classes_asked (spec.params_written (params_of params.now))) (N.desk notes.old) result
+    ensures { Performs (λ u. u) (classes_asked (owing.params_written (params_of params.now))) (N.desk notes.old) result
         (N.desk notes.new) }
 {
     match params {
@@ -161,7 +181,7 @@ fn ask_params_written<N: Judge>(
     }
 }
 
-/// The same of the types of a row of parameters.
+/// Asks the orders of the classes that are written in a row of parameters.
 #[cycle(written)]
 #[tactic(auto, using(crate::proofs::Steps::performing))]
 fn ask_listed_written<N: Judge>(
@@ -169,7 +189,7 @@ fn ask_listed_written<N: Judge>(
     notes: &mut N,
     params: &[Param],
 ) -> Result<(), AllocError>
-    ensures { Performs (λ u. u) (classes_asked (spec.listed_written (param_row params.now))) (N.desk notes.old) result
+    ensures { Performs (λ u. u) (classes_asked (owing.listed_written (param_row params.now))) (N.desk notes.old) result
         (N.desk notes.new) }
 {
     for param in params {

@@ -5,14 +5,17 @@
 mod asking;
 mod judging;
 pub mod laws;
+mod owing;
 mod quiet;
 mod reader;
-mod telling;
 mod value;
 
 pub use asking::{asked_member, asked_name, is_unknown_class};
-pub use judging::{Judge, KnownOrders, ask_class, ask_written, judged, known_orders};
+pub use judging::{
+    Judge, KnownOrders, ask_class, ask_types, ask_written, is_assignable, judged, known_orders,
+};
+pub use owing::{Owed, owe, owe_row};
+pub use pyc_reading::{tell_error, tell_note};
 pub use quiet::quieten;
 pub use reader::Reader;
-pub use telling::{tell_error, tell_note};
 pub use value::{Thing, Value};

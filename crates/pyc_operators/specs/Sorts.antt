@@ -5,7 +5,7 @@ use Rattle.pyc_class.specs.declared.builtin_class.BuiltinClass.{BuiltinClass}
 use Rattle.pyc_class.specs.declared.builtin_class.BuiltinClass.TheVariants as class
 use Rattle.pyc_class.specs.Class.{Id, builtin, user}
 use Rattle.pyc_class.specs.Order.{Order, is_unknown, order_contains}
-use Rattle.pyc_obligations.specs.Asking.{order_in}
+use Rattle.pyc_reading.specs.Owing.{order_in}
 use Rattle.pyc_operators.specs.declared.table.Sort.{Sort}
 use Rattle.pyc_operators.specs.declared.table.Sort.TheVariants as s
 use Rattle.pyc_reading.specs.Desks.{Step}

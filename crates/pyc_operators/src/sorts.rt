@@ -2,7 +2,7 @@
 
 ghost use Rattle.std.specs.Prelude.{◌≡◌};
 ghost use Rattle.pyc_class.specs.Order.{order_of};
-ghost use Rattle.pyc_obligations.specs.Asking.{order_in};
+ghost use Rattle.pyc_reading.specs.Owing.{order_in};
 ghost use Rattle.pyc_operators.specs.Sorts as spec;
 ghost use Rattle.pyc_reading.specs.AnswerView.{answer_in, class_order_of};
 ghost use Rattle.pyc_reading.specs.Desks.{Performs};

@@ -1,42 +1,47 @@
--- One turn of the loops that perform readings in turn.
-use Rattle.std.proofs.Common.{◌≡◌, ℕ, suc, ◌+◌, ◌<◌, Bool, List, ◌∷◌, length, drop, get_or, add-one, drop-cons, Option, refl, ap, sym, subst, ◌∙◌, rules, IfOk, if◌then◌else◌}
+-- One turn of the loops over ancestors and over parameters.
+use Rattle.std.proofs.Common.{◌≡◌, ℕ, suc, ◌+◌, ◌<◌, Bool, true, false, not, ◌&&◌, List, [], ◌∷◌, ◌++◌, length, drop, get_or, add-one, drop-cons, append_assoc, Option, None, Some, refl, ap, sym, subst, ◌∙◌, rules, if◌then◌else◌}
 use Rattle.std.specs.declared.alloc.AllocError.{AllocError}
 use Rattle.std.specs.declared.result.Result.{Result}
+use Rattle.pyc_ast.specs.declared.position.Position.{Position}
 use Rattle.pyc_class.specs.Class.{Id}
-use Rattle.pyc_overrides.specs.Ancestors.{earlier, failing_in, first_failing}
-use Rattle.pyc_overrides.specs.Messages.{Override, argument_message, signature_message}
-use Rattle.pyc_overrides.specs.Parameters.{is_plain, is_refused, parameters_told, place_after}
-use Rattle.pyc_reading.proofs.RunLemmas.{one_turn, run_then, grown_trans}
+use Rattle.pyc_class.specs.Order.{Orders}
+use Rattle.pyc_obligations.proofs.OwingLemmas.{noted_twice}
+use Rattle.pyc_overrides.specs.Ancestors.{ancestor_member}
+use Rattle.pyc_overrides.specs.Messages.{Override, owed_argument_text}
+use Rattle.pyc_overrides.specs.Overrides.{more_owed, with_owed}
+use Rattle.pyc_overrides.specs.Parameters.{is_plain, is_refused, is_refused_by, argument_details, parameter_details, parameters_details, place_after, type_at}
+use Rattle.pyc_reading.proofs.RunLemmas.{one_turn}
 use Rattle.pyc_reading.specs.Answers.{MemberAnswer}
-use Rattle.pyc_reading.specs.Desks.{Step, Desk, Grown, Performs, run, telling}
+use Rattle.pyc_reading.specs.Desks.{Asks, Desk, all_noted, run}
+use Rattle.pyc_reading.specs.Keys.{Key}
+use Rattle.pyc_reading.specs.Owing.{Detail, Obligation, detail_keys, pair_keys, text_by}
 use Rattle.pyc_reading.specs.Readings.{and_then}
 use Rattle.pyc_type_forms.specs.declared.types.Param.{Param}
 use Rattle.pyc_type_forms.specs.declared.types.Params.TheFolds.{the_lemmas}
 use Rattle.pyc_type_forms.specs.Types.{Ty, Kind, Slot, Listed, no_param, param}
 use Rattle.pyc_type_forms.specs.TypeView.{kind_of, param_of, param_row, ty_of}
+use Rattle.pyc_types.specs.Ways.{assignable}
 
--- who performs what is left performs the whole
-pub performs_rest : {X A : Type 0} (view : X → A) (whole left : Step A) (start now end : Desk) (result : Result X AllocError) → run left now ≡ run whole start
-    → Grown start now → Performs view left now result end → Performs view whole start result end
-performs_rest {X} {A} view whole left start now end result same grown done =
-    record {
-      done = subst (λ (found : A × Desk). IfOk result (λ x. found ≡ (view x, end))) same done.done;
-      grown = grown_trans grown done.grown;
-    }
+-- who asked keys asked them by another name
+pub asks_same : (keys others : List Key) (d e : Desk) (result : Result (Unit {0}) AllocError) → keys ≡ others → Asks keys d result e → Asks others d result e
+asks_same keys others d e result same asked = subst (λ k. Asks k d result e) same asked
+
+left_of : {X : Type 0} (xs : List X) (i : ℕ) (x : X) → i < length xs → x ≡ get_or xs i x → drop i xs ≡ x ∷ drop (i + 1) xs
+left_of xs i x within is = rw add-one (drop-cons xs i x within ∙ ap (λ y. y ∷ drop (suc i) xs) (sym is))
 
 -- ---- ancestors, in turn
 
-opens_failing : (got : Ty) (n : List ℕ) (first : Option MemberAnswer) (c : Id) (cs : List Id)
-    → first_failing got n first (c ∷ cs) ≡ and_then (failing_in got n c) (λ found. first_failing got n (earlier first found) cs)
-unfolding first_failing
-opens_failing got n first c cs = refl
+opens_owed : (at : Position) (n : List ℕ) (got : MemberAnswer) (row : List Obligation) (c : Id) (cs : List Id)
+    → more_owed at n got row (c ∷ cs) ≡ and_then (ancestor_member c n) (λ found. more_owed at n got (with_owed at n got row found) cs)
+unfolding more_owed
+opens_owed at n got row c cs = refl
 
-pub failing_turn : (got : Ty) (n : List ℕ) (first found next : Option MemberAnswer) (cs : List Id) (i : ℕ) (c : Id) (desk middle : Desk)
-    → i < length cs → c ≡ get_or cs i c → run (failing_in got n c) desk ≡ (found, middle) → next ≡ earlier first found
-    → run (first_failing got n next (drop (i + 1) cs)) middle ≡ run (first_failing got n first (drop i cs)) desk
-failing_turn got n first found next cs i c desk middle within is done kept =
-    ap (λ f. run (first_failing got n f (drop (i + 1) cs)) middle) kept
-    ∙ sym (one_turn (first_failing got n first) (failing_in got n) (λ f l. first_failing got n (earlier first f) l) (opens_failing got n first) cs i c desk middle found within is done)
+pub owed_turn : (at : Position) (n : List ℕ) (got : MemberAnswer) (row next : List Obligation) (found : Option MemberAnswer) (cs : List Id) (i : ℕ) (c : Id) (desk middle : Desk)
+    → i < length cs → c ≡ get_or cs i c → run (ancestor_member c n) desk ≡ (found, middle) → next ≡ with_owed at n got row found
+    → run (more_owed at n got next (drop (i + 1) cs)) middle ≡ run (more_owed at n got row (drop i cs)) desk
+owed_turn at n got row next found cs i c desk middle within is done kept =
+    ap (λ r. run (more_owed at n got r (drop (i + 1) cs)) middle) kept
+    ∙ sym (one_turn (more_owed at n got row) (λ a. ancestor_member a n) (λ f l. more_owed at n got (with_owed at n got row f) l) (opens_owed at n got row) cs i c desk middle found within is done)
 
 -- ---- parameters, in turn
 
@@ -47,32 +52,92 @@ type_is x = search (rules, the_lemmas)
 kind_is : (x : Param) → (param_of x).slot.kind ≡ kind_of x.kind
 kind_is x = search (rules, the_lemmas)
 
+-- whether a parameter of the code is plain
+pub plain_is : (x : Param) (plain : Bool) → plain ≡ is_plain (kind_of x.kind) → is_plain (param_of x).slot.kind ≡ plain
+plain_is x plain is = ap is_plain (kind_is x) ∙ sym is
+
 -- the place after a parameter, by whether it is plain
 pub placed_after : (place : ℕ) (x : Param) (plain : Bool) → plain ≡ is_plain (kind_of x.kind) → place_after place (param_of x).slot ≡ (if plain then place + 1 else place)
 placed_after place x plain is =
     ap (λ (k : Kind). if is_plain k then place + 1 else place) (kind_is x) ∙ ap (λ (b : Bool). if b then place + 1 else place) (sym is)
 
-pub no_parameter : (told : Override) (gots : Listed) (place : ℕ) → parameters_told told gots place no_param ≡ telling (signature_message told)
-unfolding parameters_told
-no_parameter told gots place = refl
+pub detail_keys-append : (ds es : List Detail) → detail_keys (ds ++ es) ≡ detail_keys ds ++ detail_keys es
+detail_keys-append [] es = refl
+detail_keys-append (d ∷ ds) es =
+    ap (λ l. pair_keys d.got d.want ++ l) (detail_keys-append ds es)
+    ∙ sym (append_assoc (pair_keys d.got d.want) (detail_keys ds) (detail_keys es))
 
-opens_parameters : (told : Override) (gots : Listed) (place : ℕ) (slot : Slot) (want : Ty) (rest : Listed)
-    → parameters_told told gots place (param slot want rest)
-    ≡ and_then (is_refused gots place slot want) (λ refused. if refused then telling (argument_message told (place + 1) want) else parameters_told told gots (place_after place slot) rest)
-unfolding parameters_told
-opens_parameters told gots place slot want rest = refl
+opens_details : (told : Override) (gots : Listed) (place : ℕ) (slot : Slot) (want : Ty) (rest : Listed)
+    → parameters_details told gots place (param slot want rest) ≡ parameter_details told gots place slot want ++ parameters_details told gots (place_after place slot) rest
+unfolding parameters_details
+opens_details told gots place slot want rest = refl
 
-pub parameter_turn : (told : Override) (gots : Listed) (place : ℕ) (xs : List Param) (i : ℕ) (x : Param) (refused : Bool) (desk middle : Desk)
-    → i < length xs → x ≡ get_or xs i x → run (is_refused gots place (param_of x).slot (param_of x).ty) desk ≡ (refused, middle)
-    → run (if refused then telling (argument_message told (place + 1) (param_of x).ty) else parameters_told told gots (place_after place (param_of x).slot) (param_row (drop (i + 1) xs))) middle
-    ≡ run (parameters_told told gots place (param_row (drop i xs))) desk
-parameter_turn told gots place xs i x refused desk middle within is first =
-    let slot = (param_of x).slot in
-    let want = (param_of x).ty in
-    let rest = param_row (drop (i + 1) xs) in
-    let next : Bool → Step (Unit {0}) = λ b. if b then telling (argument_message told (place + 1) want) else parameters_told told gots (place_after place slot) rest in
-    let left : drop i xs ≡ x ∷ drop (i + 1) xs = rw add-one (drop-cons xs i x within ∙ ap (λ y. y ∷ drop (suc i) xs) (sym is)) in
-    sym (ap (λ l. run (parameters_told told gots place (param_row l)) desk) left
-    ∙ ap (λ s. run s desk) (opens_parameters told gots place slot want rest)
-    ∙ run_then (is_refused gots place slot want) next desk
-    ∙ ap (λ (found : Bool × Desk). run (next found.0) found.1) first)
+-- where no parameter is left nothing is looked at
+pub no_details : (told : Override) (gots : Listed) (place : ℕ) → parameters_details told gots place no_param ≡ []
+unfolding parameters_details
+no_details told gots place = refl
+
+left_details : (told : Override) (gots : Listed) (place : ℕ) (xs : List Param) (i : ℕ) (x : Param) → i < length xs → x ≡ get_or xs i x
+    → parameters_details told gots place (param_row (drop i xs)) ≡ parameter_details told gots place (param_of x).slot (param_of x).ty ++ parameters_details told gots (place_after place (param_of x).slot) (param_row (drop (i + 1) xs))
+left_details told gots place xs i x within is =
+    ap (λ l. parameters_details told gots place (param_row l)) (left_of xs i x within is)
+    ∙ opens_details told gots place (param_of x).slot (param_of x).ty (param_row (drop (i + 1) xs))
+
+-- a parameter was asked
+pub asked_turn : (told : Override) (gots : Listed) (place next : ℕ) (xs : List Param) (i : ℕ) (x : Param) (desk middle whole : Desk) → i < length xs → x ≡ get_or xs i x
+    → middle ≡ all_noted desk (detail_keys (parameter_details told gots place (param_of x).slot (param_of x).ty)) → next ≡ place_after place (param_of x).slot
+    → all_noted desk (detail_keys (parameters_details told gots place (param_row (drop i xs)))) ≡ whole
+    → all_noted middle (detail_keys (parameters_details told gots next (param_row (drop (i + 1) xs)))) ≡ whole
+asked_turn told gots place next xs i x desk middle whole within is done placed before =
+    let own = parameter_details told gots place (param_of x).slot (param_of x).ty in
+    let rest = parameters_details told gots (place_after place (param_of x).slot) (param_row (drop (i + 1) xs)) in
+    (λ j. all_noted (done j) (detail_keys (parameters_details told gots (placed j) (param_row (drop (i + 1) xs)))))
+    ∙ noted_twice desk (detail_keys own) (detail_keys rest)
+    ∙ sym (ap (all_noted desk) (ap detail_keys (left_details told gots place xs i x within is) ∙ detail_keys-append own rest))
+    ∙ before
+
+-- ---- which text is told
+
+flipped : {A : Type 0} (b : Bool) (x y : A) → (if b then x else y) ≡ (if not b then y else x)
+flipped true x y = refl
+flipped false x y = refl
+
+by_argument : (orders : Orders) (told : Override) (number : ℕ) (want : Ty) (rest : List Detail) (text : List ℕ) (plain : Bool) (got : Option Ty)
+    → text_by orders ((if plain then argument_details told number got want else []) ++ rest) text
+    ≡ (if plain && is_refused_by orders got want then owed_argument_text told number want else text_by orders rest text)
+by_argument orders told number want rest text false got = refl
+by_argument orders told number want rest text true None = refl
+by_argument orders told number want rest text true (Some ty) = flipped (assignable orders want ty) (text_by orders rest text) (owed_argument_text told number want)
+
+-- what is told of what is left, by whether the first parameter is refused
+left_text : (orders : Orders) (told : Override) (gots : Listed) (place : ℕ) (xs : List Param) (i : ℕ) (x : Param) (text : List ℕ) → i < length xs → x ≡ get_or xs i x
+    → text_by orders (parameters_details told gots place (param_row (drop i xs))) text
+    ≡ (if is_refused orders gots place (param_of x).slot (param_of x).ty then owed_argument_text told (place + 1) (param_of x).ty
+    else text_by orders (parameters_details told gots (place_after place (param_of x).slot) (param_row (drop (i + 1) xs))) text)
+left_text orders told gots place xs i x text within is =
+    ap (λ l. text_by orders l text) (left_details told gots place xs i x within is)
+    ∙ by_argument orders told (place + 1) (param_of x).ty (parameters_details told gots (place_after place (param_of x).slot) (param_row (drop (i + 1) xs))) text (is_plain (param_of x).slot.kind) (type_at gots place)
+
+-- past a parameter that is not refused
+pub text_turn : (orders : Orders) (told : Override) (gots : Listed) (place next : ℕ) (xs : List Param) (i : ℕ) (x : Param) (text whole : List ℕ) → i < length xs → x ≡ get_or xs i x
+    → is_refused orders gots place (param_of x).slot (param_of x).ty ≡ false → next ≡ place_after place (param_of x).slot
+    → text_by orders (parameters_details told gots place (param_row (drop i xs))) text ≡ whole
+    → text_by orders (parameters_details told gots next (param_row (drop (i + 1) xs))) text ≡ whole
+text_turn orders told gots place next xs i x text whole within is taken placed before =
+    let rest = λ (p : ℕ). text_by orders (parameters_details told gots p (param_row (drop (i + 1) xs))) text in
+    ap rest placed
+    ∙ sym (ap (λ (b : Bool). if b then owed_argument_text told (place + 1) (param_of x).ty else rest (place_after place (param_of x).slot)) taken)
+    ∙ sym (left_text orders told gots place xs i x text within is)
+    ∙ before
+
+-- at a parameter that is refused
+pub text_found : (orders : Orders) (told : Override) (gots : Listed) (place : ℕ) (xs : List Param) (i : ℕ) (x : Param) (text whole : List ℕ) → i < length xs → x ≡ get_or xs i x
+    → is_refused orders gots place (param_of x).slot (param_of x).ty ≡ true
+    → text_by orders (parameters_details told gots place (param_row (drop i xs))) text ≡ whole
+    → owed_argument_text told (place + 1) (ty_of x.ty) ≡ whole
+text_found orders told gots place xs i x text whole within is refused before =
+    let rest = text_by orders (parameters_details told gots (place_after place (param_of x).slot) (param_row (drop (i + 1) xs))) text in
+    ap (owed_argument_text told (place + 1)) (sym (type_is x))
+    ∙ sym (ap (λ (b : Bool). if b then owed_argument_text told (place + 1) (param_of x).ty else rest) refused)
+    ∙ sym (left_text orders told gots place xs i x text within is)
+    ∙ before

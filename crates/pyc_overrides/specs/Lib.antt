@@ -3,5 +3,6 @@ pub mod Places
 pub mod Messages
 pub mod Parameters
 pub mod Ancestors
+pub mod Obligations
 pub mod Overrides
 pub mod Views

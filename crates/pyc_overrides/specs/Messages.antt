@@ -1,23 +1,18 @@
 -- What is told of a name that overrides another (typing specification, "Class type assignability"; mypy's
 -- documentation, "Class basics", "Overriding statically typed methods", and "Error codes enabled by default").
-use Rattle.std.specs.Prelude.{ℕ, List, ◌++◌, codes}
+use Rattle.std.specs.Prelude.{ℕ, Bool, List, ◌++◌, codes}
 use Rattle.std.specs.Fmt.{decimal}
-use Rattle.pyc_ast.specs.declared.position.Position.{Position}
-use Rattle.pyc_report.specs.declared.message.Code.{Code}
-use Rattle.pyc_report.specs.declared.message.Code.TheVariants as code
-use Rattle.pyc_report.specs.Message.{Message, error_at}
 use Rattle.pyc_type_forms.specs.Text.{text_of}
 use Rattle.pyc_type_forms.specs.Types.{Ty}
 
--- the code of what is told of methods that override others
-abbrev pub override_code : Code
-override_code = code.Override
-
--- a name that overrides what an ancestor declares: where that is told, the name, and the name of the ancestor
+-- a name that overrides what an ancestor declares: the name, that of the ancestor, and whether each is a method
 pub record Override : Type 0 where
-  pub at : Position
   pub name : List ℕ
   pub base : List ℕ
+  pub got_is_method : Bool
+  pub want_is_method : Bool
+
+-- ---- texts
 
 unfoldable pub argument_text : ℕ → (name base want : List ℕ) → List ℕ
 argument_text number name base want =
@@ -38,21 +33,20 @@ variable_text base got want =
     codes "Incompatible types in assignment (expression has type \"" ++ (got ++ (codes "\", base class \"" ++ (base
     ++ (codes "\" defined the type as \"" ++ (want ++ codes "\")")))))
 
--- a parameter of this number, of which the ancestor wants this type
-unfoldable pub argument_message : Override → ℕ → Ty → Message
-argument_message told number want =
-    error_at told.at override_code (argument_text number told.name told.base (text_of want))
+-- ---- by types
+
+-- a parameter of this number, of which the ancestor wants a type
+unfoldable pub owed_argument_text : Override → ℕ → Ty → List ℕ
+owed_argument_text told number want = argument_text number told.name told.base (text_of want)
 
 -- a method that gives a type, where the ancestor's gives another
-unfoldable pub result_message : Override → Ty → Ty → Message
-result_message told got want =
-    error_at told.at override_code (result_text told.name told.base (text_of got) (text_of want))
+unfoldable pub owed_result_text : Override → (got want : Ty) → List ℕ
+owed_result_text told got want = result_text told.name told.base (text_of got) (text_of want)
 
 -- a method whose signature is another in any other way, and a method that stands against something else
-unfoldable pub signature_message : Override → Message
-signature_message told = error_at told.at override_code (signature_text told.name told.base)
+unfoldable pub owed_signature_text : Override → List ℕ
+owed_signature_text told = signature_text told.name told.base
 
 -- what is no method, and of another type
-unfoldable pub variable_message : Override → Ty → Ty → Message
-variable_message told got want =
-    error_at told.at code.Assignment (variable_text told.base (text_of got) (text_of want))
+unfoldable pub owed_variable_text : Override → (got want : Ty) → List ℕ
+owed_variable_text told got want = variable_text told.base (text_of got) (text_of want)

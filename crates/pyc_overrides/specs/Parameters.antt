@@ -1,12 +1,13 @@
 -- The parameters of a method against those of the method that it overrides (typing specification, "Callables",
 -- "Assignability rules for callables": parameters go the other way round).
-use Rattle.std.specs.Prelude.{ℕ, zero, suc, ◌+◌, Bool, true, false, not, if◌then◌else◌, Option, None, Some}
+use Rattle.std.specs.Prelude.{ℕ, zero, suc, ◌+◌, Bool, true, false, not, ◌&&◌, if◌then◌else◌, List, [], ◌∷◌, ◌++◌}
+use Rattle.std.specs.Prelude.{Option, None, Some}
 use Rattle.std.specs.Option.{option_or}
-use Rattle.pyc_obligations.specs.Judging.{judged}
-use Rattle.pyc_overrides.specs.Messages.{Override, argument_message, signature_message}
-use Rattle.pyc_reading.specs.Desks.{Step, telling}
-use Rattle.pyc_reading.specs.Readings.{Done, and_then}
+use Rattle.pyc_class.specs.Order.{Orders}
+use Rattle.pyc_overrides.specs.Messages.{Override, owed_argument_text}
+use Rattle.pyc_reading.specs.Owing.{Detail}
 use Rattle.pyc_type_forms.specs.Types.{Kind, plain, star, Slot, Ty, Params, Listed, listed, no_param, param}
+use Rattle.pyc_types.specs.Ways.{assignable}
 
 -- ---- the parameter at a place
 
@@ -36,31 +37,39 @@ star_in (param slot ty rest) = if is_star slot.kind then Some ty else star_in re
 abbrev pub type_at : Listed → ℕ → Option Ty
 type_at gots place = option_or (plain_at gots place) (star_in gots)
 
--- ---- the first that does not go
+-- ---- what is looked at
 
--- whether a wanted type does not go to what takes an argument at its place; where nothing takes it, that is no matter
--- of its type
-abbrev pub is_refused_by : Option Ty → Ty → Step Bool
-is_refused_by None want = Done false
-is_refused_by (Some got) want = and_then (judged want got) (λ goes. Done (not goes))
+-- what takes an argument at its place has to take what the ancestor's parameter takes; where nothing takes it, that is
+-- no matter of its type
+abbrev pub argument_details : Override → ℕ → Option Ty → Ty → List Detail
+argument_details told number None want = []
+argument_details told number (Some got) want =
+    record { got = want; want = got; text = owed_argument_text told number want } ∷ []
 
-abbrev pub is_refused : Listed → ℕ → Slot → Ty → Step Bool
-is_refused gots place slot want = if is_plain slot.kind then is_refused_by (type_at gots place) want else Done false
+-- a parameter of the ancestor, before which stand so many plain ones: only a plain one is looked at
+abbrev pub parameter_details : Override → Listed → ℕ → Slot → Ty → List Detail
+parameter_details told gots place slot want =
+    if is_plain slot.kind then argument_details told (place + 1) (type_at gots place) want else []
+
+-- whether something takes an argument, and does not take this type
+abbrev pub is_refused_by : Orders → Option Ty → Ty → Bool
+is_refused_by orders None want = false
+is_refused_by orders (Some got) want = not (assignable orders want got)
+
+abbrev pub is_refused : Orders → Listed → ℕ → Slot → Ty → Bool
+is_refused orders gots place slot want = is_plain slot.kind && is_refused_by orders (type_at gots place) want
 
 -- how many plain parameters there are, with one more parameter
 abbrev pub place_after : ℕ → Slot → ℕ
 place_after place slot = if is_plain slot.kind then place + 1 else place
 
--- the first plain parameter of the ancestor, before which stand so many others, that is refused; else it is the
--- signature as a whole
-unfoldable pub parameters_told : Override → Listed → ℕ → Listed → Step (Unit {0})
-parameters_told told gots place no_param = telling (signature_message told)
-parameters_told told gots place (param slot want rest) =
-    and_then (is_refused gots place slot want) (λ refused.
-    if refused then telling (argument_message told (place + 1) want)
-    else parameters_told told gots (place_after place slot) rest)
+-- the parameters of the ancestor in turn, where so many plain ones stand before the first of them
+unfoldable pub parameters_details : Override → Listed → ℕ → Listed → List Detail
+parameters_details told gots place no_param = []
+parameters_details told gots place (param slot want rest) =
+    parameter_details told gots place slot want ++ parameters_details told gots (place_after place slot) rest
 
 -- what takes any arguments refuses none, and wants none
-abbrev pub rows_told : Override → Params → Params → Step (Unit {0})
-rows_told told (listed gots) (listed wants) = parameters_told told gots 0 wants
-rows_told told _ _ = telling (signature_message told)
+abbrev pub rows_details : Override → Params → Params → List Detail
+rows_details told (listed gots) (listed wants) = parameters_details told gots 0 wants
+rows_details told _ _ = []

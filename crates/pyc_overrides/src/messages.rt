@@ -3,25 +3,18 @@
 ghost use Rattle.std.specs.Prelude.{◌≡◌, IfOk, string_bytes};
 ghost use Rattle.pyc_overrides.specs.Messages as spec;
 ghost use Rattle.pyc_overrides.specs.Views.{override_of};
-ghost use Rattle.pyc_reading.specs.Desks.{Performs, telling};
 ghost use Rattle.pyc_type_forms.specs.TypeView.{ty_of};
 
-use pyc_ast::Position;
-use pyc_obligations::tell_error;
-use pyc_reading::Notes;
-use pyc_report::Code;
 use pyc_type_forms::{Ty, show};
 use std::alloc::{AllocError, Global};
 
-/// The code of what is told of methods that override others.
-const OVERRIDE: Code = Code::Override;
-
-/// A name that overrides what an ancestor declares: where that is told, the name, and the name of the ancestor.
+/// A name that overrides what an ancestor declares: the name, that of the ancestor, and whether each is a method.
 #[derive(Clone, Copy)]
 pub(crate) struct Override<'a> {
-    pub(crate) at: Position,
     pub(crate) name: &'a str,
     pub(crate) base: &'a str,
+    pub(crate) got_is_method: bool,
+    pub(crate) want_is_method: bool,
 }
 
 /// The text on a parameter of which an ancestor wants another type.
@@ -76,71 +69,57 @@ fn variable_text(alloc: Global, base: &str, got: &str, want: &str) -> Result<Str
     )
 }
 
-/// Tells that the parameter of this number does not take what the ancestor's takes.
-#[tactic(auto, unfolding(crate::specs::Messages::argument_message))]
-pub(crate) fn tell_argument<N: Notes>(
+/// The text on the parameter of a number, of which the ancestor wants a type.
+#[tactic(auto, unfolding(crate::specs::Messages::owed_argument_text))]
+pub(crate) fn owed_argument_text(
     alloc: Global,
-    notes: &mut N,
     told: &Override<'_>,
     number: usize,
     want: &Ty,
-) -> Result<(), AllocError>
-    ensures { Performs (λ u. u) (telling (spec.argument_message (override_of told.now) number (ty_of want.now)))
-        (N.desk notes.old) result (N.desk notes.new) }
+) -> Result<String, AllocError>
+    ensures { IfOk result (λ text. string_bytes text
+        ≡ spec.owed_argument_text (override_of told.now) number (ty_of want.now)) }
 {
     let want = show(alloc, want)?;
-    let text = argument_text(alloc, number, told.name, told.base, want.as_str())?;
-    tell_error(notes, told.at, OVERRIDE, text)
+    argument_text(alloc, number, told.name, told.base, want.as_str())
 }
 
-/// Tells that a method gives another type than the ancestor's.
-#[tactic(auto, unfolding(crate::specs::Messages::result_message))]
-pub(crate) fn tell_result<N: Notes>(
+/// The text on a method that gives a type, where the ancestor's gives another.
+#[tactic(auto, unfolding(crate::specs::Messages::owed_result_text))]
+pub(crate) fn owed_result_text(
     alloc: Global,
-    notes: &mut N,
     told: &Override<'_>,
     got: &Ty,
     want: &Ty,
-) -> Result<(), AllocError>
-    ensures { Performs (λ u. u)
-        (telling (spec.result_message (override_of told.now) (ty_of got.now) (ty_of want.now))) (N.desk notes.old)
-        result (N.desk notes.new) }
+) -> Result<String, AllocError>
+    ensures { IfOk result (λ text. string_bytes text
+        ≡ spec.owed_result_text (override_of told.now) (ty_of got.now) (ty_of want.now)) }
 {
     let got = show(alloc, got)?;
     let want = show(alloc, want)?;
-    let text = result_text(alloc, told.name, told.base, got.as_str(), want.as_str())?;
-    tell_error(notes, told.at, OVERRIDE, text)
+    result_text(alloc, told.name, told.base, got.as_str(), want.as_str())
 }
 
-/// Tells that a method has another signature than the ancestor's, or that the ancestor's is no method.
-#[tactic(auto, unfolding(crate::specs::Messages::signature_message))]
-pub(crate) fn tell_signature<N: Notes>(
-    alloc: Global,
-    notes: &mut N,
-    told: &Override<'_>,
-) -> Result<(), AllocError>
-    ensures { Performs (λ u. u) (telling (spec.signature_message (override_of told.now))) (N.desk notes.old) result
-        (N.desk notes.new) }
+/// The text on a method whose signature is another in any other way, or that stands against something else.
+#[tactic(auto, unfolding(crate::specs::Messages::owed_signature_text))]
+pub(crate) fn owed_signature_text(alloc: Global, told: &Override<'_>) -> Result<String, AllocError>
+    ensures { IfOk result (λ text. string_bytes text ≡ spec.owed_signature_text (override_of told.now)) }
 {
-    let text = signature_text(alloc, told.name, told.base)?;
-    tell_error(notes, told.at, OVERRIDE, text)
+    signature_text(alloc, told.name, told.base)
 }
 
-/// Tells that what is no method is of another type than the ancestor's.
-#[tactic(auto, unfolding(crate::specs::Messages::variable_message))]
-pub(crate) fn tell_variable<N: Notes>(
+/// The text on what is no method, and of another type than the ancestor's.
+#[tactic(auto, unfolding(crate::specs::Messages::owed_variable_text))]
+pub(crate) fn owed_variable_text(
     alloc: Global,
-    notes: &mut N,
     told: &Override<'_>,
     got: &Ty,
     want: &Ty,
-) -> Result<(), AllocError>
-    ensures { Performs (λ u. u)
-        (telling (spec.variable_message (override_of told.now) (ty_of got.now) (ty_of want.now))) (N.desk notes.old)
-        result (N.desk notes.new) }
+) -> Result<String, AllocError>
+    ensures { IfOk result (λ text. string_bytes text
+        ≡ spec.owed_variable_text (override_of told.now) (ty_of got.now) (ty_of want.now)) }
 {
     let got = show(alloc, got)?;
     let want = show(alloc, want)?;
-    let text = variable_text(alloc, told.base, got.as_str(), want.as_str())?;
-    tell_error(notes, told.at, Code::Assignment, text)
+    variable_text(alloc, told.base, got.as_str(), want.as_str())
 }

@@ -1,36 +1,35 @@
 //! What is told of the names of a class that its ancestors declare as well.
 
-ghost use Rattle.std.specs.Prelude.{◌≡◌, map, option_map};
+ghost use Rattle.std.specs.Prelude.{◌≡◌, [], IfOk, map, option_map};
 ghost use Rattle.pyc_ast.specs.Statements.{stmts};
 ghost use Rattle.pyc_ast.specs.StatementView.{stmt_of};
-ghost use Rattle.pyc_bindings.specs.ScopeView.{part_of};
 ghost use Rattle.pyc_members.specs.ClassBodyView.{class_body_of, own_member_of};
 ghost use Rattle.pyc_names.specs.SourceFileView.{source_in};
 ghost use Rattle.pyc_overrides.specs.Names as names;
 ghost use Rattle.pyc_overrides.specs.Overrides as spec;
-ghost use Rattle.pyc_overrides.specs.Views.{heir_of};
+ghost use Rattle.pyc_overrides.specs.Views.{heir_of, owed_in};
 ghost use Rattle.pyc_reading.specs.AnswerView.{member_answer_of};
 ghost use Rattle.pyc_reading.specs.Desks.{Performs};
 ghost use Rattle.pyc_reading.specs.Readings.{each};
 
-use crate::ancestors::{declared_by, first_failing, seen};
+use crate::ancestors::{ancestor_member, declared_by, seen};
 use crate::heir::Heir;
 use crate::names::{bound_names, is_exempt};
 use crate::places::own_place;
-use crate::signatures::tell_members;
-use pyc_ast::{Stmt, Text};
-use pyc_bindings::{Part, scope_parts};
+use crate::signatures::OwedOverride;
+use pyc_ast::{Position, Stmt, Text};
+use pyc_bindings::scope_parts;
 use pyc_class::ClassId;
 use pyc_declarations::own_class;
 use pyc_members::{ClassBody, OwnMember};
 use pyc_names::SourceFile;
-use pyc_obligations::{Judge, asked_member};
+use pyc_obligations::{Judge, asked_member, owe_row};
 use pyc_reading::MemberAnswer;
 use std::alloc::{AllocError, Global};
 
 /// Reads the names that a class of a file binds, with these statements as its body and this order, itself first: where
-/// it declares a name itself, each ancestor that declares it as well is asked, and the first to whose type its own does
-/// not go is told. The only error is that memory runs out.
+/// it declares a name itself, each ancestor that declares it as well is asked, and the first to whose type its own is
+/// not assignable is told. The only error is that memory runs out.
 #[tactic(auto, unfolding(crate::specs::Overrides::overrides_read))]
 pub fn read_overrides<N: Judge>(
     alloc: Global,
@@ -174,7 +173,6 @@ fn read_declared<N: Judge>(
 }
 
 /// Reads a member of a class, with its type as it is through an instance, against those of its ancestors.
-#[tactic(auto, using(pyc_obligations::proofs::Steps::performing), unfolding(crate::specs::Overrides::seen_read))]
 fn read_seen<N: Judge>(
     alloc: Global,
     notes: &mut N,
@@ -185,49 +183,95 @@ fn read_seen<N: Judge>(
     ensures { Performs (λ u. u) (spec.seen_read (heir_of heir.now) name.now (member_answer_of got.now))
         (N.desk notes.old) result (N.desk notes.new) }
 {
-    let found = first_failing(alloc, notes, &got.ty, name.as_str(), heir.ancestors)?;
-    tell_failing(alloc, notes, heir, name, got, found)
+    let own = heir.body.own_member(name);
+    read_own(alloc, notes, heir, name, got, own)
 }
 
-/// Tells of a member whose type does not go to that of an ancestor, if there is one.
-fn tell_failing<N: Judge>(
+/// Reads a member of a class, by what decides of its name there.
+fn read_own<N: Judge>(
     alloc: Global,
     notes: &mut N,
     heir: &Heir<'_>,
     name: &Text,
     got: &MemberAnswer,
-    found: Option<MemberAnswer>,
+    own: Option<OwnMember<'_>>,
 ) -> Result<(), AllocError>
     ensures { Performs (λ u. u)
-        (spec.failing_told (heir_of heir.now) name.now (member_answer_of got.now) (option_map member_answer_of found))
+        (spec.own_read (heir_of heir.now) name.now (member_answer_of got.now) (option_map own_member_of own.entry))
         (N.desk notes.old) result (N.desk notes.new) }
 {
-    match found {
-        Some(want) => {
-            let own = heir.body.own_member(name);
-            tell_own(alloc, notes, heir.parts, name, own, got, &want)
+    match own {
+        Some(own) => {
+            let at = own_place(heir.parts, own);
+            owe_overrides(alloc, notes, at, name, got, heir.ancestors)
         }
         None => Ok(()),
     }
 }
 
-/// Tells of such a member, by what decides of the name in the class.
-fn tell_own<N: Judge>(
+/// Owes that a member is of the type of that of each ancestor.
+#[tactic(auto, using(pyc_obligations::proofs::Steps::performing), unfolding(crate::specs::Overrides::overrides_owed))]
+fn owe_overrides<N: Judge>(
     alloc: Global,
     notes: &mut N,
-    parts: &[Part<'_>],
+    at: Position,
     name: &Text,
-    own: Option<OwnMember<'_>>,
     got: &MemberAnswer,
-    want: &MemberAnswer,
+    ancestors: &[ClassId],
 ) -> Result<(), AllocError>
-    ensures { Performs (λ u. u)
-        (spec.own_told (map part_of parts.now) name.now (option_map own_member_of own.entry)
-        (member_answer_of got.now) (member_answer_of want.now))
+    ensures { Performs (λ u. u) (spec.overrides_owed at name.now (member_answer_of got.now) ancestors.now)
         (N.desk notes.old) result (N.desk notes.new) }
 {
-    match own {
-        Some(own) => tell_members(alloc, notes, own_place(parts, own), name, got, want),
+    let row = owed_overrides(alloc, notes, at, name, got, ancestors)?;
+    owe_row(alloc, notes, row.as_slice())
+}
+
+/// What is owed of a member to those of these ancestors, in turn.
+#[tactic(auto, using(pyc_obligations::proofs::Steps::performing), unfolding(crate::specs::Overrides::more_owed))]
+fn owed_overrides<'a, N: Judge>(
+    alloc: Global,
+    notes: &mut N,
+    at: Position,
+    name: &'a Text,
+    got: &'a MemberAnswer,
+    ancestors: &[ClassId],
+) -> Result<Vec<OwedOverride<'a>>, AllocError>
+    ensures { Performs (λ row. map owed_in row.items)
+        (spec.more_owed at name.now (member_answer_of got.now) [] ancestors.now) (N.desk notes.old) result
+        (N.desk notes.new) }
+{
+    let mut row = Vec::new(alloc);
+    for ancestor in ancestors {
+        let found = ancestor_member(alloc, notes, ancestor, name.as_str())?;
+        push_owed(alloc, &mut row, at, name, got, found)?;
+    }
+    Ok(row)
+}
+
+/// Adds what is owed of a member to what an ancestor declares, if it declares something.
+fn push_owed<'a>(
+    alloc: Global,
+    row: &mut Vec<OwedOverride<'a>>,
+    at: Position,
+    name: &'a Text,
+    got: &'a MemberAnswer,
+    found: Option<MemberAnswer>,
+) -> Result<(), AllocError>
+    ensures { IfOk result (λ u. map owed_in row.new.items
+        ≡ spec.with_owed at name.now (member_answer_of got.now) (map owed_in row.old.items)
+        (option_map member_answer_of found)) }
+{
+    match found {
+        Some(found) => {
+            let want = seen(alloc, found)?;
+            row.push(OwedOverride {
+                at,
+                name,
+                got,
+                want,
+            })?;
+            Ok(())
+        }
         None => Ok(()),
     }
 }

@@ -1,49 +1,68 @@
-//! What is told of two members, of which the one does not go to the other.
+//! What is owed of a member of a class to that of an ancestor.
 
-ghost use Rattle.std.specs.Prelude.{◌≡◌};
-ghost use Rattle.pyc_overrides.specs.Overrides as spec;
-ghost use Rattle.pyc_overrides.specs.Views.{override_of};
+ghost use Rattle.std.specs.Prelude.{◌≡◌, IfOk, string_bytes};
+ghost use Rattle.pyc_obligations.specs.Asking.{orders_at};
+ghost use Rattle.pyc_overrides.specs.Messages as messages;
+ghost use Rattle.pyc_overrides.specs.Obligations as spec;
+ghost use Rattle.pyc_overrides.specs.Views.{override_of, owed_in};
 ghost use Rattle.pyc_reading.specs.AnswerView.{member_answer_of};
-ghost use Rattle.pyc_reading.specs.Desks.{Performs};
+ghost use Rattle.pyc_reading.specs.Desks.{Asks};
+ghost use Rattle.pyc_reading.specs.Owing.{detail_keys, text_by};
 ghost use Rattle.pyc_type_forms.specs.TypeView.{params_of, ty_of};
 
-use crate::messages::{Override, tell_result, tell_signature, tell_variable};
-use crate::parameters::tell_rows;
+use crate::messages::{Override, owed_result_text, owed_signature_text, owed_variable_text};
+use crate::parameters::{ask_rows, rows_text};
 use pyc_ast::{Position, Text};
-use pyc_obligations::{Judge, judged};
+use pyc_obligations::{Judge, Owed, ask_types, is_assignable};
 use pyc_reading::{MemberAnswer, MemberKind};
+use pyc_report::{Duty, Message};
 use pyc_type_forms::{Signature, Ty};
 use std::alloc::{AllocError, Global};
 
-/// Tells of a member, and that of an ancestor to which its type does not go.
-pub(crate) fn tell_members<N: Judge>(
-    alloc: Global,
-    notes: &mut N,
-    at: Position,
-    name: &Text,
-    got: &MemberAnswer,
-    want: &MemberAnswer,
-) -> Result<(), AllocError>
-    ensures { Performs (λ u. u)
-        (spec.members_told at name.now (member_answer_of got.now) (member_answer_of want.now)) (N.desk notes.old)
-        result (N.desk notes.new) }
+/// A member of a class, where the class declares it and its name, and that of an ancestor, each with its type as it is
+/// through an instance.
+#[derive(Drop)]
+pub(crate) struct OwedOverride<'a> {
+    pub(crate) at: Position,
+    pub(crate) name: &'a Text,
+    pub(crate) got: &'a MemberAnswer,
+    pub(crate) want: MemberAnswer,
+}
+
+impl<N: Judge> Owed<N> for OwedOverride<'_> {
+    ghost obligation = { owed_in };
+
+    fn got(&self) -> &Ty {
+        &self.got.ty
+    }
+
+    fn want(&self) -> &Ty {
+        &self.want.ty
+    }
+
+    fn ask_details(&self, alloc: Global, notes: &mut N) -> Result<(), AllocError> {
+        let told = override_by(self.name, self.got, &self.want);
+        ask_types_of(alloc, notes, &told, &self.got.ty, &self.want.ty)
+    }
+
+    fn message(&self, alloc: Global, notes: &N) -> Result<Message, AllocError> {
+        let told = override_by(self.name, self.got, &self.want);
+        let text = types_text(alloc, notes, &told, &self.got.ty, &self.want.ty)?;
+        Ok(Message::failing_at(self.at, duty_of(&told), text))
+    }
+}
+
+/// A member of a name, and that of an ancestor, as messages show them.
+fn override_by<'a>(name: &'a Text, got: &MemberAnswer, want: &'a MemberAnswer) -> Override<'a>
+    ensures { override_of result
+        ≡ spec.override_by name.now (member_answer_of got.now) (member_answer_of want.now) }
 {
-    let told = Override {
-        at,
+    Override {
         name: name.as_str(),
         base: want.class.name(),
-    };
-    let got_is_method = is_method(got.kind);
-    let want_is_method = is_method(want.kind);
-    tell_types(
-        alloc,
-        notes,
-        &told,
-        got_is_method,
-        want_is_method,
-        &got.ty,
-        &want.ty,
-    )
+        got_is_method: is_method(got.kind),
+        want_is_method: is_method(want.kind),
+    }
 }
 
 /// Whether a member of this kind is a method: of an instance, of the class or of neither.
@@ -56,97 +75,164 @@ fn is_method(kind: MemberKind) -> bool
     )
 }
 
-/// Tells of two types of members, by whether each is a method.
-fn tell_types<N: Judge>(
-    alloc: Global,
-    notes: &mut N,
-    told: &Override<'_>,
-    got_is_method: bool,
-    want_is_method: bool,
-    got: &Ty,
-    want: &Ty,
-) -> Result<(), AllocError>
-    ensures { Performs (λ u. u)
-        (spec.types_told (override_of told.now) got_is_method want_is_method (ty_of got.now) (ty_of want.now))
-        (N.desk notes.old) result (N.desk notes.new) }
+/// The kind of the obligation of a member to that of an ancestor, by whether each is a method.
+fn duty_of(told: &Override<'_>) -> Duty
+    ensures { result ≡ spec.override_duty (override_of told.now) }
 {
-    match (got_is_method, want_is_method) {
-        (true, true) => tell_methods(alloc, notes, told, got, want),
-        (false, false) => tell_variable(alloc, notes, told, got, want),
-        _ => tell_signature(alloc, notes, told),
+    match (told.got_is_method, told.want_is_method) {
+        (false, false) => Duty::VariableOverride,
+        _ => Duty::Override,
     }
 }
 
-/// Tells of the types of two methods.
-fn tell_methods<N: Judge>(
+/// Asks by what is known of two types of members more closely, by whether each is a method.
+fn ask_types_of<N: Judge>(
     alloc: Global,
     notes: &mut N,
     told: &Override<'_>,
     got: &Ty,
     want: &Ty,
 ) -> Result<(), AllocError>
-    ensures { Performs (λ u. u) (spec.methods_told (override_of told.now) (ty_of got.now) (ty_of want.now))
+    ensures { Asks (detail_keys (spec.override_details (override_of told.now) (ty_of got.now) (ty_of want.now)))
+        (N.desk notes.old) result (N.desk notes.new) }
+{
+    match (told.got_is_method, told.want_is_method) {
+        (true, true) => ask_methods(alloc, notes, told, got, want),
+        _ => Ok(()),
+    }
+}
+
+/// Asks by what is known of the types of two methods.
+fn ask_methods<N: Judge>(
+    alloc: Global,
+    notes: &mut N,
+    told: &Override<'_>,
+    got: &Ty,
+    want: &Ty,
+) -> Result<(), AllocError>
+    ensures { Asks (detail_keys (spec.methods_details (override_of told.now) (ty_of got.now) (ty_of want.now)))
         (N.desk notes.old) result (N.desk notes.new) }
 {
     match got {
-        Ty::Callable(got) => tell_callable(alloc, notes, told, got, want),
-        _ => tell_signature(alloc, notes, told),
+        Ty::Callable(got) => ask_callable(alloc, notes, told, got, want),
+        _ => Ok(()),
     }
 }
 
-/// Tells of a callable and the type of another method.
-fn tell_callable<N: Judge>(
+/// Asks by what is known of a callable and the type of another method.
+fn ask_callable<N: Judge>(
     alloc: Global,
     notes: &mut N,
     told: &Override<'_>,
     got: &Signature,
     want: &Ty,
 ) -> Result<(), AllocError>
-    ensures { Performs (λ u. u)
-        (spec.callable_told (override_of told.now) (params_of got.now.params) (ty_of got.now.result) (ty_of want.now))
+    ensures { Asks
+        (detail_keys
+        (spec.callable_details (override_of told.now) (params_of got.now.params) (ty_of got.now.result)
+        (ty_of want.now)))
         (N.desk notes.old) result (N.desk notes.new) }
 {
     match want {
-        Ty::Callable(want) => tell_callables(alloc, notes, told, got, want),
-        _ => tell_signature(alloc, notes, told),
+        Ty::Callable(want) => ask_callables(alloc, notes, told, got, want),
+        _ => Ok(()),
     }
 }
 
-/// Tells of two callables.
-#[tactic(auto, using(pyc_obligations::proofs::Steps::performing), unfolding(crate::specs::Overrides::callables_told))]
-fn tell_callables<N: Judge>(
+/// Asks by what is known of two callables.
+fn ask_callables<N: Judge>(
     alloc: Global,
     notes: &mut N,
     told: &Override<'_>,
     got: &Signature,
     want: &Signature,
 ) -> Result<(), AllocError>
-    ensures { Performs (λ u. u)
-        (spec.callables_told (override_of told.now) (params_of got.now.params) (ty_of got.now.result)
-        (params_of want.now.params) (ty_of want.now.result))
+    ensures { Asks
+        (detail_keys
+        (spec.callables_details (override_of told.now) (params_of got.now.params) (ty_of got.now.result)
+        (params_of want.now.params) (ty_of want.now.result)))
         (N.desk notes.old) result (N.desk notes.new) }
 {
-    let goes = judged(alloc, notes, &got.result, &want.result)?;
-    tell_results(alloc, notes, told, goes, got, want)
+    ask_types(alloc, notes, &got.result, &want.result)?;
+    ask_rows(alloc, notes, told, &got.params, &want.params)
 }
 
-/// Tells of two callables, by whether the result of the one goes to that of the other.
-fn tell_results<N: Judge>(
+/// The text on two types of members, by whether each is a method.
+fn types_text<N: Judge>(
     alloc: Global,
-    notes: &mut N,
+    notes: &N,
     told: &Override<'_>,
-    goes: bool,
+    got: &Ty,
+    want: &Ty,
+) -> Result<String, AllocError>
+    ensures { IfOk result (λ text. string_bytes text
+        ≡ text_by (orders_at (N.desk notes.now))
+        (spec.override_details (override_of told.now) (ty_of got.now) (ty_of want.now))
+        (spec.override_text (override_of told.now) (ty_of got.now) (ty_of want.now))) }
+{
+    match (told.got_is_method, told.want_is_method) {
+        (true, true) => methods_text(alloc, notes, told, got, want),
+        (false, false) => owed_variable_text(alloc, told, got, want),
+        _ => owed_signature_text(alloc, told),
+    }
+}
+
+/// The text on the types of two methods.
+fn methods_text<N: Judge>(
+    alloc: Global,
+    notes: &N,
+    told: &Override<'_>,
+    got: &Ty,
+    want: &Ty,
+) -> Result<String, AllocError>
+    ensures { IfOk result (λ text. string_bytes text
+        ≡ text_by (orders_at (N.desk notes.now))
+        (spec.methods_details (override_of told.now) (ty_of got.now) (ty_of want.now))
+        (messages.owed_signature_text (override_of told.now))) }
+{
+    match got {
+        Ty::Callable(got) => callable_text(alloc, notes, told, got, want),
+        _ => owed_signature_text(alloc, told),
+    }
+}
+
+/// The text on a callable and the type of another method.
+fn callable_text<N: Judge>(
+    alloc: Global,
+    notes: &N,
+    told: &Override<'_>,
+    got: &Signature,
+    want: &Ty,
+) -> Result<String, AllocError>
+    ensures { IfOk result (λ text. string_bytes text
+        ≡ text_by (orders_at (N.desk notes.now))
+        (spec.callable_details (override_of told.now) (params_of got.now.params) (ty_of got.now.result)
+        (ty_of want.now))
+        (messages.owed_signature_text (override_of told.now))) }
+{
+    match want {
+        Ty::Callable(want) => callables_text(alloc, notes, told, got, want),
+        _ => owed_signature_text(alloc, told),
+    }
+}
+
+/// The text on two callables: that on their results, where the one is not assignable to the other.
+fn callables_text<N: Judge>(
+    alloc: Global,
+    notes: &N,
+    told: &Override<'_>,
     got: &Signature,
     want: &Signature,
-) -> Result<(), AllocError>
-    ensures { Performs (λ u. u)
-        (spec.results_told (override_of told.now) goes (params_of got.now.params) (ty_of got.now.result)
+) -> Result<String, AllocError>
+    ensures { IfOk result (λ text. string_bytes text
+        ≡ text_by (orders_at (N.desk notes.now))
+        (spec.callables_details (override_of told.now) (params_of got.now.params) (ty_of got.now.result)
         (params_of want.now.params) (ty_of want.now.result))
-        (N.desk notes.old) result (N.desk notes.new) }
+        (messages.owed_signature_text (override_of told.now))) }
 {
-    if goes {
-        tell_rows(alloc, notes, told, &got.params, &want.params)
+    if is_assignable(notes, &got.result, &want.result) {
+        rows_text(alloc, notes, told, &got.params, &want.params)
     } else {
-        tell_result(alloc, notes, told, &got.result, &want.result)
+        owed_result_text(alloc, told, &got.result, &want.result)
     }
 }

@@ -1,9 +1,10 @@
 -- What readings one after another ask.
-use Rattle.std.proofs.Common.{◌≡◌, Bool, true, false, if◌then◌else◌, List, [], ◌∷◌, ◌++◌, refl, ap}
+use Rattle.std.proofs.Common.{◌≡◌, Bool, true, false, if◌then◌else◌, List, [], ◌∷◌, ◌++◌, refl, ap, sym, ◌∙◌, append_assoc}
 use Rattle.pyc_read_laws.specs.Rows.{Answers}
 use Rattle.pyc_reading.specs.Desks.{Step}
 use Rattle.pyc_reading.specs.Keys.{Key}
-use Rattle.pyc_reading.specs.Readings.{Done, Ask, Tell, and_then, result_of, asked}
+use Rattle.pyc_reading.specs.Owing.{row_keys}
+use Rattle.pyc_reading.specs.Readings.{Done, Ask, Tell, Owe, and_then, result_of, asked}
 
 -- the keys of the one and then of the other
 pub asked-and_then : {A B : Type 0} (answers : Answers) (r : Step A) (next : A → Step B)
@@ -11,7 +12,10 @@ pub asked-and_then : {A B : Type 0} (answers : Answers) (r : Step A) (next : A �
 unfolding and_then
 asked-and_then answers (Done a) next = refl
 asked-and_then answers (Ask key go) next = ap (λ l. key ∷ l) (asked-and_then answers (go (answers key)) next)
-asked-and_then answers (Tell message rest) next = asked-and_then answers rest next
+asked-and_then answers (Tell remark rest) next = asked-and_then answers rest next
+asked-and_then answers (Owe row rest) next =
+    ap (λ l. row_keys row ++ l) (asked-and_then answers rest next)
+    ∙ sym (append_assoc (row_keys row) (asked answers rest) (asked answers (next (result_of answers rest))))
 
 -- the same keys, where the second asks nothing
 pub asked-then_nothing : {A B : Type 0} (answers : Answers) (r : Step A) (next : A → Step B)
@@ -19,7 +23,8 @@ pub asked-then_nothing : {A B : Type 0} (answers : Answers) (r : Step A) (next :
 unfolding and_then
 asked-then_nothing answers (Done a) next nothing = nothing a
 asked-then_nothing answers (Ask key go) next nothing = ap (λ l. key ∷ l) (asked-then_nothing answers (go (answers key)) next nothing)
-asked-then_nothing answers (Tell message rest) next nothing = asked-then_nothing answers rest next nothing
+asked-then_nothing answers (Tell remark rest) next nothing = asked-then_nothing answers rest next nothing
+asked-then_nothing answers (Owe row rest) next nothing = ap (λ l. row_keys row ++ l) (asked-then_nothing answers rest next nothing)
 
 -- nothing, or the keys of a reading
 pub asked-unless : {A : Type 0} (answers : Answers) (b : Bool) (a : A) (r : Step A)

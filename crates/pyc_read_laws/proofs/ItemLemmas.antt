@@ -8,15 +8,14 @@ use Rattle.pyc_class.specs.Order.{Order, is_unknown, order_contains}
 use Rattle.pyc_items.specs.Chosen.{at_of, is_slice, chosen_by, chosen_type}
 use Rattle.pyc_items.specs.Iteration.{not_iterable, item_not_iterable, part_by, item_part, union_part, more_parts, union_iterated, limited_part, found_part, single_iterated}
 use Rattle.pyc_items.specs.Owners.{Owner, unknown_owner, builtin_owner, int_type, counted, counts_as, asked_owner, user_owner, source_owner, subscript_owner, iterated_by, asked_item_iterable, asked_iterable, user_iterable, source_iterable, iterable}
-use Rattle.pyc_items.specs.Subscripts.{out_of_range, not_indexable, index_message, index_owed, owed_item, sequence_item, placed_item, fixed_item, builtin_item, item_by, item_of, Items, no_items, with_item, more_items, ended, subscript}
-use Rattle.pyc_obligations.specs.Judging.{judged}
-use Rattle.pyc_obligations.specs.Telling.{told_unless}
+use Rattle.pyc_items.specs.Subscripts.{out_of_range, not_indexable, owed_index, owed_item, sequence_item, placed_item, fixed_item, builtin_item, item_by, item_of, Items, no_items, with_item, more_items, ended, subscript}
 use Rattle.pyc_read_laws.proofs.AskedLemmas.{asked-and_then, asked-then_nothing, asked-unless, asked-either, asked-by}
-use Rattle.pyc_read_laws.proofs.ObligationLemmas.{judgement_asks, told_unless-asks}
+use Rattle.pyc_read_laws.proofs.ObligationLemmas.{obligation_asks}
 use Rattle.pyc_read_laws.specs.ItemRows.{subscript_keys, sequence_index_keys, builtin_index_keys, index_keys, item_subscript_keys, SubscriptOwnerReads, SubscriptReads, iteration_keys, IterationReads}
 use Rattle.pyc_read_laws.specs.ObligationRows.{obligation_keys}
 use Rattle.pyc_read_laws.specs.Rows.{Answers, class_key, member_key, member_at, has_member, order_at}
 use Rattle.pyc_reading.specs.Answers.{MemberAnswer}
+use Rattle.pyc_reading.specs.Desks.{owed}
 use Rattle.pyc_reading.specs.Readings.{Done, and_then, result_of, asked}
 use Rattle.pyc_type_forms.specs.Types.{Ty, Tys, any, none, module_type, instance, class_object, list, dict, tuple, tuple_of, union, callable}
 use Rattle.pyc_type_forms.specs.Unions.{row_items, items_of, union_of}
@@ -42,11 +41,11 @@ subscript_owner_asks answers _ = refl
 -- ---- what is owed of the index
 
 owed_item-asks : (answers : Answers) (at : Position) (got whole want given : Ty) → asked answers (owed_item at got whole want given) ≡ obligation_keys got want
-unfolding owed_item index_owed
+unfolding owed_item
 owed_item-asks answers at got whole want given =
-    asked-then_nothing answers (index_owed at got whole want) (λ u. Done (Some given)) (λ u. refl)
-    ∙ asked-then_nothing answers (judged got want) (λ holds. told_unless holds (index_message at got whole want)) (λ holds. told_unless-asks answers (index_message at got whole want) holds)
-    ∙ judgement_asks answers got want
+    asked-then_nothing answers (owed (owed_index at got whole want)) (λ u. Done (Some given)) (λ u. refl)
+    ∙ obligation_asks answers (owed_index at got whole want)
+    ∙ append-nil (obligation_keys got want)
 
 sequence_item-asks : (answers : Answers) (brackets : Index) (got whole given : Ty) → asked answers (sequence_item brackets got whole given) ≡ sequence_index_keys brackets got
 sequence_item-asks answers brackets got whole given =

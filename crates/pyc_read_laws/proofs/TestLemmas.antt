@@ -3,7 +3,8 @@ use Rattle.std.proofs.Common.{◌++◌, refl, ◌∙◌}
 use Rattle.pyc_builtins.specs.Orders.{builtin_orders}
 use Rattle.pyc_narrowing.specs.SplitStates.{instance_states}
 use Rattle.pyc_narrowing.specs.Splitting.{instance_test}
-use Rattle.pyc_obligations.specs.Judging.{written, known_after}
+use Rattle.pyc_obligations.specs.Judging.{known_after}
+use Rattle.pyc_reading.specs.Owing.{written}
 use Rattle.pyc_read_laws.proofs.AskedLemmas.{asked-then_nothing}
 use Rattle.pyc_read_laws.proofs.ObligationLemmas.{known_after-asks}
 use Rattle.pyc_read_laws.specs.TestRows.{InstanceTestReads}

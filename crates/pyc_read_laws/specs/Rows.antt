@@ -3,7 +3,8 @@
 use Rattle.std.specs.Prelude.{ℕ, Bool, is_some, List, [], ◌∷◌, Option}
 use Rattle.pyc_class.specs.Class.{Id, builtin, user}
 use Rattle.pyc_class.specs.Order.{Order, is_unknown}
-use Rattle.pyc_obligations.specs.Asking.{member_in, order_in}
+use Rattle.pyc_obligations.specs.Asking.{member_in}
+use Rattle.pyc_reading.specs.Owing.{order_in}
 use Rattle.pyc_reading.specs.Answers.{Answer, MemberAnswer}
 use Rattle.pyc_reading.specs.Keys.{Key}
 use Rattle.pyc_reading.specs.Keys as key

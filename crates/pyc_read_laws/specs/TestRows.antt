@@ -2,7 +2,7 @@
 use Rattle.std.specs.Prelude.{◌≡◌, List, ◌++◌}
 use Rattle.pyc_class.specs.Class.{Id}
 use Rattle.pyc_narrowing.specs.Splitting.{instance_test}
-use Rattle.pyc_obligations.specs.Judging.{written}
+use Rattle.pyc_reading.specs.Owing.{written}
 use Rattle.pyc_places.specs.Places.{Place}
 use Rattle.pyc_places.specs.States.{State}
 use Rattle.pyc_read_laws.specs.Rows.{Answers, source_keys}

@@ -1,2 +1,4 @@
+pub mod OwingLemmas
 pub mod ReadingLemmas
 pub mod RunLemmas
+pub mod ListingLemmas

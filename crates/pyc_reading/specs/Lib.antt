@@ -1,7 +1,9 @@
 pub mod Keys
 pub mod Answers
+pub mod Owing
 pub mod Readings
 pub mod Desks
 pub mod Frames
+pub mod Listings
 pub mod KeyView
 pub mod AnswerView

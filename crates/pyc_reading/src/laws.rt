@@ -2,13 +2,21 @@
 
 ghost use Rattle.pyc_reading.specs.Desks.{RunsAreFolds};
 ghost use Rattle.pyc_reading.specs.Frames.{Frame};
+ghost use Rattle.pyc_reading.specs.Listings.{EachIsListed, ToldIsListed};
 
 /// What comes of a reading depends on the answers to the keys that it asks, and on nothing else.
 pub fn frame()
     ensures { Frame }
 {}
 
-/// Who performs a reading comes to its result, asks its keys in turn and tells what it tells.
+/// To perform a reading is to come to its result, to ask its keys in turn and to report what it reports.
 pub fn performed()
     ensures { RunsAreFolds }
+{}
+
+/// A reading reports its remarks, and of each row of obligations that it lists the first that does not hold. So an
+/// obligation alone in its row is reported exactly where its type is not assignable by the written rules.
+pub fn told_is_listed()
+    ensures told { ToldIsListed }
+    ensures each { EachIsListed }
 {}

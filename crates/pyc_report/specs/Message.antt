@@ -1,13 +1,12 @@
 -- What a contract sees of a message: plain values.
-use Rattle.std.specs.Prelude.{ℕ, List, [], codes, string_bytes}
+use Rattle.std.specs.Prelude.{ℕ, List, [], codes, string_bytes, Option, Some, None}
 use Rattle.pyc_ast.specs.declared.position.Position.{Position}
 use Rattle.pyc_report.specs.declared.message.Code.{Code}
-use Rattle.pyc_report.specs.declared.message.Code.TheVariants.{ArgType, Assignment, AttrDefined, CallArg, DictItem}
-use Rattle.pyc_report.specs.declared.message.Code.TheVariants.{ImportNotFound, Index, ListItem, Misc, NameDefined}
-use Rattle.pyc_report.specs.declared.message.Code.TheVariants.{NoRedef, Operator, Override, Return}
-use Rattle.pyc_report.specs.declared.message.Code.TheVariants.{ReturnValue, Syntax, UnionAttr, ValidType}
+use Rattle.pyc_report.specs.declared.message.Code.TheVariants as code
+use Rattle.pyc_report.specs.declared.message.Duty.{Duty}
+use Rattle.pyc_report.specs.declared.message.Duty.TheVariants as duty
 use Rattle.pyc_report.specs.declared.message.MessageKind.{MessageKind}
-use Rattle.pyc_report.specs.declared.message.MessageKind.TheVariants.{Error, Note}
+use Rattle.pyc_report.specs.declared.message.MessageKind.TheVariants.{Error, Owed, Note}
 use Rattle.pyc_report.specs.declared.message.Message.{Message as Declared}
 
 -- an error or a note: its line and its column, each counted from 1, its kind and its text
@@ -19,28 +18,35 @@ pub record Message : Type 0 where
 
 -- a code as it is printed
 abbrev pub code_name : Code → List ℕ
-code_name ArgType = codes "arg-type"
-code_name Assignment = codes "assignment"
-code_name AttrDefined = codes "attr-defined"
-code_name CallArg = codes "call-arg"
-code_name DictItem = codes "dict-item"
-code_name ImportNotFound = codes "import-not-found"
-code_name Index = codes "index"
-code_name ListItem = codes "list-item"
-code_name Misc = codes "misc"
-code_name NameDefined = codes "name-defined"
-code_name NoRedef = codes "no-redef"
-code_name Operator = codes "operator"
-code_name Override = codes "override"
-code_name Return = codes "return"
-code_name ReturnValue = codes "return-value"
-code_name Syntax = codes "syntax"
-code_name UnionAttr = codes "union-attr"
-code_name ValidType = codes "valid-type"
+code_name code.AttrDefined = codes "attr-defined"
+code_name code.CallArg = codes "call-arg"
+code_name code.ImportNotFound = codes "import-not-found"
+code_name code.Index = codes "index"
+code_name code.Misc = codes "misc"
+code_name code.NameDefined = codes "name-defined"
+code_name code.NoRedef = codes "no-redef"
+code_name code.Operator = codes "operator"
+code_name code.Syntax = codes "syntax"
+code_name code.UnionAttr = codes "union-attr"
+code_name code.ValidType = codes "valid-type"
+
+-- the code of an obligation of this kind that does not hold, as it is printed
+abbrev pub duty_code : Duty → List ℕ
+duty_code duty.Argument = codes "arg-type"
+duty_code duty.Assignment = codes "assignment"
+duty_code duty.Default = codes "assignment"
+duty_code duty.DictEntry = codes "dict-item"
+duty_code duty.Index = codes "index"
+duty_code duty.ListItem = codes "list-item"
+duty_code duty.MissingReturn = codes "return"
+duty_code duty.Override = codes "override"
+duty_code duty.Return = codes "return-value"
+duty_code duty.VariableOverride = codes "assignment"
 
 -- the code of a message of this kind as it is printed: none for a note
 abbrev pub code_of : MessageKind → List ℕ
-code_of (Error code) = code_name code
+code_of (Error found) = code_name found
+code_of (Owed found) = duty_code found
 code_of Note = []
 
 -- the message as plain values
@@ -48,10 +54,40 @@ abbrev pub message_in : Declared → Message
 message_in message =
     record { line = message.line; column = message.column; kind = message.kind; text = string_bytes message.text }
 
+-- what a rule tells by itself, an error with its code or a note: what obligations tell is no remark
+pub record Remark : Type 0 where
+  pub line : ℕ
+  pub column : ℕ
+  pub code : Option Code
+  pub text : List ℕ
+
+-- the kind of the message of a remark
+abbrev pub kind_of_remark : Option Code → MessageKind
+kind_of_remark (Some found) = Error found
+kind_of_remark None = Note
+
+-- the message of a remark
+abbrev pub remarked : Remark → Message
+remarked remark =
+    record {
+      line = remark.line;
+      column = remark.column;
+      kind = kind_of_remark remark.code;
+      text = remark.text;
+    }
+
 -- an error at a position
-abbrev pub error_at : Position → Code → List ℕ → Message
-error_at at code text = record { line = at.line; column = at.column; kind = Error code; text = text }
+abbrev pub error_at : Position → Code → List ℕ → Remark
+error_at at found text = record { line = at.line; column = at.column; code = Some found; text = text }
+
+-- an error on a line as a whole
+abbrev pub error_on_line : ℕ → Code → List ℕ → Remark
+error_on_line line found text = record { line = line; column = 1; code = Some found; text = text }
 
 -- a note at a position
-abbrev pub note_at : Position → List ℕ → Message
-note_at at text = record { line = at.line; column = at.column; kind = Note; text = text }
+abbrev pub note_at : Position → List ℕ → Remark
+note_at at text = record { line = at.line; column = at.column; code = None; text = text }
+
+-- the message of an obligation of a kind that does not hold, at a position
+abbrev pub failing_at : Position → Duty → List ℕ → Message
+failing_at at found text = record { line = at.line; column = at.column; kind = Owed found; text = text }

@@ -5,7 +5,7 @@ use Rattle.std.specs.List.{list_any}
 use Rattle.pyc_ast.specs.Modules.{Codes, all, listed, Ignore, Module}
 use Rattle.pyc_report.specs.declared.message.Code.TheVariants.{Syntax}
 use Rattle.pyc_report.specs.declared.message.MessageKind.{MessageKind}
-use Rattle.pyc_report.specs.declared.message.MessageKind.TheVariants.{Error, Note}
+use Rattle.pyc_report.specs.declared.message.MessageKind.TheVariants.{Error, Owed, Note}
 use Rattle.pyc_report.specs.Message.{Message, code_of}
 
 -- whether a comment with these codes is one on this code
@@ -21,6 +21,7 @@ ignores message ignore = ignore.line == message.line && covers (code_of message.
 abbrev pub is_silenceable : MessageKind → Bool
 is_silenceable (Error Syntax) = false
 is_silenceable (Error _) = true
+is_silenceable (Owed _) = true
 is_silenceable Note = false
 
 -- whether a message is silenced: by an ignore of the whole file, or by a comment on its line

@@ -8,7 +8,7 @@ mod reporting;
 mod silencing;
 
 pub use checked::{Found, Report};
-pub use message::{Code, Message, MessageKind};
+pub use message::{Code, Duty, Message, MessageKind};
 pub use name_texts::push_names;
 pub use reporting::report;
 pub use silencing::drop_silenced;

@@ -1,37 +1,57 @@
 //! An error or a note on a file.
 
 ghost use Rattle.std.specs.Prelude.{◌≡◌, string_bytes};
-ghost use Rattle.pyc_report.specs.Message.{code_name, code_of, error_at, message_in, note_at};
+ghost use Rattle.pyc_report.specs.Message.{code_name, code_of, duty_code, message_in, remarked};
+ghost use Rattle.pyc_report.specs.Message.{error_at, error_on_line, failing_at, note_at};
 
 use pyc_ast::Position;
 
-/// The code of an error.
+/// The code of an error that a rule tells by itself, and that is no failed obligation.
 #[derive(Clone, Copy, Debug, PartialEq, Eq)]
 pub enum Code {
-    ArgType,
-    Assignment,
     AttrDefined,
     CallArg,
-    DictItem,
     ImportNotFound,
     Index,
-    ListItem,
     Misc,
     NameDefined,
     NoRedef,
     Operator,
-    Override,
-    Return,
-    ReturnValue,
     Syntax,
     UnionAttr,
     ValidType,
 }
 
-/// What a message is: an error with its code, or a note.
+/// The kind of an obligation: what a type has to be assignable for.
+#[derive(Clone, Copy, Debug, PartialEq, Eq)]
+pub enum Duty {
+    /// An argument of a call, to the type of its parameter.
+    Argument,
+    /// A value, to the type of what it is assigned to.
+    Assignment,
+    /// A default, to the type of its parameter.
+    Default,
+    /// The key or the value of an entry of a dict display, to the type that is expected of it.
+    DictEntry,
+    /// An index, to the type that it takes.
+    Index,
+    /// An item of a list display, to the type that is expected of it.
+    ListItem,
+    /// The end of a function, to the type of its result.
+    MissingReturn,
+    /// A member of a class, to that of an ancestor, where one of the two is a method.
+    Override,
+    /// What is returned, to the type of the result.
+    Return,
+    /// A member of a class, to that of an ancestor, where neither is a method.
+    VariableOverride,
+}
+
+/// What a message is: an error with its code, an obligation that does not hold, or a note.
 #[derive(Clone, Copy, Debug, PartialEq, Eq)]
 pub enum MessageKind {
     Error(Code),
+    Owed(Duty),
     Note,
 }
 
@@ -45,9 +65,9 @@ pub struct Message {
 }
 
 impl Message {
-    /// An error at a position. Takes no memory.
+    /// An error at a position. It takes no memory.
     pub fn error_at(at: Position, code: Code, text: String) -> Message
-        ensures { message_in result ≡ error_at at code (string_bytes text) }
+        ensures { message_in result ≡ remarked (error_at at code (string_bytes text)) }
     {
         Message {
             line: at.line as usize,
@@ -57,9 +77,33 @@ impl Message {
         }
     }
 
-    /// A note at a position. Takes no memory.
+    /// An error on a line as a whole. It takes no memory.
+    pub fn error_on_line(line: usize, code: Code, text: String) -> Message
+        ensures { message_in result ≡ remarked (error_on_line line code (string_bytes text)) }
+    {
+        Message {
+            line,
+            column: 1,
+            kind: MessageKind::Error(code),
+            text,
+        }
+    }
+
+    /// The message of an obligation of a kind that does not hold, at a position. It takes no memory.
+    pub fn failing_at(at: Position, duty: Duty, text: String) -> Message
+        ensures { message_in result ≡ failing_at at duty (string_bytes text) }
+    {
+        Message {
+            line: at.line as usize,
+            column: at.column as usize,
+            kind: MessageKind::Owed(duty),
+            text,
+        }
+    }
+
+    /// A note at a position. It takes no memory.
     pub fn note_at(at: Position, text: String) -> Message
-        ensures { message_in result ≡ note_at at (string_bytes text) }
+        ensures { message_in result ≡ remarked (note_at at (string_bytes text)) }
     {
         Message {
             line: at.line as usize,
@@ -76,24 +120,35 @@ impl Code {
         ensures { result.now ≡ code_name self }
     {
         match self {
-            Code::ArgType => "arg-type",
-            Code::Assignment => "assignment",
             Code::AttrDefined => "attr-defined",
             Code::CallArg => "call-arg",
-            Code::DictItem => "dict-item",
             Code::ImportNotFound => "import-not-found",
             Code::Index => "index",
-            Code::ListItem => "list-item",
             Code::Misc => "misc",
             Code::NameDefined => "name-defined",
             Code::NoRedef => "no-redef",
             Code::Operator => "operator",
-            Code::Override => "override",
-            Code::Return => "return",
-            Code::ReturnValue => "return-value",
             Code::Syntax => "syntax",
             Code::UnionAttr => "union-attr",
             Code::ValidType => "valid-type",
+        }
+    }
+}
+
+impl Duty {
+    /// The code of an obligation of this kind that does not hold, as it is printed between brackets.
+    pub fn code(self) -> &'static str
+        ensures { result.now ≡ duty_code self }
+    {
+        match self {
+            Duty::Argument => "arg-type",
+            Duty::Assignment | Duty::Default | Duty::VariableOverride => "assignment",
+            Duty::DictEntry => "dict-item",
+            Duty::Index => "index",
+            Duty::ListItem => "list-item",
+            Duty::MissingReturn => "return",
+            Duty::Override => "override",
+            Duty::Return => "return-value",
         }
     }
 }
@@ -105,6 +160,7 @@ impl MessageKind {
     {
         match self {
             MessageKind::Error(code) => code.name(),
+            MessageKind::Owed(duty) => duty.code(),
             MessageKind::Note => "",
         }
     }

@@ -35,7 +35,7 @@ fn is_silenceable(kind: MessageKind) -> bool
 {
     match kind {
         MessageKind::Error(Code::Syntax) => false,
-        MessageKind::Error(_) => true,
+        MessageKind::Error(_) | MessageKind::Owed(_) => true,
         MessageKind::Note => false,
     }
 }

@@ -1,12 +1,12 @@
 -- The types of functions (typing specification, "Type annotations" and "Callables"; Python reference 3.13, "Function
 -- definitions").
-use Rattle.std.specs.Prelude.{ℕ, Bool, true, false, is_some, if◌then◌else◌, List, [], ◌∷◌, ◌++◌, Option, None, Some}
+use Rattle.std.specs.Prelude.{ℕ, Bool, is_some, if◌then◌else◌, List, [], ◌∷◌, ◌++◌, Option, None, Some}
 use Rattle.pyc_annotations.specs.Annotations.{read_type}
 use Rattle.pyc_ast.specs.declared.parameter.ParameterKind.{ParameterKind}
 use Rattle.pyc_ast.specs.declared.parameter.ParameterKind.TheVariants as parameter
 use Rattle.pyc_ast.specs.Exprs.{Expr}
 use Rattle.pyc_ast.specs.Statements.{FunctionDefinition, Parameter}
-use Rattle.pyc_names.specs.SourceFiles.{SourceFile}
+use Rattle.pyc_names.specs.Interfaces.{Interface}
 use Rattle.pyc_reading.specs.Desks.{Step}
 use Rattle.pyc_reading.specs.Readings.{Done, and_then}
 use Rattle.pyc_type_exprs.specs.TypeExprs.{type_expr}
@@ -25,7 +25,7 @@ abbrev pub param_of_type : Parameter → Ty → ParamView
 param_of_type p ty = record { slot = record { kind = kind_of p.kind p.name; is_optional = is_some p.default }; ty = ty }
 
 -- the type that an annotation means; without one it is another
-abbrev pub annotated_or : SourceFile → Ty → Option Expr → Step Ty
+abbrev pub annotated_or : Interface → Ty → Option Expr → Step Ty
 annotated_or file other (Some e) = and_then (read_type file (type_expr e)) (λ found. Done found.ty)
 annotated_or file other None = Done other
 
@@ -36,18 +36,18 @@ first_type receiver parameter.Plain = receiver
 first_type receiver _ = any
 
 -- a parameter, the first of which is what the function is called on
-unfoldable pub parameter_reading : SourceFile → Ty → Parameter → Step ParamView
+unfoldable pub parameter_reading : Interface → Ty → Parameter → Step ParamView
 parameter_reading file receiver p =
     and_then (annotated_or file (first_type receiver p.kind) p.annotation) (λ ty. Done (param_of_type p ty))
 
 -- these parameters, and then others in turn
-unfoldable pub more_params : SourceFile → List ParamView → List Parameter → Step (List ParamView)
+unfoldable pub more_params : Interface → List ParamView → List Parameter → Step (List ParamView)
 more_params file found [] = Done found
 more_params file found (p ∷ rest) =
     and_then (parameter_reading file any p) (λ param. more_params file (found ++ (param ∷ [])) rest)
 
 -- all parameters in turn
-abbrev pub parameters_reading : SourceFile → Ty → List Parameter → Step (List ParamView)
+abbrev pub parameters_reading : Interface → Ty → List Parameter → Step (List ParamView)
 parameters_reading file receiver [] = Done []
 parameters_reading file receiver (p ∷ rest) =
     and_then (parameter_reading file receiver p) (λ param. more_params file (param ∷ []) rest)
@@ -58,7 +58,7 @@ called is_async params result = if is_async then any else callable (listed (list
 
 -- the type of a function that stands in a file, where what it is called on has a type; Any where it is called on
 -- nothing. Its annotations are read in turn, those of its parameters first
-unfoldable pub function_type : SourceFile → Ty → FunctionDefinition → Step Ty
+unfoldable pub function_type : Interface → Ty → FunctionDefinition → Step Ty
 function_type file receiver head =
     and_then (parameters_reading file receiver head.parameters)
     (λ params. and_then (annotated_or file any head.returns) (λ result. Done (called head.is_async params result)))

@@ -3,7 +3,7 @@
 ghost use Rattle.std.specs.Prelude.{◌≡◌, ◌∷◌, [], IfOk, map, option_map, Some};
 ghost use Rattle.pyc_ast.specs.ExprView.{expr_of};
 ghost use Rattle.pyc_ast.specs.StatementView.{function_of, parameter_of, boxed_expr_of};
-ghost use Rattle.pyc_names.specs.SourceFileView.{source_in};
+ghost use Rattle.pyc_names.specs.InterfaceView.{interface_in};
 ghost use Rattle.pyc_reading.specs.Desks.{Performs};
 ghost use Rattle.pyc_signatures.specs.Signatures as spec;
 ghost use Rattle.pyc_type_forms.specs.Types.{any};
@@ -28,7 +28,7 @@ pub fn read_function<N: Notes>(
     receiver: Ty,
     head: &FunctionDefinition,
 ) -> Result<Ty, AllocError>
-    ensures { Performs ty_of (spec.function_type (source_in file.now) (ty_of receiver) (function_of head.now))
+    ensures { Performs ty_of (spec.function_type (interface_in file.now) (ty_of receiver) (function_of head.now))
         (N.desk notes.old) result (N.desk notes.new) }
 {
     let params = read_parameters(alloc, notes, file, receiver, &head.parameters)?;
@@ -46,7 +46,7 @@ fn read_parameters<N: Notes>(
     parameters: &[Parameter],
 ) -> Result<Vec<Param>, AllocError>
     ensures { Performs (λ params. map param_of params.items)
-        (spec.parameters_reading (source_in file.now) (ty_of receiver) (map parameter_of parameters.now))
+        (spec.parameters_reading (interface_in file.now) (ty_of receiver) (map parameter_of parameters.now))
         (N.desk notes.old) result (N.desk notes.new) }
 {
     match parameters.split_first() {
@@ -79,7 +79,7 @@ fn read_more<N: Notes>(
     parameters: &[Parameter],
 ) -> Result<Vec<Param>, AllocError>
     ensures { Performs (λ params. map param_of params.items)
-        (spec.more_params (source_in file.now) (map param_of found.items) (map parameter_of parameters.now))
+        (spec.more_params (interface_in file.now) (map param_of found.items) (map parameter_of parameters.now))
         (N.desk notes.old) result (N.desk notes.new) }
 {
     let mut params = found;
@@ -97,7 +97,7 @@ fn read_later_parameter<N: Notes>(
     file: &SourceFile,
     parameter: &Parameter,
 ) -> Result<Param, AllocError>
-    ensures { Performs param_of (spec.parameter_reading (source_in file.now) any (parameter_of parameter.now))
+    ensures { Performs param_of (spec.parameter_reading (interface_in file.now) any (parameter_of parameter.now))
         (N.desk notes.old) result (N.desk notes.new) }
 {
     read_parameter(alloc, notes, file, Ty::Any, parameter)
@@ -113,7 +113,7 @@ fn read_parameter<N: Notes>(
     parameter: &Parameter,
 ) -> Result<Param, AllocError>
     ensures { Performs param_of
-        (spec.parameter_reading (source_in file.now) (ty_of receiver) (parameter_of parameter.now))
+        (spec.parameter_reading (interface_in file.now) (ty_of receiver) (parameter_of parameter.now))
         (N.desk notes.old) result (N.desk notes.new) }
 {
     let ty = read_parameter_type(alloc, notes, file, receiver, parameter)?;
@@ -129,7 +129,7 @@ fn read_parameter_type<N: Notes>(
     parameter: &Parameter,
 ) -> Result<Ty, AllocError>
     ensures { Performs ty_of
-        (spec.annotated_or (source_in file.now) (spec.first_type (ty_of receiver) parameter.now.kind)
+        (spec.annotated_or (interface_in file.now) (spec.first_type (ty_of receiver) parameter.now.kind)
         (boxed_expr_of parameter.now.annotation))
         (N.desk notes.old) result (N.desk notes.new) }
 {
@@ -157,7 +157,7 @@ fn read_result<N: Notes>(
     returns: Option<&Expr>,
 ) -> Result<Ty, AllocError>
     ensures { Performs ty_of
-        (spec.annotated_or (source_in file.now) any (option_map (λ e. expr_of e.now) returns.entry))
+        (spec.annotated_or (interface_in file.now) any (option_map (λ e. expr_of e.now) returns.entry))
         (N.desk notes.old) result (N.desk notes.new) }
 {
     match returns {
@@ -174,7 +174,7 @@ fn read_annotated<N: Notes>(
     file: &SourceFile,
     annotation: &Expr,
 ) -> Result<Ty, AllocError>
-    ensures { Performs ty_of (spec.annotated_or (source_in file.now) any (Some (expr_of annotation.now)))
+    ensures { Performs ty_of (spec.annotated_or (interface_in file.now) any (Some (expr_of annotation.now)))
         (N.desk notes.old) result (N.desk notes.new) }
 {
     let found = read_annotation(alloc, notes, file, annotation)?;

@@ -8,6 +8,7 @@ use Rattle.pyc_ast.specs.Targets.{Target, target}
 use Rattle.pyc_ast.specs.Targets as to
 use Rattle.pyc_bindings.specs.Bindings.{form_of}
 use Rattle.pyc_bindings.specs.Scopes.{Part, PartForm, statement, parts_of}
+use Rattle.pyc_names.specs.Interfaces.{interface_of}
 use Rattle.pyc_names.specs.SourceFiles.{SourceFile}
 use Rattle.pyc_reading.specs.Desks.{Step}
 use Rattle.pyc_reading.specs.Readings.{Done, and_then, each}
@@ -23,7 +24,9 @@ is_name _ = false
 -- the annotation of a name
 abbrev pub annotated_reading : SourceFile → AnnotatedAssignment → Step (Unit {0})
 annotated_reading file found =
-    if is_name found.target then and_then (read_type file (type_expr found.annotation)) (λ ty. Done tt) else Done tt
+    if is_name found.target then
+    and_then (read_type (interface_of file) (type_expr found.annotation)) (λ ty. Done tt)
+    else Done tt
 
 abbrev pub form_reading : SourceFile → StmtForm → Step (Unit {0})
 form_reading file (plain.annotate found) = annotated_reading file found

@@ -13,6 +13,7 @@ use Rattle.pyc_class.specs.declared.order.UnknownOrder.{UnknownOrder}
 use Rattle.pyc_class.specs.declared.order.UnknownOrder.TheVariants as unknown
 use Rattle.pyc_class.specs.Class.{Id, user}
 use Rattle.pyc_names.specs.FixedModules.{fixed_module}
+use Rattle.pyc_names.specs.Interfaces.{interface_of}
 use Rattle.pyc_names.specs.SourceFiles.{SourceFile}
 use Rattle.pyc_overrides.specs.Overrides.{overrides_read}
 use Rattle.pyc_reading.specs.Answers.{Answer, order_is}
@@ -70,7 +71,7 @@ declared_reading file at name found =
 -- a class: its bases, and where it is a class that the file declares its order, which is the answer
 abbrev pub class_reading : SourceFile → Position → ClassDefinition → Step (Option (List Id))
 class_reading file at head =
-    and_then (bases file head.arguments)
+    and_then (bases (interface_of file) head.arguments)
     (λ found. if declares file at head.name then declared_reading file at head.name found else Done None)
 
 -- ---- definitions
@@ -82,7 +83,7 @@ class_body_reading suspends body =
 
 -- a function or a method: its signature
 abbrev pub signature_reading : SourceFile → FunctionDefinition → Step (Unit {0})
-signature_reading file head = and_then (function_type file any head) (λ ty. Done tt)
+signature_reading file head = and_then (function_type (interface_of file) any head) (λ ty. Done tt)
 
 -- what a class that the file declares, with this order, declares as an ancestor does
 abbrev pub heir_reading : SourceFile → List ℕ → Stmts → Option (List Id) → Step (Unit {0})

@@ -16,12 +16,11 @@ use Rattle.pyc_names.specs.Following.{is_import_from}
 use Rattle.pyc_names.specs.SourceFiles.{SourceFile}
 use Rattle.pyc_reading.specs.declared.answer.Presence.{Presence}
 use Rattle.pyc_reading.specs.declared.answer.Presence.TheVariants as presence
-use Rattle.pyc_reading.specs.Desks.{Step, telling}
+use Rattle.pyc_reading.specs.Desks.{Step, line_told, telling}
 use Rattle.pyc_reading.specs.Keys.{has_name}
 use Rattle.pyc_reading.specs.Readings.{Done, and_then, each}
 use Rattle.pyc_report.specs.declared.message.Code.TheVariants as code
-use Rattle.pyc_report.specs.declared.message.MessageKind.TheVariants.{Error}
-use Rattle.pyc_report.specs.Message.{Message, error_at}
+use Rattle.pyc_report.specs.Message.{error_at}
 
 -- ---- texts
 
@@ -30,10 +29,6 @@ cycle_text name = codes "Cannot resolve name \"" ++ (name ++ codes "\" (possible
 
 unfoldable pub redefinition_text : List ℕ → ℕ → List ℕ
 redefinition_text name line = codes "Name \"" ++ (name ++ (codes "\" already defined on line " ++ decimal line))
-
--- the message on a fault
-abbrev pub fault_message : ℕ → List ℕ → Message
-fault_message line text = record { line = line; column = 1; kind = Error code.Syntax; text = text }
 
 -- ---- imports
 
@@ -80,7 +75,7 @@ outcome_reading options file (tree m) =
     and_then (each (part_reading options file) (parts_of m.statements false))
     (λ u. and_then (cycles_after file [] file.bindings)
     (λ v. each redefinition_reading file.again))
-outcome_reading options file (fault line text) = telling (fault_message line text)
+outcome_reading options file (fault line text) = line_told line code.Syntax text
 
 unfoldable pub header_reading : Options → SourceFile → Step (Unit {0})
 header_reading options file = outcome_reading options file file.outcome

@@ -6,6 +6,7 @@ ghost use Rattle.pyc_annotations.specs.Views.{base_of};
 ghost use Rattle.pyc_ast.specs.StatementView.{block_of, class_of, function_of, stmt_of, stmt_form_of};
 ghost use Rattle.pyc_bindings.specs.BindingView.{binding_of};
 ghost use Rattle.pyc_units.specs.DefinitionReadings as spec;
+ghost use Rattle.pyc_names.specs.InterfaceView.{interface_in};
 ghost use Rattle.pyc_names.specs.SourceFileView.{source_in};
 ghost use Rattle.pyc_reading.specs.AnswerView.{answer_in};
 ghost use Rattle.pyc_reading.specs.Desks.{Performs};
@@ -24,7 +25,8 @@ use pyc_iface::{Answer, Key, Notes};
 use pyc_names::{SourceFile, fixed_module};
 use pyc_obligations::Judge;
 use pyc_overrides::read_overrides;
-use pyc_report::{Code, Message};
+use pyc_reading::tell_error;
+use pyc_report::Code;
 use pyc_signatures::read_function;
 use pyc_types::Ty;
 use std::alloc::{AllocError, Global};
@@ -84,8 +86,8 @@ fn read_plain_function<N: Notes>(
     file: &SourceFile,
     head: &FunctionDefinition,
 ) -> Result<Ty, AllocError>
-    ensures { Performs ty_of (function_type (source_in file.now) any (function_of head.now)) (N.desk notes.old) result
-        (N.desk notes.new) }
+    ensures { Performs ty_of (function_type (interface_in file.now) any (function_of head.now)) (N.desk notes.old)
+        result (N.desk notes.new) }
 {
     read_function(alloc, notes, file, Ty::Any, head)
 }
@@ -267,11 +269,11 @@ fn tell_unknown<N: Notes>(
     match unknown {
         Some(UnknownOrder::Cycle) => {
             let text = base_cycle_text(alloc, name)?;
-            notes.tell(Message::error_at(at, Code::Misc, text))
+            tell_error(notes, at, Code::Misc, text)
         }
         Some(UnknownOrder::Merge) => {
             let text = no_order_text(alloc, name)?;
-            notes.tell(Message::error_at(at, Code::Misc, text))
+            tell_error(notes, at, Code::Misc, text)
         }
         _ => Ok(()),
     }

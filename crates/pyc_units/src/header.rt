@@ -7,8 +7,9 @@ ghost use Rattle.pyc_bindings.specs.ScopeView.{part_of, part_form_of};
 ghost use Rattle.pyc_units.specs.Header as spec;
 ghost use Rattle.pyc_names.specs.Following.{is_import_from};
 ghost use Rattle.pyc_names.specs.SourceFileView.{source_in};
-ghost use Rattle.pyc_reading.specs.Desks.{Performs, telling};
+ghost use Rattle.pyc_reading.specs.Desks.{Performs, line_told};
 ghost use Rattle.pyc_reading.specs.Readings.{each};
+ghost use Rattle.pyc_report.specs.declared.message.Code.TheVariants as code;
 
 use crate::header_texts::cycle_text;
 use crate::redefined::tell_redefinitions;
@@ -17,7 +18,8 @@ use pyc_bindings::{Binding, BindingForm, Part, PartForm, Place, scope_parts};
 use pyc_iface::{Key, Notes, Options, Presence};
 use pyc_imports::{asked_presence, read_import};
 use pyc_names::{QualifiedName, SourceFile, fixed_module};
-use pyc_report::{Code, Message, MessageKind};
+use pyc_reading::{tell_error, tell_line};
+use pyc_report::Code;
 use std::alloc::{AllocError, Global};
 
 /// Reads the header of a file: its imports, the cyclic definitions and the names that are defined again, or its fault.
@@ -60,16 +62,11 @@ fn read_top_level<N: Notes>(
 
 /// Tells a fault.
 fn tell_fault<N: Notes>(alloc: Global, notes: &mut N, fault: Fault) -> Result<(), AllocError>
-    ensures { Performs (λ u. u) (telling (spec.fault_message fault.line fault.text.now)) (N.desk notes.old) result
+    ensures { Performs (λ u. u) (line_told fault.line code.Syntax fault.text.now) (N.desk notes.old) result
         (N.desk notes.new) }
 {
     let text = String::from_str(alloc, fault.text)?;
-    notes.tell(Message {
-        line: fault.line,
-        column: 1,
-        kind: MessageKind::Error(Code::Syntax),
-        text,
-    })
+    tell_line(notes, fault.line, Code::Syntax, text)
 }
 
 /// Reads the imports among parts, in turn.
@@ -174,7 +171,7 @@ fn tell_cycle<N: Notes>(
     match found {
         Some(Presence::Cycle) => {
             let text = cycle_text(alloc, name.as_str())?;
-            notes.tell(Message::error_at(at, Code::Misc, text))
+            tell_error(notes, at, Code::Misc, text)
         }
         _ => Ok(()),
     }

@@ -9,7 +9,8 @@ ghost use Rattle.pyc_reading.specs.Readings.{each};
 use crate::header_texts::redefinition_text;
 use pyc_bindings::Redefinition;
 use pyc_iface::Notes;
-use pyc_report::{Code, Message};
+use pyc_reading::tell_error;
+use pyc_report::Code;
 use std::alloc::{AllocError, Global};
 
 /// Tells names that are defined again, in turn. The only error is that memory runs out.
@@ -37,5 +38,5 @@ fn tell_redefinition<N: Notes>(
         (N.desk notes.new) }
 {
     let text = redefinition_text(alloc, found.name.as_str(), found.line)?;
-    notes.tell(Message::error_at(found.at, Code::NoRedef, text))
+    tell_error(notes, found.at, Code::NoRedef, text)
 }

@@ -2,3 +2,4 @@ pub mod FreshLemmas
 pub mod Texts
 pub mod WorkspaceLemmas
 pub mod FileLemmas
+pub mod CountLemmas

@@ -64,10 +64,6 @@ all-remove P [] (suc i) all = tt
 all-remove P (x ∷ xs) zero all = all.1
 all-remove P (x ∷ xs) (suc i) all = (all.0, all-remove P xs i all.1)
 
-pub list_any-map : {X Y : Type 0} (f : X → Y) (test : Y → Bool) (xs : List X) → list_any (λ x. test (f x)) xs ≡ list_any test (map f xs)
-list_any-map f test [] = refl
-list_any-map f test (x ∷ xs) = ap (λ b. test (f x) || b) (list_any-map f test xs)
-
 -- what holds of the image of the element at a place
 mapped : {X Y : Type 0} (g : X → Y) (P : Y → Type 0) (xs : List X) (i : ℕ) → i < length xs → ((d : X) → P (g (get_or xs i d))) → (e : Y) → P (get_or (map g xs) i e)
 mapped g P [] i within h e = absurd (omega arith)

@@ -2,3 +2,4 @@ pub mod Files
 pub mod Fresh
 pub mod Path
 pub mod Workspace
+pub mod ModuleCounts

@@ -3,6 +3,7 @@
 
 mod file;
 mod fresh;
+mod module_counts;
 mod path;
 mod workspace;
 

@@ -5,11 +5,13 @@ ghost use Rattle.std.specs.Cmp.Lexicographic.{slice_cmp};
 ghost use Rattle.std.specs.Ordering.{nat_cmp};
 ghost use Rattle.pyc_workspace.specs.Files.{file_in, files_in};
 ghost use Rattle.pyc_workspace.specs.Fresh.{numbered, unit_in, units_of};
-ghost use Rattle.pyc_names.specs.ModuleName.{module_of, same_module};
+ghost use Rattle.pyc_workspace.specs.ModuleCounts.{IsWhole, counts_in};
 ghost use Rattle.pyc_workspace.specs.Workspace.{File as PlainFile, IsInOrder, IsPlaceOf, IsGapFor, has_file};
 ghost use Rattle.pyc_workspace.specs.Workspace.{is_module_taken, with_file, without_file};
 
 use crate::file::File;
+use crate::module_counts::{ModuleCounts, count_of, count_one_less, count_one_more};
+use indexmap::IndexMap;
 use pyc_body::UnitId;
 use pyc_names::ModuleName;
 use std::alloc::{AllocError, Global};
@@ -22,6 +24,8 @@ use std::rc::Rc;
 #[derive(Drop)]
 pub struct Workspace {
     files: Vec<Rc<File>>,
+    /// How many of the files name each module.
+    modules: ModuleCounts,
 }
 
 impl Model for Workspace {
@@ -29,7 +33,7 @@ impl Model for Workspace {
 
     ghost view = { λ w. files_in w.files.items };
 
-    ghost invariant = { λ w. IsInOrder (files_in w.files.items) };
+    ghost invariant = { λ w. IsWhole (files_in w.files.items) (counts_in w.modules) };
 }
 
 impl Workspace {
@@ -39,6 +43,7 @@ impl Workspace {
     {
         Workspace {
             files: Vec::new(alloc),
+            modules: IndexMap::new(alloc),
         }
     }
 
@@ -60,7 +65,7 @@ impl Workspace {
     pub fn names_module(&self, name: &ModuleName) -> bool
         ensures { result ≡ is_module_taken self.now name.now }
     {
-        names_module(&self.files, name)
+        count_of(&self.modules, name) > 0
     }
 
     /// Puts a file in place of the one of its path, or else where its path belongs. Where memory is refused all is as
@@ -77,7 +82,12 @@ impl Workspace {
                 self.files[at] = file;
                 Ok(())
             }
-            Err(at) => Ok(self.files.insert(at, file)?),
+            Err(at) => {
+                let name = file.module().clone()?;
+                self.modules.reserve(1)?;
+                self.files.insert(at, file)?;
+                count_one_more(&mut self.modules, name)
+            }
         }
     }
 
@@ -90,7 +100,8 @@ impl Workspace {
         let Ok(at) = place_of(&self.files, path) else {
             return false;
         };
-        let _ = self.files.remove(at);
+        let file = self.files.remove(at);
+        count_one_less(&mut self.modules, file.module());
         true
     }
 
@@ -101,6 +112,7 @@ impl Workspace {
     {
         Ok(Workspace {
             files: share(alloc, &self.files)?,
+            modules: self.modules.clone()?,
         })
     }
 
@@ -130,17 +142,6 @@ fn place_of(files: &[Rc<File>], path: &[u8]) -> Result<usize, usize>
         |file: &Rc<File>| -> Ordering
             ensures { result ≡ slice_cmp nat_cmp (file_in file.now.value).path path.entry.now }
         { file.path().as_bytes().cmp(path) },
-    )
-}
-
-/// Whether one of these files names this module.
-fn names_module(files: &[Rc<File>], name: &ModuleName) -> bool
-    ensures { result ≡ is_module_taken (files_in files.now) name.now }
-{
-    files.iter().any(
-        |file: &Rc<File>| -> bool
-            ensures { result ≡ same_module (module_of (file_in file.now.value).path) name.entry.now }
-        { file.module() == name },
     )
 }
 

@@ -3,7 +3,7 @@ use Rattle.std.proofs.Common.{ap, refl, ◌∙◌, Option, Some, arith, rules}
 use Rattle.pyc_annotations.proofs.BaseArguments.{base_of_parts}
 use Rattle.pyc_annotations.specs.Bases.{Base, argument_base, base, invalid_base, unnamed, base_of_argument}
 use Rattle.pyc_ast.specs.ExprView.{expr_of}
-use Rattle.pyc_names.specs.SourceFileView.{source_in}
+use Rattle.pyc_names.specs.InterfaceView.{interface_in}
 use Rattle.pyc_reading.proofs.RunLemmas.{after}
 use Rattle.pyc_reading.specs.Desks.{Step, run}
 use Rattle.pyc_reading.specs.Readings.{Done}
@@ -11,7 +11,7 @@ use Rattle.pyc_annotations.proofs.class_bases.argument_base.Goals as goal
 
 pub returns-in_ok-found-in-Positional : goal.returns-in_ok-found-in-Positional
 returns-in_ok-found-in-Positional g c =
-    let file = source_in c.args.file.now in
+    let file = interface_in c.args.file.now in
     let x = c.args.argument.now in
     let desk = g.N.Notes.desk c.args.notes.now in
     record {
@@ -23,7 +23,7 @@ returns-in_ok-found-in-Positional g c =
 
 pub returns-in_ok-found-in-Starred : goal.returns-in_ok-found-in-Starred
 returns-in_ok-found-in-Starred g c =
-    let file = source_in c.args.file.now in
+    let file = interface_in c.args.file.now in
     let x = c.args.argument.now in
     let desk = g.N.Notes.desk c.args.notes.now in
     record {

@@ -4,14 +4,14 @@ use Rattle.pyc_annotations.proofs.Steps.{performing}
 use Rattle.std.proofs.Common.{◌∙◌, map, arith, rules}
 use Rattle.pyc_annotations.proofs.Turns.{base_turn}
 use Rattle.pyc_annotations.specs.Views.{base_of}
-use Rattle.pyc_names.specs.SourceFileView.{source_in}
+use Rattle.pyc_names.specs.InterfaceView.{interface_in}
 use Rattle.pyc_reading.proofs.RunLemmas.{grown_trans}
 use Rattle.pyc_annotations.proofs.class_bases.read_bases.Goals as goal
 
 pub loop-argument-preserved : goal.loop-argument-preserved
 loop-argument-preserved g c = record {
   same =
-      base_turn (source_in c.args.file.now) (map base_of c.loop-argument.found.items) _ c.args.arguments.now c.loop-argument.argument-index _ _ _ _ c.loop-argument-test.true c.argument-item.is c.in_ok-base.ensures.done c.in_ok-push_base.ensures
+      base_turn (interface_in c.args.file.now) (map base_of c.loop-argument.found.items) _ c.args.arguments.now c.loop-argument.argument-index _ _ _ _ c.loop-argument-test.true c.argument-item.is c.in_ok-base.ensures.done c.in_ok-push_base.ensures
       ∙ c.loop-argument.invariant.same;
   grown = grown_trans c.loop-argument.invariant.grown c.argument_base.ensures.grown;
 }

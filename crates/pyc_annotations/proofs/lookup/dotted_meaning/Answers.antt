@@ -4,7 +4,7 @@ use Rattle.std.specs.List.{between}
 use Rattle.pyc_annotations.proofs.Names.{first_and_rest}
 use Rattle.pyc_annotations.specs.Annotations.{dotted_meaning, attributes}
 use Rattle.pyc_annotations.specs.Meanings.{own_name}
-use Rattle.pyc_names.specs.SourceFileView.{source_in}
+use Rattle.pyc_names.specs.InterfaceView.{interface_in}
 use Rattle.pyc_reading.proofs.RunLemmas.{after, grown_trans}
 use Rattle.pyc_reading.specs.Desks.{run}
 use Rattle.pyc_annotations.proofs.lookup.dotted_meaning.Goals as goal
@@ -12,7 +12,7 @@ use Rattle.pyc_annotations.proofs.lookup.dotted_meaning.Goals as goal
 pub returns-in_ok-meaning-in-len1-up : goal.returns-in_ok-meaning-in-len1-up
 unfolding dotted_meaning
 returns-in_ok-meaning-in-len1-up g c =
-    let file = source_in c.args.file.now in
+    let file = interface_in c.args.file.now in
     let names = c.args.names.now in
     let rest = between 1 (length names) names in
     record {

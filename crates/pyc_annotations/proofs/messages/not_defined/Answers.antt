@@ -7,9 +7,9 @@ pub returns : goal.returns
 unfolding not_defined
 returns g c = first_of (grind (arith, performing), search rules)
 
-pub returns-in_err-tell : goal.returns-in_err-tell
+pub returns-in_err-tell_error : goal.returns-in_err-tell_error
 unfolding not_defined
-returns-in_err-tell g c = first_of (grind (arith, performing), search rules)
+returns-in_err-tell_error g c = first_of (grind (arith, performing), search rules)
 
 pub returns-in_err-text : goal.returns-in_err-text
 unfolding not_defined

@@ -7,7 +7,7 @@ use Rattle.pyc_annotations.proofs.Steps.{performs_same, performing}
 use Rattle.pyc_annotations.proofs.Turns.{argument_turn, type_turn}
 use Rattle.pyc_annotations.specs.Annotations.{Annotation, of_type, plain_callable, more_types, type_readings, read_type, callable_of, shape_reading, takes, subscripted_rule, union_rule, subscript_rule, built_rule, form_rule}
 use Rattle.pyc_annotations.specs.Views.{annotation_in, subscripted_of}
-use Rattle.pyc_names.specs.SourceFileView.{source_in}
+use Rattle.pyc_names.specs.InterfaceView.{interface_in}
 use Rattle.pyc_reading.proofs.RunLemmas.{after, grown_trans}
 use Rattle.pyc_reading.specs.Desks.{Step, run}
 use Rattle.pyc_reading.specs.Readings.{Done, and_then}
@@ -28,7 +28,7 @@ argument_types-loop-argument-preserved g t c =
     let types = c.loop-argument.types.items in
     record {
       same =
-          argument_turn (source_in c.args.file.now) (map ty_of types) _ c.args.arguments.now c.loop-argument.argument-index _ _ _ _ c.loop-argument-test.true c.argument-item.is c.in_ok-found.ensures.done (ap (map ty_of) c.in_ok-push.ensures.items ∙ map_push ty_of types c.in_ok-found.found.ty)
+          argument_turn (interface_in c.args.file.now) (map ty_of types) _ c.args.arguments.now c.loop-argument.argument-index _ _ _ _ c.loop-argument-test.true c.argument-item.is c.in_ok-found.ensures.done (ap (map ty_of) c.in_ok-push.ensures.items ∙ map_push ty_of types c.in_ok-found.found.ty)
           ∙ c.loop-argument.invariant.same;
       grown = grown_trans c.loop-argument.invariant.grown c.read_type.ensures.grown;
     }
@@ -38,14 +38,14 @@ listed_types-loop-written-preserved g t c =
     let types = c.loop-written.types.items in
     record {
       same =
-          type_turn (source_in c.args.file.now) (map ty_of types) _ c.args.listed.now c.loop-written.written-index _ _ _ _ c.loop-written-test.true c.written-item.is c.in_ok-found.ensures.done (ap (map ty_of) c.in_ok-push.ensures.items ∙ map_push ty_of types c.in_ok-found.found.ty)
+          type_turn (interface_in c.args.file.now) (map ty_of types) _ c.args.listed.now c.loop-written.written-index _ _ _ _ c.loop-written-test.true c.written-item.is c.in_ok-found.ensures.done (ap (map ty_of) c.in_ok-push.ensures.items ∙ map_push ty_of types c.in_ok-found.found.ty)
           ∙ c.loop-written.invariant.same;
       grown = grown_trans c.loop-written.invariant.grown c.read_type.ensures.grown;
     }
 
 pub read_callable-returns-in_ok-found-in-List : goal.read_callable-returns-in_ok-found-in-List
 read_callable-returns-in_ok-found-in-List g t c =
-    let file = source_in c.args.file.now in
+    let file = interface_in c.args.file.now in
     let desk = g.N.Notes.desk c.args.notes.now in
     let answer = read_type file (type_expr_of c.answer-item.result.written) in
     let listed : shape_in c.params-item.result.shape ≡ list_shape (type_exprs (map type_expr_of c.deref.result.now)) = rw c.in-List.is (search (rules, the_lemmas)) in
@@ -60,14 +60,14 @@ read_callable-returns-in_ok-found-in-List g t c =
 
 pub read_callable-returns-in-Other : goal.read_callable-returns-in-Other
 read_callable-returns-in-Other g t c =
-    let file = source_in c.args.file.now in
+    let file = interface_in c.args.file.now in
     let answer = read_type file (type_expr_of c.answer-item.result.written) in
     let other : shape_in c.params-item.result.shape ≡ other_shape = rw c.in-Other.is (search (rules, the_lemmas)) in
     performs_same _ _ _ _ _ _ (callable_two file c.args.at c.args.arguments.now _ _ c.in-len2.len_at_least c.in-len2.len_below c.params-item.is c.answer-item.is ∙ ap (λ s. callable_of c.args.at (shape_reading file s) answer) other) c.invalid.ensures
 
 pub read_callable-returns-in_default : goal.read_callable-returns-in_default
 read_callable-returns-in_default g t c =
-    let file = source_in c.args.file.now in
+    let file = interface_in c.args.file.now in
     let xs = c.args.arguments.now in
     let other : length xs ≡ 2 → ⊥ = elim c.in_default.branch as (λ b. length xs ≡ 2 → ⊥) [
       | read_callable-in_default-via-then-arguments-lt2 w ↦ λ e. let h : length xs < 2 = search rules in omega arith
@@ -78,20 +78,20 @@ read_callable-returns-in_default g t c =
 pub read_subscripted-returns-then-takes : goal.read_subscripted-returns-then-takes
 read_subscripted-returns-then-takes g t c =
     let name = dotted_name_of c.args.name.now in
-    let xs = readings_of (source_in c.args.file.now) c.args.arguments.now in
-    let taken : takes c.in-Form.form (length xs) ≡ true = ap (takes c.in-Form.form) (length_readings (source_in c.args.file.now) c.args.arguments.now) ∙ sym c.takes.ensures ∙ c.if-takes.true in
+    let xs = readings_of (interface_in c.args.file.now) c.args.arguments.now in
+    let taken : takes c.in-Form.form (length xs) ≡ true = ap (takes c.in-Form.form) (length_readings (interface_in c.args.file.now) c.args.arguments.now) ∙ sym c.takes.ensures ∙ c.if-takes.true in
     performs_same _ _ _ _ _ _ (ap (λ s. subscripted_rule c.args.at name xs (subscripted_of s)) c.in-Form.is ∙ form_taken c.args.at name xs c.in-Form.form taken) c.read_form.ensures
 
 pub read_subscripted-returns-else-takes : goal.read_subscripted-returns-else-takes
 read_subscripted-returns-else-takes g t c =
     let name = dotted_name_of c.args.name.now in
-    let xs = readings_of (source_in c.args.file.now) c.args.arguments.now in
-    let not_taken : takes c.in-Form.form (length xs) ≡ false = ap (takes c.in-Form.form) (length_readings (source_in c.args.file.now) c.args.arguments.now) ∙ sym c.takes.ensures ∙ c.if-takes.false in
+    let xs = readings_of (interface_in c.args.file.now) c.args.arguments.now in
+    let not_taken : takes c.in-Form.form (length xs) ≡ false = ap (takes c.in-Form.form) (length_readings (interface_in c.args.file.now) c.args.arguments.now) ∙ sym c.takes.ensures ∙ c.if-takes.false in
     performs_same _ _ _ _ _ _ (ap (λ s. subscripted_rule c.args.at name xs (subscripted_of s)) c.in-Form.is ∙ form_not_taken c.args.at name xs c.in-Form.form not_taken) c.wrong_count.ensures
 
 pub read_tuple-returns-in_default : goal.read_tuple-returns-in_default
 read_tuple-returns-in_default g t c =
-    let file = source_in c.args.file.now in
+    let file = interface_in c.args.file.now in
     let xs = c.args.arguments.now in
     let other : length xs ≡ 2 → ⊥ = elim c.in_default.branch as (λ b. length xs ≡ 2 → ⊥) [
       | read_tuple-in_default-via-then-arguments-lt2 w ↦ λ e. let h : length xs < 2 = search rules in omega arith
@@ -102,7 +102,7 @@ read_tuple-returns-in_default g t c =
 pub read_type-returns-in_ok-union-in-Union : goal.read_type-returns-in_ok-union-in-Union
 unfolding union_rule
 read_type-returns-in_ok-union-in-Union g t c =
-    let file = source_in c.args.file.now in
+    let file = interface_in c.args.file.now in
     let desk = g.N.Notes.desk c.args.notes.now in
     let left = c.deref.result.now in
     let right = c.deref-in-Union.result.now in

@@ -1,4 +1,4 @@
-use Rattle.std.proofs.Common.{ap, sym, subst, ◌∙◌}
+use Rattle.std.proofs.Common.{ap, sym, ◌∙◌}
 use Rattle.pyc_arguments.proofs.Parts.{kinds_are}
 use Rattle.pyc_arguments.specs.Matched.{matched_unless}
 use Rattle.pyc_arguments.specs.Views.{args_in, call_in}

@@ -1,7 +1,7 @@
 use Rattle.std.proofs.lemmas.Grind.{common_steps}
 use Rattle.pyc_arguments.specs.Matched.{arguments_matched}
 use Rattle.pyc_obligations.proofs.Steps.{performing}
-use Rattle.std.proofs.Common.{◌≡◌, ◌+◌, ap, ◌∙◌, arith, rules}
+use Rattle.std.proofs.Common.{◌+◌, ap, ◌∙◌, arith, rules}
 use Rattle.pyc_arguments.proofs.Parts.{places_at_most}
 use Rattle.pyc_arguments.proofs.Turns.{counted_unread, matched_turn}
 use Rattle.pyc_arguments.specs.Arguments.{places_of, unread}

@@ -1,4 +1,4 @@
-use Rattle.std.proofs.Common.{◌≤◌, map, drop}
+use Rattle.std.proofs.Common.{◌≤◌, drop}
 use Rattle.pyc_arguments.specs.Matched.{arguments_matched, no_filling}
 use Rattle.pyc_arguments.specs.Views.{call_in, filling_in, unread_in}
 use Rattle.pyc_reading.specs.Desks.{Going}

@@ -1,4 +1,4 @@
-use Rattle.std.proofs.Common.{◌≡◌, Option, ap, sym, ◌∙◌, arith, rules}
+use Rattle.std.proofs.Common.{Option, ap, sym, ◌∙◌, arith, rules}
 use Rattle.std.proofs.lemmas.Grind.{common_steps}
 use Rattle.pyc_arguments.proofs.Parts.{view_unread}
 use Rattle.pyc_arguments.specs.Matched.{argument_owed, argument_read, refused, wanted}
@@ -23,12 +23,12 @@ returns g c =
     let want = wanted (match_in c.args.found) in
     let owes = λ (got : Ty) (w : Option Ty). argument_owed call x.at given c.args.number got w in
     let first = ap (λ w. run (read (expr_of x.value) w) (g.N.Notes.desk c.refuse.new.notes)) (sym c.wanted-want.ensures) ∙ c.in_ok-got.ensures.done in
-    let second = ap (λ w. run (owes (ty_of c.in_ok-got.got) w) (g.N.Notes.desk c.read.new.notes)) (sym c.wanted-want.ensures) ∙ c.in_ok-owe.ensures.done in
+    let second = ap (λ w. run (owes (ty_of c.in_ok-got.got) w) (g.N.Notes.desk c.read.new.notes)) (sym c.wanted-want.ensures) ∙ c.in_ok-owe_argument.ensures.done in
     performs_same _ _ _ _ _ _ (ap (argument_read call c.args.number given (match_in c.args.found)) (view_unread read x)) (record {
       done =
           after (refused call given (match_in c.args.found)) (λ u. and_then (read (expr_of x.value) want) (λ got. owes got want)) (g.N.Notes.desk c.args.notes.now) _ _ _ _ c.in_ok-refuse.ensures.done
           (after (read (expr_of x.value) want) (λ got. owes got want) (g.N.Notes.desk c.refuse.new.notes) _ _ _ _ first second);
-      grown = grown_trans (grown_trans c.refuse.ensures.grown c.read.ensures.grown) c.owe.ensures.grown;
+      grown = grown_trans (grown_trans c.refuse.ensures.grown c.read.ensures.grown) c.owe_argument.ensures.grown;
     })
 
 pub returns-in_err-refuse : goal.returns-in_err-refuse
@@ -39,6 +39,6 @@ pub returns-in_err-got : goal.returns-in_err-got
 unfolding argument_read
 returns-in_err-got g c = first_of (grind (arith, performing), search rules)
 
-pub returns-in_err-owe : goal.returns-in_err-owe
+pub returns-in_err-owe_argument : goal.returns-in_err-owe_argument
 unfolding argument_read
-returns-in_err-owe g c = first_of (grind (arith, common_steps, performing), search rules)
+returns-in_err-owe_argument g c = first_of (grind (arith, common_steps, performing), search rules)

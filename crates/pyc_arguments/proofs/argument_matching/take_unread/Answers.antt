@@ -1,4 +1,4 @@
-use Rattle.std.proofs.Common.{◌≡◌, ap, sym, ◌∙◌, arith, rules}
+use Rattle.std.proofs.Common.{ap, sym, ◌∙◌, arith, rules}
 use Rattle.pyc_arguments.proofs.Parts.{matched_unread}
 use Rattle.pyc_arguments.specs.Arguments.{unread}
 use Rattle.pyc_arguments.specs.Matched.{argument_read, argument_taken, filling_after}

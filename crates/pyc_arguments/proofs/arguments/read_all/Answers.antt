@@ -1,7 +1,4 @@
-use Rattle.std.proofs.Common.{ap}
 use Rattle.pyc_arguments.proofs.Parts.{run_all_read}
-use Rattle.pyc_arguments.specs.Arguments.{all_read}
-use Rattle.pyc_arguments.specs.Views.{args_in}
 use Rattle.pyc_reading.proofs.RunLemmas.{grown_refl}
 use Rattle.pyc_arguments.proofs.arguments.read_all.Goals as goal
 

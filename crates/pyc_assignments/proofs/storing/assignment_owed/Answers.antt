@@ -3,10 +3,6 @@ use Rattle.pyc_obligations.proofs.Steps.{performing}
 use Rattle.std.proofs.Common.{arith, rules}
 use Rattle.pyc_assignments.proofs.storing.assignment_owed.Goals as goal
 
-pub returns-in_err-holds : goal.returns-in_err-holds
-unfolding assignment_owed
-returns-in_err-holds g c = first_of (grind (arith, performing), search rules)
-
 pub returns : goal.returns
 unfolding assignment_owed
 returns g c = first_of (grind (arith, performing), search rules)

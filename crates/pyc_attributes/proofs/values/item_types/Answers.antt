@@ -1,6 +1,6 @@
 use Rattle.std.proofs.lemmas.Grind.{common_steps}
 use Rattle.pyc_attributes.proofs.Steps.{performing}
-use Rattle.std.proofs.Common.{◌≡◌, ◌∷◌, [], ◌++◌, map, sym, ◌∙◌, refl, arith, rules}
+use Rattle.std.proofs.Common.{◌∷◌, [], ◌++◌, map, sym, ◌∙◌, refl, arith, rules}
 use Rattle.std.proofs.lemmas.List.{map-append}
 use Rattle.pyc_attributes.specs.AttributeValues.{item_types, union_item}
 use Rattle.pyc_reading.proofs.RunLemmas.{one_turn, grown_trans}

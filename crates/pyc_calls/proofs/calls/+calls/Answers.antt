@@ -1,9 +1,9 @@
 use Rattle.std.proofs.lemmas.Grind.{common_steps}
-use Rattle.std.proofs.Common.{◌≡◌, ap, map, sym, ◌∙◌, arith, rules}
+use Rattle.std.proofs.Common.{ap, map, sym, ◌∙◌, arith, rules}
 use Rattle.std.proofs.lemmas.List.{map_push}
 use Rattle.pyc_arguments.specs.declared.arguments.Arguments.{Arguments}
 use Rattle.pyc_arguments.specs.Views.{args_in, call_in}
-use Rattle.pyc_calls.proofs.Kept.{items_turn, performs_kept, union_read, keeping}
+use Rattle.pyc_calls.proofs.Kept.{items_turn, union_read, keeping}
 use Rattle.pyc_calls.specs.Called.{called_to, row_called, union_called, source_called, member_called, items_called}
 use Rattle.pyc_calls.specs.Views.{memory_in}
 use Rattle.pyc_obligations.proofs.Steps.{performs_same, performing}

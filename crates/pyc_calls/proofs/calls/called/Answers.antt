@@ -3,7 +3,7 @@ use Rattle.std.proofs.Common.{◌≡◌, [], map, ap, sym, refl, ◌∙◌, arit
 use Rattle.pyc_arguments.specs.Views.{args_in, call_in}
 use Rattle.pyc_calls.specs.Called.{called, called_to, most_calls, ty_called}
 use Rattle.pyc_calls.specs.Remembered.{Memory}
-use Rattle.pyc_calls.specs.Views.{called_with, memory_in, remembered_in}
+use Rattle.pyc_calls.specs.Views.{memory_in, remembered_in}
 use Rattle.pyc_reading.proofs.RunLemmas.{after}
 use Rattle.pyc_reading.specs.Desks.{run}
 use Rattle.pyc_reading.specs.Readings.{Done}

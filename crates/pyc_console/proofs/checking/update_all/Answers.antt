@@ -1,10 +1,11 @@
+use Rattle.std.proofs.Common.{◌∙◌, refl}
 use Rattle.std.proofs.lemmas.Result.{err_from_is_err_and}
 use Rattle.pyc_daemon.proofs.Moving.{sound_none, sound_trans, write_fault}
 use Rattle.pyc_console.proofs.CheckFilesLemmas.{left_next, left_none, updates_none, updates_on, updates_part}
 use Rattle.pyc_console.proofs.checking.update_all.Goals as goal
 
 pub loop-file-init : goal.loop-file-init
-loop-file-init g c = record { sound = sound_none _; updates = updates_none _ _ _ _ _ }
+loop-file-init g c = record { sound = sound_none _; buffers = refl; updates = updates_none _ _ _ _ _ }
 
 pub returns-in_err-refused-clause-part : goal.returns-in_err-refused-clause-part
 returns-in_err-refused-clause-part g c =
@@ -24,6 +25,7 @@ loop-file-preserved g c =
     let one = rw c.deref.ensures at c.in_ok-refused.ensures.update in
     record {
       sound = sound_trans _ _ _ c.loop-file.invariant.sound c.in_ok-refused.ensures.sound;
+      buffers = c.in_ok-refused.ensures.buffers ∙ c.loop-file.invariant.buffers;
       updates = updates_on _ _ _ _ _ _ _ _ _ _ _ _ _ _ _ _ one.0 c.loop-file.invariant.updates next one.1 one.2;
     }
 

@@ -1,4 +1,4 @@
-use Rattle.std.proofs.Common.{◌≡◌, true, false, rules}
+use Rattle.std.proofs.Common.{◌≡◌, ◌∙◌, true, false, refl, rules}
 use Rattle.std.proofs.lemmas.Result.{err_from_is_err_and}
 use Rattle.pyc_daemon.specs.Window.{ended_of}
 use Rattle.pyc_daemon.proofs.Going.{going_none, going_on, going_last, held_none, runs_last, runs_ended, runs_unread_by, runs_unwritten}
@@ -11,6 +11,7 @@ commands-init g c = record {
   reading = c.requires.reading;
   reads = sound_none _;
   writes = sound_none _;
+  buffers = (refl, refl);
   going = going_none _ _ _ _ _ _ _ _ c.requires.empty c.requires.begun;
 }
 
@@ -63,6 +64,7 @@ commands-preserved g c =
       reading = c.serve.ensures.reading;
       reads = sound_trans _ _ _ c.commands.invariant.reads c.in_ok-answer.ensures.sound;
       writes = sound_trans _ _ _ c.commands.invariant.writes c.in_ok-write_reply.ensures.sound;
+      buffers = (c.serve.ensures.buffers ∙ c.commands.invariant.buffers.0, c.write_reply.ensures.buffers ∙ c.commands.invariant.buffers.1);
       going = going_on _ _ _ _ _ _ _ _ _ _ _ _ _ _ _ c.commands.invariant.going unended served.0 served.2 _ _ served.1 c.in-Some.answer served.3 served.4
           c.in_default-end.is c.in_ok-write_reply.ensures.ok;
     }

@@ -1,4 +1,4 @@
-use Rattle.std.proofs.Common.{◌≡◌, [], refl, arith, rules}
+use Rattle.std.proofs.Common.{◌≡◌, ◌∙◌, [], refl, arith, rules}
 use Rattle.std.proofs.lemmas.Result.{err_from_is_err_and}
 use Rattle.pyc_daemon.specs.Counted.{calls_of}
 use Rattle.pyc_daemon.specs.Window.{held_of, ended_of}
@@ -28,6 +28,7 @@ loop-left-preserved-then-count-eq0 g c =
     record {
       reading = search rules;
       sound = sound_trans _ _ _ c.loop-left.invariant.sound c.in_ok-refill.ensures.sound;
+      buffers = c.in_ok-refill.ensures.buffers ∙ c.loop-left.invariant.buffers;
       body = body_refilled _ _ _ _ _ _ _ _ _ _ (ended_of c.loop-left.window) _ _ _ c.loop-left.invariant.body (search rules) none (search rules);
       work = omega (arith, work_read (ended_of c.loop-left.window) (held_of c.loop-left.window) (calls_of c.loop-left.reader) c.args.turns _ (search rules) none c.in_ok-refill.ensures.work);
     }
@@ -42,6 +43,7 @@ loop-left-preserved g c =
     record {
       reading = search rules;
       sound = c.loop-left.invariant.sound;
+      buffers = c.loop-left.invariant.buffers;
       body = body_on _ _ _ _ _ _ _ _ _ _ _ _ (ended_of c.loop-left.window) _ _ _ _ c.loop-left.invariant.body (search rules) c.first-part.ensures.front c.first-part.ensures.most refl c.skip.ensures.held c.keep_part-kept.ensures.kept;
       work = omega (arith, less);
     }

@@ -1,5 +1,5 @@
 use Rattle.std.proofs.Common.{◌≤◌, length}
-use Rattle.pyc_daemon.specs.Counted.{inner_of, calls_of, IsSound}
+use Rattle.pyc_daemon.specs.Counted.{inner_of, calls_of, IsSound, GivesRoom}
 use Rattle.pyc_daemon.specs.Reading.{IsReading, work_left}
 use Rattle.pyc_daemon.specs.Window.{held_of, ended_of}
 use Rattle.pyc_daemon.proofs.Moving.{BodySoFar}
@@ -10,6 +10,7 @@ invariant-loop-left g l = record {
   reading : IsReading (g.R.Read.remaining (inner_of l.reader)) (ended_of l.window) (calls_of l.reader) l.turns;
   body : BodySoFar (g.R.Read.remaining (inner_of l.fn.reader)) (held_of l.fn.window) (g.R.Read.remaining (inner_of l.reader)) (held_of l.window) l.bytes.items l.kept l.wanted (ended_of l.fn.window) (ended_of l.window) l.size l.left;
   sound : IsSound l.fn.reader l.reader;
+  buffers : GivesRoom l.fn.reader l.reader;
   work : work_left (ended_of l.window) (length (held_of l.window)) (calls_of l.reader) l.turns
       ≤ work_left (ended_of l.fn.window) (length (held_of l.fn.window)) (calls_of l.fn.reader) l.turns;
 }

@@ -1,4 +1,4 @@
-use Rattle.std.proofs.Common.{arith, rules}
+use Rattle.std.proofs.Common.{◌∙◌, arith, rules}
 use Rattle.std.proofs.lemmas.Result.{err_from_is_err_and}
 use Rattle.pyc_daemon.specs.Counted.{calls_of}
 use Rattle.pyc_daemon.specs.Window.{held_of, ended_of}
@@ -11,6 +11,7 @@ loop-window-preserved-then-len-lt-KEPT g c = record {
   reading = search rules;
   work = omega (arith, work_byte _ _ _ _ _ (calls_of c.loop-window.reader) c.args.turns c.take_byte.ensures.ended c.in-Some.ensures.byte);
   sound = search rules;
+  buffers = search rules;
   unread = λ e. unread_byte _ _ _ (c.loop-window.invariant.unread e) c.in-Some.ensures.byte c.in-Some.byte-test.1;
   line = line_byte_kept _ _ _ _ _ _ _ _ c.loop-window.invariant.line (c.in-Some.ensures.byte) c.in-Some.byte-test.1 (omega arith) c.push_reserved.ensures.items;
 }
@@ -21,6 +22,7 @@ loop-window-preserved-else-len-lt-KEPT g c = record {
   reading = search rules;
   work = omega (arith, work_byte _ _ _ _ _ (calls_of c.loop-window.reader) c.args.turns c.take_byte.ensures.ended c.in-Some.ensures.byte);
   sound = search rules;
+  buffers = search rules;
   unread = λ e. unread_byte _ _ _ (c.loop-window.invariant.unread e) c.in-Some.ensures.byte c.in-Some.byte-test.1;
   line = line_byte_left _ _ _ _ _ _ _ c.loop-window.invariant.line (c.in-Some.ensures.byte) c.in-Some.byte-test.1 (omega arith);
 }
@@ -31,6 +33,7 @@ loop-window-preserved g c = record {
   reading = search rules;
   work = omega (arith, work_read (ended_of c.loop-window.window) (held_of c.loop-window.window) (calls_of c.loop-window.reader) c.args.turns _ (search rules) (search rules) c.in_ok-refill-in-None.ensures.work);
   sound = sound_trans _ _ _ c.loop-window.invariant.sound c.in_ok-refill-in-None.ensures.sound;
+  buffers = c.in_ok-refill-in-None.ensures.buffers ∙ c.loop-window.invariant.buffers;
   unread = λ e. held_line_feed (held_of c.loop-window.window) (search rules) (c.loop-window.invariant.unread e).1;
   line = line_refilled _ _ _ _ _ _ _ c.loop-window.invariant.line (search rules) (search rules);
 }

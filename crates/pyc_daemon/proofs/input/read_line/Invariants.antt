@@ -1,5 +1,5 @@
 use Rattle.std.proofs.Common.{◌≡◌, ◌≤◌, true, length, vec_capacity}
-use Rattle.pyc_daemon.specs.Counted.{inner_of, calls_of, IsSound}
+use Rattle.pyc_daemon.specs.Counted.{inner_of, calls_of, IsSound, GivesRoom}
 use Rattle.pyc_daemon.specs.Reading.{IsReading, work_left}
 use Rattle.pyc_daemon.specs.Window.{held_of, ended_of}
 use Rattle.pyc_session.specs.Input.{has_line_feed}
@@ -12,6 +12,7 @@ invariant-loop-window g l = record {
   reading : IsReading (g.R.Read.remaining (inner_of l.reader)) (ended_of l.window) (calls_of l.reader) l.turns;
   line : LineSoFar (g.R.Read.remaining (inner_of l.fn.reader)) (held_of l.fn.window) (g.R.Read.remaining (inner_of l.reader)) (held_of l.window) l.line.items;
   sound : IsSound l.fn.reader l.reader;
+  buffers : GivesRoom l.fn.reader l.reader;
   unread : has_line_feed (held_of l.fn.window) ≡ true → (l.reader ≡ l.fn.reader) × (has_line_feed (held_of l.window) ≡ true);
   work : work_left (ended_of l.window) (length (held_of l.window)) (calls_of l.reader) l.turns
       ≤ work_left (ended_of l.fn.window) (length (held_of l.fn.window)) (calls_of l.fn.reader) l.turns;

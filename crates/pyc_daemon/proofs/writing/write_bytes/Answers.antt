@@ -1,4 +1,4 @@
-use Rattle.std.proofs.Common.{◌∙◌, ◌++◌, ap, sym, take}
+use Rattle.std.proofs.Common.{◌∙◌, ◌++◌, ap, refl, sym, take}
 use Rattle.std.proofs.lemmas.List.{take-append-drop}
 use Rattle.std.proofs.lemmas.Result.{err_from_is_err_and}
 use Rattle.pyc_daemon.proofs.Going.{written_none, written_on}
@@ -7,7 +7,7 @@ use Rattle.pyc_session.proofs.CommandWords.{take_rest}
 use Rattle.pyc_daemon.proofs.writing.write_bytes.Goals as goal
 
 pub loop-rest-init : goal.loop-rest-init
-loop-rest-init g c = record { sound = sound_none _; written = written_none _ _ }
+loop-rest-init g c = record { sound = sound_none _; buffers = refl; written = written_none _ _ }
 
 pub loop-rest-preserved : goal.loop-rest-preserved
 loop-rest-preserved g c =
@@ -15,6 +15,7 @@ loop-rest-preserved g c =
     let rest = c.loop-rest.rest.now in
     record {
       sound = sound_trans _ _ _ c.loop-rest.invariant.sound c.in_ok-count.ensures.sound;
+      buffers = c.in_ok-count.ensures.buffers ∙ c.loop-rest.invariant.buffers;
       written = written_on _ _ _ _ _ _ (take count rest) c.loop-rest.invariant.written c.in_ok-count.ensures.ok
           (sym (take-append-drop count rest) ∙ ap (λ zs. take count rest ++ zs) (sym (take_rest count rest)));
     }

@@ -1,6 +1,6 @@
 use Rattle.std.proofs.lemmas.Grind.{common_steps}
 use Rattle.pyc_declarations.specs.SameKeys.{is_same}
-use Rattle.std.proofs.Common.{◌≡◌, ◌∷◌, [], ◌++◌, map, refl, arith, rules}
+use Rattle.std.proofs.Common.{◌∷◌, [], refl, arith, rules}
 use Rattle.std.proofs.lemmas.List.{map-append}
 use Rattle.pyc_reading.specs.KeyView.{key_of}
 use Rattle.pyc_declarations.proofs.keys.note.Goals as goal

@@ -1,5 +1,6 @@
 use Rattle.std.proofs.Common.{drop}
-use Rattle.pyc_obligations.specs.Judging.{classes_asked, row_written, listed_written}
+use Rattle.pyc_obligations.specs.Judging.{classes_asked}
+use Rattle.pyc_reading.specs.Owing.{row_written, listed_written}
 use Rattle.pyc_reading.specs.Desks.{Going}
 use Rattle.pyc_type_forms.specs.TypeView.{row, param_row}
 use Rattle.pyc_obligations.proofs.judging.+written.Given as goal

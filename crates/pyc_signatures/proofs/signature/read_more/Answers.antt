@@ -1,9 +1,9 @@
 use Rattle.std.proofs.lemmas.Grind.{common_steps}
 use Rattle.pyc_signatures.proofs.Steps.{performing}
-use Rattle.std.proofs.Common.{◌≡◌, ◌∷◌, [], ◌++◌, map, sym, ap, ◌∙◌, refl, arith, rules}
+use Rattle.std.proofs.Common.{◌∷◌, [], ◌++◌, map, sym, ◌∙◌, refl, arith, rules}
 use Rattle.std.proofs.lemmas.List.{map-append}
 use Rattle.pyc_ast.specs.StatementView.{parameter_of}
-use Rattle.pyc_names.specs.SourceFileView.{source_in}
+use Rattle.pyc_names.specs.InterfaceView.{interface_in}
 use Rattle.pyc_reading.proofs.RunLemmas.{one_turn, grown_trans}
 use Rattle.pyc_signatures.specs.Signatures.{more_params, parameter_reading}
 use Rattle.pyc_type_forms.specs.Types.{any}
@@ -13,7 +13,7 @@ use Rattle.pyc_signatures.proofs.signature.read_more.Goals as goal
 pub loop-parameter-preserved : goal.loop-parameter-preserved
 unfolding more_params
 loop-parameter-preserved g c =
-    let file = source_in c.args.file.now in
+    let file = interface_in c.args.file.now in
     let before = map param_of c.loop-parameter.params.items in
     record {
       same =

@@ -1,8 +1,8 @@
 use Rattle.std.proofs.lemmas.Grind.{common_steps}
-use Rattle.std.proofs.Common.{◌≡◌, arith, rules}
+use Rattle.std.proofs.Common.{arith, rules}
 use Rattle.pyc_ast.specs.StatementView.{function_of}
 use Rattle.pyc_declarations.specs.Declarations.{declared_function}
-use Rattle.pyc_names.specs.SourceFileView.{source_in}
+use Rattle.pyc_names.specs.InterfaceView.{interface_in}
 use Rattle.pyc_signatures.specs.Signatures.{function_type}
 use Rattle.pyc_type_forms.specs.TypeView.{ty_of}
 use Rattle.pyc_declarations.proofs.ReadLemmas.{result_read}
@@ -11,7 +11,7 @@ use Rattle.pyc_declarations.proofs.declarations.Declarations.declared_function.G
 pub returns : goal.returns
 unfolding declared_function
 returns c =
-    let r = function_type (source_in c.args.file.now) (ty_of c.args.receiver) (function_of c.args.head.now) in
+    let r = function_type (interface_in c.args.file.now) (ty_of c.args.receiver) (function_of c.args.head.now) in
     result_read r _ _ _ _ c.new-notes.ensures c.in_ok-ty.ensures.done
 
 pub returns-in_err-ty : goal.returns-in_err-ty

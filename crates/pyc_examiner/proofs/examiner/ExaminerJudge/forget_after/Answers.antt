@@ -1,7 +1,6 @@
 use Rattle.std.proofs.Common.{sym, ap, ◌∙◌, List, map}
 use Rattle.std.proofs.lemmas.List.{take-map}
 use Rattle.pyc_examiner.specs.ExaminerView.{desk_of}
-use Rattle.pyc_reading.specs.Desks.{Desk}
 use Rattle.pyc_report.specs.Message.{Message, message_in}
 use Rattle.pyc_examiner.proofs.examiner.ExaminerJudge.forget_after.Goals as goal
 

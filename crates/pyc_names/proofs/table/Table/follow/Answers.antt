@@ -1,7 +1,5 @@
-use Rattle.std.proofs.Common.{◌≡◌, ℕ, suc, ◌+◌, ◌-◌, sym, ap, ◌∙◌, arith}
-use Rattle.pyc_names.specs.Following.{step, leads}
-use Rattle.pyc_names.specs.FollowingView.{qualified_of, step_of}
-use Rattle.pyc_names.specs.TableView.{table_in}
+use Rattle.std.proofs.Common.{◌≡◌, suc, ◌+◌, ◌-◌, sym, ap, ◌∙◌, arith}
+use Rattle.pyc_names.specs.FollowingView.{step_of}
 use Rattle.pyc_names.proofs.FollowingLemmas.{walk-leads}
 use Rattle.pyc_names.proofs.table.Table.follow.Goals as goal
 

@@ -1,0 +1,5 @@
+pub mod BareExpressions
+pub mod BareInterfaces
+pub mod SameExpressions
+pub mod SameInterfaces
+pub mod InterfaceLaws

@@ -1,9 +1,0 @@
-use Rattle.pyc_obligations.proofs.Steps.{performing}
-use Rattle.std.proofs.Common.{arith, rules}
-use Rattle.pyc_overrides.proofs.overrides.tell_failing.Goals as goal
-
-pub returns-in-None : goal.returns-in-None
-returns-in-None g c = first_of (grind (arith, performing), search rules)
-
-pub returns-in-Some : goal.returns-in-Some
-returns-in-Some g c = first_of (grind (arith, performing), search rules)
