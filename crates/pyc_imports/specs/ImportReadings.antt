@@ -15,7 +15,7 @@ use Rattle.pyc_reading.specs.declared.answer.Presence.{Presence}
 use Rattle.pyc_reading.specs.declared.answer.Presence.TheVariants as presence
 use Rattle.pyc_reading.specs.Desks.{Step, telling}
 use Rattle.pyc_reading.specs.Keys.{Key, has_module, has_name}
-use Rattle.pyc_reading.specs.Readings.{Done, Ask, and_then, each}
+use Rattle.pyc_reading.specs.Readings.{Done, Ask, each, ◌>>=◌}
 use Rattle.pyc_report.specs.declared.message.Code.TheVariants as code
 use Rattle.pyc_report.specs.Message.{error_at}
 use Rattle.pyc_report.specs.NameTexts.{joined_names}
@@ -65,16 +65,23 @@ abbrev pub is_there : Option Presence → Bool
 is_there (Some presence.NoModule) = false
 is_there _ = true
 
+-- whether a module that is no fixed one is there: it is asked for, and told where it is not
+abbrev pub own_module_reading : Options → Position → ImportedModule → Step Bool
+own_module_reading options at m = do
+  found ← asked_presence (has_module m.path)
+  u ← module_told options at (written_module 0 m.path) found
+  Done (is_there found)
+
 -- a module that is imported, and whether it is there; a fixed one is
 abbrev pub module_reading : Options → Position → ImportedModule → Step Bool
 module_reading options at m =
-    if is_some (fixed_module m.path) then Done true
-    else and_then (asked_presence (has_module m.path))
-    (λ found. and_then (module_told options at (written_module 0 m.path) found) (λ u. Done (is_there found)))
+    if is_some (fixed_module m.path) then Done true else own_module_reading options at m
 
 -- a module of a statement, which does not ask whether it is there
 abbrev pub module_checked : Options → Position → ImportedModule → Step (Unit {0})
-module_checked options at m = and_then (module_reading options at m) (λ is_there. Done tt)
+module_checked options at m = do
+  is_there ← module_reading options at m
+  Done tt
 
 -- a name that is imported from a module, by whether it is there
 abbrev pub name_told : Options → Position → List ℕ → List ℕ → Option Presence → Step (Unit {0})
@@ -88,7 +95,7 @@ abbrev pub name_reading : Options → Position → List ℕ → List ℕ → Opt
 name_reading options at shown name None = missing options at shown
 name_reading options at shown name (Some m) =
     if is_some (fixed_module m) then Done tt
-    else and_then (asked_presence (has_name (record { home = m; name = name }))) (name_told options at shown name)
+    else asked_presence (has_name (record { home = m; name = name })) >>= name_told options at shown name
 
 -- one name of a from-import
 abbrev pub imported_reading : Options → SourceFile → Position → ImportFrom → Alias → Step (Unit {0})
