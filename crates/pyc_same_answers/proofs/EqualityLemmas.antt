@@ -105,7 +105,7 @@ classes_are (user m n) (user k l) same =
     ap₂ user (paths_are m k parts.0) (texts_are n l parts.1)
 
 classes_decide : (a b : Id) → Decides (same_class a b) (a ≡ b)
-classes_decide a b = classes_are a b, (λ e. subst (λ c. same_class a c ≡ true) e (same_class_equiv.refl a))
+classes_decide a b = (classes_are a b , (λ e. subst (λ c. same_class a c ≡ true) e (same_class_equiv.refl a)))
 
 
 -- ---- parameters
@@ -144,7 +144,7 @@ parameter_kind_itself star = refl
 parameter_kind_itself (keyword_only m) = text_itself m
 parameter_kind_itself double_star = refl
 
-slot_of : Kind → Bool → Slot
+abbrev slot_of : Kind → Bool → Slot
 slot_of kind is_optional = record { kind = kind; is_optional = is_optional }
 
 slots_are : (a b : Slot) → same_slot a b ≡ true → a ≡ b
@@ -304,8 +304,8 @@ mutual
   listed_are (param slot x ps) (param other y qs) same =
       let parts = and_parts (same_slot slot other && same_type x y) (same_listed ps qs) same in
       let first = and_parts (same_slot slot other) (same_type x y) parts.0 in
-      ap₂ (λ (head : Listed → Listed) rest. head rest)
-      (ap₂ param (slots_are slot other first.0) (types_are x y first.1)) (listed_are ps qs parts.1)
+      ap₂ (λ s t. param s t ps) (slots_are slot other first.0) (types_are x y first.1)
+      ∙ ap (param other y) (listed_are ps qs parts.1)
 
 mutual
   pub type_itself : (x : Ty) → same_type x x ≡ true
@@ -336,7 +336,7 @@ mutual
       (both (same_slot slot slot) (same_type x x) (slot_itself slot) (type_itself x)) (listed_itself ps)
 
 pub types_decide : (x y : Ty) → Decides (same_type x y) (x ≡ y)
-types_decide x y = types_are x y, (λ e. subst (λ z. same_type x z ≡ true) e (type_itself x))
+types_decide x y = (types_are x y , (λ e. subst (λ z. same_type x z ≡ true) e (type_itself x)))
 
 -- ---- whether a thing is there
 
@@ -559,7 +559,7 @@ kind_itself no_name = refl
 kind_itself no_target = refl
 kind_itself cycle = refl
 
-name_of : NameKind → Ty → NameAnswer
+abbrev name_of : NameKind → Ty → NameAnswer
 name_of kind ty = record { kind = kind; ty = ty }
 
 name_answers_are : (a b : NameAnswer) → same_name a b ≡ true → a ≡ b
@@ -600,8 +600,8 @@ reason_itself (Some reason.Base) = refl
 reason_itself (Some reason.Cycle) = refl
 reason_itself (Some reason.Merge) = refl
 
-order_with : List Id → Option UnknownOrder → Bool → Order
-order_with classes unknown has_call = record { classes = classes; unknown = unknown; has_call = has_call }
+abbrev order_with : List Id → Option UnknownOrder → Bool → Order
+order_with classes why has_call = record { classes = classes; unknown = why; has_call = has_call }
 
 orders_are : (a b : Order) → same_order a b ≡ true → a ≡ b
 orders_are a b same =
@@ -667,7 +667,7 @@ member_kind_itself member.ClassMethod = refl
 member_kind_itself member.Property = refl
 member_kind_itself member.SettableProperty = refl
 
-member_with : Id → MemberKind → Ty → MemberAnswer
+abbrev member_with : Id → MemberKind → Ty → MemberAnswer
 member_with class kind ty = record { class = class; kind = kind; ty = ty }
 
 found_are : (a b : MemberAnswer) → same_found a b ≡ true → a ≡ b
@@ -721,4 +721,4 @@ answer_itself (order_is a) = order_itself a
 answer_itself (member_is a) = member_itself a
 
 pub answers_decide : (a b : Answer) → Decides (same_answer a b) (a ≡ b)
-answers_decide a b = answers_are a b, (λ e. subst (λ z. same_answer a z ≡ true) e (answer_itself a))
+answers_decide a b = (answers_are a b , (λ e. subst (λ z. same_answer a z ≡ true) e (answer_itself a)))

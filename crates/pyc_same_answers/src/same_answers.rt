@@ -14,6 +14,13 @@ pub fn is_same(answer: &Answer, other: &Answer) -> bool
     ensures value { result ≡ spec.same_answer (answer_in answer.now) (answer_in other.now) }
     ensures decides { Decides result (answer_in answer.now ≡ answer_in other.now) }
 {
+    same_answer(answer, other)
+}
+
+/// Whether two answers are of one form and say one thing.
+fn same_answer(answer: &Answer, other: &Answer) -> bool
+    ensures { result ≡ spec.same_answer (answer_in answer.now) (answer_in other.now) }
+{
     match answer {
         Answer::Presence(found) =>
             matches!(other, Answer::Presence(own) if same_presence(*found, *own)),
