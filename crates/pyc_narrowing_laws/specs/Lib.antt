@@ -1,0 +1,5 @@
+pub mod Values
+pub mod TypeLaws
+pub mod StateLaws
+pub mod Conditions
+pub mod ConditionLaws
