@@ -220,14 +220,14 @@ module _ (answers : Key → Answer) (look : Looks) (values : Values) where
           let one = come (first s) in
           let other = come (second one.if_true) in
           subst (λ states. MetWhere false states) (sym (and_result answers first second s)) (elim comes [
-            | inl no ↦ left-met orders values one.if_false other.if_false (left false no)
+            | inl refused ↦ left-met orders values one.if_false other.if_false (left false refused)
             | inr both ↦ right-met orders values one.if_false other.if_false (right false (left true both.0) both.1)
           ])
       boolean-met true joins.Or first second s Left Right comes left right =
           let one = come (first s) in
           let other = come (second one.if_false) in
           subst (λ states. MetWhere true states) (sym (or_result answers first second s)) (elim comes [
-            | inl yes ↦ left-met orders values one.if_true other.if_true (left true yes)
+            | inl accepted ↦ left-met orders values one.if_true other.if_true (left true accepted)
             | inr both ↦ right-met orders values one.if_true other.if_true (right true (left false both.0) both.1)
           ])
       boolean-met false joins.Or first second s Left Right comes left right =
@@ -245,11 +245,11 @@ module _ (answers : Key → Answer) (look : Looks) (values : Values) where
             → MetWhere b (come (form_rule look s whole found))
         form-met b s whole (form.constant found) met comes = literal-met b s found met comes
         form-met b s whole (unary operator x) met comes =
-            unary-met b operator (λ t. split look t x) s (λ c. ComesTo answers look values c s x) met comes (λ c yes. split-met c s x met yes)
+            unary-met b operator (λ t. split look t x) s (λ c. ComesTo answers look values c s x) met comes (λ c so. split-met c s x met so)
         form-met b s whole (boolean operator x y) met comes =
             let next = right_state answers look values operator (states_after answers look values s x) in
             boolean-met b operator (λ t. split look t x) (λ t. split look t y) s (λ c. ComesTo answers look values c s x)
-            (λ c. ComesTo answers look values c next y) comes (λ c yes. split-met c s x met yes) (λ c there yes. split-met c next y there yes)
+            (λ c. ComesTo answers look values c next y) comes (λ c so. split-met c s x met so) (λ c there so. split-met c next y there so)
         form-met b s whole (call callee given) met comes = call-met b s callee given met comes
         form-met b s whole (compare x rest) met comes = comparison-met b s x rest met comes
         form-met b s whole found met comes = place-met b s whole met comes

@@ -21,8 +21,8 @@ use Rattle.pyc_types.specs.Ways.{is_any}
 
 -- the other of two, where one does not hold
 other_one : (a b : Bool) → a ≡ false → a || b ≡ true → b ≡ true
-other_one true b no some = absurd (true≢false no)
-other_one false b no some = some
+other_one true b lacks some = absurd (true≢false lacks)
+other_one false b lacks some = some
 
 not_not : (b : Bool) → not (not b) ≡ true → b ≡ true
 not_not true is = refl
@@ -76,7 +76,7 @@ module _ (orders : Orders) (v : Value) where
         by_may false may = may
 
         up : (b : Bool) → is_unknown (orders d) || leads orders d c ≡ b → b ≡ false → leads orders c d ≡ true
-        up b is_b no = other_one (leads orders d c) (leads orders c d) (no_lead (is_unknown (orders d)) (leads orders d c) (is_b ∙ no)) (in_line d c own tested)
+        up b is_b is_false = other_one (leads orders d c) (leads orders c d) (no_lead (is_unknown (orders d)) (leads orders d c) (is_b ∙ is_false)) (in_line d c own tested)
           where
             no_lead : (x y : Bool) → x || y ≡ false → y ≡ false
             no_lead true y neither = absurd (true≢false neither)
@@ -187,7 +187,7 @@ module _ (orders : Orders) (v : Value) where
       sym (ap (λ l. list_any (λ other. same_class other e) l) (orderly.1 class.Object)) ∙ led in
       same_class_equiv.symm e object_id ∙ elim (or_cases (same_class object_id e) false row) [
         | inl same ↦ same
-        | inr no ↦ absurd (false≢true no)
+        | inr nothing ↦ absurd (false≢true nothing)
       ]
 
 module _ (orders : Orders) (orderly : AreOrderly orders) where
@@ -205,19 +205,18 @@ module _ (orders : Orders) (orderly : AreOrderly orders) where
   module _ (v : Value) (known : has_known_order orders v ≡ true) (classes : List Id) (refused : is_accepted orders classes v ≡ false) where
     -- a class of which the value is an instance takes none of those that are tested
     not_taken : (d : Id) → is_instance orders v d ≡ true → is_taken_class orders classes (Some d) ≡ false
-    not_taken d own = false_from_ne_true (is_taken_class orders classes (Some d)) (λ taken.
-    true≢false (sym (any-more (leads orders d) (is_instance orders v) (λ e led. above v known d e own led) classes
-    (and_parts (not (is_unknown (orders d))) (list_any (leads orders d) classes) taken).1) ∙ refused))
+    not_taken d own = false_from_ne_true (is_taken_class orders classes (Some d)) never
+      where
+        never : is_taken_class orders classes (Some d) ≡ true → ⊥
+        never taken =
+            let led = (and_parts (not (is_unknown (orders d))) (list_any (leads orders d) classes) taken).1 in
+            true≢false (sym (any-more (leads orders d) (is_instance orders v) (λ e below. above v known d e own below) classes led) ∙ refused)
 
     -- of the classes in the order of `float` only `float` and `object` are there
     float_taken : is_instance orders v int_id ≡ true → is_tested classes float_id ≡ false
         → is_taken_class orders classes (Some float_id) ≡ false
-    float_taken int untested = false_from_ne_true (is_taken_class orders classes (Some float_id)) (λ taken.
-    true≢false (sym (any-some classes (and_parts (not (is_unknown (orders float_id))) (list_any (leads orders float_id) classes) taken).1) ∙ no_more))
+    float_taken int untested = false_from_ne_true (is_taken_class orders classes (Some float_id)) never
       where
-        either : Id → Bool
-        either e = same_class e float_id || is_instance orders v e
-
         each : (e : Id) → leads orders float_id e ≡ true → same_class e float_id || is_instance orders v e ≡ true
         each e led =
             let row : list_any (λ other. same_class other e) (map builtin (builtin_order class.Float)) ≡ true =
@@ -227,7 +226,7 @@ module _ (orders : Orders) (orderly : AreOrderly orders) where
               | inr later ↦ elim (or_cases (same_class object_id e) false later) [
                 | inl same ↦ or_right (same_class e float_id) (is_instance orders v e)
                   (subst (λ x. is_instance orders v x ≡ true) (same_class-is object_id e same) (above v known int_id object_id int int_below))
-                | inr no ↦ absurd (false≢true no)
+                | inr nothing ↦ absurd (false≢true nothing)
               ]
             ]
           where
@@ -237,17 +236,19 @@ module _ (orders : Orders) (orderly : AreOrderly orders) where
         any-some : (cs : List Id) → list_any (leads orders float_id) cs ≡ true → list_any (λ e. same_class e float_id || is_instance orders v e) cs ≡ true
         any-some cs some = any-more (leads orders float_id) (λ e. same_class e float_id || is_instance orders v e) each cs some
 
-        no_more : list_any (λ e. same_class e float_id || is_instance orders v e) classes ≡ false
-        no_more = neither classes untested refused
-
         neither : (cs : List Id) → is_tested cs float_id ≡ false → is_accepted orders cs v ≡ false
             → list_any (λ e. same_class e float_id || is_instance orders v e) cs ≡ false
-        neither [] no never = refl
-        neither (c ∷ cs) no never =
-            let first = or_parts (same_class c float_id) (is_tested cs float_id) no in
-            let second = or_parts (is_instance orders v c) (is_accepted orders cs v) never in
+        neither [] untold unmet = refl
+        neither (c ∷ cs) untold unmet =
+            let first = or_parts (same_class c float_id) (is_tested cs float_id) untold in
+            let second = or_parts (is_instance orders v c) (is_accepted orders cs v) unmet in
             or_from (same_class c float_id || is_instance orders v c) (list_any (λ e. same_class e float_id || is_instance orders v e) cs)
             (or_from (same_class c float_id) (is_instance orders v c) first.0 second.0) (neither cs first.1 second.1)
+
+        never : is_taken_class orders classes (Some float_id) ≡ true → ⊥
+        never taken =
+            let led = (and_parts (not (is_unknown (orders float_id))) (list_any (leads orders float_id) classes) taken).1 in
+            true≢false (sym (any-some classes led) ∙ neither classes untested refused)
 
     container_kept : (d : Id) (rest : Bool) → is_instance orders v d && rest ≡ true → is_taken_class orders classes (Some d) ≡ false
     container_kept d rest here = not_taken d (and_parts (is_instance orders v d) rest here).0
@@ -287,8 +288,11 @@ narrow_away_keeps orders v ty classes orderly known seen refused =
     left-has orders v ty (flat_map (λ item. unless (is_taken orders classes item) item) (items_of ty))
     (any-flat_from (λ item. is_of orders v item && is_seen_by_no orders classes v item) (is_of orders v)
     (λ item. unless (is_taken orders classes item) item)
-    (λ item found.
-    let parts = and_parts (is_of orders v item) (is_seen_by_no orders classes v item) found in
-    kept-has orders v item (is_taken orders classes item)
-    (item_kept orders orderly v known classes (not-true (is_accepted orders classes v) refused) item parts.0 parts.1) parts.0)
-    (items_of ty) seen)
+    each (items_of ty) seen)
+  where
+    each : (item : Ty) → is_of orders v item && is_seen_by_no orders classes v item ≡ true
+        → list_any (is_of orders v) (unless (is_taken orders classes item) item) ≡ true
+    each item found =
+        let parts = and_parts (is_of orders v item) (is_seen_by_no orders classes v item) found in
+        let unmet = not-true (is_accepted orders classes v) refused in
+        kept-has orders v item (is_taken orders classes item) (item_kept orders orderly v known classes unmet item parts.0 parts.1) parts.0

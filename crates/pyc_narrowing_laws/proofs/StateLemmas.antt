@@ -28,11 +28,11 @@ module _ (orders : Orders) (values : Values) where
 
   filter-met : (p : Narrowing → Bool) (ns : List Narrowing) → MetEach ns → MetEach (filter p ns)
   filter-met p [] met = tt
-  filter-met p (n ∷ ns) met = by_pass (p n)
+  filter-met p (n ∷ ns) met = by_pass (p n) (filter-met p ns met.1)
     where
-      by_pass : (b : Bool) → MetEach (if b then n ∷ filter p ns else filter p ns)
-      by_pass true = (met.0, filter-met p ns met.1)
-      by_pass false = filter-met p ns met.1
+      by_pass : (b : Bool) → MetEach (filter p ns) → MetEach (if b then n ∷ filter p ns else filter p ns)
+      by_pass true rest = (met.0, rest)
+      by_pass false rest = rest
 
   pub with_place-met : (place : Place) (ty : Ty) (s : State) → Met s → is_of orders (values place) ty ≡ true → Met (with_place place ty s)
   with_place-met place ty unreachable met here = met
@@ -65,15 +65,15 @@ module _ (orders : Orders) (values : Values) where
   -- the type of a narrowed place is one of its value
   found-met : (more : List Narrowing) (place : Place) (ty : Ty) → MetEach more → type_of more place ≡ Some ty → is_of orders (values place) ty ≡ true
   found-met [] place ty met is = absurd (none-some ty is)
-  found-met (m ∷ more) place ty met is = by_place (same_place m.place place) refl is
+  found-met (m ∷ more) place ty met is = by_place (same_place m.place place) refl is (λ later. found-met more place ty met.1 later)
     where
       by_place : (b : Bool) → same_place m.place place ≡ b
           → option_map (λ (n : Narrowing). n.ty) (if b then Some m else find (λ n. same_place n.place place) more) ≡ Some ty
-          → is_of orders (values place) ty ≡ true
-      by_place true same found =
+          → (type_of more place ≡ Some ty → is_of orders (values place) ty ≡ true) → is_of orders (values place) ty ≡ true
+      by_place true same found rest =
           subst (λ q. is_of orders (values q) ty ≡ true) (texts-are m.place place same)
           (subst (λ t. is_of orders (values m.place) t ≡ true) (same_Some m.ty ty found) met.0)
-      by_place false same found = found-met more place ty met.1 found
+      by_place false same found rest = rest found
 
   left-joined : (ns more : List Narrowing) → MetEach ns → MetEach (flat_map (λ n. on_both n (type_of more n.place)) ns)
   left-joined [] more met = tt
@@ -108,15 +108,13 @@ module _ (orders : Orders) (values : Values) where
 dropped-each : (orders : Orders) (place : Place) (before after : Values) (ns : List Narrowing) → ChangesAt place before after
     → MeetsEach orders before ns → MeetsEach orders after (filter (λ n. not (is_at_or_below place n.place)) ns)
 dropped-each orders place before after [] changes met = tt
-dropped-each orders place before after (n ∷ ns) changes met = by_below (is_at_or_below place n.place) refl
+dropped-each orders place before after (n ∷ ns) changes met =
+    by_below (is_at_or_below place n.place) refl (dropped-each orders place before after ns changes met.1)
   where
-    abbrev rest : List Narrowing
-    rest = filter (λ n. not (is_at_or_below place n.place)) ns
-
-    by_below : (b : Bool) → is_at_or_below place n.place ≡ b → MeetsEach orders after (if not b then n ∷ rest else rest)
-    by_below true below = dropped-each orders place before after ns changes met.1
-    by_below false below =
-        (ap (λ v. is_of orders v n.ty) (changes n.place below) ∙ met.0, dropped-each orders place before after ns changes met.1)
+    by_below : (b : Bool) → is_at_or_below place n.place ≡ b → MeetsEach orders after (filter (λ m. not (is_at_or_below place m.place)) ns)
+        → MeetsEach orders after (if not b then n ∷ filter (λ m. not (is_at_or_below place m.place)) ns else filter (λ m. not (is_at_or_below place m.place)) ns)
+    by_below true below rest = rest
+    by_below false below rest = (ap (λ v. is_of orders v n.ty) (changes n.place below) ∙ met.0, rest)
 
 pub nothing_narrowed_is_met : NothingNarrowedIsMet
 nothing_narrowed_is_met orders values = tt
