@@ -18,14 +18,14 @@ use Rattle.pyc_class.specs.Order.{Orders}
 use Rattle.pyc_names.specs.declared.fixed.FixedName.TheVariants as fixed
 use Rattle.pyc_narrowing.specs.SplitStates.{States, unchanged, literal_states, digit_states, truth_states, none_of, none_states, in_sense, swapped, and_states, or_states, instance_states}
 use Rattle.pyc_narrowing.specs.Splitting.{Looks, Splits, looked, classes_at, split, form_rule, unary_rule, boolean_rule, place_rule, truth_rule, valued, comparison_rule, one_comparison, compared_with_none, sense_rule, none_rule, is_none_literal, sense_of, call_rule, two_arguments, is_positional, pair_rule, callee_rule, called, isinstance_rule, test_by}
-use Rattle.pyc_narrowing_laws.specs.ConditionLaws.{AreTold, SplitKeeps, state_where}
-use Rattle.pyc_narrowing_laws.specs.Conditions.{DigitComesTo, LiteralComesTo, TruthComesTo, PlaceComesTo, ComparisonComesTo, TestComesTo, two_given, CallComesTo, UnaryComesTo, BooleanComesTo, right_state, ComesTo, FormComesTo, LooksRightly, found_at, states_after}
+use Rattle.pyc_narrowing_laws.specs.ConditionLaws.{SplitKeeps}
+use Rattle.pyc_narrowing_laws.specs.TestLaws.{state_where, MeetsWhere, IsTold}
+use Rattle.pyc_narrowing_laws.specs.Conditions.{DigitComesTo, LiteralComesTo, TruthComesTo, PlaceComesTo, ComparisonComesTo, two_given, CallComesTo, UnaryComesTo, BooleanComesTo, right_state, ComesTo, FormComesTo, LooksRightly, found_at, states_after}
 use Rattle.pyc_narrowing_laws.specs.StateLaws.{Values, Meets}
 use Rattle.pyc_narrowing_laws.specs.Values.{Value, is_none_value, is_of}
-use Rattle.pyc_narrowing_laws.proofs.InstanceLemmas.{narrow_to_keeps, narrow_away_keeps}
 use Rattle.pyc_narrowing_laws.proofs.ReadingLemmas.{then_result, not_result, and_result, or_result, test_result}
-use Rattle.pyc_narrowing_laws.proofs.StateLemmas.{narrowed-met, left-met, right-met}
-use Rattle.pyc_narrowing_laws.proofs.UnionLemmas.{without_none_keeps, none_keeps}
+use Rattle.pyc_narrowing_laws.proofs.StateLemmas.{left-met, right-met}
+use Rattle.pyc_narrowing_laws.proofs.TestLemmas.{truth_keeps, comparison_keeps, instance_test_keeps}
 use Rattle.pyc_obligations.specs.Values.{Thing, plain_thing, fixed_thing, reveal_type_thing, isinstance_thing}
 use Rattle.pyc_obligations.specs.Values as found
 use Rattle.pyc_places.specs.Places.{Place, place_of}
@@ -35,7 +35,6 @@ use Rattle.pyc_reading.specs.Desks.{Step}
 use Rattle.pyc_reading.specs.Keys.{Key}
 use Rattle.pyc_reading.specs.Owing.{orders_by}
 use Rattle.pyc_reading.specs.Readings.{Done, and_then, result_of}
-use Rattle.pyc_type_forms.specs.Narrowing.{narrow_to, narrow_away, without_none}
 use Rattle.pyc_type_forms.specs.Types.{Ty}
 
 swapped-where : (b : Bool) (found : States) → state_where b (swapped found) ≡ state_where (not b) found
@@ -54,7 +53,7 @@ module _ (answers : Key → Answer) (look : Looks) (values : Values) where
   Met = Meets orders values
 
   abbrev MetWhere : Bool → States → Type 0
-  MetWhere b found = Met (state_where b found)
+  MetWhere = MeetsWhere orders values
 
   abbrev come : Step States → States
   come = result_of answers
@@ -91,16 +90,10 @@ module _ (answers : Key → Answer) (look : Looks) (values : Values) where
 
   -- ---- places
 
-  truth-met : (b : Bool) (s : State) (place : Place) (ty : Ty) → Met s → is_of orders (values place) ty ≡ true
-      → (b ≡ true → not (is_none_value (values place)) ≡ true) → MetWhere b (truth_states s place ty)
-  truth-met true s place ty met here comes =
-      narrowed-met orders values s place ty (without_none ty) met (without_none_keeps orders (values place) ty here (comes refl))
-  truth-met false s place ty met here comes = met
-
   valued-met : (b : Bool) (s : State) (place : Place) (ty : Ty) (thing : Thing) → Met s → is_of orders (values place) ty ≡ true
-      → TruthComesTo answers look values b (values place) thing → MetWhere b (valued s place ty thing)
+      → TruthComesTo b (values place) thing → MetWhere b (valued s place ty thing)
   valued-met b s place ty (fixed_thing fixed.TypeChecking) met here comes = always-met b s comes met
-  valued-met b s place ty thing met here comes = truth-met b s place ty met here comes
+  valued-met b s place ty thing met here comes = truth_keeps orders values b s place ty (met, here) comes
 
   module _ (right : LooksRightly answers look values) where
     place-met : (b : Bool) (s : State) (x : Expr) → Met s → PlaceComesTo answers look values b s x → MetWhere b (come (place_rule look s x (place_of x)))
@@ -116,15 +109,7 @@ module _ (answers : Key → Answer) (look : Looks) (values : Values) where
 
     -- ---- comparisons with None
 
-    none-met : (c : Bool) (s : State) (place : Place) (ty : Ty) → Met s → is_of orders (values place) ty ≡ true
-        → c ≡ is_none_value (values place) → MetWhere c (none_states s place ty)
-    none-met true s place ty met here is =
-        narrowed-met orders values s place ty (none_of ty) met (none_keeps orders (values place) ty here (sym is))
-    none-met false s place ty met here is =
-        narrowed-met orders values s place ty (without_none ty) met
-        (without_none_keeps orders (values place) ty here (not_from_false (is_none_value (values place)) (sym is)))
-
-    comparison-met : (b : Bool) (s : State) (x : Expr) (rest : Comparisons) → Met s → ComparisonComesTo answers look values b x rest
+    comparison-met : (b : Bool) (s : State) (x : Expr) (rest : Comparisons) → Met s → ComparisonComesTo values b x rest
         → MetWhere b (come (comparison_rule look s x rest))
     unfolding none_rule
     comparison-met b s x no_comparison met comes = unchanged-met b s met
@@ -138,7 +123,8 @@ module _ (answers : Key → Answer) (look : Looks) (values : Values) where
             let f = found_at answers look values s x in
             subst (λ found. MetWhere b found) (sym (then_result answers (looked look s x) (λ found. Done (in_sense sense (none_states s place found.ty)))))
             (subst Met (sym (sense-where b sense (none_states s place f.ty)))
-            (none-met (if sense then b else not b) s place f.ty met (right s x place met is) (comes place operator y sense is refl literal its)))
+            (subst (λ c. MetWhere c (none_states s place f.ty)) (sym (comes place operator y sense is refl literal its))
+            (comparison_keeps orders values s place f.ty (met, right s x place met is))))
 
         by_sense : is_none_literal y ≡ true → (sense : Option Bool) → sense_of operator ≡ sense → MetWhere b (come (compared_with_none look s x sense))
         by_sense literal None its = unchanged-met b s met
@@ -151,16 +137,7 @@ module _ (answers : Key → Answer) (look : Looks) (values : Values) where
 
     -- ---- `isinstance`
 
-    module _ (told : AreTold orders values) where
-      test-met : (b : Bool) (s : State) (place : Place) (ty : Ty) (classes : List Id) → Met s → TestComesTo answers look values b (values place) ty classes
-          → MetWhere b (instance_states orders s place ty classes)
-      test-met true s place ty classes met comes =
-          narrowed-met orders values s place ty (narrow_to orders ty classes) met
-          (narrow_to_keeps orders (values place) ty classes (told.1 place).0 comes.1 comes.0)
-      test-met false s place ty classes met comes =
-          narrowed-met orders values s place ty (narrow_away orders ty classes) met
-          (narrow_away_keeps orders (values place) ty classes told.0 (told.1 place).1 comes.1 comes.0)
-
+    module _ (told : (place : Place) → IsTold orders (values place)) where
       call-met : (b : Bool) (s : State) (callee : Expr) (given : Arguments) → Met s → CallComesTo answers look values b s callee given
           → MetWhere b (come (call_rule look s callee given))
       unfolding callee_rule isinstance_rule
@@ -176,7 +153,8 @@ module _ (answers : Key → Answer) (look : Looks) (values : Values) where
           by_classes place is thing None found = unchanged-met b s met
           by_classes place is thing (Some classes) found =
               subst (λ states. MetWhere b states) (sym (test_result answers s place (found_at answers look values s x).ty classes))
-              (test-met b s place (found_at answers look values s x).ty classes met (comes at other x y place classes refl is thing found))
+              (instance_test_keeps orders values b s place (found_at answers look values s x).ty classes (told place) met
+              (comes at other x y place classes refl is thing found))
 
           by_thing : (place : Place) → place_of x ≡ Some place → (thing : Thing) → (found_at answers look values s callee).thing ≡ thing
               → MetWhere b (come (called look s place x y thing))
@@ -201,7 +179,7 @@ module _ (answers : Key → Answer) (look : Looks) (values : Values) where
 
       -- ---- conditions of conditions
 
-      unary-met : (b : Bool) (operator : UnaryOperator) (operand : Splits) (s : State) (Comes : Bool → Type 0) → Met s → UnaryComesTo answers look values b operator Comes
+      unary-met : (b : Bool) (operator : UnaryOperator) (operand : Splits) (s : State) (Comes : Bool → Type 0) → Met s → UnaryComesTo b operator Comes
           → ((c : Bool) → Comes c → MetWhere c (come (operand s))) → MetWhere b (come (unary_rule operator operand s))
       unary-met b changes.Not operand s Comes met comes keep =
           subst (λ states. MetWhere b states) (sym (not_result answers operand s))
@@ -209,10 +187,10 @@ module _ (answers : Key → Answer) (look : Looks) (values : Values) where
       unary-met b operator operand s Comes met comes keep = unchanged-met b s met
 
       boolean-met : (b : Bool) (operator : BooleanOperator) (first second : Splits) (s : State) (Left Right : Bool → Type 0)
-          → BooleanComesTo answers look values b operator Left Right
+          → BooleanComesTo b operator Left Right
           → ((c : Bool) → Left c → MetWhere c (come (first s)))
-          → ((c : Bool) → Met (right_state answers look values operator (come (first s))) → Right c
-          → MetWhere c (come (second (right_state answers look values operator (come (first s))))))
+          → ((c : Bool) → Met (right_state operator (come (first s))) → Right c
+          → MetWhere c (come (second (right_state operator (come (first s))))))
           → MetWhere b (come (boolean_rule operator first second s))
       boolean-met true joins.And first second s Left Right comes left right =
           subst (λ states. MetWhere true states) (sym (and_result answers first second s)) (right true (left true comes.0) comes.1)
@@ -247,7 +225,7 @@ module _ (answers : Key → Answer) (look : Looks) (values : Values) where
         form-met b s whole (unary operator x) met comes =
             unary-met b operator (λ t. split look t x) s (λ c. ComesTo answers look values c s x) met comes (λ c so. split-met c s x met so)
         form-met b s whole (boolean operator x y) met comes =
-            let next = right_state answers look values operator (states_after answers look values s x) in
+            let next = right_state operator (states_after answers look values s x) in
             boolean-met b operator (λ t. split look t x) (λ t. split look t y) s (λ c. ComesTo answers look values c s x)
             (λ c. ComesTo answers look values c next y) comes (λ c so. split-met c s x met so) (λ c there so. split-met c next y there so)
         form-met b s whole (call callee given) met comes = call-met b s callee given met comes

@@ -4,5 +4,6 @@ pub mod UnionLemmas
 pub mod InstanceLemmas
 pub mod BuiltinLemmas
 pub mod StateLemmas
+pub mod TestLemmas
 pub mod ReadingLemmas
 pub mod ConditionLemmas

@@ -4,15 +4,12 @@ use Rattle.std.specs.List.{list_any, flat_map}
 use Rattle.std.proofs.lemmas.Bool.{false≢true, or_left, or_right}
 use Rattle.std.proofs.lemmas.Option.{none-some, same_Some}
 use Rattle.pyc_class.specs.Order.{Orders}
-use Rattle.pyc_narrowing.specs.SplitStates.{narrowed_state}
-use Rattle.pyc_narrowing_laws.specs.StateLaws.{Values, MeetsEach, Meets, NothingNarrowedIsMet, WithPlaceKeeps, JoinedKeeps, ChangesAt, DroppedKeeps}
-use Rattle.pyc_narrowing_laws.specs.TypeLaws.{is_of_left}
+use Rattle.pyc_narrowing_laws.specs.StateLaws.{Values, MeetsEach, Meets, NothingNarrowedIsMet, WithPlaceKeeps, JoinedKeeps, ChangesAt, DroppedKeeps, AssignedKeeps}
 use Rattle.pyc_narrowing_laws.specs.Values.{Value, is_of}
 use Rattle.pyc_narrowing_laws.proofs.SameTypes.{texts-are}
 use Rattle.pyc_narrowing_laws.proofs.UnionLemmas.{union-has}
 use Rattle.pyc_places.specs.Places.{Place, same_place, is_at_or_below}
 use Rattle.pyc_places.specs.States.{Narrowing, State, unreachable, reachable, type_of, others, with_place, dropped_at, on_both, joined_states}
-use Rattle.pyc_type_forms.specs.Equality.{same_type}
 use Rattle.pyc_type_forms.specs.Types.{Ty}
 
 module _ (orders : Orders) (values : Values) where
@@ -38,16 +35,6 @@ module _ (orders : Orders) (values : Values) where
   with_place-met place ty unreachable met here = met
   with_place-met place ty (reachable ns) met here =
       both-met (others place ns) (record { place = place; ty = ty } ∷ []) (filter-met (λ n. not (same_place n.place place)) ns met) (here, tt)
-
-  -- what a test leaves of the type of a place
-  pub narrowed-met : (s : State) (place : Place) (ty : Ty) (left : Option Ty) → Met s → is_of_left orders (values place) left ≡ true
-      → Met (narrowed_state s place ty left)
-  narrowed-met s place ty None met here = absurd (false≢true here)
-  narrowed-met s place ty (Some left) met here = by_same (same_type left ty)
-    where
-      by_same : (b : Bool) → Met (if b then s else with_place place left s)
-      by_same true = met
-      by_same false = with_place-met place left s met here
 
   -- ---- where two ways meet
 
@@ -129,3 +116,7 @@ joined_keeps orders values s t (inr met) = right-met orders values s t met
 pub dropped_keeps : DroppedKeeps
 dropped_keeps orders place before after unreachable changes met = met
 dropped_keeps orders place before after (reachable ns) changes met = dropped-each orders place before after ns changes met
+
+pub assigned_keeps : AssignedKeeps
+assigned_keeps orders place before after ty s changes met here =
+    with_place-met orders after place ty (dropped_at place s) (dropped_keeps orders place before after s changes met) here

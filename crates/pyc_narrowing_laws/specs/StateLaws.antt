@@ -48,3 +48,10 @@ abbrev pub DroppedKeeps : Type 0
 DroppedKeeps =
     (orders : Orders) (place : Place) (before after : Values) (s : State) → ChangesAt place before after
     → Meets orders before s → Meets orders after (dropped_at place s)
+
+-- values that met a state before an assignment meet it after with the place narrowed to a type of its new value
+abbrev pub AssignedKeeps : Type 0
+AssignedKeeps =
+    (orders : Orders) (place : Place) (before after : Values) (ty : Ty) (s : State) → ChangesAt place before after
+    → Meets orders before s → IsTrue (is_of orders (after place) ty)
+    → Meets orders after (with_place place ty (dropped_at place s))

@@ -1,7 +1,9 @@
 //! Laws of narrowing, proved for all values: what a value is of before a test, an assignment or a join, it is of after it.
 
 ghost use Rattle.pyc_narrowing_laws.specs.ConditionLaws.{SplitKeeps};
-ghost use Rattle.pyc_narrowing_laws.specs.StateLaws.{DroppedKeeps, JoinedKeeps, NothingNarrowedIsMet, WithPlaceKeeps};
+ghost use Rattle.pyc_narrowing_laws.specs.StateLaws.{AssignedKeeps, DroppedKeeps, JoinedKeeps, NothingNarrowedIsMet};
+ghost use Rattle.pyc_narrowing_laws.specs.StateLaws.{WithPlaceKeeps};
+ghost use Rattle.pyc_narrowing_laws.specs.TestLaws.{ComparisonKeeps, InstanceTestKeeps, TruthKeeps};
 ghost use Rattle.pyc_narrowing_laws.specs.TypeLaws.{BuiltinValuesMeetThePremises, NarrowAwayKeeps, NarrowToKeeps};
 ghost use Rattle.pyc_narrowing_laws.specs.TypeLaws.{NoneKeeps, UnionIsItsItems, UnionKeeps, WithoutNoneKeeps};
 
@@ -49,9 +51,18 @@ pub fn joined_ways()
 {}
 
 /// An assignment to a place changes the values of that place and of those below it. Values that met a state before it
-/// meet the state after it, once these places are dropped.
-pub fn dropped_places()
-    ensures { DroppedKeeps }
+/// meet the state after it, once these places are dropped, also with the place narrowed to a type of its new value.
+pub fn assigned_places()
+    ensures dropped { DroppedKeeps }
+    ensures narrowed { AssignedKeeps }
+{}
+
+/// Values that meet a state, the value of a place being of its type, meet the state after a test of that place which says
+/// of the value what it said: its truth, a comparison with None, and `isinstance` by some classes.
+pub fn tested_places()
+    ensures truth { TruthKeeps }
+    ensures none { ComparisonKeeps }
+    ensures instances { InstanceTestKeeps }
 {}
 
 /// Values that meet a state meet the state where a condition holds, if it may hold of them, and the state where it does
