@@ -50,7 +50,7 @@ module _ (orders : Orders) (values : Values) where
   )
 
   -- the type of a narrowed place is one of its value
-  found-met : (more : List Narrowing) (place : Place) (ty : Ty) → MetEach more → type_of more place ≡ Some ty → is_of orders (values place) ty ≡ true
+  pub found-met : (more : List Narrowing) (place : Place) (ty : Ty) → MetEach more → type_of more place ≡ Some ty → is_of orders (values place) ty ≡ true
   found-met [] place ty met is = absurd (none-some ty is)
   found-met (m ∷ more) place ty met is = by_place (same_place m.place place) refl is (λ later. found-met more place ty met.1 later)
     where

@@ -1,5 +1,6 @@
 pub mod Values
 pub mod TypeLaws
+pub mod LineLaws
 pub mod StateLaws
 pub mod TestLaws
 pub mod Conditions

@@ -1,6 +1,7 @@
-//! Laws of narrowing, proved for all values: what a value is of before a test, an assignment or a join, it is of after it.
+//! Laws of narrowing, proved for all values: of what a value is before a test, an assignment or a join, it is after it.
 
-ghost use Rattle.pyc_narrowing_laws.specs.ConditionLaws.{SplitKeeps};
+ghost use Rattle.pyc_narrowing_laws.specs.ConditionLaws.{NarrowedTypesAreRight, SplitKeeps};
+ghost use Rattle.pyc_narrowing_laws.specs.LineLaws.{SingleBasesAreInLine};
 ghost use Rattle.pyc_narrowing_laws.specs.StateLaws.{AssignedKeeps, DroppedKeeps, JoinedKeeps, NothingNarrowedIsMet};
 ghost use Rattle.pyc_narrowing_laws.specs.StateLaws.{WithPlaceKeeps};
 ghost use Rattle.pyc_narrowing_laws.specs.TestLaws.{ComparisonKeeps, InstanceTestKeeps, TruthKeeps};
@@ -13,33 +14,39 @@ pub fn unions()
     ensures items { UnionIsItsItems }
 {}
 
-/// A value of a type is of the type without None, unless it is None; if it is None, it is of what `is None` leaves.
+/// A value of a type is of the type without None, unless it is None. If it is None, it is of what `is None` leaves.
 pub fn none_tests()
     ensures refused { WithoutNoneKeeps }
     ensures accepted { NoneKeeps }
 {}
 
-/// A value of a type of which `isinstance` says yes is of the type that `narrow_to` leaves, where of each two classes of
+/// A value of a type of which `isinstance` says yes is of the type that `narrow_to` leaves, if of each two classes of
 /// which it is an instance one stands in the order of the other. It has to be of an item that is neither None nor a
-/// module; and if it is an int that stands for a `float`, one of the classes has to be `int`.
+/// module. If it is an int that stands for a `float`, one of the classes has to be `int`.
 pub fn accepted_instances()
     ensures { NarrowToKeeps }
 {}
 
-/// A value of a type of which `isinstance` says no is of the type that `narrow_away` leaves, where the order of its class
-/// is known, each known order holds the orders of its classes, and the builtin classes have theirs. If it is an int that
+/// A value of a type of which `isinstance` says no is of the type that `narrow_away` leaves, if its class has a known
+/// order, each known order holds the orders of its classes, and the builtin classes have theirs. If it is an int that
 /// stands for a `float`, none of the classes may be `float`.
 pub fn refused_instances()
     ensures { NarrowAwayKeeps }
 {}
 
-/// The instances of builtin classes meet what the two laws of `isinstance` ask of values.
+/// The instances of a builtin class meet what the two laws of `isinstance` ask of a value, by the builtin orders.
 pub fn builtin_values()
     ensures { BuiltinValuesMeetThePremises }
 {}
 
-/// All values meet the state in which no place is narrowed. Values that meet a state meet it with a place of a type of
-/// which the value of the place is.
+/// Of each two classes of which an instance of some class is an instance, one stands in the order of the other, if the
+/// order of that class is known and each class in it is written with at most one base.
+pub fn single_bases()
+    ensures { SingleBasesAreInLine }
+{}
+
+/// All values meet the state in which no place is narrowed. Values that meet a state meet it with a place narrowed to a
+/// type of the place's value.
 pub fn narrowed_places()
     ensures nothing { NothingNarrowedIsMet }
     ensures one { WithPlaceKeeps }
@@ -51,14 +58,14 @@ pub fn joined_ways()
 {}
 
 /// An assignment to a place changes the values of that place and of those below it. Values that met a state before it
-/// meet the state after it, once these places are dropped, also with the place narrowed to a type of its new value.
+/// meet the state after it, once these places are dropped, and also with the place narrowed to a type of its new value.
 pub fn assigned_places()
     ensures dropped { DroppedKeeps }
     ensures narrowed { AssignedKeeps }
 {}
 
-/// Values that meet a state, the value of a place being of its type, meet the state after a test of that place which says
-/// of the value what it said: its truth, a comparison with None, and `isinstance` by some classes.
+/// Values that meet a state meet the state after a test of a place, if the place has a value of its type and the test
+/// says of that value what it said: its truth, a comparison with None, or `isinstance` by some classes.
 pub fn tested_places()
     ensures truth { TruthKeeps }
     ensures none { ComparisonKeeps }
@@ -70,4 +77,10 @@ pub fn tested_places()
 /// looked up of a place has to be a type of its value, and the values have to be such as the laws of `isinstance` ask.
 pub fn conditions()
     ensures { SplitKeeps }
+{}
+
+/// What is looked up of a place is a type of its value, if it is the type to which the place is narrowed, else that with
+/// which it is declared, and each value is of the declared type of its place.
+pub fn looked_up_types()
+    ensures { NarrowedTypesAreRight }
 {}
