@@ -50,10 +50,10 @@ module _ (orders : Orders) (v : Value) where
   itself d here own = elim (or_cases (is d) (is int_id && same_class d float_id) here) [
     | inl is_one ↦ is_one
     | inr stands ↦
-      let parts = and_parts (is int_id) (same_class d float_id) stands in
-      let float : is float_id ≡ true =
-      not_not (is float_id) (sym (ap (λ b. not (b && not (is float_id))) parts.1) ∙ own) in
-      ap is (same_class-is d float_id parts.1) ∙ float
+        let parts = and_parts (is int_id) (same_class d float_id) stands in
+        let float : is float_id ≡ true =
+        not_not (is float_id) (sym (ap (λ b. not (b && not (is float_id))) parts.1) ∙ own) in
+        ap is (same_class-is d float_id parts.1) ∙ float
   ]
 
   -- a value that stands in for a float is an instance of int
@@ -225,7 +225,7 @@ module _ (orders : Orders) (orderly : AreOrderly orders) where
               | inl same ↦ or_left (same_class e float_id) (is_instance orders v e) (same_class_equiv.symm e float_id ∙ same)
               | inr later ↦ elim (or_cases (same_class object_id e) false later) [
                 | inl same ↦ or_right (same_class e float_id) (is_instance orders v e)
-                  (subst (λ x. is_instance orders v x ≡ true) (same_class-is object_id e same) (above v known int_id object_id int int_below))
+                    (subst (λ x. is_instance orders v x ≡ true) (same_class-is object_id e same) (above v known int_id object_id int int_below))
                 | inr nothing ↦ absurd (false≢true nothing)
               ]
             ]

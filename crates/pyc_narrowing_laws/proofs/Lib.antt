@@ -3,7 +3,6 @@ pub mod SameTypes
 pub mod UnionLemmas
 pub mod InstanceLemmas
 pub mod BuiltinLemmas
-pub mod LineLemmas
 pub mod StateLemmas
 pub mod TestLemmas
 pub mod ReadingLemmas

@@ -45,7 +45,7 @@ module _ (orders : Orders) (values : Values) where
   union-right : (place : Place) (ty other : Ty) → is_of orders (values place) other ≡ true → MetEach (on_both (record { place = place; ty = ty }) (Some other))
   union-right place ty other here = (
     union-has orders (values place) (ty ∷ other ∷ [])
-    (or_right (is_of orders (values place) ty) (is_of orders (values place) other || false) (or_left (is_of orders (values place) other) false here)),
+        (or_right (is_of orders (values place) ty) (is_of orders (values place) other || false) (or_left (is_of orders (values place) other) false here)),
     tt,
   )
 

@@ -1,6 +1,5 @@
 pub mod Values
 pub mod TypeLaws
-pub mod LineLaws
 pub mod StateLaws
 pub mod TestLaws
 pub mod Conditions

@@ -48,8 +48,8 @@ ComparisonKeeps =
 
 -- ---- `isinstance`
 
--- a test by classes comes to yes of a value that is an instance of one of them, and to no of others, where its rule sees
--- the value
+-- a test by classes comes to yes of a value that is an instance of one of them, and to no of others, where its rule
+-- sees the value
 abbrev pub IsTest : Orders → Bool → Value → Ty → List Id → Type 0
 IsTest orders true v ty classes =
     IsTrue (is_accepted orders classes v) × IsTrue (is_of_seen orders (is_seen_by_yes orders classes) v ty)

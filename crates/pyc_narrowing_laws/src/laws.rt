@@ -1,7 +1,6 @@
 //! Laws of narrowing, proved for all values: of what a value is before a test, an assignment or a join, it is after it.
 
 ghost use Rattle.pyc_narrowing_laws.specs.ConditionLaws.{NarrowedTypesAreRight, SplitKeeps};
-ghost use Rattle.pyc_narrowing_laws.specs.LineLaws.{SingleBasesAreInLine};
 ghost use Rattle.pyc_narrowing_laws.specs.StateLaws.{AssignedKeeps, DroppedKeeps, JoinedKeeps, NothingNarrowedIsMet};
 ghost use Rattle.pyc_narrowing_laws.specs.StateLaws.{WithPlaceKeeps};
 ghost use Rattle.pyc_narrowing_laws.specs.TestLaws.{ComparisonKeeps, InstanceTestKeeps, TruthKeeps};
@@ -39,14 +38,8 @@ pub fn builtin_values()
     ensures { BuiltinValuesMeetThePremises }
 {}
 
-/// Of each two classes of which an instance of some class is an instance, one stands in the order of the other, if the
-/// order of that class is known and each class in it is written with at most one base.
-pub fn single_bases()
-    ensures { SingleBasesAreInLine }
-{}
-
-/// All values meet the state in which no place is narrowed. Values that meet a state meet it with a place narrowed to a
-/// type of the place's value.
+/// All values meet the state in which no place is narrowed. Values that meet a state meet it with a place narrowed to
+/// a type of the place's value.
 pub fn narrowed_places()
     ensures nothing { NothingNarrowedIsMet }
     ensures one { WithPlaceKeeps }
@@ -58,29 +51,31 @@ pub fn joined_ways()
 {}
 
 /// An assignment to a place changes the values of that place and of those below it. Values that met a state before it
-/// meet the state after it, once these places are dropped, and also with the place narrowed to a type of its new value.
+/// meet the state after it, once these places are dropped, and also with the place narrowed to a type of its new
+/// value.
 pub fn assigned_places()
     ensures dropped { DroppedKeeps }
     ensures narrowed { AssignedKeeps }
 {}
 
-/// Values that meet a state meet the state after a test of a place, if the place has a value of its type and the test
-/// says of that value what it said: its truth, a comparison with None, or `isinstance` by some classes.
+/// Values that meet a state meet the state after a test of a place, if its value is of its type and the test comes to
+/// what it says of the value: its truth, a comparison with None, or `isinstance` by some classes.
 pub fn tested_places()
     ensures truth { TruthKeeps }
     ensures none { ComparisonKeeps }
     ensures instances { InstanceTestKeeps }
 {}
 
-/// Values that meet a state meet the state where a condition holds, if it may hold of them, and the state where it does
-/// not hold, if it may not hold: by `not`, `and`, `or`, literals, places, comparisons with None and `isinstance`. What is
-/// looked up of a place has to be a type of its value, and the values have to be such as the laws of `isinstance` ask.
+/// Values that meet a state meet the state where a condition holds, if it may hold of them, and the state where it
+/// does not, if it may not: by `not`, `and`, `or`, literals, places, comparisons with None and `isinstance`. What is
+/// looked up of a place has to be a type of its value, and the values have to be such as the laws of `isinstance`
+/// ask.
 pub fn conditions()
     ensures { SplitKeeps }
 {}
 
-/// What is looked up of a place is a type of its value, if it is the type to which the place is narrowed, else that with
-/// which it is declared, and each value is of the declared type of its place.
+/// What is looked up of a place is a type of its value, if it is the type to which the place is narrowed, else that
+/// with which it is declared, and each value is of the declared type of its place.
 pub fn looked_up_types()
     ensures { NarrowedTypesAreRight }
 {}

@@ -5,14 +5,13 @@ use Rattle.std.proofs.lemmas.Bool.{false≢true, or_cases, or_left, or_right}
 use Rattle.pyc_class.specs.Class.{Id, same_class}
 use Rattle.pyc_class.specs.ClassEquality.{same_class_equiv}
 use Rattle.pyc_class.specs.Order.{Orders, is_unknown, leads}
-use Rattle.pyc_class_laws.specs.ClassLaws.{bases_of, has_base, IsAncestor, at_once, by_base}
+use Rattle.pyc_class_laws.specs.ClassLaws.{bases_of, has_base, IsAncestor, at_once, by_base, HasSingleBases, SingleBasesMakeALine}
 use Rattle.pyc_class_laws.proofs.LawLemmas.{ancestors_held}
 use Rattle.pyc_classes.specs.ClassOrders.{orders_of}
 use Rattle.pyc_classes.specs.Entries.{Entry}
 use Rattle.pyc_classes.specs.OrderLaws.{IsKnown}
 use Rattle.pyc_classes.proofs.BuiltinLemmas.{same_class-is}
 use Rattle.pyc_classes.proofs.LawLemmas.{orders_kept, orders_orderly}
-use Rattle.pyc_narrowing_laws.specs.LineLaws.{HasSingleBases, SingleBasesAreInLine}
 
 -- two classes of a row of at most one are one
 one_of : (row : List Id) (d e : Id) → length row ≤ 1 → list_any (λ base. same_class base d) row ≡ true → list_any (λ base. same_class base e) row ≡ true
@@ -67,14 +66,14 @@ module _ (declared : List Entry) where
       two_above b d e (base-known c b known one) (base-single c b known single one) above
       (subst (λ x. IsAncestor declared x e) (sym (same_base c b a known single one other)) beyond)
 
-pub single_bases_are_in_line : SingleBasesAreInLine
-single_bases_are_in_line declared c fits known single d e one other =
+pub single_bases_make_a_line : SingleBasesMakeALine
+single_bases_make_a_line declared c d e known single one other =
     elim ((ancestors_held declared c d known).0 one) [
       | inl same ↦ or_left (leads (orders_of declared) d e) (leads (orders_of declared) e d)
-        (subst (λ x. leads (orders_of declared) x e ≡ true) (same_class-is c d same) other)
+          (subst (λ x. leads (orders_of declared) x e ≡ true) (same_class-is c d same) other)
       | inr above ↦ elim ((ancestors_held declared c e known).0 other) [
         | inl same ↦ or_right (leads (orders_of declared) d e) (leads (orders_of declared) e d)
-          (subst (λ x. leads (orders_of declared) x d ≡ true) (same_class-is c e same) one)
+            (subst (λ x. leads (orders_of declared) x d ≡ true) (same_class-is c e same) one)
         | inr beyond ↦ two_above declared c d e known single above beyond
       ]
     ]
