@@ -16,8 +16,8 @@ pub fn ancestors_held()
     ensures { HoldsAncestors }
 {}
 
-/// In a known order in which each class is written with at most one base, of each two classes one stands in the order of
-/// the other.
+/// In a known order in which each class is written with at most one base, of each two classes one stands in the order
+/// of the other.
 pub fn single_bases_in_line()
     ensures { SingleBasesMakeALine }
 {}

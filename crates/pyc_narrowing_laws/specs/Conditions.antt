@@ -75,8 +75,8 @@ abbrev pub UnaryComesTo : Bool → UnaryOperator → (Bool → Type 0) → Type 
 UnaryComesTo b changes.Not operand = operand (not b)
 UnaryComesTo b _ operand = Unit
 
--- `and` comes to yes where both sides do, and `or` where one of them does; the right side counts where the left one does
--- not decide
+-- `and` comes to yes where both sides do, and `or` where one of them does; the right side counts where the left one
+-- does not decide
 abbrev pub BooleanComesTo : Bool → BooleanOperator → (left right : Bool → Type 0) → Type 0
 BooleanComesTo true joins.And left right = left true × right true
 BooleanComesTo false joins.And left right = left false ⊎ (left true × right false)
