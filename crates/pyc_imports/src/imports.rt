@@ -36,8 +36,8 @@ impl ImportReader {
         form: &StmtForm,
     ) -> Result<(), AllocError>
         ensures { Performs (λ u. u)
-            (spec.import_reading self.options (interface_in file.now) self.at (stmt_form_of form.now)) (N.desk notes.old)
-            result (N.desk notes.new) }
+            (spec.import_reading self.options (interface_in file.now) self.at (stmt_form_of form.now))
+            (N.desk notes.old) result (N.desk notes.new) }
     {
         match form {
             StmtForm::Import(modules) => self.read_modules(notes, modules),

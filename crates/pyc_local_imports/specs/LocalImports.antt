@@ -7,8 +7,8 @@ use Rattle.pyc_ast.specs.Statements.{StmtForm, ImportedModule, ImportFrom}
 use Rattle.pyc_ast.specs.Statements as plain
 use Rattle.pyc_iface.specs.declared.options.Options.{Options}
 use Rattle.pyc_imports.specs.ImportReadings.{import_reading, imported_reading, module_reading}
-use Rattle.pyc_local_imports.specs.Names.{alias_name, imported_names}
-use Rattle.pyc_locals.specs.Locals.{bound}
+use Rattle.pyc_local_imports.specs.Names.{alias_name, imported_names, module_names}
+use Rattle.pyc_locals.specs.Locals.{LocalType, bound}
 use Rattle.pyc_locals.specs.Points.{Point, name_bound}
 use Rattle.pyc_names.specs.FixedModules.{fixed_module}
 use Rattle.pyc_names.specs.Following.{QualifiedName}
@@ -19,25 +19,38 @@ use Rattle.pyc_reading.specs.Desks.{Step}
 use Rattle.pyc_reading.specs.Readings.{Done, ◌>>=◌}
 use Rattle.pyc_type_forms.specs.Types.{Ty, any, module_type}
 
+-- ---- names that are bound
+
+-- a point at which each of some names is bound to one type, in turn
+abbrev pub names_bound : LocalType → List (List ℕ) → Point → Point
+names_bound ty [] p = p
+names_bound ty (x ∷ rest) p = names_bound ty rest (name_bound x ty p)
+
 -- ---- modules in the body of a function
 
--- the type that a name has as a module: Any where the module that the import names is not there
+-- the module to which `import` binds a name: the whole one to the name after `as`, else the one that has the first part
+-- as its name
+abbrev pub bound_module : List (List ℕ) → Option (List ℕ) → List (List ℕ)
+bound_module path (Some alias) = path
+bound_module (first ∷ rest) None = first ∷ []
+bound_module [] None = []
+
+-- the type of the name: Any where the module that the import names is not there
 abbrev pub type_if_there : Bool → List (List ℕ) → Ty
 type_if_there true m = module_type m
 type_if_there false m = any
 
--- a point after `import`: it binds the name after `as` to the module, else the first part of the module's name to the
--- module that has that name alone
-abbrev pub path_bound : List (List ℕ) → Option (List ℕ) → Bool → Point → Point
-path_bound path (Some alias) is_there p = name_bound alias (bound (type_if_there is_there path)) p
-path_bound (first ∷ rest) None is_there p = name_bound first (bound (type_if_there is_there (first ∷ []))) p
-path_bound [] None is_there p = p
+-- a point after a module of `import`, by whether that is there
+abbrev pub module_bound : ImportedModule → Bool → Point → Point
+module_bound m is_there p =
+    let ty = type_if_there is_there (bound_module m.path m.alias) in
+    names_bound (bound ty) (module_names m) p
 
--- a module of `import`
+-- a module of `import`: the reading reports it where it is not there
 abbrev pub module_read : Options → Position → ImportedModule → Point → Step Point
 module_read options at m p = do
   is_there ← module_reading options at m
-  Done (path_bound m.path m.alias is_there p)
+  Done (module_bound m is_there p)
 
 -- the modules of `import`, in turn
 abbrev pub modules_read : Options → Position → List ImportedModule → Point → Step Point
@@ -82,14 +95,9 @@ local_import_read options file at (plain.import modules) p = modules_read option
 local_import_read options file at (plain.import_from from) p = names_read options file at from from.names p
 local_import_read options file at _ p = Done p
 
--- a point at which each of some names is bound to Any, in turn
-abbrev pub all_bound : List (List ℕ) → Point → Point
-all_bound [] p = p
-all_bound (x ∷ rest) p = all_bound rest (name_bound x (bound any) p)
-
 -- an import in the body of a module, where the header of the file has read it: it binds its names to Any
 unfoldable pub module_import_bound : StmtForm → Point → Point
-module_import_bound form p = all_bound (imported_names form) p
+module_import_bound form p = names_bound (bound any) (imported_names form) p
 
 -- an import in the body of a class: the reading reports what is not there, and binds the names to Any
 unfoldable pub class_import_read : Options → Interface → Position → StmtForm → Point → Step Point
