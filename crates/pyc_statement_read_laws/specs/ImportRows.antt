@@ -62,7 +62,8 @@ local_name_keys (Some m) x =
 -- nothing as imports
 abbrev pub import_keys : Interface → StmtForm → List Key
 import_keys file (plain.import modules) = flat_map module_keys modules
-import_keys file (plain.import_from from) = flat_map (λ (a : Alias). presence_keys (home_of file from) a.name) from.names
+import_keys file (plain.import_from from) =
+    flat_map (λ (a : Alias). presence_keys (home_of file from) a.name) from.names
 import_keys file _ = []
 
 -- an import in the body of a function
