@@ -14,11 +14,11 @@ use pyc_types::Builtins;
 use pyc_units::{Unit, read_definition, read_header};
 use std::alloc::{AllocError, Global};
 
-/// Reads a unit. What is reported is: of the header of a file, what is told of imports and definitions, or its fault; of
-/// the body of its module, what is told of the annotations and the annotated literals in its blocks, and of the
-/// expressions and assignments outside blocks; of a function or a method, what is told of its signature; of a class, what
-/// is told of its bases, its order, the names that its body defines again and those that its ancestors declare as well.
-/// The only error is that memory runs out.
+/// Reads a unit. What is reported is: of the header of a file, what is told of imports and definitions, or its fault;
+/// of the body of its module, what is told of the annotations and the annotated literals in its blocks, and of the
+/// expressions and assignments outside blocks; of a function or a method, what is told of its signature; of a class,
+/// what is told of its bases, its order, the names that its body defines again and those that its ancestors declare as
+/// well. The only error is that memory runs out.
 #[tactic(auto, unfolding(crate::specs::FoundMessages::unit_reading))]
 pub(crate) fn read_unit<N: Judge>(
     alloc: Global,

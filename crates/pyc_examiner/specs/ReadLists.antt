@@ -57,7 +57,8 @@ over known (Done a) = tells []
 over known (Ask key go) = with_answer key (λ answer. over known (go answer)) (known_answer known key)
 over known (Tell remark rest) = after_telling (remarked remark ∷ []) (over known rest)
 over known (Owe row rest) =
-    unless_lacking (first_lacking known (row_keys row)) (after_telling (row_told (by_known known) row) (over known rest))
+    unless_lacking (first_lacking known (row_keys row))
+    (after_telling (row_told (by_known known) row) (over known rest))
 
 -- ---- the list of a reading
 

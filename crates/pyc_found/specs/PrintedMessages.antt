@@ -23,6 +23,8 @@ printed_input message = fed.usize message.line ++ fed.str message.text
 -- messages with the same line, code and text feed the same
 pub alike_fed : (a b : Message) → IsTrue (is_alike a b) → printed_input a ≡ printed_input b
 alike_fed a b same =
-    let parts = and_parts (nat_eq a.line b.line) (bytes_eq (code_of a.kind) (code_of b.kind) && bytes_eq a.text b.text) same in
-    let later = and_parts (bytes_eq (code_of a.kind) (code_of b.kind)) (bytes_eq a.text b.text) parts.1 in
-    ap₂ (λ line text. fed.usize line ++ fed.str text) (eqb-true a.line b.line parts.0) ((bytes_eq-Decides a.text b.text).0 later.1)
+    let coded = bytes_eq (code_of a.kind) (code_of b.kind) in
+    let parts = and_parts (nat_eq a.line b.line) (coded && bytes_eq a.text b.text) same in
+    let later = and_parts coded (bytes_eq a.text b.text) parts.1 in
+    ap₂ (λ line text. fed.usize line ++ fed.str text) (eqb-true a.line b.line parts.0)
+    ((bytes_eq-Decides a.text b.text).0 later.1)

@@ -88,15 +88,16 @@ impl File {
         self.units
     }
 
-    /// The messages of the file that no ignore comment silences, of whose units these checks are. The only error is that
-    /// memory runs out.
+    /// The messages of the file that no ignore comment silences, of whose units these checks are. The only error is
+    /// that memory runs out.
     pub(crate) fn unsilenced(
         &self,
         alloc: Global,
         checks: &[Checked],
     ) -> Result<Vec<Message>, AllocError>
         ensures { IfOk result (λ messages. map message_in messages.items
-            ≡ unsilenced_of (read_of (file_in self.now).bytes) (map (λ check. (checked_of check).messages) checks.now)) }
+            ≡ unsilenced_of (read_of (file_in self.now).bytes)
+            (map (λ check. (checked_of check).messages) checks.now)) }
     {
         let found = unsilenced(alloc, &self.source, checks)?;
         Ok(found)
