@@ -4,7 +4,6 @@ use Rattle.std.proofs.lemmas.Bool.{false≢true}
 use Rattle.std.specs.Prelude.{Contains, slice_index_or}
 use Rattle.pyc_arguments.specs.Arguments.{Arg, read_once}
 use Rattle.pyc_arguments.specs.Telling.{Call}
-use Rattle.pyc_calls.proofs.EndLemmas.{Ends}
 use Rattle.pyc_calls.specs.Called.{Called, Calls, ItemsCalled, given_called, any_called, plainly_called, refused, without_call, remembering_same, call_given, member_called, by_progress, by_member, source_called, joined, called_by, items_called, called_to, called, most_calls, typed}
 use Rattle.pyc_calls.specs.Laws.{ComesToSame, call_of, AllCallable, DeeperGivesTheSame, IsDeepEnough}
 use Rattle.pyc_calls.specs.Remembered.{Memory, Progress, fresh, under_way, gave, nothing_met, progress_of, remembering}
@@ -219,10 +218,7 @@ module _ (answers : Key → Answer) where
       items_kept before memory args nil = λ c h. h
       items_kept before memory args (cons item items) =
           then_comes (Kept memory) (ItemsKept memory) (called_by deeper call memory args item) (λ called. items_called deeper call (before ++ (called.ty ∷ [])) called.memory args items) (by_kept memory args item)
-          (λ called kept. items_then before memory called kept args items)
-
-      items_then : (before : List Ty) (memory : Memory) (called : Called) → Kept memory called → (args : List Arg) (items : Tys) → Comes (ItemsKept memory) (items_called deeper call (before ++ (called.ty ∷ [])) called.memory args items)
-      items_then before memory called kept args items c h = kept c (items_kept (before ++ (called.ty ∷ [])) called.memory args items c h)
+          (λ got kept c h. kept c (items_kept (before ++ (got.ty ∷ [])) got.memory args items c h))
 
   to_kept : (depth : ℕ) (call : Call) → AreKeeping (called_to depth call)
   to_kept zero call memory args ty = same_kept memory (any_called args)
