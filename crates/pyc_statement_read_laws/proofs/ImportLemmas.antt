@@ -12,13 +12,12 @@ use Rattle.pyc_locals.specs.Locals.{bound}
 use Rattle.pyc_locals.specs.Points.{Point, name_bound}
 use Rattle.pyc_names.specs.Following.{QualifiedName}
 use Rattle.pyc_names.specs.Interfaces.{Interface}
-use Rattle.pyc_obligations.specs.Asking.{name_in}
 use Rattle.pyc_reading.specs.declared.answer.Presence.{Presence}
 use Rattle.pyc_reading.specs.declared.answer.Presence.TheVariants as presence
 use Rattle.pyc_reading.specs.Desks.{telling}
 use Rattle.pyc_reading.specs.Keys.{Key}
 use Rattle.pyc_reading.specs.Keys as key
-use Rattle.pyc_reading.specs.Readings.{Done, Ask, and_then, asked, each}
+use Rattle.pyc_reading.specs.Readings.{Done, and_then, asked}
 use Rattle.pyc_report.specs.Message.{Remark}
 use Rattle.pyc_statement_read_laws.proofs.AskedLemmas.{asked-alone, asked-both, asked-each, asked-unless}
 use Rattle.pyc_statement_read_laws.specs.ImportRows.{Answers, ClassImportReads, ImportReads, LocalImportReads, home_of, import_keys, is_fixed, local_name_keys, module_keys, presence_keys}
