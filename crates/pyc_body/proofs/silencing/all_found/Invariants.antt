@@ -1,7 +1,7 @@
 use Rattle.std.proofs.Common.{◌≡◌, ◌++◌, map, flat_map, drop}
 use Rattle.pyc_examiner.specs.CheckedView.{Checked, checked_of}
 use Rattle.pyc_report.specs.Message.{message_in}
-use Rattle.pyc_body.proofs.unsilenced.all_found.Given as goal
+use Rattle.pyc_body.proofs.silencing.all_found.Given as goal
 
 -- the messages so far, with those of the checks that are left, are all
 abbrev pub invariant-loop-check : goal.invariant-loop-check
