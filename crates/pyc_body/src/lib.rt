@@ -2,18 +2,18 @@
 #![tactic(auto)]
 
 mod checker;
-mod file_units;
 mod found_messages;
 pub mod laws;
 mod meter;
 mod module_body;
-mod unsilenced;
+mod numbering;
+mod silencing;
 
 pub use checker::Checker;
-pub use file_units::{FileUnit, numbered_units};
 pub use meter::Meter;
+pub use numbering::{FileUnit, numbered_units};
 pub use pyc_examiner::Checked;
 pub use pyc_units::{
     LiteralForm, Unit, UnitId, count_units, file_units, literal_forms, unit_definitions,
 };
-pub use unsilenced::unsilenced;
+pub use silencing::unsilenced;

@@ -106,8 +106,8 @@ const SOURCES: &[(&[u8], &str)] = &[
     ),
     (
         b"x: int = ''\nif x:\n    y: str = 1\n",
-        "3:14 assignment: Incompatible types in assignment (expression has type \"int\", variable has type \"str\");\
-         1:10 assignment: Incompatible types in assignment (expression has type \"str\", variable has type \"int\");",
+        "1:10 assignment: Incompatible types in assignment (expression has type \"str\", variable has type \"int\");\
+         3:14 assignment: Incompatible types in assignment (expression has type \"int\", variable has type \"str\");",
     ),
     (b" x: int = 1\n", "1:1 syntax: Unexpected or missing block;"),
     (b"if: int = 1\n", "1:1 syntax: Invalid syntax;"),
