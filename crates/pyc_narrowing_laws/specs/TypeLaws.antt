@@ -9,8 +9,8 @@ use Rattle.pyc_class.specs.Class.{Id, builtin, same_class, int_id, float_id}
 use Rattle.pyc_class.specs.Order.{Orders, leads}
 use Rattle.pyc_builtins.specs.Orders.{builtin_orders}
 use Rattle.pyc_narrowing.specs.SplitStates.{none_of}
-use Rattle.pyc_narrowing_laws.specs.Values.{Value, none_value, instance_value, is_none_value, has_known_order, is_instance}
-use Rattle.pyc_narrowing_laws.specs.Values.{is_of}
+use Rattle.pyc_narrowing_laws.specs.Values.{Value, none_value, instance_value, is_none_value, has_known_order}
+use Rattle.pyc_narrowing_laws.specs.Values.{is_instance, is_of}
 use Rattle.pyc_type_forms.specs.Narrowing.{narrow_to, narrow_away, without_none}
 use Rattle.pyc_type_forms.specs.Types.{Ty, none, module_type, instance}
 use Rattle.pyc_type_forms.specs.Unions.{items_of, union_of}
