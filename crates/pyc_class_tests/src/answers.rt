@@ -8,8 +8,8 @@ use pyc_same_answers::is_same;
 use std::alloc::{AllocError, Global};
 use std::test::Fail;
 
-/// Whether the answers to each of four keys are one where `m` has these two sources: whether it has `x`, what `x` stands
-/// for, the order of `C`, and what `C` has under `x`.
+/// Whether the answers to each of four keys are one where `m` has these two sources: whether it has `x`, what `x` is,
+/// the order of `C`, and what `C` has under `x`.
 fn are_same(alloc: Global, source: &str, other: &str) -> Result<Vec<bool>, AllocError> {
     let world = world_of(alloc, &[("m.py", source)])?;
     let changed = world_of(alloc, &[("m.py", other)])?;
