@@ -3,3 +3,4 @@ pub mod ListedLemmas
 pub mod OrderLemmas
 pub mod ReadLemmas
 pub mod Steps
+pub mod UnitLemmas
