@@ -117,6 +117,11 @@ next_item before (cons item items) walk =
       standing = calls item;
     }
 
+-- the first item of a union is to be called; what is no union has no item
+abbrev pub opened : Ty → Walk → Stood
+opened (union items) walk = next_item [] items walk
+opened ty walk = next_item [] nil walk
+
 -- a call gave a type: what waits for it goes on
 abbrev pub waiting_given : Memory → List Waiting → Ty → Stood
 waiting_given memory [] ty = record { walk = record { memory = memory; waiting = [] }; standing = ends ty }
