@@ -5,9 +5,10 @@ use Rattle.pyc_arguments.specs.Telling.{Call}
 use Rattle.pyc_calls.proofs.WalkLemmas.{then_then, first_runs, stepped_runs, given_left, begun_left}
 use Rattle.pyc_calls.specs.Called.{Called, called, called_to, most_calls, typed}
 use Rattle.pyc_calls.specs.Remembered.{Memory, nothing_met, remembering, under_way}
-use Rattle.pyc_calls.specs.Walks.{Met, came, met_new, form_met, callee_form, is_union, called_in, first_left, left, Walk, resumed, calls, meets, begun, classes_waiting}
+use Rattle.pyc_calls.specs.Walks.{Met, came, met_new, form_met, callee_form, is_union, called_in, left, left_met, Walk, Waiting, Stood, calls, gives, meets, begun, form_stepped, waiting_given, classes_waiting, IsRead}
 use Rattle.pyc_class.specs.Class.{Id}
-use Rattle.pyc_reading.specs.Desks.{Desk, run}
+use Rattle.pyc_reading.proofs.RunLemmas.{after, grown_trans}
+use Rattle.pyc_reading.specs.Desks.{Step, Desk, Going, Grown, run}
 use Rattle.pyc_reading.specs.Readings.{Done, and_then}
 use Rattle.pyc_type_forms.specs.Types.{Ty}
 
@@ -58,3 +59,41 @@ module _ (call : Call) (args : List Arg) where
       let e : top - 0 ≡ top = omega arith in
       ap (λ depth. typed (called_in depth call memory args ty)) (sym e)
       ∙ sym (then_then (called_in (top - 0) call memory args ty) (λ (called : Called). Done called) (λ (called : Called). Done called.ty))
+
+module _ (top : ℕ) (call : Call) (args : List Arg) (whole : Step Called) (start : Desk) where
+  -- something of a type was called
+  pub called_goes_on : IsRead args → (walk : Walk) (ty : Ty) (stood : Stood) (old new : Desk) → run (form_stepped call args walk ty (callee_form ty)) old ≡ (stood, new) → Grown old new
+      → Going (left top call args walk (calls ty)) old whole start → Going (left top call args stood.walk stood.standing) new whole start
+  called_goes_on read walk ty stood old new first grown before =
+      record { same = sym (stepped_runs top call args walk read ty stood old new first) ∙ before.same; grown = grown_trans before.grown grown }
+
+  -- a call gave a type
+  pub given_goes_on : (memory : Memory) (waiting : List Waiting) (ty : Ty) (stood : Stood) (desk : Desk) → stood ≡ waiting_given memory waiting ty → classes_waiting waiting ≤ top
+      → Going (left top call args (record { memory = memory; waiting = waiting }) (gives ty)) desk whole start → Going (left top call args stood.walk stood.standing) desk whole start
+  given_goes_on memory waiting ty stood desk is within before =
+      record {
+        same =
+            ap (λ (s : Stood). run (left top call args s.walk s.standing) desk) is
+            ∙ ap (λ r. run r desk) (sym (given_left top call args memory waiting ty within))
+            ∙ before.same;
+        grown = before.grown;
+      }
+
+  -- a `__call__` was met that was not met before
+  pub begun_goes_on : (walk : Walk) (c : Id) (bound : Ty) (next : Walk) (desk : Desk) → next ≡ begun walk c → classes_waiting walk.waiting < top
+      → Going (left top call args walk (meets c bound)) desk whole start → Going (left top call args next (calls bound)) desk whole start
+  begun_goes_on walk c bound next desk is within before =
+      record {
+        same =
+            ap (λ (w : Walk). run (left top call args w (calls bound)) desk) is
+            ∙ ap (λ r. run r desk) (sym (begun_left top call args walk c bound within))
+            ∙ before.same;
+        grown = before.grown;
+      }
+
+  -- a walk is at its end
+  pub walk_ends : (walk : Walk) (ty : Ty) (before : Step Called) (old new : Desk) → run (left_met top call args walk (came ty)) new ≡ run before old → Going before old whole start
+      → run (typed whole) start ≡ (ty, new)
+  walk_ends walk ty before old new last going =
+      let found : Called = record { ty = ty; memory = walk.memory } in
+      after whole (λ (called : Called). Done called.ty) start new new found ty (sym going.same ∙ sym last) refl

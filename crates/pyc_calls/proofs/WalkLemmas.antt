@@ -5,7 +5,7 @@ use Rattle.pyc_arguments.specs.Arguments.{Arg, read_once}
 use Rattle.pyc_arguments.specs.Telling.{Call}
 use Rattle.pyc_calls.specs.Called.{given_called, any_called, plainly_called, refused, without_call, Called, Calls, ItemsCalled, remembering_same, call_given, member_called, by_progress, by_member, source_called, instance_called, joined, called_by, items_called, called_to, typed}
 use Rattle.pyc_calls.specs.Remembered.{Memory, Progress, fresh, under_way, gave, progress_of, remembering}
-use Rattle.pyc_calls.specs.Walks.{Met, came, met_new, coming, progress_met, member_met, source_met, instance_met, callee_form, CalleeForm, an_instance, a_union, another_callee, is_union, form_met, Waiting, class_waits, union_waits, Walk, Standing, calls, gives, meets, ends, Stood, standing_met, next_item, waiting_given, form_stepped, begun, union_after, classes_waiting, resumed, depth_left, left, first_left, called_in, IsRead}
+use Rattle.pyc_calls.specs.Walks.{Met, came, met_new, coming, progress_met, member_met, source_met, instance_met, callee_form, CalleeForm, an_instance, a_union, another_callee, is_union, form_met, Waiting, class_waits, union_waits, Walk, Standing, calls, gives, meets, ends, Stood, standing_met, next_item, opened, waiting_given, form_stepped, begun, union_after, classes_waiting, resumed, depth_left, left, first_left, called_in, IsRead}
 use Rattle.pyc_class.specs.Class.{Id, builtin, user}
 use Rattle.pyc_obligations.specs.Asking.{asked_member}
 use Rattle.pyc_reading.proofs.RunLemmas.{after, run_then}
@@ -218,3 +218,18 @@ module _ (call : Call) (args : List Arg) (walk : Walk) where
   other_runs (tuple xs) met old new h first = form_runs (tuple xs) another_callee met old new first
   other_runs (tuple_of x) met old new h first = form_runs (tuple_of x) another_callee met old new first
   other_runs (callable ps r) met old new h first = form_runs (callable ps r) another_callee met old new first
+
+  -- a step of a union
+  pub opened_is : (ty : Ty) → is_union ty ≡ true → form_stepped call args walk ty (callee_form ty) ≡ Done (opened ty walk)
+  unfolding form_stepped
+  opened_is (union items) h = refl
+  opened_is any h = absurd (false≢true h)
+  opened_is none h = absurd (false≢true h)
+  opened_is (module_type m) h = absurd (false≢true h)
+  opened_is (instance c) h = absurd (false≢true h)
+  opened_is (class_object c) h = absurd (false≢true h)
+  opened_is (list x) h = absurd (false≢true h)
+  opened_is (dict k v) h = absurd (false≢true h)
+  opened_is (tuple xs) h = absurd (false≢true h)
+  opened_is (tuple_of x) h = absurd (false≢true h)
+  opened_is (callable ps r) h = absurd (false≢true h)

@@ -342,10 +342,11 @@ impl<N: Judge, R: Reader<N>> Caller<'_, N, R> {
             (N.desk notes.old) result (N.desk notes.new) }
         ensures same { walk.new.memory ≡ walk.old.memory }
     {
-        match callee {
-            Ty::Union(items) => { walk.next_item(self.alloc, items.clone()?, Vec::new(self.alloc)) }
-            _ => Ok(standing_met(self.meet(notes, &walk.memory, callee)?)),
+        if is_union(callee) {
+            return walk.open(self.alloc, callee);
         }
+        let met = self.meet(notes, &walk.memory, callee)?;
+        Ok(standing_met(met))
     }
 }
 

@@ -7,12 +7,12 @@ use Rattle.pyc_type_forms.specs.TypeView.{ty_of}
 use Rattle.pyc_calls.proofs.caller.Caller.walk.Given as goal
 
 -- what is left to do comes to the same as all
-abbrev pub invariant-loop-callee : goal.invariant-loop-callee
-invariant-loop-callee g l =
+abbrev pub invariant-loop-class : goal.invariant-loop-class
+invariant-loop-class g l =
     (top : ℕ) → 2 ^ 63 ≤ top
     → Going (left top (call_in l.self.call.now) (args_in (g.R.Reader.reads l.self.reader.now) l.self.arguments.now) (walk_in l.walk) (calls (ty_of l.next))) (g.N.Notes.desk l.notes)
     (left top (call_in l.self.call.now) (args_in (g.R.Reader.reads l.self.reader.now) l.self.arguments.now) (walk_in l.fn.walk) (calls (ty_of l.fn.callee))) (g.N.Notes.desk l.fn.notes)
 
 -- how many more classes can be remembered
-abbrev pub decreases-loop-callee : goal.decreases-loop-callee
-decreases-loop-callee g l = 2 ^ 63 - count_of l.walk.memory
+abbrev pub decreases-loop-class : goal.decreases-loop-class
+decreases-loop-class g l = 2 ^ 63 - count_of l.walk.memory
