@@ -1,4 +1,4 @@
-use Rattle.std.proofs.Common.{◌≤◌, ◌<◌, sym, subst, arith}
+use Rattle.std.proofs.Common.{◌≤◌, ◌<◌, sym, subst, arith, rules}
 use Rattle.pyc_arguments.specs.Views.{args_in, call_in}
 use Rattle.pyc_calls.proofs.CallLemmas.{called_goes_on, given_goes_on}
 use Rattle.pyc_calls.proofs.EndLemmas.{is_stepped, given_new}
@@ -13,7 +13,7 @@ use Rattle.pyc_calls.proofs.caller.Caller.follow.Goals as goal
 
 pub returns-in_err-standing-in-Calls-clause-goes_on : goal.returns-in_err-standing-in-Calls-clause-goes_on
 returns-in_err-standing-in-Calls-clause-goes_on g c =
-    λ top much. record { done = tt; grown = grown_trans (c.loop-standing.invariant.going top much).grown c.call_next.ensures.performs.grown }
+    λ top much. record { done = first_of (search rules, grind arith); grown = grown_trans (c.loop-standing.invariant.going top much).grown c.call_next.ensures.performs.grown }
 
 pub loop-standing-smaller-in-Calls : goal.loop-standing-smaller-in-Calls
 loop-standing-smaller-in-Calls g c =
@@ -38,7 +38,7 @@ loop-standing-preserved-in-Calls g c =
     }
 
 pub returns-in_err-standing-in-Gives-clause-goes_on : goal.returns-in_err-standing-in-Gives-clause-goes_on
-returns-in_err-standing-in-Gives-clause-goes_on g c = λ top much. record { done = tt; grown = (c.loop-standing.invariant.going top much).grown }
+returns-in_err-standing-in-Gives-clause-goes_on g c = λ top much. record { done = first_of (search rules, grind arith); grown = (c.loop-standing.invariant.going top much).grown }
 
 pub loop-standing-preserved : goal.loop-standing-preserved
 loop-standing-preserved g c =
