@@ -1,11 +1,11 @@
 -- The turns of the loops that go through calls.
-use Rattle.std.proofs.Common.{◌≡◌, ◌<◌, ◌≤◌, ◌+◌, ◌-◌, ◌^◌, ℕ, suc, true, false, [], refl, sym, ap, ◌∙◌, subst, List, arith}
+use Rattle.std.proofs.Common.{◌≡◌, ◌<◌, ◌≤◌, ◌+◌, ◌-◌, ◌^◌, ℕ, suc, false, [], refl, sym, ap, ◌∙◌, subst, List, arith}
 use Rattle.pyc_arguments.specs.Arguments.{Arg}
 use Rattle.pyc_arguments.specs.Telling.{Call}
 use Rattle.pyc_calls.proofs.WalkLemmas.{then_then, first_runs, stepped_runs, given_left, begun_left}
 use Rattle.pyc_calls.specs.Called.{Called, called, called_to, most_calls, typed}
 use Rattle.pyc_calls.specs.Remembered.{Memory, nothing_met, remembering, under_way}
-use Rattle.pyc_calls.specs.Walks.{Met, came, met_new, form_met, callee_form, is_union, called_in, left, left_met, Walk, Waiting, Stood, calls, gives, meets, begun, form_stepped, waiting_given, classes_waiting, IsRead}
+use Rattle.pyc_calls.specs.Walks.{came, met_new, form_met, callee_form, is_union, called_in, left, left_met, Walk, Waiting, Stood, calls, gives, meets, begun, form_stepped, waiting_given, classes_waiting, IsRead}
 use Rattle.pyc_class.specs.Class.{Id}
 use Rattle.pyc_reading.proofs.RunLemmas.{after, grown_trans}
 use Rattle.pyc_reading.specs.Desks.{Step, Desk, Going, Grown, run}

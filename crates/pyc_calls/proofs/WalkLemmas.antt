@@ -1,11 +1,11 @@
 -- Walks through calls, a step at a time.
-use Rattle.std.proofs.Common.{◌≡◌, ◌<◌, ◌≤◌, ◌+◌, ◌-◌, ℕ, suc, true, false, List, [], ◌∷◌, ◌++◌, Option, None, Some, refl, sym, ap, ◌∙◌, codes, arith}
+use Rattle.std.proofs.Common.{◌≡◌, ◌<◌, ◌≤◌, ◌-◌, ℕ, suc, true, false, List, [], ◌∷◌, ◌++◌, Option, None, Some, refl, sym, ap, ◌∙◌, codes, arith}
 use Rattle.std.proofs.lemmas.Bool.{false≢true}
 use Rattle.pyc_arguments.specs.Arguments.{Arg, read_once}
 use Rattle.pyc_arguments.specs.Telling.{Call}
 use Rattle.pyc_calls.specs.Called.{given_called, any_called, plainly_called, refused, without_call, Called, Calls, ItemsCalled, remembering_same, call_given, member_called, by_progress, by_member, source_called, instance_called, joined, called_by, items_called, called_to, typed}
 use Rattle.pyc_calls.specs.Remembered.{Memory, Progress, fresh, under_way, gave, progress_of, remembering}
-use Rattle.pyc_calls.specs.Walks.{Met, came, met_new, coming, progress_met, member_met, source_met, instance_met, callee_form, CalleeForm, an_instance, a_union, another_callee, is_union, form_met, Waiting, class_waits, union_waits, Walk, Standing, calls, gives, meets, ends, Stood, standing_met, next_item, opened, waiting_given, form_stepped, begun, union_after, classes_waiting, resumed, depth_left, left, first_left, called_in, IsRead}
+use Rattle.pyc_calls.specs.Walks.{Met, came, met_new, coming, progress_met, member_met, source_met, instance_met, callee_form, CalleeForm, an_instance, another_callee, is_union, form_met, Waiting, class_waits, union_waits, Walk, calls, gives, meets, Stood, standing_met, next_item, opened, waiting_given, form_stepped, begun, union_after, classes_waiting, resumed, depth_left, left, first_left, called_in, IsRead}
 use Rattle.pyc_class.specs.Class.{Id, builtin, user}
 use Rattle.pyc_obligations.specs.Asking.{asked_member}
 use Rattle.pyc_reading.proofs.RunLemmas.{after, run_then}

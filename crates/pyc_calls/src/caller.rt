@@ -1,17 +1,15 @@
 //! Calls that go through `__call__`, a step at a time, however many lie one in another.
 
 ghost use Rattle.std.specs.Prelude.{ℕ, ◌≡◌, ◌+◌, ◌-◌, ◌<◌, ◌≤◌, ◌^◌, codes, IfOk, IsTrue, OnOk, map, option_map};
-ghost use Rattle.pyc_arguments.specs.Arguments as reading;
 ghost use Rattle.pyc_arguments.specs.Views.{args_in, call_in, read_in};
 ghost use Rattle.pyc_calls.specs.Called as spec;
-ghost use Rattle.pyc_calls.specs.Views.{count_of, how_far, memory_in, met_in, standing_in, stood_in, walk_in};
+ghost use Rattle.pyc_calls.specs.Views.{count_of, how_far, memory_in, met_in, stood_in, walk_in};
 ghost use Rattle.pyc_attributes.specs.Binding as binding;
 ghost use Rattle.pyc_calls.specs.Walks as walks;
 ghost use Rattle.pyc_calls.specs.Walks.{GoesOn, IsRead};
 ghost use Rattle.pyc_obligations.specs.Asking as asking;
 ghost use Rattle.pyc_reading.specs.AnswerView.{member_answer_of};
 ghost use Rattle.pyc_reading.specs.Desks.{Performs};
-ghost use Rattle.pyc_reading.specs.Readings.{Done};
 ghost use Rattle.pyc_type_forms.specs.Types as plain;
 ghost use Rattle.pyc_type_forms.specs.TypeView.{ty_of};
 
