@@ -1,10 +1,10 @@
 -- Going deeper gives the same: each class is begun once, so no more lie one in another than have a `__call__`.
-use Rattle.std.proofs.Common.{◌≡◌, ◌<◌, ◌≤◌, ◌+◌, ◌-◌, ℕ, zero, suc, Bool, true, false, if◌then◌else◌, List, [], ◌∷◌, ◌++◌, length, Option, None, Some, IsSome, is_some, refl, sym, ap, ◌∙◌, subst, codes, arith}
+use Rattle.std.proofs.Common.{◌≡◌, ◌<◌, ◌≤◌, ℕ, zero, suc, Bool, true, false, if◌then◌else◌, List, [], ◌∷◌, ◌++◌, length, Option, None, Some, is_some, refl, sym, ap, ◌∙◌, subst, codes, arith}
 use Rattle.std.proofs.lemmas.Bool.{false≢true}
 use Rattle.std.specs.Prelude.{Contains, slice_index_or}
 use Rattle.pyc_arguments.specs.Arguments.{Arg, read_once}
 use Rattle.pyc_arguments.specs.Telling.{Call}
-use Rattle.pyc_calls.specs.Called.{Called, Calls, ItemsCalled, given_called, any_called, plainly_called, refused, without_call, remembering_same, call_given, member_called, by_progress, by_member, source_called, joined, called_by, items_called, called_to, called, most_calls, typed}
+use Rattle.pyc_calls.specs.Called.{Called, Calls, ItemsCalled, given_called, any_called, plainly_called, refused, without_call, remembering_same, call_given, member_called, by_progress, by_member, source_called, joined, called_by, items_called, called_to, called, most_calls}
 use Rattle.pyc_calls.specs.Laws.{ComesToSame, call_of, AllCallable, DeeperGivesTheSame, IsDeepEnough}
 use Rattle.pyc_calls.specs.Remembered.{Memory, Progress, fresh, under_way, gave, nothing_met, progress_of, remembering}
 use Rattle.pyc_class.specs.Class.{Id, builtin, user, same_class}

@@ -1,10 +1,10 @@
 -- What the steps of a walk end in, whatever the answers: a `__call__` that is met is new, and there is less to do.
-use Rattle.std.proofs.Common.{◌≡◌, ◌<◌, ◌≤◌, ◌+◌, ℕ, suc, List, [], ◌∷◌, ◌++◌, Option, None, Some, refl, sym, ap, subst, codes, arith}
+use Rattle.std.proofs.Common.{◌≡◌, ◌<◌, ◌≤◌, ◌+◌, suc, List, [], ◌∷◌, ◌++◌, Option, None, Some, refl, subst, codes, arith}
 use Rattle.pyc_arguments.specs.Arguments.{Arg}
 use Rattle.pyc_arguments.specs.Telling.{Call}
 use Rattle.pyc_calls.specs.Called.{plainly_called, any_called, given_called, without_call, refused}
 use Rattle.pyc_calls.specs.Remembered.{Memory, Progress, fresh, under_way, gave, progress_of}
-use Rattle.pyc_calls.specs.Walks.{Met, came, met_new, coming, progress_met, member_met, source_met, instance_met, IsNew, IsNewStanding, callee_form, CalleeForm, an_instance, a_union, another_callee, form_met, Waiting, class_waits, union_waits, Walk, Standing, calls, gives, meets, ends, Stood, standing_met, next_item, waiting_given, form_stepped, weight, row_weight, waiting_weight, standing_weight, stood_weight}
+use Rattle.pyc_calls.specs.Walks.{Met, came, met_new, coming, progress_met, member_met, source_met, instance_met, IsNew, IsNewStanding, callee_form, CalleeForm, an_instance, a_union, another_callee, form_met, Waiting, class_waits, union_waits, Walk, calls, gives, Stood, standing_met, next_item, waiting_given, form_stepped, row_weight, waiting_weight, stood_weight}
 use Rattle.pyc_class.specs.Class.{Id, builtin, user}
 use Rattle.pyc_obligations.specs.Asking.{asked_member}
 use Rattle.pyc_reading.specs.Answers.{Answer, MemberAnswer}

@@ -1,5 +1,6 @@
 pub mod Kept
-pub mod RememberedLemmas
 pub mod WalkLemmas
 pub mod EndLemmas
+pub mod CallLemmas
+pub mod WaitLemmas
 pub mod DepthLemmas

@@ -1,14 +1,14 @@
 -- Walks through calls, a step at a time.
-use Rattle.std.proofs.Common.{◌≡◌, ◌<◌, ◌≤◌, ◌+◌, ◌-◌, ℕ, suc, true, false, List, [], ◌∷◌, ◌++◌, Option, None, Some, refl, sym, ap, ◌∙◌, codes, arith}
+use Rattle.std.proofs.Common.{◌≡◌, ◌<◌, ◌≤◌, ◌-◌, ℕ, suc, true, false, List, [], ◌∷◌, ◌++◌, Option, None, Some, refl, sym, ap, ◌∙◌, codes, arith}
 use Rattle.std.proofs.lemmas.Bool.{false≢true}
 use Rattle.pyc_arguments.specs.Arguments.{Arg, read_once}
 use Rattle.pyc_arguments.specs.Telling.{Call}
 use Rattle.pyc_calls.specs.Called.{given_called, any_called, plainly_called, refused, without_call, Called, Calls, ItemsCalled, remembering_same, call_given, member_called, by_progress, by_member, source_called, instance_called, joined, called_by, items_called, called_to, typed}
 use Rattle.pyc_calls.specs.Remembered.{Memory, Progress, fresh, under_way, gave, progress_of, remembering}
-use Rattle.pyc_calls.specs.Walks.{Met, came, met_new, coming, progress_met, member_met, source_met, instance_met, callee_form, CalleeForm, an_instance, a_union, another_callee, is_union, form_met, Waiting, class_waits, union_waits, Walk, Standing, calls, gives, meets, ends, Stood, standing_met, next_item, waiting_given, form_stepped, begun, union_after, classes_waiting, resumed, depth_left, left, first_left, called_in, IsRead}
+use Rattle.pyc_calls.specs.Walks.{Met, came, met_new, coming, progress_met, member_met, source_met, instance_met, callee_form, CalleeForm, an_instance, another_callee, is_union, form_met, Waiting, class_waits, union_waits, Walk, calls, gives, meets, Stood, standing_met, next_item, opened, waiting_given, form_stepped, begun, union_after, classes_waiting, resumed, depth_left, left, first_left, called_in, IsRead}
 use Rattle.pyc_class.specs.Class.{Id, builtin, user}
 use Rattle.pyc_obligations.specs.Asking.{asked_member}
-use Rattle.pyc_reading.proofs.RunLemmas.{run_then}
+use Rattle.pyc_reading.proofs.RunLemmas.{after, run_then}
 use Rattle.pyc_reading.specs.Answers.{MemberAnswer}
 use Rattle.pyc_reading.specs.Desks.{Step, Desk, run}
 use Rattle.pyc_reading.specs.Readings.{Done, Ask, Tell, Owe, and_then}
@@ -115,6 +115,9 @@ module _ (depth : ℕ) (call : Call) (memory : Memory) (args : List Arg) where
 
 -- ---- a walk
 
+abbrev stood_met : Walk → Met → Stood
+stood_met walk met = record { walk = walk; standing = standing_met met }
+
 module _ (top : ℕ) (call : Call) (args : List Arg) where
   abbrev left_of : Stood → Step Called
   left_of stood = left top call args stood.walk stood.standing
@@ -154,22 +157,19 @@ module _ (top : ℕ) (call : Call) (args : List Arg) where
     abbrev depth : ℕ
     depth = depth_left top walk
 
-    abbrev stood_met : Met → Stood
-    stood_met met = record { walk = walk; standing = standing_met met }
-
-    met_left : (met : Met) → and_then (met_called (called_to depth call) walk.memory args met) (resumed depth call args walk.waiting) ≡ left_of (stood_met met)
+    met_left : (met : Met) → and_then (met_called (called_to depth call) walk.memory args met) (resumed depth call args walk.waiting) ≡ left_of (stood_met walk met)
     unfolding and_then
     met_left (came ty) = refl
     met_left (met_new c bound) = then_then (called_to depth call (remembering walk.memory c under_way) args bound) (λ called. Done (call_given c called)) (resumed depth call args walk.waiting)
 
     other_left : (ty : Ty) (met : Step Met) → called_by (called_to depth call) call walk.memory args ty ≡ and_then met (met_called (called_to depth call) walk.memory args)
-        → left top call args walk (calls ty) ≡ and_then (and_then met (λ found. Done (stood_met found))) left_of
+        → left top call args walk (calls ty) ≡ and_then (and_then met (λ found. Done (stood_met walk found))) left_of
     unfolding and_then
     other_left ty met is =
         ap (λ r. and_then r (resumed depth call args walk.waiting)) is
         ∙ then_then met (met_called (called_to depth call) walk.memory args) (resumed depth call args walk.waiting)
         ∙ (λ i. and_then met (λ found. met_left found i))
-        ∙ sym (then_then met (λ found. Done (stood_met found)) left_of)
+        ∙ sym (then_then met (λ found. Done (stood_met walk found)) left_of)
 
     abbrev step : Ty → Step Stood
     step ty = form_stepped call args walk ty (callee_form ty)
@@ -197,3 +197,39 @@ module _ (top : ℕ) (call : Call) (args : List Arg) where
         ap (λ r. run r old) (stepped_left read ty)
         ∙ run_then (step ty) left_of old
         ∙ ap (λ (found : Stood × Desk). run (left_of found.0) found.1) first
+
+module _ (call : Call) (args : List Arg) (walk : Walk) where
+  form_runs : (ty : Ty) (form : CalleeForm) (met : Met) (old new : Desk) → run (form_met call walk.memory args ty form) old ≡ (met, new)
+      → run (and_then (form_met call walk.memory args ty form) (λ found. Done (stood_met walk found))) old ≡ (stood_met walk met, new)
+  form_runs ty form met old new first = after (form_met call walk.memory args ty form) (λ found. Done (stood_met walk found)) old new new met (stood_met walk met) first refl
+
+  -- a step of what is no union
+  pub other_runs : (ty : Ty) (met : Met) (old new : Desk) → is_union ty ≡ false → run (form_met call walk.memory args ty (callee_form ty)) old ≡ (met, new)
+      → run (form_stepped call args walk ty (callee_form ty)) old ≡ (record { walk = walk; standing = standing_met met }, new)
+  unfolding form_stepped
+  other_runs (union items) met old new h first = absurd (false≢true (sym h))
+  other_runs any met old new h first = form_runs any another_callee met old new first
+  other_runs none met old new h first = form_runs none another_callee met old new first
+  other_runs (module_type m) met old new h first = form_runs (module_type m) another_callee met old new first
+  other_runs (instance c) met old new h first = form_runs (instance c) (an_instance c) met old new first
+  other_runs (class_object c) met old new h first = form_runs (class_object c) another_callee met old new first
+  other_runs (list x) met old new h first = form_runs (list x) another_callee met old new first
+  other_runs (dict k v) met old new h first = form_runs (dict k v) another_callee met old new first
+  other_runs (tuple xs) met old new h first = form_runs (tuple xs) another_callee met old new first
+  other_runs (tuple_of x) met old new h first = form_runs (tuple_of x) another_callee met old new first
+  other_runs (callable ps r) met old new h first = form_runs (callable ps r) another_callee met old new first
+
+  -- a step of a union
+  pub opened_is : (ty : Ty) → is_union ty ≡ true → form_stepped call args walk ty (callee_form ty) ≡ Done (opened ty walk)
+  unfolding form_stepped
+  opened_is (union items) h = refl
+  opened_is any h = absurd (false≢true h)
+  opened_is none h = absurd (false≢true h)
+  opened_is (module_type m) h = absurd (false≢true h)
+  opened_is (instance c) h = absurd (false≢true h)
+  opened_is (class_object c) h = absurd (false≢true h)
+  opened_is (list x) h = absurd (false≢true h)
+  opened_is (dict k v) h = absurd (false≢true h)
+  opened_is (tuple xs) h = absurd (false≢true h)
+  opened_is (tuple_of x) h = absurd (false≢true h)
+  opened_is (callable ps r) h = absurd (false≢true h)

@@ -1,5 +1,5 @@
 -- The plain values that those of the code are.
-use Rattle.std.specs.Prelude.{ℕ, ◌+◌, suc, List, length, drop, map, reverse, Option, None, Some}
+use Rattle.std.specs.Prelude.{ℕ, ◌+◌, List, length, drop, map, reverse, Option, None, Some}
 use Rattle.std.specs.declared.alloc.Global.{Global}
 use Rattle.std.specs.declared.vec.Vec.{Vec}
 use Rattle.indexmap.specs.IndexMap.{IndexMap, get, index_map_len}

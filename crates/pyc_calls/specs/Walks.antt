@@ -1,6 +1,6 @@
 -- How a walk through calls stands: what is to be called next, and what waits for its type. So a call is gone through a
 -- step at a time, however deep calls lie in one another.
-use Rattle.std.specs.Prelude.{ℕ, zero, suc, ◌+◌, ◌-◌, Bool, true, false, codes, List, [], ◌∷◌, ◌++◌, ◌≡◌, ◌^◌, Option, None, Some, IfOk}
+use Rattle.std.specs.Prelude.{ℕ, suc, ◌+◌, ◌-◌, Bool, true, false, codes, List, [], ◌∷◌, ◌++◌, ◌≡◌, Option, None, Some, IfOk}
 use Rattle.std.specs.declared.alloc.AllocError.{AllocError}
 use Rattle.std.specs.declared.result.Result.{Result}
 use Rattle.pyc_arguments.specs.Arguments.{Arg, read_once}
@@ -116,6 +116,11 @@ next_item before (cons item items) walk =
       walk = record { memory = walk.memory; waiting = union_waits before items ∷ walk.waiting };
       standing = calls item;
     }
+
+-- the first item of a union is to be called; what is no union has no item
+abbrev pub opened : Ty → Walk → Stood
+opened (union items) walk = next_item [] items walk
+opened ty walk = next_item [] nil walk
 
 -- a call gave a type: what waits for it goes on
 abbrev pub waiting_given : Memory → List Waiting → Ty → Stood

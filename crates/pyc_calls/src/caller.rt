@@ -1,17 +1,15 @@
 //! Calls that go through `__call__`, a step at a time, however many lie one in another.
 
 ghost use Rattle.std.specs.Prelude.{ℕ, ◌≡◌, ◌+◌, ◌-◌, ◌<◌, ◌≤◌, ◌^◌, codes, IfOk, IsTrue, OnOk, map, option_map};
-ghost use Rattle.pyc_arguments.specs.Arguments as reading;
 ghost use Rattle.pyc_arguments.specs.Views.{args_in, call_in, read_in};
 ghost use Rattle.pyc_calls.specs.Called as spec;
-ghost use Rattle.pyc_calls.specs.Views.{count_of, how_far, memory_in, met_in, standing_in, stood_in, walk_in};
+ghost use Rattle.pyc_calls.specs.Views.{count_of, how_far, memory_in, met_in, stood_in, walk_in};
 ghost use Rattle.pyc_attributes.specs.Binding as binding;
 ghost use Rattle.pyc_calls.specs.Walks as walks;
 ghost use Rattle.pyc_calls.specs.Walks.{GoesOn, IsRead};
 ghost use Rattle.pyc_obligations.specs.Asking as asking;
 ghost use Rattle.pyc_reading.specs.AnswerView.{member_answer_of};
 ghost use Rattle.pyc_reading.specs.Desks.{Performs};
-ghost use Rattle.pyc_reading.specs.Readings.{Done};
 ghost use Rattle.pyc_type_forms.specs.Types as plain;
 ghost use Rattle.pyc_type_forms.specs.TypeView.{ty_of};
 
@@ -48,17 +46,17 @@ impl<N: Judge, R: Reader<N>> Caller<'_, N, R> {
             (N.desk notes.old) result (N.desk notes.new) }
     {
         let mut memory = nothing_met(self.alloc);
-        let mut callee = callee.clone()?;
-        while !is_union(&callee) {
-            match self.meet(notes, &memory, &callee)? {
+        let mut next = callee.clone()?;
+        while !is_union(&next) {
+            match self.meet(notes, &memory, &next)? {
                 Met::New(class, bound) => {
                     begin(&mut memory, &class)?;
-                    callee = bound;
+                    next = bound;
                 }
                 Met::Came(ty) => return Ok(ty),
             }
         }
-        self.call_union(notes, memory, callee)
+        self.call_union(notes, memory, next)
     }
 
     /// What something of a type comes to that is called, and is no union.
@@ -240,7 +238,7 @@ impl<N: Judge, R: Reader<N>> Caller<'_, N, R> {
 
     /// A union is called, after the `__call__` of some classes was met: the arguments are read once.
     fn call_union(&self, notes: &mut N, memory: Memory, union: Ty) -> Result<Ty, AllocError>
-        requires { R.ready self.now.reader.now }
+        requires ready { R.ready self.now.reader.now }
         requires small { count_of memory < 2 ^ 63 }
         requires union { IsTrue (walks.is_union (ty_of union)) }
         ensures { Performs ty_of
@@ -265,7 +263,7 @@ impl<N: Judge, R: Reader<N>> Caller<'_, N, R> {
         read: &[ReadArgument],
         callee: Ty,
     ) -> Result<Ty, AllocError>
-        requires { R.ready self.now.reader.now }
+        requires ready { R.ready self.now.reader.now }
         requires small { count_of memory < 2 ^ 63 }
         ensures { Performs ty_of
             (spec.typed (walks.called_in (spec.most_calls - (count_of memory + 1)) (call_in self.now.call.now)
@@ -286,20 +284,20 @@ impl<N: Judge, R: Reader<N>> Caller<'_, N, R> {
 
     /// Goes through a walk to its end, where something of a type is to be called next.
     fn walk(&self, notes: &mut N, walk: &mut Walk, callee: Ty) -> Result<Ty, AllocError>
-        requires { R.ready self.now.reader.now }
-        requires { IsRead (args_in (R.reads self.now.reader.now) self.now.arguments.now) }
+        requires ready { R.ready self.now.reader.now }
+        requires read { IsRead (args_in (R.reads self.now.reader.now) self.now.arguments.now) }
         ensures { (top : ℕ) → 2 ^ 63 ≤ top → Performs ty_of
             (spec.typed (walks.left top (call_in self.now.call.now)
             (args_in (R.reads self.now.reader.now) self.now.arguments.now) (walk_in walk.old)
             (walks.calls (ty_of callee))))
             (N.desk notes.old) result (N.desk notes.new) }
     {
-        let mut callee = callee;
+        let mut next = callee;
         loop {
-            match self.follow(notes, walk, callee)? {
+            match self.follow(notes, walk, next)? {
                 Met::New(class, bound) => {
                     walk.begin(class)?;
-                    callee = bound;
+                    next = bound;
                 }
                 Met::Came(ty) => return Ok(ty),
             }
@@ -308,9 +306,9 @@ impl<N: Judge, R: Reader<N>> Caller<'_, N, R> {
 
     /// Goes through a walk until a `__call__` is met that was not met before, or to its end.
     fn follow(&self, notes: &mut N, walk: &mut Walk, callee: Ty) -> Result<Met, AllocError>
-        requires { R.ready self.now.reader.now }
-        requires { IsRead (args_in (R.reads self.now.reader.now) self.now.arguments.now) }
-        ensures { (top : ℕ) → 2 ^ 63 ≤ top → GoesOn
+        requires ready { R.ready self.now.reader.now }
+        requires read { IsRead (args_in (R.reads self.now.reader.now) self.now.arguments.now) }
+        ensures goes_on { (top : ℕ) → 2 ^ 63 ≤ top → GoesOn
             (λ met. walks.left_met top (call_in self.now.call.now)
             (args_in (R.reads self.now.reader.now) self.now.arguments.now) (walk_in walk.new) (met_in met))
             (walks.left top (call_in self.now.call.now)
@@ -335,17 +333,18 @@ impl<N: Judge, R: Reader<N>> Caller<'_, N, R> {
     #[tactic(auto, using(pyc_obligations::proofs::Steps::performing), unfolding(crate::specs::Walks::form_stepped))]
     fn call_next(&self, notes: &mut N, walk: &mut Walk, callee: &Ty) -> Result<Standing, AllocError>
         requires { R.ready self.now.reader.now }
-        ensures { Performs (stood_in walk.new)
+        ensures performs { Performs (stood_in walk.new)
             (walks.form_stepped (call_in self.now.call.now)
             (args_in (R.reads self.now.reader.now) self.now.arguments.now) (walk_in walk.old) (ty_of callee.now)
             (walks.callee_form (ty_of callee.now)))
             (N.desk notes.old) result (N.desk notes.new) }
         ensures same { walk.new.memory ≡ walk.old.memory }
     {
-        match callee {
-            Ty::Union(items) => { walk.next_item(self.alloc, items.clone()?, Vec::new(self.alloc)) }
-            _ => Ok(standing_met(self.meet(notes, &walk.memory, callee)?)),
+        if is_union(callee) {
+            return walk.open(self.alloc, callee);
         }
+        let met = self.meet(notes, &walk.memory, callee)?;
+        Ok(standing_met(met))
     }
 }
 

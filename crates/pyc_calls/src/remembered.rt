@@ -24,7 +24,7 @@ pub(crate) enum Progress {
 
 /// Before any class is met. It takes no memory.
 pub(crate) fn nothing_met(alloc: Global) -> Memory
-    ensures { memory_in result ≡ spec.nothing_met }
+    ensures remembered { memory_in result ≡ spec.nothing_met }
     ensures none { count_of result ≡ 0 }
 {
     IndexMap::new(alloc)
@@ -53,7 +53,7 @@ fn progress_in(given: &Option<Ty>) -> Result<Progress, AllocError>
 
 /// Remembers that the `__call__` of a class is under way. The only error is that memory runs out.
 pub(crate) fn begin(memory: &mut Memory, class: &ClassId) -> Result<(), AllocError>
-    ensures { OnOk result (memory_in memory.new
+    ensures remembered { OnOk result (memory_in memory.new
         ≡ spec.remembering (memory_in memory.old) class.now spec.under_way) }
     ensures counted { OnOk result (spec.progress_of (memory_in memory.old) class.now ≡ spec.fresh
         → count_of memory.new ≡ count_of memory.old + 1) }
@@ -66,7 +66,7 @@ pub(crate) fn begin(memory: &mut Memory, class: &ClassId) -> Result<(), AllocErr
 
 /// Remembers what the `__call__` of a class gave. The only error is that memory runs out.
 pub(crate) fn finish(memory: &mut Memory, class: &ClassId, given: &Ty) -> Result<(), AllocError>
-    ensures { OnOk result (memory_in memory.new
+    ensures remembered { OnOk result (memory_in memory.new
         ≡ spec.remembering (memory_in memory.old) class.now (spec.gave (ty_of given.now))) }
     ensures counted { OnOk result (count_of memory.old ≤ count_of memory.new) }
 {

@@ -64,7 +64,7 @@ pub(crate) fn standing_met(met: Met) -> Standing
 impl Walk {
     /// At its beginning nothing waits. It takes no memory.
     pub(crate) fn new(alloc: Global, memory: Memory) -> Walk
-        ensures { walk_in result ≡ record { memory = memory_in memory; waiting = [] } }
+        ensures walk { walk_in result ≡ record { memory = memory_in memory; waiting = [] } }
         ensures same { result.memory ≡ memory }
     {
         Walk {
@@ -75,13 +75,13 @@ impl Walk {
 
     /// After these types, the next item of a union is to be called, if there is one. The only error is that memory
     /// runs out.
-    pub(crate) fn next_item(
+    fn next_item(
         &mut self,
         alloc: Global,
         items: Rc<Vec<Ty>>,
         types: Vec<Ty>,
     ) -> Result<Standing, AllocError>
-        ensures { IfOk result (λ standing. stood_in self.new standing
+        ensures walk { IfOk result (λ standing. stood_in self.new standing
             ≡ spec.next_item (map ty_of types.items) (row (drop (length types.items) items.value.items))
             (walk_in self.old)) }
         ensures same { self.new.memory ≡ self.old.memory }
@@ -96,14 +96,24 @@ impl Walk {
         }
     }
 
+    /// The first item of a union is to be called. The only error is that memory runs out.
+    pub(crate) fn open(&mut self, alloc: Global, union: &Ty) -> Result<Standing, AllocError>
+        ensures walk { IfOk result (λ standing. stood_in self.new standing
+            ≡ spec.opened (ty_of union.now) (walk_in self.old)) }
+        ensures same { self.new.memory ≡ self.old.memory }
+    {
+        match union {
+            Ty::Union(items) => self.next_item(alloc, items.clone()?, Vec::new(alloc)),
+            _ => Ok(Standing::Gives(union_of(alloc, &[])?)),
+        }
+    }
+
     /// A call gave a type: what waits for it goes on. The only error is that memory runs out.
     pub(crate) fn give(&mut self, alloc: Global, ty: Ty) -> Result<Standing, AllocError>
-        ensures { IfOk result (λ standing. stood_in self.new standing
+        ensures walk { IfOk result (λ standing. stood_in self.new standing
             ≡ spec.waiting_given (memory_in self.old.memory) (waiting_in self.old.waiting) (ty_of ty)) }
         ensures counted { OnOk result (count_of self.old.memory ≤ count_of self.new.memory) }
-        ensures shallow { spec.classes_waiting (waiting_in self.old.waiting) < 2 ^ 63 }
     {
-        let _depth = self.waiting.len();
         match self.waiting.pop() {
             Some(waiting) => self.go_on(alloc, waiting, ty),
             None => Ok(Standing::Ends(ty)),
@@ -112,7 +122,7 @@ impl Walk {
 
     /// A call gave a type, and this waited for it.
     fn go_on(&mut self, alloc: Global, waiting: Waiting, ty: Ty) -> Result<Standing, AllocError>
-        ensures { IfOk result (λ standing. stood_in self.new standing
+        ensures walk { IfOk result (λ standing. stood_in self.new standing
             ≡ spec.waiting_given (memory_in self.old.memory) (waiting_of waiting ∷ waiting_in self.old.waiting)
             (ty_of ty)) }
         ensures counted { OnOk result (count_of self.old.memory ≤ count_of self.new.memory) }
@@ -132,15 +142,13 @@ impl Walk {
 
     /// The `__call__` of a class is under way from now on, and waits. The only error is that memory runs out.
     pub(crate) fn begin(&mut self, class: ClassId) -> Result<(), AllocError>
-        ensures { OnOk result (walk_in self.new ≡ spec.begun (walk_in self.old) class) }
+        ensures walk { OnOk result (walk_in self.new ≡ spec.begun (walk_in self.old) class) }
         ensures counted { OnOk result (progress_of (memory_in self.old.memory) class ≡ fresh
             → count_of self.new.memory ≡ count_of self.old.memory + 1) }
         ensures small { OnOk result (count_of self.new.memory < 2 ^ 63) }
-        ensures shallow { OnOk result (spec.classes_waiting (waiting_in self.old.waiting) < 2 ^ 63) }
     {
         begin(&mut self.memory, &class)?;
         self.waiting.push(Waiting::Class(class))?;
-        let _depth = self.waiting.len();
         Ok(())
     }
 }
