@@ -27,7 +27,8 @@ pub numbered_more : (file : SourceFile) (units : List UnitOf) (i : ℕ) (unit : 
 unfolding unit_at
 numbered_more file units i unit all index within is counted same =
     let before = map unit_of (take i units) in
-    let many : index ≡ 0 + length before = counted ∙ ap length same ∙ length-numbered file 0 before in
+    let counted_all : index ≡ length before = counted ∙ ap length same ∙ length-numbered file 0 before in
+    let many : index ≡ 0 + length before = omega (arith, counted_all) in
     let later = ap (map unit_of) (take_more units i unit within ∙ ap (λ x. take i units ++ x ∷ []) (sym is)) ∙ map-append unit_of (take i units) (unit ∷ []) in
     (λ j. same j ++ unit_at file (many j) (unit_of unit) ∷ [])
     ∙ sym (numbered-push file 0 before (unit_of unit))
