@@ -1,6 +1,4 @@
 pub mod BlockLemmas
-pub mod ListedLemmas
 pub mod OrderLemmas
 pub mod ReadLemmas
 pub mod Steps
-pub mod UnitLemmas

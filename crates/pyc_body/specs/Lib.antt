@@ -1,6 +1,2 @@
 pub mod ModuleBodies
-pub mod FileUnits
-pub mod FileUnitView
 pub mod FoundMessages
-pub mod CheckerView
-pub mod FoundLaws

@@ -2,7 +2,7 @@
 
 use crate::sources::file_of;
 use pyc_ast::Text;
-use pyc_body::{Checker, Meter, numbered_units};
+use pyc_body::{check_unit, file_units};
 use pyc_iface::{Key, Options, World};
 use pyc_names::QualifiedName;
 use pyc_types::Builtins;
@@ -80,12 +80,10 @@ fn reads_shown(alloc: Global, source: &[u8], number: usize) -> Result<String, Fa
     let file = Rc::new(alloc, file_of(alloc, "a.py", source)?)?;
     let world = World::build(alloc, slice::from_ref(&file))?;
     let builtins = Builtins::new(alloc)?;
-    let checker = Checker::new(alloc, &builtins, OPTIONS, &world);
-    let mut meter = Meter::new(alloc);
-    let units = numbered_units(alloc, &file)?;
+    let units = file_units(alloc, file.outcome())?;
     let mut shown = String::new(alloc);
     if let Some(unit) = units.get(number) {
-        let checked = checker.check_unit(&mut meter, unit)?;
+        let checked = check_unit(alloc, &builtins, OPTIONS, &world, &file, *unit)?;
         for key in checked.reads() {
             push_key(key, &mut shown)?;
             shown.push_str("; ")?;
