@@ -1,6 +1,7 @@
 -- How a walk through calls stands: what is to be called next, and what waits for its type. So a call is gone through a
 -- step at a time, however deep calls lie in one another.
-use Rattle.std.specs.Prelude.{ℕ, suc, ◌+◌, ◌-◌, Bool, true, false, codes, List, [], ◌∷◌, ◌++◌, ◌≡◌, Option, None, Some, IfOk}
+use Rattle.std.specs.Prelude.{◌≡◌, ℕ, suc, ◌+◌, ◌-◌, Bool, true, false, codes, List, [], ◌∷◌, ◌++◌}
+use Rattle.std.specs.Prelude.{Option, None, Some, IfOk}
 use Rattle.std.specs.declared.alloc.AllocError.{AllocError}
 use Rattle.std.specs.declared.result.Result.{Result}
 use Rattle.pyc_arguments.specs.Arguments.{Arg, read_once}
