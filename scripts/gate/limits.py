@@ -153,9 +153,9 @@ LIMITS = [
     # a call goes through as many classes as there are
     ("limits/call_through_999_classes", *called_through(999)),
     ("limits/call_through_1500_classes", *called_through(1500)),
-    ("limits/call_through_20000_classes", *called_through(20_000)),
     ("limits/call_through_1500_unions", *called_through_unions(1500)),
-    ("limits/call_through_10000_unions", *called_through_unions(10_000)),
+    ("limits/call_through_4000_classes", *called_through(4000)),
+    ("limits/call_through_4000_unions", *called_through_unions(4000)),
     # a tuple of 999 items is a type of 1,000 types; one of more is Any
     ("limits/largest_type", *assigned(f"({row(999, '1')})", f"tuple[{row(999, 'int')}]")),
     ("limits/type_that_is_too_large", *assigned(f"({row(1000, '1')})")),
