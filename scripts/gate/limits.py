@@ -64,11 +64,12 @@ def classes(count, called="C{}"):
 
 def called_through(count):
     """A session that calls an instance of the first of so many such classes, and what it prints."""
-    return checked("c.py", f"{classes(count)}x: str = C0()(\"\")\n", [(2 * count + 1, no_str("int")), (2 * count + 1, NO_FIRST)])
+    errors = [(2 * count + 1, no_str("int")), (2 * count + 1, NO_FIRST)]
+    return checked("c.py", f"{classes(count)}x: str = C0()(\"\")\n", errors)
 
 
 def called_through_unions(count):
-    """The same, where each class but the last is called by a union of the next and of another callable."""
+    """A session that does so where each class but the last is called by a union of the next and of another callable."""
     text = f"from typing import Callable\n{classes(count, 'C{} | Callable[[int], bytes]')}x: str = C0()(\"\")\n"
     return checked("c.py", text, [(2 * count + 2, no_str("int | bytes")), (2 * count + 2, NO_FIRST)])
 
