@@ -4,10 +4,10 @@ use Rattle.pyc_imports.specs.ImportReadings.{imported_reading}
 use Rattle.pyc_names.specs.SourceFileView.{source_in}
 use Rattle.pyc_reading.specs.Desks.{Going}
 use Rattle.pyc_reading.specs.Readings.{each}
-use Rattle.pyc_imports.proofs.imports.read_aliases.Given as goal
+use Rattle.pyc_imports.proofs.imports.ImportReader.read_aliases.Given as goal
 
 -- what is left to do comes to the same as all
 abbrev pub invariant-loop-alias : goal.invariant-loop-alias
 invariant-loop-alias g l =
-    Going (each (imported_reading l.options (source_in l.file) l.at (import_from_of l.from)) (drop l.alias-index l.alias-items)) (g.N.Notes.desk l.notes)
-    (each (imported_reading l.options (source_in l.file) l.at (import_from_of l.from)) l.alias-items) (g.N.Notes.desk l.fn.notes)
+    Going (each (imported_reading l.self.options (source_in l.file) l.self.at (import_from_of l.from)) (drop l.alias-index l.alias-items)) (g.N.Notes.desk l.notes)
+    (each (imported_reading l.self.options (source_in l.file) l.self.at (import_from_of l.from)) l.alias-items) (g.N.Notes.desk l.fn.notes)
