@@ -1,4 +1,3 @@
-pub mod BlockLemmas
 pub mod OrderLemmas
 pub mod ReadLemmas
 pub mod Steps

@@ -2,7 +2,7 @@
 use Rattle.std.proofs.Common.{◌≡◌, Bool, true, false, ◌||◌, List, [], ◌∷◌, ◌++◌, if◌then◌else◌, refl, sym, ap, ◌∙◌}
 use Rattle.std.specs.List.{list_any}
 use Rattle.std.proofs.lemmas.Bool.{false≢true}
-use Rattle.pyc_body.specs.FoundMessages.{UnitsHaveTheirReads, unit_reading}
+use Rattle.pyc_body.specs.FoundMessages.{UnitsHaveTheirReads}
 use Rattle.pyc_examiner.specs.KeyEquality.{keys_are}
 use Rattle.pyc_iface.specs.Answers.{answer_of}
 use Rattle.pyc_reading.proofs.RunLemmas.{frame, runs_are_folds}
@@ -11,6 +11,7 @@ use Rattle.pyc_reading.specs.Desks.{Step, Desk, run, desk_after, with_key, with_
 use Rattle.pyc_reading.specs.Frames.{Agree, nothing_asked, one_more}
 use Rattle.pyc_reading.specs.Keys.{Key, same_key}
 use Rattle.pyc_reading.specs.Readings.{asked, told}
+use Rattle.pyc_units.specs.UnitReadings.{unit_reading}
 
 -- ---- a desk where nothing was before
 

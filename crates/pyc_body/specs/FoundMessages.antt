@@ -1,19 +1,16 @@
 -- What is found in the units of a file: in its header, what is told of imports and definitions; in the body of its
--- module, what is told of annotations and annotated literals in its blocks, and of the expressions and assignments
--- outside blocks; in a function or method what is told of its signature, in a class what is told of its bases, its
--- order, the names that its body defines again and those that its ancestors declare as well. Each unit is one reading,
--- and its reads are the keys that this asks.
+-- module, what is told of its statements; in a function or a method, what is told of its signature, its defaults, its
+-- statements and its end; in a class, what is told of its bases, its order, its body and what its ancestors declare as
+-- well. Each unit is one reading, and its reads are the keys that this asks.
 use Rattle.std.specs.Prelude.{◌≡◌, List, [], flat_map}
 use Rattle.pyc_ast.specs.Modules.{Outcome, tree, fault}
-use Rattle.pyc_units.specs.DefinitionReadings.{definition_reading}
-use Rattle.pyc_units.specs.Header.{header_reading}
-use Rattle.pyc_body.specs.ModuleBodies.{module_reading}
 use Rattle.pyc_class.specs.Class.{Id}
+use Rattle.pyc_units.specs.UnitReadings.{unit_reading}
 use Rattle.pyc_units.specs.Units as units
 use Rattle.pyc_iface.specs.Answers.{answer_of, class_orders}
 use Rattle.pyc_iface.specs.declared.options.Options.{Options}
 use Rattle.pyc_names.specs.SourceFiles.{SourceFile}
-use Rattle.pyc_reading.specs.Desks.{Step, with_keys}
+use Rattle.pyc_reading.specs.Desks.{with_keys}
 use Rattle.pyc_reading.specs.Frames.{Agree}
 use Rattle.pyc_reading.specs.Keys.{Key}
 use Rattle.pyc_reading.specs.Listings.{Tells, listed}
@@ -23,12 +20,6 @@ use Rattle.pyc_report.specs.Message.{Message}
 use Rattle.pyc_report.specs.Silencing.{without_silenced}
 
 -- ---- one unit
-
--- a unit of a file
-unfoldable pub unit_reading : Options → SourceFile → units.Unit → Step (Unit {0})
-unit_reading options file units.header = header_reading options file
-unit_reading options file units.module_body = module_reading file file.outcome
-unit_reading options file (units.definition d) = definition_reading file d
 
 -- what is found in it, over the answers of these files
 abbrev pub found : Options → List SourceFile → SourceFile → units.Unit → List Message

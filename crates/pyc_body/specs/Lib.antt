@@ -1,2 +1,1 @@
-pub mod ModuleBodies
 pub mod FoundMessages

@@ -3,10 +3,7 @@
 
 mod found_messages;
 pub mod laws;
-mod module_body;
 
 pub use found_messages::{check_unit, unsilenced};
 pub use pyc_examiner::Checked;
-pub use pyc_units::{
-    LiteralForm, Unit, UnitId, count_units, file_units, literal_forms, unit_definitions,
-};
+pub use pyc_units::{Unit, UnitId, count_units, file_units, unit_definitions};

@@ -5,7 +5,6 @@ use pyc_body::{Unit, check_unit, file_units, unsilenced};
 use pyc_iface::{Options, World};
 use pyc_names::SourceFile;
 use pyc_report::Message;
-use pyc_types::Builtins;
 use std::alloc::Global;
 use std::fmt::Write;
 use std::rc::Rc;
@@ -44,7 +43,6 @@ fn write_lines(messages: &[Message], shown: &mut String) -> Result<(), Fail> {
 #[derive(Drop)]
 struct Setting<'a> {
     alloc: Global,
-    builtins: &'a Builtins,
     world: &'a World,
     file: &'a SourceFile,
 }
@@ -53,11 +51,10 @@ struct Setting<'a> {
 fn write_unit(setting: &Setting<'_>, unit: Unit<'_>, shown: &mut String) -> Result<(), Fail> {
     let Setting {
         alloc,
-        builtins,
         world,
         file,
     } = *setting;
-    let checked = check_unit(alloc, builtins, OPTIONS, world, file, unit)?;
+    let checked = check_unit(alloc, OPTIONS, world, file, unit)?;
     write_messages(checked.messages(), shown)
 }
 
@@ -73,12 +70,11 @@ fn write_units(setting: &Setting<'_>, units: &[Unit<'_>], shown: &mut String) ->
 fn write_file(setting: &Setting<'_>, is_told: bool, shown: &mut String) -> Result<(), Fail> {
     let Setting {
         alloc,
-        builtins,
         world,
         file,
     } = *setting;
     if is_told {
-        write_lines(&unsilenced(alloc, builtins, OPTIONS, world, file)?, shown)
+        write_lines(&unsilenced(alloc, OPTIONS, world, file)?, shown)
     } else {
         write_units(setting, &file_units(alloc, file.outcome())?, shown)
     }
@@ -98,10 +94,8 @@ fn shown_in(
     file: &SourceFile,
     is_told: bool,
 ) -> Result<String, Fail> {
-    let builtins = Builtins::new(alloc)?;
     let setting = Setting {
         alloc,
-        builtins: &builtins,
         world,
         file,
     };

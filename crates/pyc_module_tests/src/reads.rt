@@ -5,7 +5,6 @@ use pyc_ast::Text;
 use pyc_body::{check_unit, file_units};
 use pyc_iface::{Key, Options, World};
 use pyc_names::QualifiedName;
-use pyc_types::Builtins;
 use std::alloc::{AllocError, Global};
 use std::rc::Rc;
 use std::slice;
@@ -79,11 +78,10 @@ fn push_key(key: &Key, shown: &mut String) -> Result<(), AllocError> {
 fn reads_shown(alloc: Global, source: &[u8], number: usize) -> Result<String, Fail> {
     let file = Rc::new(alloc, file_of(alloc, "a.py", source)?)?;
     let world = World::build(alloc, slice::from_ref(&file))?;
-    let builtins = Builtins::new(alloc)?;
     let units = file_units(alloc, file.outcome())?;
     let mut shown = String::new(alloc);
     if let Some(unit) = units.get(number) {
-        let checked = check_unit(alloc, &builtins, OPTIONS, &world, &file, *unit)?;
+        let checked = check_unit(alloc, OPTIONS, &world, &file, *unit)?;
         for key in checked.reads() {
             push_key(key, &mut shown)?;
             shown.push_str("; ")?;

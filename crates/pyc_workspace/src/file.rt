@@ -12,7 +12,6 @@ use pyc_iface::{Options, World};
 use pyc_lower::read;
 use pyc_names::{ModuleName, SourceFile};
 use pyc_report::Message;
-use pyc_types::Builtins;
 use std::alloc::{AllocError, Global};
 use std::rc::Rc;
 
@@ -95,14 +94,13 @@ impl File {
     pub(crate) fn unsilenced(
         &self,
         alloc: Global,
-        builtins: &Builtins,
         options: Options,
         world: &World,
     ) -> Result<Vec<Message>, AllocError>
         ensures { IfOk result (λ messages. map message_in messages.items
             ≡ unsilenced options (world_in world.now) (source_of (file_in self.now))) }
     {
-        let found = unsilenced(alloc, builtins, options, world, &self.source)?;
+        let found = unsilenced(alloc, options, world, &self.source)?;
         Ok(found)
     }
 }

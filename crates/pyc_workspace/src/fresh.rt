@@ -11,7 +11,6 @@ use crate::file::File;
 use pyc_iface::{Options, World};
 use pyc_names::SourceFile;
 use pyc_report::{Found, Report, report};
-use pyc_types::Builtins;
 use std::alloc::{AllocError, Global};
 use std::rc::Rc;
 
@@ -52,14 +51,12 @@ fn report_over(
         ≡ report_of (map (checked options (sources_in sources.now)) (files_in files.now))) }
 {
     let world = World::build(alloc, sources)?;
-    let builtins = Builtins::new(alloc)?;
-    report_with(alloc, &builtins, options, &world, files)
+    report_with(alloc, options, &world, files)
 }
 
-/// The report of a check of these files over a world and the builtins.
+/// The report of a check of these files over a world.
 fn report_with(
     alloc: Global,
-    builtins: &Builtins,
     options: Options,
     world: &World,
     files: &[Rc<File>],
@@ -67,14 +64,13 @@ fn report_with(
     ensures { IfOk result (λ report. report_in report
         ≡ report_of (map (checked options (world_in world.now)) (files_in files.now))) }
 {
-    let found = found_in_files(alloc, builtins, options, world, files)?;
+    let found = found_in_files(alloc, options, world, files)?;
     report(alloc, found.as_slice())
 }
 
 /// What is told of each file.
 fn found_in_files<'a>(
     alloc: Global,
-    builtins: &Builtins,
     options: Options,
     world: &World,
     files: &'a [Rc<File>],
@@ -84,7 +80,7 @@ fn found_in_files<'a>(
 {
     let mut all = Vec::with_capacity(alloc, files.len())?;
     for file in files {
-        all.push(check_file(alloc, builtins, options, world, file)?)?;
+        all.push(check_file(alloc, options, world, file)?)?;
     }
     Ok(all)
 }
@@ -92,7 +88,6 @@ fn found_in_files<'a>(
 /// What is told of a file.
 fn check_file<'a>(
     alloc: Global,
-    builtins: &Builtins,
     options: Options,
     world: &World,
     file: &'a File,
@@ -101,6 +96,6 @@ fn check_file<'a>(
 {
     Ok(Found {
         path: file.path(),
-        messages: file.unsilenced(alloc, builtins, options, world)?,
+        messages: file.unsilenced(alloc, options, world)?,
     })
 }

@@ -1,5 +1,5 @@
 use Rattle.pyc_body.proofs.OrderLemmas.{orders_are}
-use Rattle.pyc_body.specs.FoundMessages.{unit_reading}
+use Rattle.pyc_units.specs.UnitReadings.{unit_reading}
 use Rattle.pyc_iface.specs.Answers.{answer_of}
 use Rattle.pyc_reading.proofs.ListingLemmas.{tells}
 use Rattle.pyc_body.proofs.laws.found_is_listed.Goals as goal
