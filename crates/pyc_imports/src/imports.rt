@@ -3,7 +3,7 @@
 ghost use Rattle.std.specs.Prelude.{◌≡◌, map};
 ghost use Rattle.pyc_ast.specs.StatementView.{imported_of, imported_module_of, import_from_of, stmt_form_of};
 ghost use Rattle.pyc_imports.specs.ImportReadings as spec;
-ghost use Rattle.pyc_names.specs.SourceFileView.{source_in};
+ghost use Rattle.pyc_names.specs.InterfaceView.{interface_in};
 ghost use Rattle.pyc_reading.specs.Desks.{Performs};
 ghost use Rattle.pyc_reading.specs.Readings.{each};
 
@@ -36,8 +36,8 @@ impl ImportReader {
         form: &StmtForm,
     ) -> Result<(), AllocError>
         ensures { Performs (λ u. u)
-            (spec.import_reading self.options (source_in file.now) self.at (stmt_form_of form.now)) (N.desk notes.old)
-            result (N.desk notes.new) }
+            (spec.import_reading self.options (interface_in file.now) self.at (stmt_form_of form.now))
+            (N.desk notes.old) result (N.desk notes.new) }
     {
         match form {
             StmtForm::Import(modules) => self.read_modules(notes, modules),
@@ -132,7 +132,7 @@ impl ImportReader {
         from: &ImportFrom,
     ) -> Result<(), AllocError>
         ensures { Performs (λ u. u)
-            (each (spec.imported_reading self.options (source_in file.now) self.at (import_from_of from.now))
+            (each (spec.imported_reading self.options (interface_in file.now) self.at (import_from_of from.now))
             from.now.names.items) (N.desk notes.old) result (N.desk notes.new) }
     {
         for alias in &from.names {
@@ -151,7 +151,7 @@ impl ImportReader {
         alias: &Alias,
     ) -> Result<(), AllocError>
         ensures { Performs (λ u. u)
-            (spec.imported_reading self.options (source_in file.now) self.at (import_from_of from.now) alias.now)
+            (spec.imported_reading self.options (interface_in file.now) self.at (import_from_of from.now) alias.now)
             (N.desk notes.old) result (N.desk notes.new) }
     {
         let home = named_module(
