@@ -123,11 +123,7 @@ impl FunctionReader<'_> {
 
     /// The type that an annotation means.
     #[tactic(auto, using(pyc_obligations::proofs::Steps::performing))]
-    fn read_annotated<N: Judge>(
-        &self,
-        notes: &mut N,
-        annotation: &Expr,
-    ) -> Result<Ty, AllocError>
+    fn read_annotated<N: Judge>(&self, notes: &mut N, annotation: &Expr) -> Result<Ty, AllocError>
         ensures { Performs ty_of
             (signatures.annotated_or (interface_in self.now.outside.file.now) any (Some (expr_of annotation.now)))
             (N.desk notes.old) result (N.desk notes.new) }
@@ -171,16 +167,20 @@ impl FunctionReader<'_> {
         let got = self.infer_outside(notes, want, default)?;
         let at = default.at;
         let got = &got;
-        owe(self.alloc, notes, &OwedDefault { at, name, got, want })
+        owe(
+            self.alloc,
+            notes,
+            &OwedDefault {
+                at,
+                name,
+                got,
+                want,
+            },
+        )
     }
 
     /// The type of an expression that stands where the function does, by what is expected of it.
-    fn infer_outside<N: Judge>(
-        &self,
-        notes: &mut N,
-        want: &Ty,
-        e: &Expr,
-    ) -> Result<Ty, AllocError>
+    fn infer_outside<N: Judge>(&self, notes: &mut N, want: &Ty, e: &Expr) -> Result<Ty, AllocError>
         ensures { Performs ty_of
             (infer_type (body_context (body_in self.now.outside) no_locals) nothing_narrowed (expr_of e.now)
             (Some (ty_of want.now)))
@@ -226,10 +226,7 @@ fn str_dict(alloc: Global, value: Ty) -> Result<Ty, AllocError>
 }
 
 /// What a function under these decorators is called on, by the class in whose body it stands.
-pub(crate) fn receiver_of(
-    class: Option<&ClassId>,
-    decorators: &[Expr],
-) -> Result<Ty, AllocError>
+pub(crate) fn receiver_of(class: Option<&ClassId>, decorators: &[Expr]) -> Result<Ty, AllocError>
     ensures { IfOk result (λ ty. ty_of ty
         ≡ spec.receiver_of (option_map (λ c. c.now) class.entry) (map expr_of decorators.now)) }
 {

@@ -49,11 +49,7 @@ struct Setting<'a> {
 
 /// Writes what is found in a unit of a file.
 fn write_unit(setting: &Setting<'_>, unit: Unit<'_>, shown: &mut String) -> Result<(), Fail> {
-    let Setting {
-        alloc,
-        world,
-        file,
-    } = *setting;
+    let Setting { alloc, world, file } = *setting;
     let checked = check_unit(alloc, OPTIONS, world, file, unit)?;
     write_messages(checked.messages(), shown)
 }
@@ -68,11 +64,7 @@ fn write_units(setting: &Setting<'_>, units: &[Unit<'_>], shown: &mut String) ->
 
 /// Writes the lines of what is told of a file, or what is found in its units.
 fn write_file(setting: &Setting<'_>, is_told: bool, shown: &mut String) -> Result<(), Fail> {
-    let Setting {
-        alloc,
-        world,
-        file,
-    } = *setting;
+    let Setting { alloc, world, file } = *setting;
     if is_told {
         write_lines(&unsilenced(alloc, OPTIONS, world, file)?, shown)
     } else {
@@ -94,11 +86,7 @@ fn shown_in(
     file: &SourceFile,
     is_told: bool,
 ) -> Result<String, Fail> {
-    let setting = Setting {
-        alloc,
-        world,
-        file,
-    };
+    let setting = Setting { alloc, world, file };
     file_shown(&setting, is_told)
 }
 
