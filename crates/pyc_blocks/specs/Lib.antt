@@ -1,0 +1,4 @@
+pub mod Flows
+pub mod Parts
+pub mod Blocks
+pub mod Views
