@@ -9,7 +9,7 @@ use Rattle.pyc_ast.specs.Statements as plain
 use Rattle.pyc_iface.specs.declared.options.Options.{Options}
 use Rattle.pyc_names.specs.FixedModules.{fixed_module}
 use Rattle.pyc_names.specs.Imports.{named_module}
-use Rattle.pyc_names.specs.SourceFiles.{SourceFile}
+use Rattle.pyc_names.specs.Interfaces.{Interface}
 use Rattle.pyc_reading.specs.Answers.{Answer, presence_of}
 use Rattle.pyc_reading.specs.declared.answer.Presence.{Presence}
 use Rattle.pyc_reading.specs.declared.answer.Presence.TheVariants as presence
@@ -98,13 +98,13 @@ name_reading options at shown name (Some m) =
     else asked_presence (has_name (record { home = m; name = name })) >>= name_told options at shown name
 
 -- one name of a from-import
-abbrev pub imported_reading : Options → SourceFile → Position → ImportFrom → Alias → Step (Unit {0})
+abbrev pub imported_reading : Options → Interface → Position → ImportFrom → Alias → Step (Unit {0})
 imported_reading options file at from alias =
     name_reading options at (written_module from.dots from.path) alias.name
     (named_module file.is_package file.name from.dots from.path)
 
 -- a statement: an import asks for each of its modules or names
-abbrev pub import_reading : Options → SourceFile → Position → StmtForm → Step (Unit {0})
+abbrev pub import_reading : Options → Interface → Position → StmtForm → Step (Unit {0})
 import_reading options file at (plain.import modules) = each (module_checked options at) modules
 import_reading options file at (plain.import_from from) = each (imported_reading options file at from) from.names
 import_reading options file at _ = Done tt

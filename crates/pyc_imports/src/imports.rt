@@ -3,7 +3,7 @@
 ghost use Rattle.std.specs.Prelude.{◌≡◌, map};
 ghost use Rattle.pyc_ast.specs.StatementView.{imported_of, imported_module_of, import_from_of, stmt_form_of};
 ghost use Rattle.pyc_imports.specs.ImportReadings as spec;
-ghost use Rattle.pyc_names.specs.SourceFileView.{source_in};
+ghost use Rattle.pyc_names.specs.InterfaceView.{interface_in};
 ghost use Rattle.pyc_reading.specs.Desks.{Performs};
 ghost use Rattle.pyc_reading.specs.Readings.{each};
 
@@ -17,80 +17,200 @@ use pyc_report::Code;
 use std::alloc::{AllocError, Global};
 use std::rc::Rc;
 
-/// Reads a statement that begins at a position: an import asks for each of its modules or names, and what is not there
-/// is told. The only error is that memory runs out.
-pub fn read_import<N: Notes>(
-    alloc: Global,
-    notes: &mut N,
-    options: Options,
-    file: &SourceFile,
-    at: Position,
-    form: &StmtForm,
-) -> Result<(), AllocError>
-    ensures { Performs (λ u. u) (spec.import_reading options (source_in file.now) at (stmt_form_of form.now))
-        (N.desk notes.old) result (N.desk notes.new) }
-{
-    match form {
-        StmtForm::Import(modules) => read_modules(alloc, notes, options, at, modules),
-        StmtForm::ImportFrom(from) => read_aliases(alloc, notes, options, file, at, from),
-        _ => Ok(()),
-    }
+/// Reads the imports of a statement.
+#[derive(Clone, Copy)]
+pub struct ImportReader {
+    pub alloc: Global,
+    pub options: Options,
+    /// Where the statement begins.
+    pub at: Position,
 }
 
-/// Reads imports of modules, in turn.
-fn read_modules<N: Notes>(
-    alloc: Global,
-    notes: &mut N,
-    options: Options,
-    at: Position,
-    modules: &[Rc<ImportedModule>],
-) -> Result<(), AllocError>
-    ensures { Performs (λ u. u) (each (spec.module_checked options at) (map imported_of modules.now))
-        (N.desk notes.old) result (N.desk notes.new) }
-{
-    for imported in modules {
-        check_module(alloc, notes, options, at, imported)?;
+impl ImportReader {
+    /// Reads the statement: an import asks for each of its modules or names, and the reader reports those that are not
+    /// there. The only error is that memory runs out.
+    pub fn read_import<N: Notes>(
+        self,
+        notes: &mut N,
+        file: &SourceFile,
+        form: &StmtForm,
+    ) -> Result<(), AllocError>
+        ensures { Performs (λ u. u)
+            (spec.import_reading self.options (interface_in file.now) self.at (stmt_form_of form.now))
+            (N.desk notes.old) result (N.desk notes.new) }
+    {
+        match form {
+            StmtForm::Import(modules) => self.read_modules(notes, modules),
+            StmtForm::ImportFrom(from) => self.read_aliases(notes, file, from),
+            _ => Ok(()),
+        }
     }
-    Ok(())
-}
 
-/// Reads an import of a module, where nothing hangs on whether it is there.
-#[tactic(auto, using(crate::proofs::Steps::performing))]
-fn check_module<N: Notes>(
-    alloc: Global,
-    notes: &mut N,
-    options: Options,
-    at: Position,
-    imported: &ImportedModule,
-) -> Result<(), AllocError>
-    ensures { Performs (λ u. u) (spec.module_checked options at (imported_module_of imported.now)) (N.desk notes.old)
-        result (N.desk notes.new) }
-{
-    let _is_there = read_module(alloc, notes, options, at, imported)?;
-    Ok(())
-}
-
-/// Reads an import of a module, and answers whether it is there; a fixed one is. The only error is that memory runs
-/// out.
-#[tactic(auto, using(crate::proofs::Steps::performing))]
-pub fn read_module<N: Notes>(
-    alloc: Global,
-    notes: &mut N,
-    options: Options,
-    at: Position,
-    imported: &ImportedModule,
-) -> Result<bool, AllocError>
-    ensures { Performs (λ found. found) (spec.module_reading options at (imported_module_of imported.now))
-        (N.desk notes.old) result (N.desk notes.new) }
-{
-    if fixed_module(&imported.path).is_some() {
-        return Ok(true);
+    /// Reads imports of modules, in turn.
+    fn read_modules<N: Notes>(
+        self,
+        notes: &mut N,
+        modules: &[Rc<ImportedModule>],
+    ) -> Result<(), AllocError>
+        ensures { Performs (λ u. u) (each (spec.module_checked self.options self.at) (map imported_of modules.now))
+            (N.desk notes.old) result (N.desk notes.new) }
+    {
+        for imported in modules {
+            self.check_module(notes, imported)?;
+        }
+        Ok(())
     }
-    let key = Key::HasModule(joined(alloc, &[], &imported.path)?);
-    let found = asked_presence(alloc, notes, key)?;
-    let shown = written_module(alloc, 0, &imported.path)?;
-    tell_module(alloc, notes, options, at, shown.as_str(), found)?;
-    Ok(is_there(found))
+
+    /// Reads an import of a module, where nothing hangs on whether it is there.
+    #[tactic(auto, using(crate::proofs::Steps::performing))]
+    fn check_module<N: Notes>(
+        self,
+        notes: &mut N,
+        imported: &ImportedModule,
+    ) -> Result<(), AllocError>
+        ensures { Performs (λ u. u) (spec.module_checked self.options self.at (imported_module_of imported.now))
+            (N.desk notes.old) result (N.desk notes.new) }
+    {
+        let _is_there = self.read_module(notes, imported)?;
+        Ok(())
+    }
+
+    /// Reads an import of a module, and answers whether the module is there; a fixed one is. The reader reports a
+    /// module that is not. The only error is that memory runs out.
+    #[tactic(auto, using(crate::proofs::Steps::performing))]
+    pub fn read_module<N: Notes>(
+        self,
+        notes: &mut N,
+        imported: &ImportedModule,
+    ) -> Result<bool, AllocError>
+        ensures { Performs (λ found. found) (spec.module_reading self.options self.at (imported_module_of imported.now))
+            (N.desk notes.old) result (N.desk notes.new) }
+    {
+        if fixed_module(&imported.path).is_some() {
+            return Ok(true);
+        }
+        let key = Key::HasModule(joined(self.alloc, &[], &imported.path)?);
+        let found = asked_presence(self.alloc, notes, key)?;
+        let shown = written_module(self.alloc, 0, &imported.path)?;
+        self.tell_module(notes, shown.as_str(), found)?;
+        Ok(is_there(found))
+    }
+
+    /// Reports a module that is not there, as its presence says.
+    fn tell_module<N: Notes>(
+        self,
+        notes: &mut N,
+        shown: &str,
+        found: Option<Presence>,
+    ) -> Result<(), AllocError>
+        ensures { Performs (λ u. u) (spec.module_told self.options self.at shown.now found) (N.desk notes.old) result
+            (N.desk notes.new) }
+    {
+        match found {
+            Some(Presence::NoModule) => self.tell_missing(notes, shown),
+            _ => Ok(()),
+        }
+    }
+
+    /// Reports that a module is not there, unless the options leave missing imports out.
+    fn tell_missing<N: Notes>(self, notes: &mut N, shown: &str) -> Result<(), AllocError>
+        ensures { Performs (λ u. u) (spec.missing self.options self.at shown.now) (N.desk notes.old) result
+            (N.desk notes.new) }
+    {
+        if self.options.ignore_missing {
+            return Ok(());
+        }
+        let text = missing_text(self.alloc, shown)?;
+        tell_error(notes, self.at, Code::ImportNotFound, text)
+    }
+
+    /// Reads from-imports, in turn.
+    fn read_aliases<N: Notes>(
+        self,
+        notes: &mut N,
+        file: &SourceFile,
+        from: &ImportFrom,
+    ) -> Result<(), AllocError>
+        ensures { Performs (λ u. u)
+            (each (spec.imported_reading self.options (interface_in file.now) self.at (import_from_of from.now))
+            from.now.names.items) (N.desk notes.old) result (N.desk notes.new) }
+    {
+        for alias in &from.names {
+            self.read_imported(notes, file, from, alias)?;
+        }
+        Ok(())
+    }
+
+    /// Reads one name of a from-import, which asks whether it is there; the reader reports a name or a module that is
+    /// not. The only error is that memory runs out.
+    pub fn read_imported<N: Notes>(
+        self,
+        notes: &mut N,
+        file: &SourceFile,
+        from: &ImportFrom,
+        alias: &Alias,
+    ) -> Result<(), AllocError>
+        ensures { Performs (λ u. u)
+            (spec.imported_reading self.options (interface_in file.now) self.at (import_from_of from.now) alias.now)
+            (N.desk notes.old) result (N.desk notes.new) }
+    {
+        let home = named_module(
+            self.alloc,
+            file.name(),
+            file.is_package(),
+            from.dots,
+            &from.path,
+        )?;
+        let shown = written_module(self.alloc, from.dots, &from.path)?;
+        self.read_name(notes, shown.as_str(), &alias.name, home)
+    }
+
+    /// Reads a name that a statement imports from some module; none is above the root, where nothing is there.
+    #[tactic(auto, using(crate::proofs::Steps::performing))]
+    fn read_name<N: Notes>(
+        self,
+        notes: &mut N,
+        shown: &str,
+        name: &Text,
+        home: Option<ModuleName>,
+    ) -> Result<(), AllocError>
+        ensures { Performs (λ u. u) (spec.name_reading self.options self.at shown.now name.now home) (N.desk notes.old)
+            result (N.desk notes.new) }
+    {
+        let Some(home) = home else {
+            return self.tell_missing(notes, shown);
+        };
+        if fixed_module(home.parts()).is_some() {
+            return Ok(());
+        }
+        let key = Key::HasName(QualifiedName {
+            home,
+            name: name.clone()?,
+        });
+        let found = asked_presence(self.alloc, notes, key)?;
+        self.tell_name(notes, shown, name, found)
+    }
+
+    /// Reports an imported name that is not there, as its presence says.
+    fn tell_name<N: Notes>(
+        self,
+        notes: &mut N,
+        shown: &str,
+        name: &Text,
+        found: Option<Presence>,
+    ) -> Result<(), AllocError>
+        ensures { Performs (λ u. u) (spec.name_told self.options self.at shown.now name.now found) (N.desk notes.old)
+            result (N.desk notes.new) }
+    {
+        match found {
+            Some(Presence::NoModule) => self.tell_missing(notes, shown),
+            Some(Presence::NoName) => {
+                let text = no_attribute_text(self.alloc, shown, name.as_str())?;
+                tell_error(notes, self.at, Code::AttrDefined, text)
+            }
+            _ => Ok(()),
+        }
+    }
 }
 
 /// Whether a module is there, as its presence tells it.
@@ -100,130 +220,5 @@ fn is_there(found: Option<Presence>) -> bool
     match found {
         Some(Presence::NoModule) => false,
         _ => true,
-    }
-}
-
-/// Tells of a module, by whether it is there.
-fn tell_module<N: Notes>(
-    alloc: Global,
-    notes: &mut N,
-    options: Options,
-    at: Position,
-    shown: &str,
-    found: Option<Presence>,
-) -> Result<(), AllocError>
-    ensures { Performs (λ u. u) (spec.module_told options at shown.now found) (N.desk notes.old) result
-        (N.desk notes.new) }
-{
-    match found {
-        Some(Presence::NoModule) => tell_missing(alloc, notes, options, at, shown),
-        _ => Ok(()),
-    }
-}
-
-/// Tells that a module is not there, unless missing imports are left out.
-fn tell_missing<N: Notes>(
-    alloc: Global,
-    notes: &mut N,
-    options: Options,
-    at: Position,
-    shown: &str,
-) -> Result<(), AllocError>
-    ensures { Performs (λ u. u) (spec.missing options at shown.now) (N.desk notes.old) result (N.desk notes.new) }
-{
-    if options.ignore_missing {
-        return Ok(());
-    }
-    let text = missing_text(alloc, shown)?;
-    tell_error(notes, at, Code::ImportNotFound, text)
-}
-
-/// Reads from-imports, in turn.
-fn read_aliases<N: Notes>(
-    alloc: Global,
-    notes: &mut N,
-    options: Options,
-    file: &SourceFile,
-    at: Position,
-    from: &ImportFrom,
-) -> Result<(), AllocError>
-    ensures { Performs (λ u. u)
-        (each (spec.imported_reading options (source_in file.now) at (import_from_of from.now)) from.now.names.items)
-        (N.desk notes.old) result (N.desk notes.new) }
-{
-    for alias in &from.names {
-        read_imported(alloc, notes, options, file, at, from, alias)?;
-    }
-    Ok(())
-}
-
-/// Reads one name of a from-import, which asks whether it is there; what is not there is told. The only error is that
-/// memory runs out.
-pub fn read_imported<N: Notes>(
-    alloc: Global,
-    notes: &mut N,
-    options: Options,
-    file: &SourceFile,
-    at: Position,
-    from: &ImportFrom,
-    alias: &Alias,
-) -> Result<(), AllocError>
-    ensures { Performs (λ u. u)
-        (spec.imported_reading options (source_in file.now) at (import_from_of from.now) alias.now) (N.desk notes.old)
-        result (N.desk notes.new) }
-{
-    let home = named_module(alloc, file.name(), file.is_package(), from.dots, &from.path)?;
-    let shown = written_module(alloc, from.dots, &from.path)?;
-    read_name(alloc, notes, options, at, shown.as_str(), &alias.name, home)
-}
-
-/// Reads a name that is imported from a module, or from above the root, where nothing is there.
-#[tactic(auto, using(crate::proofs::Steps::performing))]
-fn read_name<N: Notes>(
-    alloc: Global,
-    notes: &mut N,
-    options: Options,
-    at: Position,
-    shown: &str,
-    name: &Text,
-    home: Option<ModuleName>,
-) -> Result<(), AllocError>
-    ensures { Performs (λ u. u) (spec.name_reading options at shown.now name.now home) (N.desk notes.old) result
-        (N.desk notes.new) }
-{
-    let Some(home) = home else {
-        return tell_missing(alloc, notes, options, at, shown);
-    };
-    if fixed_module(home.parts()).is_some() {
-        return Ok(());
-    }
-    let key = Key::HasName(QualifiedName {
-        home,
-        name: name.clone()?,
-    });
-    let found = asked_presence(alloc, notes, key)?;
-    tell_name(alloc, notes, options, at, shown, name, found)
-}
-
-/// Tells of a name that is imported from a module, by whether it is there.
-fn tell_name<N: Notes>(
-    alloc: Global,
-    notes: &mut N,
-    options: Options,
-    at: Position,
-    shown: &str,
-    name: &Text,
-    found: Option<Presence>,
-) -> Result<(), AllocError>
-    ensures { Performs (λ u. u) (spec.name_told options at shown.now name.now found) (N.desk notes.old) result
-        (N.desk notes.new) }
-{
-    match found {
-        Some(Presence::NoModule) => tell_missing(alloc, notes, options, at, shown),
-        Some(Presence::NoName) => {
-            let text = no_attribute_text(alloc, shown, name.as_str())?;
-            tell_error(notes, at, Code::AttrDefined, text)
-        }
-        _ => Ok(()),
     }
 }

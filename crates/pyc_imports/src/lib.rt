@@ -6,4 +6,4 @@ mod imports;
 mod texts;
 
 pub use asking::asked_presence;
-pub use imports::{read_import, read_imported, read_module};
+pub use imports::ImportReader;

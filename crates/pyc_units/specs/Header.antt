@@ -13,6 +13,7 @@ use Rattle.pyc_iface.specs.declared.options.Options.{Options}
 use Rattle.pyc_imports.specs.ImportReadings.{import_reading, asked_presence}
 use Rattle.pyc_names.specs.FixedModules.{fixed_module}
 use Rattle.pyc_names.specs.Following.{is_import_from}
+use Rattle.pyc_names.specs.Interfaces.{interface_of}
 use Rattle.pyc_names.specs.SourceFiles.{SourceFile}
 use Rattle.pyc_reading.specs.declared.answer.Presence.{Presence}
 use Rattle.pyc_reading.specs.declared.answer.Presence.TheVariants as presence
@@ -34,7 +35,7 @@ redefinition_text name line = codes "Name \"" ++ (name ++ (codes "\" already def
 
 -- a part of the top level: an import asks for each of its modules or names
 abbrev pub form_reading : Options → SourceFile → Place → PartForm → Step (Unit {0})
-form_reading options file place (statement found) = import_reading options file place.at (form_of found)
+form_reading options file place (statement found) = import_reading options (interface_of file) place.at (form_of found)
 form_reading options file place _ = Done tt
 
 abbrev pub part_reading : Options → SourceFile → Part → Step (Unit {0})

@@ -16,7 +16,7 @@ use crate::redefined::tell_redefinitions;
 use pyc_ast::{Fault, Module, Outcome, Position, Text};
 use pyc_bindings::{Binding, BindingForm, Part, PartForm, Place, scope_parts};
 use pyc_iface::{Key, Notes, Options, Presence};
-use pyc_imports::{asked_presence, read_import};
+use pyc_imports::{ImportReader, asked_presence};
 use pyc_names::{QualifiedName, SourceFile, fixed_module};
 use pyc_reading::{tell_error, tell_line};
 use pyc_report::Code;
@@ -100,7 +100,12 @@ fn read_part<N: Notes>(
 {
     match form {
         PartForm::Statement(statement) => {
-            read_import(alloc, notes, options, file, place.at, &statement.form)
+            let reader = ImportReader {
+                alloc,
+                options,
+                at: place.at,
+            };
+            reader.read_import(notes, file, &statement.form)
         }
         _ => Ok(()),
     }

@@ -1,6 +1,6 @@
 use Rattle.std.proofs.Common.{arith, rules}
 use Rattle.std.proofs.lemmas.Grind.{common_steps}
-use Rattle.pyc_imports.proofs.imports.read_imported.Goals as goal
+use Rattle.pyc_imports.proofs.imports.ImportReader.read_imported.Goals as goal
 
 pub returns : goal.returns
 returns g c = first_of (grind (arith, common_steps), search rules)

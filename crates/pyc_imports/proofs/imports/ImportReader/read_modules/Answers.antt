@@ -5,11 +5,11 @@ use Rattle.pyc_imports.specs.ImportReadings.{module_checked}
 use Rattle.pyc_reading.specs.Desks.{run}
 use Rattle.pyc_reading.specs.Readings.{each}
 use Rattle.pyc_reading.proofs.RunLemmas.{one_turn, grown_trans}
-use Rattle.pyc_imports.proofs.imports.read_modules.Goals as goal
+use Rattle.pyc_imports.proofs.imports.ImportReader.read_modules.Goals as goal
 
 pub loop-imported-preserved : goal.loop-imported-preserved
 loop-imported-preserved g c =
-    let read = module_checked c.args.options c.args.at in
+    let read = module_checked c.args.self.options c.args.self.at in
     let first = ap (λ m. run (read (imported_module_of m)) (g.N.Notes.desk c.loop-imported.notes)) (sym c.deref.ensures) ∙ c.in_ok-check_module.ensures.done in
     record {
       same =

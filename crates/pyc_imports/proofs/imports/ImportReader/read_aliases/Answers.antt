@@ -2,14 +2,14 @@ use Rattle.std.proofs.lemmas.Grind.{common_steps}
 use Rattle.std.proofs.Common.{sym, ◌∙◌, refl, arith, rules}
 use Rattle.pyc_ast.specs.StatementView.{import_from_of}
 use Rattle.pyc_imports.specs.ImportReadings.{imported_reading}
-use Rattle.pyc_names.specs.SourceFileView.{source_in}
+use Rattle.pyc_names.specs.InterfaceView.{interface_in}
 use Rattle.pyc_reading.specs.Readings.{each}
 use Rattle.pyc_reading.proofs.RunLemmas.{one_turn, grown_trans}
-use Rattle.pyc_imports.proofs.imports.read_aliases.Goals as goal
+use Rattle.pyc_imports.proofs.imports.ImportReader.read_aliases.Goals as goal
 
 pub loop-alias-preserved : goal.loop-alias-preserved
 loop-alias-preserved g c =
-    let read = imported_reading c.args.options (source_in c.args.file.now) c.args.at (import_from_of c.args.from.now) in
+    let read = imported_reading c.args.self.options (interface_in c.args.file.now) c.args.self.at (import_from_of c.args.from.now) in
     record {
       same =
           sym (one_turn (each read) read (λ u xs. each read xs) (λ x xs. refl) _ c.loop-alias.alias-index _ _ _ _ c.loop-alias-test.true c.alias-item.is c.in_ok-read_imported.ensures.done)

@@ -1,6 +1,6 @@
 use Rattle.std.proofs.Common.{arith, rules}
 use Rattle.std.proofs.lemmas.Grind.{common_steps}
-use Rattle.pyc_imports.proofs.imports.tell_name.Goals as goal
+use Rattle.pyc_imports.proofs.imports.ImportReader.tell_name.Goals as goal
 
 pub returns-in-Some-NoModule : goal.returns-in-Some-NoModule
 returns-in-Some-NoModule g c = first_of (grind (arith, common_steps), search rules)

@@ -1,0 +1,212 @@
+//! Imports in the bodies of functions and classes.
+
+ghost use Rattle.std.specs.Prelude.{◌≡◌, IfOk, None, map};
+ghost use Rattle.pyc_ast.specs.StatementView.{imported_module_of, imported_of, import_from_of, stmt_form_of};
+ghost use Rattle.pyc_local_imports.specs.LocalImports as spec;
+ghost use Rattle.pyc_locals.specs.Views.{point_in};
+ghost use Rattle.pyc_names.specs.FollowingView.{qualified_of};
+ghost use Rattle.pyc_names.specs.InterfaceView.{interface_in};
+ghost use Rattle.pyc_reading.specs.Desks.{Performs};
+ghost use Rattle.pyc_type_forms.specs.TypeView.{ty_of};
+
+use crate::binding::{alias_name, bind_module, bind_module_import};
+use pyc_ast::{Alias, ImportFrom, ImportedModule, StmtForm, Text};
+use pyc_imports::ImportReader;
+use pyc_locals::{LocalType, Point};
+use pyc_names::{ModuleName, QualifiedName, SourceFile, fixed_module, named_module};
+use pyc_obligations::asked_name;
+use pyc_reading::Notes;
+use pyc_type_forms::Ty;
+use std::alloc::{AllocError, Global};
+use std::rc::Rc;
+use std::slice;
+
+/// Reads the imports of a body.
+#[derive(Clone, Copy)]
+pub struct LocalImportReader<'a> {
+    /// Reports the modules and names that are not there.
+    pub imports: ImportReader,
+    /// The file of the body.
+    pub file: &'a SourceFile,
+}
+
+impl LocalImportReader<'_> {
+    /// Reads a statement of a function: an import asks for each of its modules or names, and binds it. The reader
+    /// reports those that are not there. Any other statement changes nothing. The only error is that memory runs out.
+    #[tactic(auto, unfolding(crate::specs::LocalImports::local_import_read))]
+    pub fn read_local_import<N: Notes>(
+        self,
+        notes: &mut N,
+        form: &StmtForm,
+        point: &mut Point,
+    ) -> Result<(), AllocError>
+        ensures { Performs (λ u. point_in point.new)
+            (spec.local_import_read self.imports.options (interface_in self.file.now) self.imports.at
+            (stmt_form_of form.now) (point_in point.old)) (N.desk notes.old) result (N.desk notes.new) }
+    {
+        match form {
+            StmtForm::Import(modules) => self.read_modules(notes, modules, point),
+            StmtForm::ImportFrom(from) => self.read_names(notes, from, point),
+            _ => Ok(()),
+        }
+    }
+
+    /// Reads a statement of the body of a class: an import asks for each of its modules or names, and binds it to Any.
+    /// The reader reports those that are not there. Any other statement changes nothing. The only error is that memory
+    /// runs out.
+    #[tactic(auto, using(crate::proofs::Steps::performing), unfolding(crate::specs::LocalImports::class_import_read))]
+    pub fn read_class_import<N: Notes>(
+        self,
+        notes: &mut N,
+        form: &StmtForm,
+        point: &mut Point,
+    ) -> Result<(), AllocError>
+        ensures { Performs (λ u. point_in point.new)
+            (spec.class_import_read self.imports.options (interface_in self.file.now) self.imports.at
+            (stmt_form_of form.now) (point_in point.old)) (N.desk notes.old) result (N.desk notes.new) }
+    {
+        self.imports.read_import(notes, self.file, form)?;
+        bind_module_import(self.imports.alloc, form, point)
+    }
+
+    /// Reads the modules of `import`, in turn.
+    fn read_modules<N: Notes>(
+        self,
+        notes: &mut N,
+        modules: &[Rc<ImportedModule>],
+        point: &mut Point,
+    ) -> Result<(), AllocError>
+        ensures { Performs (λ u. point_in point.new)
+            (spec.modules_read self.imports.options self.imports.at (map imported_of modules.now)
+            (point_in point.old)) (N.desk notes.old) result (N.desk notes.new) }
+    {
+        for imported in modules {
+            self.read_module(notes, imported, point)?;
+        }
+        Ok(())
+    }
+
+    /// Reads a module of `import`, and binds its name: to Any where the module is not there.
+    #[tactic(auto, using(crate::proofs::Steps::performing))]
+    fn read_module<N: Notes>(
+        self,
+        notes: &mut N,
+        imported: &ImportedModule,
+        point: &mut Point,
+    ) -> Result<(), AllocError>
+        ensures { Performs (λ u. point_in point.new)
+            (spec.module_read self.imports.options self.imports.at (imported_module_of imported.now)
+            (point_in point.old)) (N.desk notes.old) result (N.desk notes.new) }
+    {
+        let is_there = self.imports.read_module(notes, imported)?;
+        let ty = type_if_there(self.imports.alloc, is_there, imported)?;
+        bind_module(self.imports.alloc, imported, ty, point)
+    }
+
+    /// Reads the names of a from-import, in turn.
+    fn read_names<N: Notes>(
+        self,
+        notes: &mut N,
+        from: &ImportFrom,
+        point: &mut Point,
+    ) -> Result<(), AllocError>
+        ensures { Performs (λ u. point_in point.new)
+            (spec.names_read self.imports.options (interface_in self.file.now) self.imports.at
+            (import_from_of from.now) from.now.names.items (point_in point.old)) (N.desk notes.old) result
+            (N.desk notes.new) }
+    {
+        for alias in &from.names {
+            self.read_name(notes, from, alias, point)?;
+        }
+        Ok(())
+    }
+
+    /// Reads a name of a from-import, and binds it to its type.
+    #[tactic(auto, using(crate::proofs::Steps::performing))]
+    fn read_name<N: Notes>(
+        self,
+        notes: &mut N,
+        from: &ImportFrom,
+        alias: &Alias,
+        point: &mut Point,
+    ) -> Result<(), AllocError>
+        ensures { Performs (λ u. point_in point.new)
+            (spec.name_read self.imports.options (interface_in self.file.now) self.imports.at
+            (import_from_of from.now) alias.now (point_in point.old)) (N.desk notes.old) result
+            (N.desk notes.new) }
+    {
+        self.imports.read_imported(notes, self.file, from, alias)?;
+        let alloc = self.imports.alloc;
+        let home = named_module(
+            alloc,
+            self.file.name(),
+            self.file.is_package(),
+            from.dots,
+            &from.path,
+        )?;
+        let ty = imported_type(alloc, notes, home, &alias.name)?;
+        point.bind(alloc, alias_name(alias), LocalType::Bound(ty))
+    }
+}
+
+/// The type of a name of some module: Any in a fixed one, and above the root, where there is none.
+#[tactic(auto, using(crate::proofs::Steps::performing))]
+fn imported_type<N: Notes>(
+    alloc: Global,
+    notes: &mut N,
+    home: Option<ModuleName>,
+    name: &Text,
+) -> Result<Ty, AllocError>
+    ensures { Performs ty_of (spec.imported_type home name.now) (N.desk notes.old) result (N.desk notes.new) }
+{
+    let Some(home) = home else {
+        return Ok(Ty::Any);
+    };
+    if fixed_module(home.parts()).is_some() {
+        return Ok(Ty::Any);
+    }
+    let name = name.clone()?;
+    asked_type(alloc, notes, QualifiedName { home, name })
+}
+
+/// The type of what a name of a module stands for.
+#[tactic(auto, using(crate::proofs::Steps::performing))]
+fn asked_type<N: Notes>(alloc: Global, notes: &mut N, name: QualifiedName) -> Result<Ty, AllocError>
+    ensures { Performs ty_of (spec.asked_type (qualified_of name)) (N.desk notes.old) result (N.desk notes.new) }
+{
+    let found = asked_name(alloc, notes, name)?;
+    Ok(found.ty)
+}
+
+/// The type of the name that `import` binds for a module: Any where that module is not there.
+fn type_if_there(alloc: Global, is_there: bool, imported: &ImportedModule) -> Result<Ty, AllocError>
+    ensures { IfOk result (λ ty. ty_of ty
+        ≡ spec.type_if_there is_there
+        (spec.bound_module imported.now.path.items imported.now.alias)) }
+{
+    if !is_there {
+        return Ok(Ty::Any);
+    }
+    let parts = Vec::from_clones(alloc, bound_module(imported))?;
+    Ok(Ty::Module(Rc::new(alloc, parts)?))
+}
+
+/// The parts of the module to which `import` binds a name: all to the one after `as`, else the first alone.
+fn bound_module(imported: &ImportedModule) -> &[Text]
+    ensures { result.now ≡ spec.bound_module imported.now.path.items imported.now.alias }
+{
+    match imported.alias {
+        Some(_) => &imported.path,
+        None => first_part(&imported.path),
+    }
+}
+
+/// The first part of a module's name alone.
+fn first_part(path: &[Text]) -> &[Text]
+    ensures { result.now ≡ spec.bound_module path.now None }
+{
+    match path {
+        [first, ..] => slice::from_ref(first),
+        [] => path,
+    }
+}
