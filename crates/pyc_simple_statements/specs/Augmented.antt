@@ -1,6 +1,5 @@
 -- Augmented assignments (Python reference 3.13, "Augmented assignment statements" and "Emulating numeric types").
 use Rattle.std.specs.Prelude.{ℕ, Bool, true, false, is_some, Option, None}
-use Rattle.pyc_assignments.specs.Reads.{type_read}
 use Rattle.pyc_assignments.specs.Singles.{met}
 use Rattle.pyc_assignments.specs.Storing.{stored}
 use Rattle.pyc_ast.specs.declared.operator.Operator.{Operator}
@@ -19,6 +18,7 @@ use Rattle.pyc_operators.specs.Binary.{binary}
 use Rattle.pyc_operators.specs.Operations.{in_place_method}
 use Rattle.pyc_reading.specs.Desks.{Step}
 use Rattle.pyc_reading.specs.Readings.{Done, ◌>>=◌}
+use Rattle.pyc_simple_statements.specs.Expressions.{part_type}
 use Rattle.pyc_simple_statements.specs.TargetTypes.{target_type}
 use Rattle.pyc_type_forms.specs.Types.{Ty, instance, list}
 
@@ -78,6 +78,6 @@ module _ (body : Body) where
   unfoldable pub augmented_read : AugmentedAssignment → Point → Step Point
   augmented_read found p = do
     left ← target_type body p found.target
-    right ← type_read (body_reads body) p found.value None
+    right ← part_type body p found.value None
     is_in_place ← in_place found.operator left
     stored_unless found left right p is_in_place

@@ -1,7 +1,6 @@
 -- The types of targets before they are assigned or deleted (Python reference 3.13, "Augmented assignment statements"
 -- and "The del statement"; typing specification, "Type narrowing").
 use Rattle.std.specs.Prelude.{ℕ, List, Option, None, Some}
-use Rattle.pyc_assignments.specs.Reads.{type_read}
 use Rattle.pyc_ast.specs.declared.position.Position.{Position}
 use Rattle.pyc_ast.specs.Exprs.{Expr, Index}
 use Rattle.pyc_ast.specs.Targets.{Target, target, TargetForm, name, unpacking}
@@ -17,6 +16,7 @@ use Rattle.pyc_places.specs.States.{State, narrowed_type}
 use Rattle.pyc_places.specs.TargetPlaces.{target_place}
 use Rattle.pyc_reading.specs.Desks.{Step}
 use Rattle.pyc_reading.specs.Readings.{Done, ◌>>=◌}
+use Rattle.pyc_simple_statements.specs.Expressions.{part_type}
 use Rattle.pyc_type_forms.specs.Types.{Ty, any}
 
 -- the type to which some place is narrowed
@@ -41,7 +41,7 @@ module _ (body : Body) where
   -- the type of an item of a value
   unfoldable pub item_type : Point → Position → Expr → Index → Step Ty
   item_type p at x brackets = do
-    ty ← type_read (body_reads body) p x None
+    ty ← part_type body p x None
     got ← (body_reads body).index p brackets
     subscript at brackets got ty
 

@@ -6,15 +6,17 @@ ghost use Rattle.pyc_ast.specs.StatementView.{annotated_of, stmt_form_of};
 ghost use Rattle.pyc_bodies.specs.BodyTargets.{body_reads, declares};
 ghost use Rattle.pyc_bodies.specs.Views.{body_in};
 ghost use Rattle.pyc_locals.specs.Views.{point_in};
+ghost use Rattle.pyc_names.specs.SourceFileView.{source_in};
 ghost use Rattle.pyc_reading.specs.Desks.{Performs};
 ghost use Rattle.pyc_simple_statements.specs.BodyParts as spec;
 
 use crate::reader::StatementReader;
 use pyc_assignments::{annotated_assignment, assignment};
-use pyc_ast::{AnnotatedAssignment, Expr, For, Position, StmtForm, Text, WithItem};
+use pyc_ast::{AnnotatedAssignment, Expr, For, Handler, Position, StmtForm, Text, WithItem};
 use pyc_blocks::PartReader;
 use pyc_bodies::{Body, BodyKind};
-use pyc_local_imports::LocalImports;
+use pyc_imports::ImportReader;
+use pyc_local_imports::{LocalImportReader, bind_module_import};
 use pyc_locals::{LocalType, Point};
 use pyc_narrowing::States;
 use pyc_obligations::Judge;
@@ -66,12 +68,11 @@ impl<N: Judge> PartReader<N> for Body<'_> {
         &self,
         alloc: Global,
         notes: &mut N,
-        caught: Option<&Expr>,
-        name: Option<&Text>,
+        handler: &Handler,
         point: &mut Point,
     ) -> Result<(), AllocError> {
         let reader = StatementReader { alloc, body: self };
-        reader.read_caught(notes, caught, name, point)
+        reader.read_caught(notes, handler.caught.as_ref(), handler.name.as_ref(), point)
     }
 
     fn items(
@@ -147,6 +148,23 @@ impl StatementReader<'_> {
         point.bind(self.alloc, name, LocalType::Bound(Ty::Any))
     }
 
+    /// What reads the import that begins at `at`.
+    fn imports(&self, at: Position) -> LocalImportReader<'_>
+        ensures options { result.imports.options ≡ (body_in self.now.body.now).options }
+        ensures at { result.imports.at ≡ at }
+        ensures file { source_in result.file.now ≡ (body_in self.now.body.now).file }
+    {
+        let imports = ImportReader {
+            alloc: self.alloc,
+            options: self.body.options,
+            at,
+        };
+        LocalImportReader {
+            imports,
+            file: self.body.file,
+        }
+    }
+
     /// Reads the import that begins at `at`, by the kind of its body.
     fn read_import<N: Judge>(
         &self,
@@ -159,16 +177,10 @@ impl StatementReader<'_> {
             (spec.import_by (body_in self.now.body.now) (body_in self.now.body.now).kind at (stmt_form_of form.now)
             (point_in point.old)) (N.desk notes.old) result (N.desk notes.new) }
     {
-        let imports = LocalImports {
-            alloc: self.alloc,
-            options: self.body.options,
-            file: self.body.file,
-            at,
-        };
         match self.body.kind {
-            BodyKind::Module => Ok(imports.bind(form, point)?),
-            BodyKind::Class(_) => imports.read_in_class(notes, form, point),
-            BodyKind::Function(_) => imports.read_in_function(notes, form, point),
+            BodyKind::Module => Ok(bind_module_import(self.alloc, form, point)?),
+            BodyKind::Class(_) => self.imports(at).read_class_import(notes, form, point),
+            BodyKind::Function(_) => self.imports(at).read_local_import(notes, form, point),
         }
     }
 }

@@ -12,7 +12,7 @@ ghost use Rattle.pyc_simple_statements.specs.TargetTypes as spec;
 ghost use Rattle.pyc_type_forms.specs.TypeView.{ty_of};
 
 use crate::reader::StatementReader;
-use pyc_assignments::{AssignmentReader, type_read};
+use pyc_assignments::AssignmentReader;
 use pyc_ast::{Expr, Index, Position, Target, TargetForm, Text};
 use pyc_attributes::attribute;
 use pyc_expr::Context;
