@@ -10,6 +10,7 @@ use pyc_lower::read as read_source;
 use pyc_names::{ModuleName, SourceFile};
 use pyc_places::State;
 use pyc_report::Message;
+use pyc_simple_statements::BodyParts;
 use std::alloc::{AllocError, Global};
 use std::fmt::Write;
 use std::rc::Rc;
@@ -196,12 +197,13 @@ fn told_in(
         file,
         kind: BodyKind::Module,
     };
+    let parts = BodyParts { body };
     let mut point = Point {
         locals: Locals::none(alloc),
         state: State::nothing_narrowed(alloc),
     };
     let statements = &module.statements[last..];
-    read_statements(alloc, &mut examiner, &body, statements, &mut point)?;
+    read_statements(alloc, &mut examiner, &parts, statements, &mut point)?;
     shown(alloc, &examiner.into_messages())
 }
 

@@ -16,6 +16,7 @@ use pyc_blocks::read_statements;
 use pyc_bodies::Body;
 use pyc_locals::Locals;
 use pyc_obligations::Judge;
+use pyc_simple_statements::BodyParts;
 use std::alloc::{AllocError, Global};
 
 /// Reads the body of a class: its statements in turn, and then the names that it defines again; a body that suspends is
@@ -82,5 +83,6 @@ fn read_plain_body<N: Judge>(
         (N.desk notes.old) result (N.desk notes.new) }
 {
     let mut point = begun(alloc, Locals::none(alloc));
-    read_statements(alloc, notes, body, statements, &mut point)
+    let parts = BodyParts { body: *body };
+    read_statements(alloc, notes, &parts, statements, &mut point)
 }

@@ -22,6 +22,7 @@ use pyc_bodies::{Body, BodyKind};
 use pyc_locals::{Locals, Point};
 use pyc_obligations::Judge;
 use pyc_places::State;
+use pyc_simple_statements::BodyParts;
 use pyc_type_forms::Ty;
 use std::alloc::{AllocError, Global};
 
@@ -158,7 +159,8 @@ impl FunctionReader<'_> {
         };
         let locals = function_locals(self.alloc, &types.parameters, bindings)?;
         let mut point = begun(self.alloc, locals);
-        read_statements(self.alloc, notes, &inside, statements, &mut point)?;
+        let parts = BodyParts { body: inside };
+        read_statements(self.alloc, notes, &parts, statements, &mut point)?;
         Ok(point)
     }
 }

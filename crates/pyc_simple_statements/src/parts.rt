@@ -24,10 +24,16 @@ use pyc_places::Place;
 use pyc_type_forms::Ty;
 use std::alloc::{AllocError, Global};
 
-impl<N: Judge> PartReader<N> for Body<'_> {
-    ghost ready = { λ body. Unit };
+/// A body, as its blocks read the parts of its statements.
+#[derive(Clone, Copy)]
+pub struct BodyParts<'a> {
+    pub body: Body<'a>,
+}
 
-    ghost parts = { λ body. spec.body_parts (body_in body) };
+impl<N: Judge> PartReader<N> for BodyParts<'_> {
+    ghost ready = { λ parts. Unit };
+
+    ghost parts = { λ parts. spec.body_parts (body_in parts.body) };
 
     fn simple(
         &self,
@@ -37,7 +43,10 @@ impl<N: Judge> PartReader<N> for Body<'_> {
         form: &StmtForm,
         point: &mut Point,
     ) -> Result<(), AllocError> {
-        let reader = StatementReader { alloc, body: self };
+        let reader = StatementReader {
+            alloc,
+            body: &self.body,
+        };
         reader.read_simple(notes, at, form, point)
     }
 
@@ -48,7 +57,10 @@ impl<N: Judge> PartReader<N> for Body<'_> {
         test: &Expr,
         point: &Point,
     ) -> Result<States, AllocError> {
-        let reader = StatementReader { alloc, body: self };
+        let reader = StatementReader {
+            alloc,
+            body: &self.body,
+        };
         reader.read_test(notes, test, point)
     }
 
@@ -60,7 +72,10 @@ impl<N: Judge> PartReader<N> for Body<'_> {
         places: &[Place],
         point: &mut Point,
     ) -> Result<(), AllocError> {
-        let reader = StatementReader { alloc, body: self };
+        let reader = StatementReader {
+            alloc,
+            body: &self.body,
+        };
         reader.begin_turn(notes, head, places, point)
     }
 
@@ -71,7 +86,10 @@ impl<N: Judge> PartReader<N> for Body<'_> {
         handler: &Handler,
         point: &mut Point,
     ) -> Result<(), AllocError> {
-        let reader = StatementReader { alloc, body: self };
+        let reader = StatementReader {
+            alloc,
+            body: &self.body,
+        };
         reader.read_caught(notes, handler.caught.as_ref(), handler.name.as_ref(), point)
     }
 
@@ -82,7 +100,10 @@ impl<N: Judge> PartReader<N> for Body<'_> {
         items: &[WithItem],
         point: &mut Point,
     ) -> Result<(), AllocError> {
-        let reader = StatementReader { alloc, body: self };
+        let reader = StatementReader {
+            alloc,
+            body: &self.body,
+        };
         reader.read_items(notes, items, point)
     }
 }
