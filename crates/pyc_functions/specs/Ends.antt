@@ -40,18 +40,18 @@ is_stub statements = all_idle true statements
 
 -- ---- what the end owes
 
--- None has to be of the type that a function gives, which is reported where its `def` begins
-abbrev pub owed_end : Position → Ty → Obligation
-owed_end at result =
+-- what a function gives at its end has to be of the type that it gives, which is reported where its `def` begins
+abbrev pub owed_end : Position → (got want : Ty) → Obligation
+owed_end at got want =
     record {
       duty = duty.MissingReturn;
       at = at;
-      got = none;
-      want = result;
+      got = got;
+      want = want;
       details = [];
       text = codes "Missing return statement";
     }
 
 -- where the end of a function is reached, it gives None
 unfoldable pub end_read : Position → Ty → Bool → Step (Unit {0})
-end_read at result is_reached = if is_reached then owed (owed_end at result) else Done tt
+end_read at result is_reached = if is_reached then owed (owed_end at none result) else Done tt

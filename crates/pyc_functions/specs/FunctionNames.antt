@@ -1,5 +1,5 @@
 -- The names that a function binds (Python reference 3.13, "Naming and binding" and "The global statement").
-use Rattle.std.specs.Prelude.{ℕ, Bool, false, bytes_eq, if◌then◌else◌, List, [], ◌∷◌, ◌++◌, flat_map, map}
+use Rattle.std.specs.Prelude.{ℕ, Bool, false, not, bytes_eq, List, [], ◌∷◌, ◌++◌, filter, flat_map, map}
 use Rattle.std.specs.List.{list_any}
 use Rattle.pyc_ast.specs.Statements.{Parameter, StmtForm, Stmts}
 use Rattle.pyc_ast.specs.Statements as plain
@@ -29,14 +29,18 @@ global_names statements = flat_map (λ (found : Part). part_globals found.form) 
 abbrev pub parameter_binding : Parameter → Binding
 parameter_binding p = bound (placed p.at false) p.name other
 
--- a binding of a function in which these names are the module's: one of such a name is no binding of the function
-abbrev pub own_binding : List (List ℕ) → Binding → List Binding
-own_binding globals b = if list_any (λ name. bytes_eq name b.name) globals then [] else b ∷ []
+abbrev pub is_among : List (List ℕ) → List ℕ → Bool
+is_among names x = list_any (λ name. bytes_eq name x) names
 
--- the bindings of a function: those of its parameters and then those of its statements
+-- whether a binding of a function, in which these names are the module's, binds a name of the function
+abbrev pub is_own : List (List ℕ) → Binding → Bool
+is_own globals b = not (is_among globals b.name)
+
+-- the bindings of a function: those of its parameters and then those of its statements, without the names that are the
+-- module's
 unfoldable pub function_bindings : List Parameter → Stmts → List Binding
 function_bindings parameters statements =
-    flat_map (own_binding (global_names statements)) (map parameter_binding parameters ++ bindings_of statements)
+    filter (is_own (global_names statements)) (map parameter_binding parameters ++ bindings_of statements)
 
 -- ---- locals
 

@@ -5,7 +5,7 @@ ghost use Rattle.pyc_ast.specs.ExprView.{expr_of};
 ghost use Rattle.pyc_ast.specs.Statements.{stmts};
 ghost use Rattle.pyc_ast.specs.StatementView.{stmt_of, stmt_form_of};
 ghost use Rattle.pyc_functions.specs.Ends as spec;
-ghost use Rattle.pyc_functions.specs.OwedView.{owed_end_in};
+ghost use Rattle.pyc_functions.specs.Views.{owed_end_in};
 ghost use Rattle.pyc_reading.specs.Desks.{Performs};
 ghost use Rattle.pyc_type_forms.specs.TypeView.{ty_of};
 
@@ -76,9 +76,12 @@ pub(crate) fn read_end<N: Judge>(
     if !is_reached {
         return Ok(());
     }
-    let got = &Ty::None;
-    let want = gives;
-    owe(alloc, notes, &OwedEnd { at, got, want })
+    let owed = OwedEnd {
+        at,
+        got: &Ty::None,
+        want: gives,
+    };
+    owe(alloc, notes, &owed)
 }
 
 /// The end of a function: where the function begins, and the types that it gives there and has to give.

@@ -1,7 +1,6 @@
 //! The names that a function binds.
 
-ghost use Rattle.std.specs.Prelude.{◌≡◌, ◌++◌, flat_map, map, IfOk, OnOk};
-ghost use Rattle.std.specs.List.{list_any};
+ghost use Rattle.std.specs.Prelude.{◌≡◌, ◌++◌, filter, map, IfOk, OnOk};
 ghost use Rattle.pyc_ast.specs.Statements.{stmts};
 ghost use Rattle.pyc_ast.specs.StatementView.{parameter_of, stmt_of, stmt_form_of};
 ghost use Rattle.pyc_bindings.specs.BindingView.{binding_of};
@@ -27,27 +26,22 @@ pub(crate) fn function_bindings(
     ensures { IfOk result (λ found. map binding_of found.items
         ≡ spec.function_bindings (map parameter_of parameters.now) (stmts (map stmt_of statements.now))) }
 {
-    let globals = global_names(alloc, statements)?;
-    let mut found = Vec::new(alloc);
-    push_parameters(&globals, parameters, &mut found)?;
-    push_own(&globals, scope_bindings(alloc, statements)?, &mut found)?;
+    let mut found = parameter_bindings(alloc, parameters)?;
+    found.append(&mut scope_bindings(alloc, statements)?)?;
+    keep_own(&global_names(alloc, statements)?, &mut found);
     Ok(found)
 }
 
-/// Adds the bindings of parameters, in turn.
-fn push_parameters(
-    globals: &[Text],
-    parameters: &[Parameter],
-    found: &mut Vec<Binding>,
-) -> Result<(), AllocError>
-    ensures { OnOk result (map binding_of found.new.items
-        ≡ map binding_of found.old.items
-        ++ flat_map (spec.own_binding globals.now) (map spec.parameter_binding (map parameter_of parameters.now))) }
+/// Parameters as bindings.
+fn parameter_bindings(alloc: Global, parameters: &[Parameter]) -> Result<Vec<Binding>, AllocError>
+    ensures { IfOk result (λ found. map binding_of found.items
+        ≡ map spec.parameter_binding (map parameter_of parameters.now)) }
 {
+    let mut found = Vec::new(alloc);
     for parameter in parameters {
-        push_binding(globals, parameter_binding(parameter)?, found)?;
+        found.push(parameter_binding(parameter)?)?;
     }
-    Ok(())
+    Ok(found)
 }
 
 /// A parameter as a binding.
@@ -64,39 +58,17 @@ fn parameter_binding(parameter: &Parameter) -> Result<Binding, AllocError>
     })
 }
 
-/// Adds bindings in turn.
-fn push_own(
-    globals: &[Text],
-    bindings: Vec<Binding>,
-    found: &mut Vec<Binding>,
-) -> Result<(), AllocError>
-    ensures { OnOk result (map binding_of found.new.items
-        ≡ map binding_of found.old.items ++ flat_map (spec.own_binding globals.now) (map binding_of bindings.items)) }
+/// Keeps of some bindings those of names that are not the module's.
+fn keep_own(globals: &[Text], bindings: &mut Vec<Binding>)
+    ensures { map binding_of bindings.new.items
+        ≡ filter (spec.is_own globals.now) (map binding_of bindings.old.items) }
 {
-    for binding in bindings {
-        push_binding(globals, binding, found)?;
-    }
-    Ok(())
-}
-
-/// Adds a binding, unless its name is the module's.
-fn push_binding(
-    globals: &[Text],
-    binding: Binding,
-    found: &mut Vec<Binding>,
-) -> Result<(), AllocError>
-    ensures { OnOk result (map binding_of found.new.items
-        ≡ map binding_of found.old.items ++ spec.own_binding globals.now (binding_of binding)) }
-{
-    if !is_among(globals, &binding.name) {
-        found.push(binding)?;
-    }
-    Ok(())
+    bindings.retain(|binding| !is_among(globals, &binding.name));
 }
 
 /// Whether a name is one of these.
 fn is_among(names: &[Text], name: &Text) -> bool
-    ensures { result ≡ list_any (λ found. bytes_eq found name.now) names.now }
+    ensures { result ≡ spec.is_among names.now name.now }
 {
     for found in names {
         if *found == *name {

@@ -1,13 +1,14 @@
 //! Functions whole.
 
-ghost use Rattle.std.specs.Prelude.{◌≡◌, [], map};
+ghost use Rattle.std.specs.Prelude.{◌≡◌, is_some, map};
+ghost use Rattle.std.specs.List.{list_any};
 ghost use Rattle.pyc_ast.specs.Statements.{stmts};
-ghost use Rattle.pyc_ast.specs.StatementView.{function_of, stmt_of};
+ghost use Rattle.pyc_ast.specs.StatementView.{function_of, parameter_of, stmt_of};
 ghost use Rattle.pyc_bindings.specs.BindingView.{binding_of};
 ghost use Rattle.pyc_bodies.specs.Views.{body_in};
 ghost use Rattle.pyc_functions.specs.Functions as spec;
 ghost use Rattle.pyc_functions.specs.Views.{head_types_in};
-ghost use Rattle.pyc_locals.specs.Views.{point_in};
+ghost use Rattle.pyc_locals.specs.Views.{locals_in, point_in};
 ghost use Rattle.pyc_reading.specs.Desks.{Performs};
 
 use crate::ends::{is_stub, read_end};

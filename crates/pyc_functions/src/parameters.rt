@@ -1,16 +1,21 @@
 //! The parameters of a function.
 
-ghost use Rattle.std.specs.Prelude.{◌≡◌, [], map, IfOk, option_map, string_bytes};
+ghost use Rattle.std.specs.Prelude.{◌≡◌, [], map, IfOk, option_map, Some, string_bytes};
 ghost use Rattle.pyc_ast.specs.ExprView.{expr_of};
 ghost use Rattle.pyc_ast.specs.StatementView.{boxed_expr_of, parameter_of};
+ghost use Rattle.pyc_bodies.specs.BodyNames.{body_context};
 ghost use Rattle.pyc_bodies.specs.Views.{body_in};
+ghost use Rattle.pyc_builtins.specs.Builtin.{str_type};
+ghost use Rattle.pyc_expr.specs.Values.{infer_type};
 ghost use Rattle.pyc_functions.specs.Parameters as spec;
-ghost use Rattle.pyc_functions.specs.Views.{parameter_type_in};
+ghost use Rattle.pyc_functions.specs.Views.{owed_default_in, parameter_type_in};
+ghost use Rattle.pyc_locals.specs.Locals.{no_locals};
 ghost use Rattle.pyc_names.specs.InterfaceView.{interface_in};
+ghost use Rattle.pyc_places.specs.States.{nothing_narrowed};
 ghost use Rattle.pyc_reading.specs.Desks.{Performs};
 ghost use Rattle.pyc_signatures.specs.Signatures as signatures;
 ghost use Rattle.pyc_type_forms.specs.TypeView.{ty_of};
-ghost use Rattle.pyc_type_forms.specs.Types.{any};
+ghost use Rattle.pyc_type_forms.specs.Types.{any, dict};
 
 use crate::function_reader::FunctionReader;
 use pyc_annotations::read_annotation;
@@ -56,11 +61,11 @@ impl FunctionReader<'_> {
             (N.desk notes.old) result (N.desk notes.new) }
     {
         let mut found = Vec::new(self.alloc);
-        let mut receiver = receiver;
+        let mut called_on = receiver;
         for parameter in parameters {
-            let inside = self.read_parameter(notes, receiver, parameter)?;
+            let inside = self.read_parameter(notes, called_on, parameter)?;
             found.push(inside)?;
-            receiver = Ty::Any;
+            called_on = Ty::Any;
         }
         Ok(found)
     }
