@@ -9,6 +9,8 @@ level. Some functions have no annotation, some suspend, some end without a `retu
 Used by compare_sessions.py, which says how sessions of these files are compared.
 """
 
+import re
+
 from typed_files import ANY, EXCEPTIONS, MEMBERS, NONE, VARIABLES, Named, Ty, TypedMaker
 
 LOCALS = "p q r l1 l2 l3 e v w x".split()
@@ -187,6 +189,10 @@ class StatementMaker(TypedMaker):
 
     def assigned(self):
         targets = [self.goal() for _ in range(self.one((1, 1, 1, 1, 2)))]
+        words = [set(re.findall(r"\w+", it[0])) for it in targets]
+        if len(targets) > 1 and words[0] & words[1]:
+            # which of two targets of one name declares it is no matter of a comparison
+            targets = targets[:1]
         text = self.wanted(targets[0][1] if self.chance(0.8) else None, 2)
         if self.chance(0.12):
             text = "None"
