@@ -20,10 +20,10 @@ use pyc_obligations::Judge;
 use pyc_type_forms::Ty;
 use std::alloc::{AllocError, Global};
 
-/// Performs an annotated assignment; the point is then the one after it. The value is read with the type that the
-/// annotation means, and must be of it; where it is not that is told. Without a value the annotation alone is read. A
-/// local that is its target is declared, unless it was before; `declares` says whether the assignment declares the name
-/// that is its target at the top level or in a class. The only error is that memory runs out.
+/// Checks an annotated assignment, and leaves `point` as it is after it. The annotated type is expected of the value,
+/// which has to be assignable to it. Without a value only the annotation is checked. A local that is the target is
+/// declared so, unless it was before; `declares` says whether this is the declaration of a name of the top level or of
+/// a class. The only error is that memory runs out.
 #[tactic(auto, using(pyc_obligations::proofs::Steps::performing), unfolding(crate::specs::Assignments::annotated_assignment))]
 pub fn annotated_assignment<N: Judge, R: AssignmentReader<N>>(
     alloc: Global,
@@ -52,7 +52,7 @@ pub fn annotated_assignment<N: Judge, R: AssignmentReader<N>>(
     Ok(())
 }
 
-/// Reads and assigns the value, if there is one, once the annotation was read.
+/// Checks some value of an annotation that means `want`; without a value it declares the target alone.
 fn if_value<N: Judge, R: AssignmentReader<N>>(
     alloc: Global,
     notes: &mut N,
@@ -75,7 +75,7 @@ fn if_value<N: Judge, R: AssignmentReader<N>>(
     }
 }
 
-/// Reads the target and the value, and assigns the value.
+/// Checks the target and the value of an annotation that means `want`.
 #[tactic(auto, using(pyc_obligations::proofs::Steps::performing), unfolding(crate::specs::Assignments::with_value))]
 fn with_value<N: Judge, R: AssignmentReader<N>>(
     alloc: Global,
@@ -98,7 +98,7 @@ fn with_value<N: Judge, R: AssignmentReader<N>>(
     )
 }
 
-/// What an assignment to a target other than a name meets, which is read before the value.
+/// What an assignment to `target` meets, if that is no name: it is read before the value.
 fn early_met<N: Judge, R: AssignmentReader<N>>(
     alloc: Global,
     notes: &mut N,
@@ -116,7 +116,7 @@ fn early_met<N: Judge, R: AssignmentReader<N>>(
     }
 }
 
-/// Declares the local that an annotated target is, if it is one that nothing has declared before.
+/// Declares `target` of type `want`, if it is a local that nothing has declared before.
 fn target_annotated(want: &Ty, target: &Target, point: &mut Point) -> Result<(), AllocError>
     ensures { OnOk result (point_in point.new
         ≡ spec.target_annotated (ty_of want.now) (target_of target.now) (point_in point.old)) }
@@ -130,7 +130,7 @@ fn target_annotated(want: &Ty, target: &Target, point: &mut Point) -> Result<(),
     }
 }
 
-/// Reads and assigns the value, once the target was read.
+/// Checks the value of an annotation whose target was read before, and declares the target after it.
 #[tactic(auto, using(pyc_obligations::proofs::Steps::performing), unfolding(crate::specs::Assignments::value_assigned))]
 fn value_assigned<N: Judge, R: AssignmentReader<N>>(
     alloc: Global,
@@ -157,7 +157,7 @@ fn value_assigned<N: Judge, R: AssignmentReader<N>>(
     Ok(())
 }
 
-/// Assigns a value of a type that begins at a position.
+/// Assigns a value of type `got`, which begins at `at`, to a target that is annotated to be of type `want`.
 #[tactic(auto, using(pyc_obligations::proofs::Steps::performing), unfolding(crate::specs::Assignments::value_stored))]
 fn value_stored<N: Judge, R: AssignmentReader<N>>(
     alloc: Global,
@@ -184,7 +184,7 @@ fn value_stored<N: Judge, R: AssignmentReader<N>>(
     Ok(())
 }
 
-/// What a target takes: a name is read after the value.
+/// The type that `target` takes, if it takes one; a name is read only now, after the value.
 fn late_want<N: Judge, R: AssignmentReader<N>>(
     alloc: Global,
     notes: &mut N,
@@ -206,7 +206,7 @@ fn late_want<N: Judge, R: AssignmentReader<N>>(
     }
 }
 
-/// The type that is expected of a value for what its target meets, as a copy.
+/// A copy of the type that is expected of a value whose target meets `met`.
 fn want_of(met: &Met) -> Result<Option<Ty>, AllocError>
     ensures { IfOk result (λ want. option_map ty_of want ≡ reads.want_of (met_in met.now)) }
 {
@@ -216,7 +216,7 @@ fn want_of(met: &Met) -> Result<Option<Ty>, AllocError>
     }
 }
 
-/// What a name takes, by whether the assignment declares it.
+/// The type that a name takes, if it takes one, by whether the assignment declares it.
 fn name_want<N: Judge, R: AssignmentReader<N>>(
     alloc: Global,
     notes: &mut N,
@@ -238,7 +238,7 @@ fn name_want<N: Judge, R: AssignmentReader<N>>(
     }
 }
 
-/// What a name takes where the assignment does not declare it.
+/// The type that a name takes, if it takes one, which the assignment does not declare.
 #[tactic(auto, using(pyc_obligations::proofs::Steps::performing), unfolding(crate::specs::Assignments::asked_want))]
 fn asked_want<N: Judge, R: AssignmentReader<N>>(
     alloc: Global,

@@ -19,8 +19,8 @@ use pyc_obligations::Judge;
 use pyc_type_forms::Ty;
 use std::alloc::{AllocError, Global};
 
-/// Assigns a value of a type, which begins at `at`, to a target; the point is then the one after it. What is owed to the
-/// target and does not hold is told. The only error is that memory runs out.
+/// Assigns a value of type `ty`, which begins at `at`, to `target`, and leaves `point` as it is after that. Reports
+/// each obligation that does not hold. The only error is that memory runs out.
 #[cycle(assigned)]
 pub fn assigned<N: Judge, R: AssignmentReader<N>>(
     alloc: Global,
@@ -44,7 +44,7 @@ pub fn assigned<N: Judge, R: AssignmentReader<N>>(
     }
 }
 
-/// Assigns a value to a target that is no tuple or list of targets.
+/// Assigns a value of type `ty` to a target that is no tuple or list of targets.
 #[tactic(auto, using(pyc_obligations::proofs::Steps::performing), unfolding(crate::specs::Assignments::single_assigned))]
 fn single_assigned<N: Judge, R: AssignmentReader<N>>(
     alloc: Global,
@@ -64,7 +64,7 @@ fn single_assigned<N: Judge, R: AssignmentReader<N>>(
     stored(alloc, notes, at, target, &found, ty, point)
 }
 
-/// Unpacks a value to targets.
+/// Unpacks a value of type `ty` to targets.
 #[cycle(assigned)]
 #[tactic(auto, using(pyc_obligations::proofs::Steps::performing))]
 fn unpacked<N: Judge, R: AssignmentReader<N>>(
@@ -86,7 +86,7 @@ fn unpacked<N: Judge, R: AssignmentReader<N>>(
     each_assigned(alloc, notes, reader, at, &found, elements, point)
 }
 
-/// Assigns their shares to targets, in turn.
+/// Assigns the shares `found` to targets, in turn.
 #[cycle(assigned)]
 #[tactic(auto, using(pyc_obligations::proofs::Steps::performing))]
 fn each_assigned<N: Judge, R: AssignmentReader<N>>(

@@ -19,9 +19,9 @@ use pyc_obligations::Judge;
 use pyc_type_forms::Ty;
 use std::alloc::{AllocError, Global};
 
-/// Assigns to targets from left to right; the point is then the one after the assignment. The value is read with the
-/// type that the first target takes which is no tuple or list of targets. What is owed to a target and does not hold is
-/// told. The only error is that memory runs out.
+/// Checks an assignment to targets from left to right, and leaves `point` as it is after it. The type that the first
+/// target takes which is no tuple or list of targets is expected of the value. Reports each obligation that does not
+/// hold. The only error is that memory runs out.
 #[tactic(auto, using(pyc_obligations::proofs::Steps::performing), unfolding(crate::specs::Assignments::assignment))]
 pub fn assignment<N: Judge, R: AssignmentReader<N>>(
     alloc: Global,
@@ -54,7 +54,7 @@ fn first_single(targets: &[Target]) -> usize
     targets.len()
 }
 
-/// What the first such target meets.
+/// What an assignment to some first single target meets.
 fn first_met<N: Judge, R: AssignmentReader<N>>(
     alloc: Global,
     notes: &mut N,
@@ -73,7 +73,7 @@ fn first_met<N: Judge, R: AssignmentReader<N>>(
     }
 }
 
-/// Assigns a value to targets, where this is what the first single one meets.
+/// Infers the value and assigns it to targets, of which the one of the number `first` meets `found`.
 #[tactic(auto, using(pyc_obligations::proofs::Steps::performing), unfolding(crate::specs::Assignments::assignment_by))]
 fn assignment_by<N: Judge, R: AssignmentReader<N>>(
     alloc: Global,
@@ -97,7 +97,7 @@ fn assignment_by<N: Judge, R: AssignmentReader<N>>(
     Ok(())
 }
 
-/// Assigns a value of a type to targets in turn.
+/// Assigns a value of type `ty` to targets in turn, of which the one of the number `first` meets `found`.
 #[tactic(auto, using(pyc_obligations::proofs::Steps::performing), unfolding(crate::specs::Assignments::targets_assigned))]
 fn targets_assigned<N: Judge, R: AssignmentReader<N>>(
     alloc: Global,
@@ -132,7 +132,7 @@ fn targets_assigned<N: Judge, R: AssignmentReader<N>>(
     Ok(())
 }
 
-/// Assigns a value of a type to a target, by whether what it meets was read before.
+/// Assigns a value of type `ty` to a target, by whether `found`, which was read before, is what it meets.
 fn target_assigned<N: Judge, R: AssignmentReader<N>>(
     alloc: Global,
     notes: &mut N,

@@ -16,24 +16,24 @@ use pyc_targets::Slot;
 use pyc_type_forms::Ty;
 use std::alloc::{AllocError, Global};
 
-/// What an assignment to one target meets.
+/// What an assignment to a single target meets.
 #[derive(Debug, Drop)]
 pub enum Met {
-    /// A place that takes what it is declared as, or anything.
+    /// A target that takes what it is declared as, or anything.
     Slot(Slot),
     /// A local of this name that nothing has declared before: the assignment declares it.
     NewLocal(Text),
 }
 
 impl Met {
-    /// What an assignment to a target meets to which nothing is owed. It takes no memory.
+    /// What an assignment meets whose target takes anything. It takes no memory.
     pub fn free() -> Met
         ensures { met_in result ≡ spec.free_met }
     {
         Met::Slot(Slot::plain(None))
     }
 
-    /// The type that is expected of a value for what its target meets. It takes no memory.
+    /// The type that is expected of the value, if one is. It takes no memory.
     pub fn want(&self) -> Option<&Ty>
         ensures { option_map (λ ty. ty_of ty.now) result ≡ spec.want_of (met_in self.now) }
     {

@@ -17,8 +17,8 @@ use pyc_obligations::Judge;
 use pyc_targets::{Slot, attribute_want, item_target};
 use std::alloc::{AllocError, Global};
 
-/// What an assignment to a target meets, whose parts are read at a point. To a tuple or a list of targets nothing is
-/// owed as a whole. The only error is that memory runs out.
+/// What an assignment to `target` meets, whose parts are read at `point`. A tuple or a list of targets takes anything
+/// as a whole. The only error is that memory runs out.
 pub fn met<N: Judge, R: AssignmentReader<N>>(
     alloc: Global,
     notes: &mut N,

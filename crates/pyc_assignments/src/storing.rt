@@ -21,8 +21,8 @@ use pyc_targets::Slot;
 use pyc_type_forms::Ty;
 use std::alloc::{AllocError, Global};
 
-/// Assigns a value of a type, which begins at `at`, to a target that meets this; the point is then the one after it. What
-/// is owed to the target and does not hold is told. The only error is that memory runs out.
+/// Assigns a value of type `got`, which begins at `at`, to a target that meets `met`, and leaves `point` as it is after
+/// that. Reports the obligation, if there is one and it does not hold. The only error is that memory runs out.
 pub fn stored<N: Judge>(
     alloc: Global,
     notes: &mut N,
@@ -42,7 +42,7 @@ pub fn stored<N: Judge>(
     }
 }
 
-/// Assigns a value to a target that takes what it is declared as.
+/// Assigns a value of type `got` to a target that takes what `slot` says.
 #[tactic(auto, using(pyc_obligations::proofs::Steps::performing), unfolding(crate::specs::Storing::slot_stored))]
 fn slot_stored<N: Judge>(
     alloc: Global,
@@ -63,7 +63,7 @@ fn slot_stored<N: Judge>(
     Ok(())
 }
 
-/// Declares a local by a value of a type: what was known of it and of all below it is dropped.
+/// Declares a local by a value of type `got`. Nothing that was known of it and of all below it stays known.
 fn local_stored(alloc: Global, name: &Text, got: &Ty, point: &mut Point) -> Result<(), AllocError>
     ensures { OnOk result (point_in point.new ≡ spec.local_stored name.now (ty_of got.now) (point_in point.old)) }
 {
@@ -76,7 +76,7 @@ fn local_stored(alloc: Global, name: &Text, got: &Ty, point: &mut Point) -> Resu
     Ok(())
 }
 
-/// The type that a value gives a local that it declares: None tells nothing of what follows.
+/// The type of a local that a value of type `got` declares: None gives Any, since any value may follow it.
 fn declared_by(got: &Ty) -> Result<Ty, AllocError>
     ensures { IfOk result (λ ty. ty_of ty ≡ spec.declared_by (ty_of got.now)) }
 {
@@ -86,7 +86,7 @@ fn declared_by(got: &Ty) -> Result<Ty, AllocError>
     }
 }
 
-/// What is known where a place of a type holds a value of that type.
+/// The state in which a place of type `ty` holds a value of that type.
 fn narrowed_to_itself(
     alloc: Global,
     place: &Place,
