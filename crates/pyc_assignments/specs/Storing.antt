@@ -1,8 +1,12 @@
 -- What is owed to a target, and what is known of it after the assignment (Python reference 3.13, "Assignment
--- statements"; typing specification, "Type system concepts" and "Type narrowing").
-use Rattle.std.specs.Prelude.{ℕ, Bool, true, false, not, ◌&&◌, codes, if◌then◌else◌, List, [], ◌++◌, Option, None, Some}
+-- statements" and "Naming and binding"; typing specification, "Type system concepts" and "Type narrowing").
+use Rattle.std.specs.Prelude.{ℕ, Bool, true, false, not, ◌&&◌, codes, if◌then◌else◌, List, [], ◌∷◌, ◌++◌, Option}
+use Rattle.std.specs.Prelude.{None, Some}
+use Rattle.pyc_assignments.specs.Reads.{Met, slot_met, new_local}
 use Rattle.pyc_ast.specs.declared.position.Position.{Position}
 use Rattle.pyc_ast.specs.Targets.{Target}
+use Rattle.pyc_locals.specs.Locals.{declared}
+use Rattle.pyc_locals.specs.Points.{Point, in_state, with_declared}
 use Rattle.pyc_obligations.specs.Judging.{judged}
 use Rattle.pyc_places.specs.Places.{Place}
 use Rattle.pyc_places.specs.States.{State, with_place, dropped_at}
@@ -13,7 +17,7 @@ use Rattle.pyc_reading.specs.Readings.{Done, ◌>>=◌}
 use Rattle.pyc_report.specs.declared.message.Duty.TheVariants as duty
 use Rattle.pyc_targets.specs.Slots.{Slot}
 use Rattle.pyc_type_forms.specs.Text.{text_of}
-use Rattle.pyc_type_forms.specs.Types.{Ty, any, union}
+use Rattle.pyc_type_forms.specs.Types.{Ty, any, none, union}
 
 -- ---- what is told
 
@@ -94,8 +98,33 @@ place_assigned None want got s = Done s
 abbrev pub renarrowed : Target → Option Ty → Ty → State → Step State
 renarrowed to want got s = place_assigned (target_place to) want got s
 
--- a value of a type that begins at a position is assigned to a target that meets this
-unfoldable pub stored : Position → Target → Slot → Ty → State → Step State
-stored at to slot got s = do
+-- a value of a type that begins at a position is assigned to a target that takes what it is declared as
+unfoldable pub slot_stored : Position → Target → Slot → Ty → Point → Step Point
+slot_stored at to slot got p = do
   u ← want_owed at slot.is_item got slot.want
-  renarrowed to slot.want got s
+  s ← renarrowed to slot.want got p.state
+  Done (in_state p s)
+
+-- ---- new locals
+
+-- the type that a value gives a local that it declares: None tells nothing of what follows
+abbrev pub declared_by : Ty → Ty
+declared_by none = any
+declared_by ty = ty
+
+-- a place of a type that holds a value of that type
+abbrev pub narrowed_to_itself : Place → Ty → State → State
+narrowed_to_itself place ty s = narrowed_if (is_union ty) place ty s
+
+-- a point at which a value of a type declares a local
+abbrev pub local_stored : List ℕ → Ty → Point → Point
+local_stored x got p =
+    with_declared x (declared (declared_by got))
+    (in_state p (narrowed_to_itself (x ∷ []) (declared_by got) (dropped_at (x ∷ []) p.state)))
+
+-- ---- the whole
+
+-- a value of a type that begins at a position is assigned to a target that meets this
+abbrev pub stored : Position → Target → Met → Ty → Point → Step Point
+stored at to (slot_met slot) got p = slot_stored at to slot got p
+stored at to (new_local x) got p = Done (local_stored x got p)

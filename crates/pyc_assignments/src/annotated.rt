@@ -1,26 +1,29 @@
 //! Annotated assignments.
 
-ghost use Rattle.std.specs.Prelude.{option_map};
+ghost use Rattle.std.specs.Prelude.{◌≡◌, IfOk, OnOk, option_map};
 ghost use Rattle.pyc_assignments.specs.Assignments as spec;
+ghost use Rattle.pyc_assignments.specs.Reads as reads;
+ghost use Rattle.pyc_assignments.specs.Views.{met_in};
 ghost use Rattle.pyc_ast.specs.ExprView.{expr_of};
 ghost use Rattle.pyc_ast.specs.StatementView.{annotated_of};
 ghost use Rattle.pyc_ast.specs.TargetView.{target_of};
-ghost use Rattle.pyc_places.specs.StateView.{state_of};
+ghost use Rattle.pyc_locals.specs.Views.{point_in};
 ghost use Rattle.pyc_reading.specs.Desks.{Performs};
 ghost use Rattle.pyc_type_forms.specs.TypeView.{ty_of};
 
-use crate::reading::{AssignmentReader, type_read};
-use crate::singles::slot;
+use crate::reading::{AssignmentReader, Met, type_read};
+use crate::singles::met;
 use crate::storing::{assignment_owed, renarrowed};
 use pyc_ast::{AnnotatedAssignment, Expr, Position, Target, TargetForm, Text};
+use pyc_locals::{LocalType, Point};
 use pyc_obligations::Judge;
-use pyc_places::State;
 use pyc_type_forms::Ty;
 use std::alloc::{AllocError, Global};
 
-/// The state after an annotated assignment, by whether it declares the name that is its target. The value is read with
-/// the type that the annotation means, and must be of it; where it is not that is told. Without a value the annotation
-/// alone is read. The only error is that memory runs out.
+/// Checks an annotated assignment, and leaves `point` as it is after it. The annotated type is expected of the value,
+/// which has to be assignable to it. Without a value only the annotation is checked. A local that is the target is
+/// declared so, unless it was before; `declares` says whether this is the declaration of a name of the top level or of
+/// a class. The only error is that memory runs out.
 #[tactic(auto, using(pyc_obligations::proofs::Steps::performing), unfolding(crate::specs::Assignments::annotated_assignment))]
 pub fn annotated_assignment<N: Judge, R: AssignmentReader<N>>(
     alloc: Global,
@@ -28,28 +31,28 @@ pub fn annotated_assignment<N: Judge, R: AssignmentReader<N>>(
     reader: &R,
     declares: bool,
     found: &AnnotatedAssignment,
-    state: &State,
-) -> Result<State, AllocError>
+    point: &mut Point,
+) -> Result<(), AllocError>
     requires { R.ready reader.now }
-    ensures { Performs state_of
-        (spec.annotated_assignment (R.reads reader.now) declares (annotated_of found.now) (state_of state.now))
+    ensures { Performs (λ u. point_in point.new)
+        (spec.annotated_assignment (R.reads reader.now) declares (annotated_of found.now) (point_in point.old))
         (N.desk notes.old) result (N.desk notes.new) }
 {
     let want = reader.annotated(alloc, notes, &found.annotation)?;
-    let state = if_value(
+    if_value(
         alloc,
         notes,
         reader,
         declares,
         &found.target,
         found.value.as_ref(),
-        state,
+        point,
         &want,
     )?;
-    Ok(state)
+    Ok(())
 }
 
-/// The same, once the annotation was read.
+/// Checks some value of an annotation that means `want`; without a value it declares the target alone.
 fn if_value<N: Judge, R: AssignmentReader<N>>(
     alloc: Global,
     notes: &mut N,
@@ -57,22 +60,22 @@ fn if_value<N: Judge, R: AssignmentReader<N>>(
     declares: bool,
     target: &Target,
     value: Option<&Expr>,
-    state: &State,
+    point: &mut Point,
     want: &Ty,
-) -> Result<State, AllocError>
+) -> Result<(), AllocError>
     requires { R.ready reader.now }
-    ensures { Performs state_of
+    ensures { Performs (λ u. point_in point.new)
         (spec.if_value (R.reads reader.now) declares (target_of target.now)
-        (option_map (λ value. expr_of value.now) value.entry) (state_of state.now) (ty_of want.now))
+        (option_map (λ value. expr_of value.now) value.entry) (point_in point.old) (ty_of want.now))
         (N.desk notes.old) result (N.desk notes.new) }
 {
     match value {
-        Some(value) => with_value(alloc, notes, reader, declares, target, want, value, state),
-        None => state.clone(),
+        Some(value) => with_value(alloc, notes, reader, declares, target, want, value, point),
+        None => target_annotated(want, target, point),
     }
 }
 
-/// The same with a value.
+/// Checks the target and the value of an annotation that means `want`.
 #[tactic(auto, using(pyc_obligations::proofs::Steps::performing), unfolding(crate::specs::Assignments::with_value))]
 fn with_value<N: Judge, R: AssignmentReader<N>>(
     alloc: Global,
@@ -82,57 +85,52 @@ fn with_value<N: Judge, R: AssignmentReader<N>>(
     target: &Target,
     want: &Ty,
     value: &Expr,
-    state: &State,
-) -> Result<State, AllocError>
+    point: &mut Point,
+) -> Result<(), AllocError>
     requires { R.ready reader.now }
-    ensures { Performs state_of
+    ensures { Performs (λ u. point_in point.new)
         (spec.with_value (R.reads reader.now) declares (target_of target.now) (ty_of want.now) (expr_of value.now)
-        (state_of state.now)) (N.desk notes.old) result (N.desk notes.new) }
+        (point_in point.old)) (N.desk notes.old) result (N.desk notes.new) }
 {
-    let early = early_want(alloc, notes, reader, state, target)?;
+    let early = early_met(alloc, notes, reader, point, target)?;
     value_assigned(
-        alloc, notes, reader, declares, target, want, value, state, early,
+        alloc, notes, reader, declares, target, want, value, point, &early,
     )
 }
 
-/// What a target other than a name takes, which is read before the value.
-fn early_want<N: Judge, R: AssignmentReader<N>>(
+/// What an assignment to `target` meets, if that is no name: it is read before the value.
+fn early_met<N: Judge, R: AssignmentReader<N>>(
     alloc: Global,
     notes: &mut N,
     reader: &R,
-    state: &State,
+    point: &Point,
     target: &Target,
-) -> Result<Option<Ty>, AllocError>
+) -> Result<Met, AllocError>
     requires { R.ready reader.now }
-    ensures { Performs (option_map ty_of)
-        (spec.early_want (R.reads reader.now) (state_of state.now) (target_of target.now)) (N.desk notes.old) result
-        (N.desk notes.new) }
+    ensures { Performs met_in (spec.early_met (R.reads reader.now) (point_in point.now) (target_of target.now))
+        (N.desk notes.old) result (N.desk notes.new) }
 {
     match &target.form {
-        TargetForm::Name(_) => Ok(None),
-        _ => slot_want(alloc, notes, reader, state, target),
+        TargetForm::Name(_) => Ok(Met::free()),
+        _ => met(alloc, notes, reader, point, target),
     }
 }
 
-/// What a target takes.
-#[tactic(auto, using(pyc_obligations::proofs::Steps::performing), unfolding(crate::specs::Assignments::slot_want))]
-fn slot_want<N: Judge, R: AssignmentReader<N>>(
-    alloc: Global,
-    notes: &mut N,
-    reader: &R,
-    state: &State,
-    target: &Target,
-) -> Result<Option<Ty>, AllocError>
-    requires { R.ready reader.now }
-    ensures { Performs (option_map ty_of)
-        (spec.slot_want (R.reads reader.now) (state_of state.now) (target_of target.now)) (N.desk notes.old) result
-        (N.desk notes.new) }
+/// Declares `target` of type `want`, if it is a local that nothing has declared before.
+fn target_annotated(want: &Ty, target: &Target, point: &mut Point) -> Result<(), AllocError>
+    ensures { OnOk result (point_in point.new
+        ≡ spec.target_annotated (ty_of want.now) (target_of target.now) (point_in point.old)) }
 {
-    let found = slot(alloc, notes, reader, state, target)?;
-    Ok(found.want)
+    match &target.form {
+        TargetForm::Name(name) => {
+            point.declare(name, LocalType::Declared(want.clone()?));
+            Ok(())
+        }
+        _ => Ok(()),
+    }
 }
 
-/// Reads and assigns the value, once the target was read.
+/// Checks the value of an annotation whose target was read before, and declares the target after it.
 #[tactic(auto, using(pyc_obligations::proofs::Steps::performing), unfolding(crate::specs::Assignments::value_assigned))]
 fn value_assigned<N: Judge, R: AssignmentReader<N>>(
     alloc: Global,
@@ -142,23 +140,24 @@ fn value_assigned<N: Judge, R: AssignmentReader<N>>(
     target: &Target,
     want: &Ty,
     value: &Expr,
-    state: &State,
-    early: Option<Ty>,
-) -> Result<State, AllocError>
+    point: &mut Point,
+    early: &Met,
+) -> Result<(), AllocError>
     requires { R.ready reader.now }
-    ensures { Performs state_of
+    ensures { Performs (λ u. point_in point.new)
         (spec.value_assigned (R.reads reader.now) declares (target_of target.now) (ty_of want.now)
-        (expr_of value.now) (state_of state.now) (option_map ty_of early)) (N.desk notes.old) result
+        (expr_of value.now) (point_in point.old) (met_in early.now)) (N.desk notes.old) result
         (N.desk notes.new) }
 {
-    let got = type_read(alloc, notes, reader, state, value, Some(want))?;
-    let state = value_stored(
-        alloc, notes, reader, declares, target, want, early, value.at, &got, state,
+    let got = type_read(alloc, notes, reader, point, value, Some(want))?;
+    target_annotated(want, target, point)?;
+    value_stored(
+        alloc, notes, reader, declares, target, want, early, value.at, &got, point,
     )?;
-    Ok(state)
+    Ok(())
 }
 
-/// Assigns a value of a type that begins at a position.
+/// Assigns a value of type `got`, which begins at `at`, to a target that is annotated to be of type `want`.
 #[tactic(auto, using(pyc_obligations::proofs::Steps::performing), unfolding(crate::specs::Assignments::value_stored))]
 fn value_stored<N: Judge, R: AssignmentReader<N>>(
     alloc: Global,
@@ -167,61 +166,91 @@ fn value_stored<N: Judge, R: AssignmentReader<N>>(
     declares: bool,
     target: &Target,
     want: &Ty,
-    early: Option<Ty>,
+    early: &Met,
     at: Position,
     got: &Ty,
-    state: &State,
-) -> Result<State, AllocError>
+    point: &mut Point,
+) -> Result<(), AllocError>
     requires { R.ready reader.now }
-    ensures { Performs state_of
+    ensures { Performs (λ u. point_in point.new)
         (spec.value_stored (R.reads reader.now) declares (target_of target.now) (ty_of want.now)
-        (option_map ty_of early) at (ty_of got.now) (state_of state.now)) (N.desk notes.old) result
+        (met_in early.now) at (ty_of got.now) (point_in point.old)) (N.desk notes.old) result
         (N.desk notes.new) }
 {
-    let declared = late_want(alloc, notes, reader, declares, want, early, target)?;
+    let takes = late_want(alloc, notes, reader, declares, want, point, early, target)?;
     assignment_owed(alloc, notes, at, false, got, want)?;
-    let state = renarrowed(alloc, notes, target, declared.as_ref(), got, state)?;
-    Ok(state)
+    let state = renarrowed(alloc, notes, target, takes.as_ref(), got, &point.state)?;
+    point.set_state(state);
+    Ok(())
 }
 
-/// What a target takes: a name is read after the value.
+/// The type that `target` takes, if it takes one; a name is read only now, after the value.
 fn late_want<N: Judge, R: AssignmentReader<N>>(
     alloc: Global,
     notes: &mut N,
     reader: &R,
     declares: bool,
     want: &Ty,
-    early: Option<Ty>,
+    point: &Point,
+    early: &Met,
     target: &Target,
 ) -> Result<Option<Ty>, AllocError>
     requires { R.ready reader.now }
     ensures { Performs (option_map ty_of)
-        (spec.late_want (R.reads reader.now) declares (ty_of want.now) (option_map ty_of early)
+        (spec.late_want (R.reads reader.now) declares (ty_of want.now) (point_in point.now) (met_in early.now)
         (target_of target.now)) (N.desk notes.old) result (N.desk notes.new) }
 {
     match &target.form {
-        TargetForm::Name(name) => name_want(alloc, notes, reader, declares, want, name),
-        _ => Ok(early),
+        TargetForm::Name(name) => name_want(alloc, notes, reader, declares, want, point, name),
+        _ => want_of(early),
     }
 }
 
-/// What a name takes, by whether the assignment declares it.
+/// A copy of the type that is expected of a value whose target meets `met`.
+fn want_of(met: &Met) -> Result<Option<Ty>, AllocError>
+    ensures { IfOk result (λ want. option_map ty_of want ≡ reads.want_of (met_in met.now)) }
+{
+    match met.want() {
+        Some(want) => Ok(Some(want.clone()?)),
+        None => Ok(None),
+    }
+}
+
+/// The type that a name takes, if it takes one, by whether the assignment declares it.
 fn name_want<N: Judge, R: AssignmentReader<N>>(
     alloc: Global,
     notes: &mut N,
     reader: &R,
     declares: bool,
     want: &Ty,
+    point: &Point,
     name: &Text,
 ) -> Result<Option<Ty>, AllocError>
     requires { R.ready reader.now }
     ensures { Performs (option_map ty_of)
-        (spec.name_want (R.reads reader.now) declares (ty_of want.now) name.now) (N.desk notes.old) result
-        (N.desk notes.new) }
+        (spec.name_want (R.reads reader.now) declares (ty_of want.now) (point_in point.now) name.now)
+        (N.desk notes.old) result (N.desk notes.new) }
 {
     if declares {
         Ok(Some(want.clone()?))
     } else {
-        reader.declared(alloc, notes, name)
+        asked_want(alloc, notes, reader, point, name)
     }
+}
+
+/// The type that a name takes, if it takes one, which the assignment does not declare.
+#[tactic(auto, using(pyc_obligations::proofs::Steps::performing), unfolding(crate::specs::Assignments::asked_want))]
+fn asked_want<N: Judge, R: AssignmentReader<N>>(
+    alloc: Global,
+    notes: &mut N,
+    reader: &R,
+    point: &Point,
+    name: &Text,
+) -> Result<Option<Ty>, AllocError>
+    requires { R.ready reader.now }
+    ensures { Performs (option_map ty_of) (spec.asked_want (R.reads reader.now) (point_in point.now) name.now)
+        (N.desk notes.old) result (N.desk notes.new) }
+{
+    let found = reader.met(alloc, notes, point, name)?;
+    want_of(&found)
 }

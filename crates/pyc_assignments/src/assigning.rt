@@ -5,22 +5,22 @@ ghost use Rattle.pyc_assignments.specs.Assignments as spec;
 ghost use Rattle.pyc_assignments.specs.Views.{shares_in};
 ghost use Rattle.pyc_ast.specs.Targets.{target_elements};
 ghost use Rattle.pyc_ast.specs.TargetView.{target_element_of, target_form_of, target_of};
-ghost use Rattle.pyc_places.specs.StateView.{state_of};
+ghost use Rattle.pyc_locals.specs.Views.{point_in};
 ghost use Rattle.pyc_reading.specs.Desks.{Performs};
 ghost use Rattle.pyc_type_forms.specs.TypeView.{ty_of};
 
 use crate::reading::AssignmentReader;
-use crate::singles::slot;
+use crate::singles::met;
 use crate::storing::stored;
 use crate::unpacking::{Shares, has_starred, share_at, shares_of, target_count};
 use pyc_ast::{Position, Target, TargetElement, TargetForm};
+use pyc_locals::Point;
 use pyc_obligations::Judge;
-use pyc_places::State;
 use pyc_type_forms::Ty;
 use std::alloc::{AllocError, Global};
 
-/// The state after a value of a type, which begins at a position, is assigned to a target. What is owed to it and does
-/// not hold is told. The only error is that memory runs out.
+/// Assigns a value of type `ty`, which begins at `at`, to `target`, and leaves `point` as it is after that. Reports
+/// each obligation that does not hold. The only error is that memory runs out.
 #[cycle(assigned)]
 pub fn assigned<N: Judge, R: AssignmentReader<N>>(
     alloc: Global,
@@ -29,22 +29,22 @@ pub fn assigned<N: Judge, R: AssignmentReader<N>>(
     at: Position,
     target: &Target,
     ty: &Ty,
-    state: &State,
-) -> Result<State, AllocError>
+    point: &mut Point,
+) -> Result<(), AllocError>
     requires { R.ready reader.now }
-    ensures { Performs state_of
-        (spec.assigned (R.reads reader.now) at (target_of target.now) (ty_of ty.now) (state_of state.now))
+    ensures { Performs (λ u. point_in point.new)
+        (spec.assigned (R.reads reader.now) at (target_of target.now) (ty_of ty.now) (point_in point.old))
         (N.desk notes.old) result (N.desk notes.new) }
 {
     match &target.form {
         TargetForm::Unpacking(elements) => {
-            unpacked(alloc, notes, reader, at, elements, ty, state)
+            unpacked(alloc, notes, reader, at, elements, ty, point)
         }
-        _ => single_assigned(alloc, notes, reader, at, target, ty, state),
+        _ => single_assigned(alloc, notes, reader, at, target, ty, point),
     }
 }
 
-/// The same of a target that is no tuple or list of targets.
+/// Assigns a value of type `ty` to a target that is no tuple or list of targets.
 #[tactic(auto, using(pyc_obligations::proofs::Steps::performing), unfolding(crate::specs::Assignments::single_assigned))]
 fn single_assigned<N: Judge, R: AssignmentReader<N>>(
     alloc: Global,
@@ -53,18 +53,18 @@ fn single_assigned<N: Judge, R: AssignmentReader<N>>(
     at: Position,
     target: &Target,
     ty: &Ty,
-    state: &State,
-) -> Result<State, AllocError>
+    point: &mut Point,
+) -> Result<(), AllocError>
     requires { R.ready reader.now }
-    ensures { Performs state_of
-        (spec.single_assigned (R.reads reader.now) at (target_of target.now) (ty_of ty.now) (state_of state.now))
+    ensures { Performs (λ u. point_in point.new)
+        (spec.single_assigned (R.reads reader.now) at (target_of target.now) (ty_of ty.now) (point_in point.old))
         (N.desk notes.old) result (N.desk notes.new) }
 {
-    let found = slot(alloc, notes, reader, state, target)?;
-    stored(alloc, notes, at, target, &found, ty, state)
+    let found = met(alloc, notes, reader, point, target)?;
+    stored(alloc, notes, at, target, &found, ty, point)
 }
 
-/// The same of targets to which a value is unpacked.
+/// Unpacks a value of type `ty` to targets.
 #[cycle(assigned)]
 #[tactic(auto, using(pyc_obligations::proofs::Steps::performing))]
 fn unpacked<N: Judge, R: AssignmentReader<N>>(
@@ -74,19 +74,19 @@ fn unpacked<N: Judge, R: AssignmentReader<N>>(
     at: Position,
     elements: &[TargetElement],
     ty: &Ty,
-    state: &State,
-) -> Result<State, AllocError>
+    point: &mut Point,
+) -> Result<(), AllocError>
     requires { R.ready reader.now }
-    ensures { Performs state_of
+    ensures { Performs (λ u. point_in point.new)
         (spec.unpacked (R.reads reader.now) at (target_elements (map target_element_of elements.now)) (ty_of ty.now)
-        (state_of state.now)) (N.desk notes.old) result (N.desk notes.new) }
+        (point_in point.old)) (N.desk notes.old) result (N.desk notes.new) }
 {
     let is_starred = has_starred(elements);
     let found = shares_of(alloc, notes, at, is_starred, target_count(elements), ty)?;
-    each_assigned(alloc, notes, reader, at, &found, elements, state)
+    each_assigned(alloc, notes, reader, at, &found, elements, point)
 }
 
-/// The same of targets that get their shares, in turn.
+/// Assigns the shares `found` to targets, in turn.
 #[cycle(assigned)]
 #[tactic(auto, using(pyc_obligations::proofs::Steps::performing))]
 fn each_assigned<N: Judge, R: AssignmentReader<N>>(
@@ -96,26 +96,25 @@ fn each_assigned<N: Judge, R: AssignmentReader<N>>(
     at: Position,
     found: &Shares,
     elements: &[TargetElement],
-    state: &State,
-) -> Result<State, AllocError>
+    point: &mut Point,
+) -> Result<(), AllocError>
     requires { R.ready reader.now }
-    ensures { Performs state_of
+    ensures { Performs (λ u. point_in point.new)
         (spec.each_assigned (R.reads reader.now) at (shares_in found.now) 0
-        (target_elements (map target_element_of elements.now)) (state_of state.now)) (N.desk notes.old) result
+        (target_elements (map target_element_of elements.now)) (point_in point.old)) (N.desk notes.old) result
         (N.desk notes.new) }
 {
-    let mut after = state.clone()?;
     for index in 0..elements.len() {
         let ty = share_at(found, index)?;
-        after = assigned(
+        assigned(
             alloc,
             notes,
             reader,
             at,
             &elements[index].target,
             &ty,
-            &after,
+            point,
         )?;
     }
-    Ok(after)
+    Ok(())
 }

@@ -1,4 +1,4 @@
-//! Assignments: what is told of them, and what is known of places after them.
+//! Assignments: what is told of them, and what is known of locals and places after them.
 #![tactic(auto)]
 
 mod annotated;
@@ -13,5 +13,6 @@ mod unpacking;
 pub use annotated::annotated_assignment;
 pub use assigning::assigned;
 pub use assignments::assignment;
-pub use reading::AssignmentReader;
-pub use storing::assignment_owed;
+pub use reading::{AssignmentReader, Met};
+pub use singles::met;
+pub use storing::{assignment_owed, stored};

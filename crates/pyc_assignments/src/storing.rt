@@ -1,8 +1,10 @@
 //! What is owed to targets, and what is known of them after assignments.
 
-ghost use Rattle.std.specs.Prelude.{◌≡◌, IfOk, option_map};
+ghost use Rattle.std.specs.Prelude.{◌≡◌, IfOk, OnOk, option_map};
 ghost use Rattle.pyc_assignments.specs.Storing as spec;
+ghost use Rattle.pyc_assignments.specs.Views.{met_in};
 ghost use Rattle.pyc_ast.specs.TargetView.{target_of};
+ghost use Rattle.pyc_locals.specs.Views.{point_in};
 ghost use Rattle.pyc_places.specs.States as states;
 ghost use Rattle.pyc_places.specs.StateView.{state_of};
 ghost use Rattle.pyc_reading.specs.Desks.{Performs};
@@ -10,30 +12,91 @@ ghost use Rattle.pyc_targets.specs.Views.{slot_of};
 ghost use Rattle.pyc_type_forms.specs.TypeView.{ty_of};
 
 use crate::messages::OwedAssignment;
-use pyc_ast::{Position, Target};
+use crate::reading::Met;
+use pyc_ast::{Position, Target, Text};
+use pyc_locals::{LocalType, Point};
 use pyc_obligations::{Judge, judged, owe};
-use pyc_places::{Place, State, target_place};
+use pyc_places::{Place, State, name_place, target_place};
 use pyc_targets::Slot;
 use pyc_type_forms::Ty;
 use std::alloc::{AllocError, Global};
 
-/// Assigns a value of a type that begins at a position to a target that meets this; the state after it.
-#[tactic(auto, using(pyc_obligations::proofs::Steps::performing), unfolding(crate::specs::Storing::stored))]
-pub(crate) fn stored<N: Judge>(
+/// Assigns a value of type `got`, which begins at `at`, to a target that meets `met`, and leaves `point` as it is after
+/// that. Reports the obligation, if there is one and it does not hold. The only error is that memory runs out.
+pub fn stored<N: Judge>(
+    alloc: Global,
+    notes: &mut N,
+    at: Position,
+    target: &Target,
+    met: &Met,
+    got: &Ty,
+    point: &mut Point,
+) -> Result<(), AllocError>
+    ensures { Performs (λ u. point_in point.new)
+        (spec.stored at (target_of target.now) (met_in met.now) (ty_of got.now) (point_in point.old))
+        (N.desk notes.old) result (N.desk notes.new) }
+{
+    match met {
+        Met::Slot(slot) => slot_stored(alloc, notes, at, target, slot, got, point),
+        Met::NewLocal(name) => local_stored(alloc, name, got, point),
+    }
+}
+
+/// Assigns a value of type `got` to a target that takes what `slot` says.
+#[tactic(auto, using(pyc_obligations::proofs::Steps::performing), unfolding(crate::specs::Storing::slot_stored))]
+fn slot_stored<N: Judge>(
     alloc: Global,
     notes: &mut N,
     at: Position,
     target: &Target,
     slot: &Slot,
     got: &Ty,
-    state: &State,
-) -> Result<State, AllocError>
-    ensures { Performs state_of
-        (spec.stored at (target_of target.now) (slot_of slot.now) (ty_of got.now) (state_of state.now))
+    point: &mut Point,
+) -> Result<(), AllocError>
+    ensures { Performs (λ u. point_in point.new)
+        (spec.slot_stored at (target_of target.now) (slot_of slot.now) (ty_of got.now) (point_in point.old))
         (N.desk notes.old) result (N.desk notes.new) }
 {
     want_owed(alloc, notes, at, slot.is_item, got, slot.want.as_ref())?;
-    renarrowed(alloc, notes, target, slot.want.as_ref(), got, state)
+    let state = renarrowed(alloc, notes, target, slot.want.as_ref(), got, &point.state)?;
+    point.set_state(state);
+    Ok(())
+}
+
+/// Declares a local by a value of type `got`. Nothing that was known of it and of all below it stays known.
+fn local_stored(alloc: Global, name: &Text, got: &Ty, point: &mut Point) -> Result<(), AllocError>
+    ensures { OnOk result (point_in point.new ≡ spec.local_stored name.now (ty_of got.now) (point_in point.old)) }
+{
+    let ty = declared_by(got)?;
+    let place = name_place(alloc, name)?;
+    let dropped = point.state.dropped_at(alloc, &place)?;
+    let state = narrowed_to_itself(alloc, &place, &ty, &dropped)?;
+    point.set_state(state);
+    point.declare(name, LocalType::Declared(ty));
+    Ok(())
+}
+
+/// The type of a local that a value of type `got` declares: None gives Any, since any value may follow it.
+fn declared_by(got: &Ty) -> Result<Ty, AllocError>
+    ensures { IfOk result (λ ty. ty_of ty ≡ spec.declared_by (ty_of got.now)) }
+{
+    match got {
+        Ty::None => Ok(Ty::Any),
+        _ => got.clone(),
+    }
+}
+
+/// The state in which a place of type `ty` holds a value of that type.
+fn narrowed_to_itself(
+    alloc: Global,
+    place: &Place,
+    ty: &Ty,
+    state: &State,
+) -> Result<State, AllocError>
+    ensures { IfOk result (λ after. state_of after
+        ≡ spec.narrowed_to_itself place.now (ty_of ty.now) (state_of state.now)) }
+{
+    narrowed_if(alloc, is_union(ty), place, ty, state)
 }
 
 /// A value must be of the type that its target takes, where something is owed.

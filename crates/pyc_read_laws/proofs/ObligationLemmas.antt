@@ -1,7 +1,7 @@
 -- What an obligation asks.
 use Rattle.std.proofs.Common.{◌≡◌, List, [], ◌∷◌, ◌++◌, flat_map, append-nil, Option, Some, refl, ap, ◌∙◌}
 use Rattle.pyc_arguments.specs.Matched.{argument_owed, argument_read, refused, wanted}
-use Rattle.pyc_assignments.specs.Storing.{assignment_owed, renarrowed, stored, want_owed}
+use Rattle.pyc_assignments.specs.Storing.{assignment_owed, owed_assignment, renarrowed, slot_stored, want_owed}
 use Rattle.pyc_ast.specs.Exprs.{at_of}
 use Rattle.pyc_builtins.specs.Orders.{builtin_orders}
 use Rattle.pyc_class.specs.Class.{Id, builtin, user}
@@ -10,6 +10,7 @@ use Rattle.pyc_displays.specs.Displays.{entry_types, pair_to, value_to}
 use Rattle.pyc_displays.specs.Messages as displays
 use Rattle.pyc_displays.specs.Messages.{owed_entry}
 use Rattle.pyc_items.specs.Subscripts.{owed_item}
+use Rattle.pyc_locals.specs.Points.{in_state}
 use Rattle.pyc_obligations.specs.Judging.{with_order, known_after, judged}
 use Rattle.pyc_overrides.specs.Overrides.{more_owed, overrides_owed}
 use Rattle.pyc_read_laws.proofs.AskedLemmas.{asked-then_nothing}
@@ -80,10 +81,14 @@ entry_is_owed answers read want index key value =
     obligations-and_then answers (entry_types read key value (Some want.key) (Some want.value)) (λ got. owing (owed_entry (at_of key) index got want))
 
 pub assignment_is_owed : AssignmentIsOwed
-unfolding stored assignment_owed owing
-assignment_is_owed answers at to slot got want s takes =
-    obligations-and_then answers (want_owed at slot.is_item got slot.want) (λ u. renarrowed to slot.want got s)
-    ∙ ap (λ (w : Option Ty). obligations answers (want_owed at slot.is_item got w) ++ obligations answers (renarrowed to slot.want got s)) takes
+unfolding slot_stored assignment_owed owing
+assignment_is_owed answers at to slot got want p takes =
+    let known = renarrowed to slot.want got p.state in
+    let rest = and_then known (λ s. Done (in_state p s)) in
+    obligations-and_then answers (want_owed at slot.is_item got slot.want) (λ u. rest)
+    ∙ ap (λ (w : Option Ty). obligations answers (want_owed at slot.is_item got w) ++ obligations answers rest) takes
+    ∙ ap (λ l. owed_assignment at slot.is_item got want ∷ l)
+    (obligations-and_then answers known (λ s. Done (in_state p s)) ∙ append-nil (obligations answers known))
 
 pub member_is_owed : OverrideIsOwed
 unfolding overrides_owed owing

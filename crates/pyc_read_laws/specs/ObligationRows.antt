@@ -5,6 +5,7 @@ use Rattle.std.specs.Prelude.{◌≡◌, ℕ, List, [], ◌∷◌, ◌++◌, fla
 use Rattle.pyc_arguments.specs.Arguments.{Arg}
 use Rattle.pyc_arguments.specs.Matched.{argument_read, refused, wanted}
 use Rattle.pyc_arguments.specs.Telling.{Call, owed_argument}
+use Rattle.pyc_assignments.specs.Reads.{slot_met}
 use Rattle.pyc_assignments.specs.Storing.{owed_assignment, renarrowed, stored}
 use Rattle.pyc_ast.specs.declared.position.Position.{Position}
 use Rattle.pyc_ast.specs.Exprs.{Expr, at_of}
@@ -15,10 +16,10 @@ use Rattle.pyc_displays.specs.Expecting.{Entry}
 use Rattle.pyc_displays.specs.Messages as displays
 use Rattle.pyc_displays.specs.Messages.{owed_entry}
 use Rattle.pyc_items.specs.Subscripts.{owed_index, owed_item}
+use Rattle.pyc_locals.specs.Points.{Point}
 use Rattle.pyc_matching.specs.Matching.{Given, Match}
 use Rattle.pyc_obligations.specs.Judging.{judged}
 use Rattle.pyc_overrides.specs.Overrides.{more_owed, overrides_owed}
-use Rattle.pyc_places.specs.States.{State}
 use Rattle.pyc_read_laws.specs.Rows.{Answers, source_keys}
 use Rattle.pyc_reading.specs.Answers.{MemberAnswer}
 use Rattle.pyc_reading.specs.Desks.{owed}
@@ -83,9 +84,9 @@ EntryIsOwed =
 -- a value that is assigned to a target which takes a type is owed to it, before what is known of the target changes
 abbrev pub AssignmentIsOwed : Type 0
 AssignmentIsOwed =
-    (answers : Answers) (at : Position) (to : Target) (slot : Slot) (got want : Ty) (s : State) → slot.want ≡ Some want
-    → obligations answers (stored at to slot got s)
-    ≡ owed_assignment at slot.is_item got want ∷ obligations answers (renarrowed to slot.want got s)
+    (answers : Answers) (at : Position) (to : Target) (slot : Slot) (got want : Ty) (p : Point) → slot.want ≡ Some want
+    → obligations answers (stored at to (slot_met slot) got p)
+    ≡ owed_assignment at slot.is_item got want ∷ obligations answers (renarrowed to slot.want got p.state)
 
 -- a member is owed to each ancestor that declares its name, in one row
 abbrev pub OverrideIsOwed : Type 0

@@ -15,7 +15,7 @@ use Rattle.pyc_places.specs.States.{nothing_narrowed}
 use Rattle.pyc_reading.specs.Desks.{Step}
 use Rattle.pyc_reading.specs.Readings.{Done, and_then}
 use Rattle.pyc_scopes.specs.Scopes.{Scope}
-use Rattle.pyc_statements.specs.TopLevel.{top_scope, scope_reads}
+use Rattle.pyc_statements.specs.TopLevel.{top_point, top_scope, scope_reads}
 use Rattle.pyc_targets.specs.NameTargets.{declares_at}
 
 -- an expression
@@ -25,7 +25,7 @@ expression_read scope x = read_by (scope_context scope) nothing_narrowed x
 -- an assignment
 unfoldable pub assignment_read : Scope → List Target → Expr → Step (Unit {0})
 assignment_read scope targets value =
-    and_then (assignment (scope_reads scope) targets value nothing_narrowed) (λ s. Done tt)
+    and_then (assignment (scope_reads scope) targets value top_point) (λ p. Done tt)
 
 -- whether an annotated assignment that begins at a position declares the name that is its target
 abbrev pub form_declared : SourceFile → Position → TargetForm → Bool
@@ -39,8 +39,8 @@ target_declared file at (target out inside form) = form_declared file at form
 unfoldable pub annotated_read : Scope → Position → AnnotatedAssignment → Step (Unit {0})
 annotated_read scope at found =
     and_then
-    (annotated_assignment (scope_reads scope) (target_declared scope.file at found.target) found nothing_narrowed)
-    (λ s. Done tt)
+    (annotated_assignment (scope_reads scope) (target_declared scope.file at found.target) found top_point)
+    (λ p. Done tt)
 
 -- a statement that begins at a position, by its form
 abbrev pub form_read : Scope → Position → StmtForm → Step (Unit {0})

@@ -10,7 +10,7 @@ ghost use Rattle.pyc_reading.specs.Desks.{Performs};
 ghost use Rattle.pyc_scopes.specs.ScopeView.{scope_in};
 ghost use Rattle.pyc_statements.specs.Statements as spec;
 
-use crate::top_level::InScope;
+use crate::top_level::{InScope, top_point};
 use pyc_assignments::{annotated_assignment, assignment};
 use pyc_ast::{AnnotatedAssignment, Expr, Position, Stmt, StmtForm, Target, TargetForm};
 use pyc_expr::read;
@@ -104,9 +104,9 @@ fn read_assignment<N: Judge>(
         (spec.assignment_read (scope_in scope.now) (map target_of targets.now) (expr_of value.now)) (N.desk notes.old)
         result (N.desk notes.new) }
 {
-    let state = State::nothing_narrowed(alloc);
+    let mut point = top_point(alloc);
     let reader = InScope { scope: *scope };
-    assignment(alloc, notes, &reader, targets, value, &state)?;
+    assignment(alloc, notes, &reader, targets, value, &mut point)?;
     Ok(())
 }
 
@@ -122,10 +122,10 @@ fn read_annotated<N: Judge>(
     ensures { Performs (λ u. u) (spec.annotated_read (scope_in scope.now) at (annotated_of found.now))
         (N.desk notes.old) result (N.desk notes.new) }
 {
-    let state = State::nothing_narrowed(alloc);
+    let mut point = top_point(alloc);
     let reader = InScope { scope: *scope };
     let declares = target_declared(scope.file, at, &found.target);
-    annotated_assignment(alloc, notes, &reader, declares, found, &state)?;
+    annotated_assignment(alloc, notes, &reader, declares, found, &mut point)?;
     Ok(())
 }
 
