@@ -54,11 +54,7 @@ fn push_part(alloc: Global, part: &Part<'_>, places: &mut Vec<Place>) -> Result<
 }
 
 /// Adds the places that a simple statement or a definition assigns.
-fn push_statement(
-    alloc: Global,
-    form: &StmtForm,
-    places: &mut Vec<Place>,
-) -> Result<(), AllocError>
+fn push_statement(alloc: Global, form: &StmtForm, places: &mut Vec<Place>) -> Result<(), AllocError>
     ensures { OnOk result (places.new.items ≡ places.old.items ++ spec.statement_places (stmt_form_of form.now)) }
 {
     match form {

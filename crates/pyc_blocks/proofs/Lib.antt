@@ -1,1 +1,2 @@
+pub mod FlowLemmas
 pub mod Turns

@@ -103,14 +103,14 @@ for_by parts head places inside orelse f = do
 -- does
 pub record TryPlaces : Type 0 where
   pub inside : List Place
-  pub arms : List Place
+  pub others : List Place
   pub finally : List Place
 
 abbrev pub try_places : (inside : Stmts) → Handlers → (orelse finally : Stmts) → TryPlaces
 try_places inside handlers orelse finally =
     record {
       inside = assigned_places inside;
-      arms = handlers_places handlers ++ assigned_places orelse;
+      others = handlers_places handlers ++ assigned_places orelse;
       finally = assigned_places finally;
     }
 
@@ -120,7 +120,7 @@ raised_state places before = dropped_all places.inside before
 
 -- `finally` begins anywhere in the block, a handler or the `else`
 abbrev pub finally_state : TryPlaces → State → State
-finally_state places before = dropped_all places.arms (raised_state places before)
+finally_state places before = dropped_all places.others (raised_state places before)
 
 -- after a `try`: where its block with its `else` ends, or one of its handlers; what its block and `finally` assign is
 -- not known there
@@ -138,8 +138,8 @@ handler_by parts from found name inside so_far = do
 
 -- the block, the handlers, and the `else` where the block ended: the flow at the end of the `else`, and the states in
 -- which handlers ended
-unfoldable pub arms_by : (inside : Reader) → (handlers : Handled → Step Handled) → (orelse : Reader) → Flow → Step Handled
-arms_by inside handlers orelse f = do
+unfoldable pub clauses_by : (inside : Reader) → (handlers : Handled → Step Handled) → (orelse : Reader) → Flow → Step Handled
+clauses_by inside handlers orelse f = do
   g ← inside f
   caught ← handlers (record { flow = ended g; ends = [] })
   h ← orelse (with_state caught.flow g.point.state)
@@ -154,7 +154,7 @@ finally_by from after finally f = do
 unfoldable pub try_by
     : TryPlaces → (inside : Reader) → (handlers : State → Handled → Step Handled) → (orelse finally : Reader) → Reader
 try_by places inside handlers orelse finally f = do
-  tried ← arms_by inside (handlers (raised_state places f.point.state)) orelse f
+  tried ← clauses_by inside (handlers (raised_state places f.point.state)) orelse f
   finally_by (finally_state places f.point.state) (tried_state places tried) finally tried.flow
 
 -- ---- the `with` statement

@@ -24,7 +24,7 @@ abbrev pub begun_in : BegunOf → FlowOf → Begun
 begun_in b f = record { flow = flow_in f; exit = state_of b.exit; around = map state_of b.around.items }
 
 abbrev pub try_places_in : TryPlacesOf → TryPlaces
-try_places_in p = record { inside = p.inside.items; arms = p.arms.items; finally = p.finally.items }
+try_places_in p = record { inside = p.inside.items; others = p.others.items; finally = p.finally.items }
 
 abbrev pub rules_of : {N P : Type 0} → (P → PartReads) → BlocksOf N P → Rules
 rules_of parts b = record { parts = parts b.parts.now; on_the_way_out = b.on_the_way_out.now }

@@ -179,7 +179,9 @@ impl<N: Judge, P: PartReader<N>> Blocks<'_, N, P> {
             (spec.block_read (rules_of P.parts self.now) (block_of branch.now.body)) (handled_in flow.old ends.old))
             (N.desk notes.old) result (N.desk notes.new) }
     {
-        let states = self.parts.tested(self.alloc, notes, &branch.test, &flow.point)?;
+        let states = self
+            .parts
+            .tested(self.alloc, notes, &branch.test, &flow.point)?;
         flow.set(states.if_true);
         self.read_inside(notes, &branch.body, flow)?;
         flow.end_block(ends, states.if_false)?;
@@ -264,12 +266,7 @@ impl<N: Judge, P: PartReader<N>> Blocks<'_, N, P> {
     /// Reads a `try`.
     #[cycle(flow)]
     #[tactic(auto, using(pyc_obligations::proofs::Steps::performing), unfolding(crate::specs::Blocks::try_by))]
-    fn read_try(
-        &self,
-        notes: &mut N,
-        found: Try<'_>,
-        flow: &mut Flow,
-    ) -> Result<(), AllocError>
+    fn read_try(&self, notes: &mut N, found: Try<'_>, flow: &mut Flow) -> Result<(), AllocError>
         requires { P.ready self.now.parts.now }
         ensures { Performs (λ u. flow_in flow.new)
             (spec.try_by
@@ -293,7 +290,7 @@ impl<N: Judge, P: PartReader<N>> Blocks<'_, N, P> {
             on_the_way_out: &on_the_way_out,
             of: self.of,
         };
-        let ends = within.read_arms(notes, found, &raised, flow)?;
+        let ends = within.read_clauses(notes, found, &raised, flow)?;
         let after = places.tried_state(self.alloc, flow, &ends)?;
         let from = places.finally_state(self.alloc, &raised)?;
         self.read_finally(notes, found.finally, from, after, flow)
@@ -302,8 +299,8 @@ impl<N: Judge, P: PartReader<N>> Blocks<'_, N, P> {
     /// Reads the block of a `try`, its handlers, which begin in one state, and its `else`; answers the states in which
     /// handlers end.
     #[cycle(flow)]
-    #[tactic(auto, using(pyc_obligations::proofs::Steps::performing), unfolding(crate::specs::Blocks::arms_by))]
-    fn read_arms(
+    #[tactic(auto, using(pyc_obligations::proofs::Steps::performing), unfolding(crate::specs::Blocks::clauses_by))]
+    fn read_clauses(
         &self,
         notes: &mut N,
         found: Try<'_>,
@@ -312,7 +309,7 @@ impl<N: Judge, P: PartReader<N>> Blocks<'_, N, P> {
     ) -> Result<Vec<State>, AllocError>
         requires { P.ready self.now.parts.now }
         ensures { Performs (λ ends. handled_in flow.new ends)
-            (spec.arms_by (spec.block_read (rules_of P.parts self.now) (block_of found.inside.now))
+            (spec.clauses_by (spec.block_read (rules_of P.parts self.now) (block_of found.inside.now))
             (spec.handlers_read (rules_of P.parts self.now) (handlers (map handler_of found.handlers.now))
             (state_of raised.now)) (spec.block_read (rules_of P.parts self.now) (block_of found.orelse.now))
             (flow_in flow.old)) (N.desk notes.old) result (N.desk notes.new) }
@@ -367,7 +364,8 @@ impl<N: Judge, P: PartReader<N>> Blocks<'_, N, P> {
             (N.desk notes.old) result (N.desk notes.new) }
     {
         flow.set(raised.clone()?);
-        self.parts.caught(self.alloc, notes, handler, &mut flow.point)?;
+        self.parts
+            .caught(self.alloc, notes, handler, &mut flow.point)?;
         self.read_inside(notes, &handler.body, flow)?;
         flow.end_block(ends, State::Unreachable)?;
         Ok(())
@@ -430,6 +428,7 @@ impl<N: Judge, P: PartReader<N>> Blocks<'_, N, P> {
             (spec.simple_by (P.parts self.now.parts.now) at (stmt_form_of form.now) (flow_in flow.old))
             (N.desk notes.old) result (N.desk notes.new) }
     {
-        self.parts.simple(self.alloc, notes, at, form, &mut flow.point)
+        self.parts
+            .simple(self.alloc, notes, at, form, &mut flow.point)
     }
 }

@@ -43,7 +43,11 @@ impl Flow {
     }
 
     /// Leaves the innermost loop, past each `finally` that assigns some places.
-    pub(crate) fn leave(&mut self, alloc: Global, on_the_way_out: &[Place]) -> Result<(), AllocError>
+    pub(crate) fn leave(
+        &mut self,
+        alloc: Global,
+        on_the_way_out: &[Place],
+    ) -> Result<(), AllocError>
         ensures { OnOk result (flow_in self.new ≡ spec.broken on_the_way_out.now (flow_in self.old)) }
     {
         let state = dropped_all(alloc, on_the_way_out, &self.point.state)?;
@@ -53,7 +57,11 @@ impl Flow {
     }
 
     /// Enters a loop whose turns assign some places; answers the states in which the loop around it was left.
-    pub(crate) fn enter(&mut self, alloc: Global, places: &[Place]) -> Result<Vec<State>, AllocError>
+    pub(crate) fn enter(
+        &mut self,
+        alloc: Global,
+        places: &[Place],
+    ) -> Result<Vec<State>, AllocError>
         ensures flow { OnOk result (flow_in self.new ≡ spec.entered places.now (flow_in self.old)) }
         ensures around { IfOk result (λ around. map state_of around.items ≡ (flow_in self.old).left) }
     {
@@ -123,7 +131,11 @@ impl Flow {
 }
 
 /// What is known where one of some states holds: the first, and those of a list in turn.
-pub(crate) fn joined_all(alloc: Global, state: &State, others: &[State]) -> Result<State, AllocError>
+pub(crate) fn joined_all(
+    alloc: Global,
+    state: &State,
+    others: &[State],
+) -> Result<State, AllocError>
     ensures { IfOk result (λ joined. state_of joined
         ≡ spec.joined_all (state_of state.now) (map state_of others.now)) }
 {
@@ -135,6 +147,7 @@ pub(crate) fn joined_all(alloc: Global, state: &State, others: &[State]) -> Resu
 }
 
 /// What is known where a block of an `if` ended, the last of them in a state.
+#[tactic(auto, using(crate::proofs::FlowLemmas::ends_joined_last))]
 fn ends_joined(alloc: Global, ends: Vec<State>, last: State) -> Result<State, AllocError>
     ensures { IfOk result (λ joined. state_of joined ≡ spec.ends_joined (map state_of ends.items) (state_of last)) }
 {

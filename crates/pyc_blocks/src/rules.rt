@@ -76,7 +76,8 @@ impl<N: Judge, P: PartReader<N>> Blocks<'_, N, P> {
         let places = turn_places(self.alloc, head, inside)?;
         let exit = dropped_all(self.alloc, &places, &flow.point.state)?;
         let around = flow.take_left(self.alloc);
-        self.parts.turn(self.alloc, notes, head, &places, &mut flow.point)?;
+        self.parts
+            .turn(self.alloc, notes, head, &places, &mut flow.point)?;
         Ok(Begun { exit, around })
     }
 }

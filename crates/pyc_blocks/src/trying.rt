@@ -30,7 +30,7 @@ pub(crate) struct TryPlaces {
     /// The places that its block assigns.
     pub inside: Vec<Place>,
     /// The places that its handlers and its `else` assign.
-    pub arms: Vec<Place>,
+    pub others: Vec<Place>,
     /// The places that its `finally` assigns.
     pub finally: Vec<Place>,
 }
@@ -42,14 +42,14 @@ pub(crate) fn try_places(alloc: Global, found: Try<'_>) -> Result<TryPlaces, All
         (block_of found.orelse.now) (block_of found.finally.now)) }
 {
     let inside = places_of(alloc, found.inside)?;
-    let mut arms = Vec::new(alloc);
-    push_handlers(alloc, found.handlers, &mut arms)?;
+    let mut others = Vec::new(alloc);
+    push_handlers(alloc, found.handlers, &mut others)?;
     let Block::Of(orelse) = found.orelse;
-    push_assigned(alloc, orelse, &mut arms)?;
+    push_assigned(alloc, orelse, &mut others)?;
     let finally = places_of(alloc, found.finally)?;
     Ok(TryPlaces {
         inside,
-        arms,
+        others,
         finally,
     })
 }
@@ -66,9 +66,9 @@ impl TryPlaces {
     /// The state in which `finally` begins, by that in which handlers begin.
     pub(crate) fn finally_state(&self, alloc: Global, raised: &State) -> Result<State, AllocError>
         ensures { IfOk result (λ state. state_of state
-            ≡ places.dropped_all (try_places_in self.now).arms (state_of raised.now)) }
+            ≡ places.dropped_all (try_places_in self.now).others (state_of raised.now)) }
     {
-        dropped_all(alloc, &self.arms, raised)
+        dropped_all(alloc, &self.others, raised)
     }
 
     /// The state after a `try`, by the flow at the end of its `else` and the states in which handlers ended.
@@ -88,7 +88,11 @@ impl TryPlaces {
 
     /// The places that are assigned on the way out of the innermost loop inside the `try`: those on the way out of where
     /// it stands, and those of its `finally`.
-    pub(crate) fn on_the_way_out(&self, alloc: Global, around: &[Place]) -> Result<Vec<Place>, AllocError>
+    pub(crate) fn on_the_way_out(
+        &self,
+        alloc: Global,
+        around: &[Place],
+    ) -> Result<Vec<Place>, AllocError>
         ensures { IfOk result (λ places. places.items ≡ around.now ++ (try_places_in self.now).finally) }
     {
         let mut places = Vec::new(alloc);
