@@ -1,2 +1,3 @@
 pub mod BindingLemmas
+pub mod NameLemmas
 pub mod Steps

@@ -2,6 +2,7 @@
 #![tactic(auto)]
 
 mod binding;
+pub mod laws;
 mod local_imports;
 
 pub use binding::bind_module_import;
