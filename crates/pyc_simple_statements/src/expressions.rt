@@ -78,7 +78,14 @@ impl StatementReader<'_> {
             (spec.part_type (body_in self.now.body.now) (point_in point.now) (expr_of e.now)
             (option_map (λ ty. ty_of ty.now) want.entry)) (N.desk notes.old) result (N.desk notes.new) }
     {
-        infer_type(self.alloc, notes, &self.context(point), &point.state, e, want)
+        infer_type(
+            self.alloc,
+            notes,
+            &self.context(point),
+            &point.state,
+            e,
+            want,
+        )
     }
 
     /// Reads a condition: the states after it.

@@ -1,13 +1,13 @@
 //! The rules of statements carry the body in which these stand.
 
-use pyc_bodies::{Body, BodyContext};
-use pyc_locals::Point;
-use std::alloc::Global;
-
 ghost use Rattle.std.specs.Prelude.{◌≡◌};
 ghost use Rattle.pyc_bodies.specs.BodyNames.{body_context};
 ghost use Rattle.pyc_bodies.specs.Views.{body_in, context_in};
 ghost use Rattle.pyc_locals.specs.Views.{point_in};
+
+use pyc_bodies::{Body, BodyContext};
+use pyc_locals::Point;
+use std::alloc::Global;
 
 /// Reads the statements of a body.
 #[derive(Clone, Copy)]
