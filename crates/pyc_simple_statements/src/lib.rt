@@ -12,5 +12,4 @@ mod reader;
 mod returning;
 mod target_types;
 
-pub use pyc_blocks::PartReader;
-pub use pyc_bodies::{Body, BodyContext, BodyKind, ClassBody, declares_class};
+pub use parts::BodyParts;
