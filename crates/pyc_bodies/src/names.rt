@@ -73,8 +73,8 @@ impl Body<'_> {
         found: Option<&Binding>,
     ) -> Result<Value, AllocError>
         ensures { Performs value_of
-            (spec.value_if_owned (body_in self.now) at name.now (option_map (λ found. binding_of found.now) found.entry))
-            (N.desk notes.old) result (N.desk notes.new) }
+            (spec.value_if_owned (body_in self.now) at name.now
+            (option_map (λ found. binding_of found.now) found.entry)) (N.desk notes.old) result (N.desk notes.new) }
     {
         match found {
             Some(_) => own_value(alloc, notes, self.class_around(), name),

@@ -197,7 +197,7 @@ fn told_in(
         file,
         kind: BodyKind::Module,
     };
-    let parts = BodyParts { body };
+    let parts = BodyParts { body: &body };
     let mut point = Point {
         locals: Locals::none(alloc),
         state: State::nothing_narrowed(alloc),

@@ -83,6 +83,6 @@ fn read_plain_body<N: Judge>(
         (N.desk notes.old) result (N.desk notes.new) }
 {
     let mut point = begun(alloc, Locals::none(alloc));
-    let parts = BodyParts { body: *body };
+    let parts = BodyParts { body };
     read_statements(alloc, notes, &parts, statements, &mut point)
 }

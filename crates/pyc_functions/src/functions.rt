@@ -160,7 +160,7 @@ impl FunctionReader<'_> {
         };
         let locals = function_locals(self.alloc, &types.parameters, bindings)?;
         let mut point = begun(self.alloc, locals);
-        let parts = BodyParts { body: inside };
+        let parts = BodyParts { body: &inside };
         read_statements(self.alloc, notes, &parts, statements, &mut point)?;
         Ok(point)
     }

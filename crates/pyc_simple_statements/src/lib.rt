@@ -13,5 +13,3 @@ mod returning;
 mod target_types;
 
 pub use parts::BodyParts;
-pub use pyc_blocks::PartReader;
-pub use pyc_bodies::{Body, BodyContext, BodyKind, ClassBody, declares_class};

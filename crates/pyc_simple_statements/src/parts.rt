@@ -24,16 +24,28 @@ use pyc_places::Place;
 use pyc_type_forms::Ty;
 use std::alloc::{AllocError, Global};
 
-/// A body, as its blocks read the parts of its statements.
+/// Reads the parts of the statements of a body that are no blocks.
 #[derive(Clone, Copy)]
 pub struct BodyParts<'a> {
-    pub body: Body<'a>,
+    pub body: &'a Body<'a>,
+}
+
+impl BodyParts<'_> {
+    /// The rules of statements in the body.
+    fn reader(&self, alloc: Global) -> StatementReader<'_>
+        ensures { body_in result.body.now ≡ body_in self.now.body.now }
+    {
+        StatementReader {
+            alloc,
+            body: self.body,
+        }
+    }
 }
 
 impl<N: Judge> PartReader<N> for BodyParts<'_> {
     ghost ready = { λ parts. Unit };
 
-    ghost parts = { λ parts. spec.body_parts (body_in parts.body) };
+    ghost parts = { λ parts. spec.body_parts (body_in parts.body.now) };
 
     fn simple(
         &self,
@@ -43,11 +55,7 @@ impl<N: Judge> PartReader<N> for BodyParts<'_> {
         form: &StmtForm,
         point: &mut Point,
     ) -> Result<(), AllocError> {
-        let reader = StatementReader {
-            alloc,
-            body: &self.body,
-        };
-        reader.read_simple(notes, at, form, point)
+        self.reader(alloc).read_simple(notes, at, form, point)
     }
 
     fn tested(
@@ -57,11 +65,7 @@ impl<N: Judge> PartReader<N> for BodyParts<'_> {
         test: &Expr,
         point: &Point,
     ) -> Result<States, AllocError> {
-        let reader = StatementReader {
-            alloc,
-            body: &self.body,
-        };
-        reader.read_test(notes, test, point)
+        self.reader(alloc).read_test(notes, test, point)
     }
 
     fn turn(
@@ -72,11 +76,7 @@ impl<N: Judge> PartReader<N> for BodyParts<'_> {
         places: &[Place],
         point: &mut Point,
     ) -> Result<(), AllocError> {
-        let reader = StatementReader {
-            alloc,
-            body: &self.body,
-        };
-        reader.begin_turn(notes, head, places, point)
+        self.reader(alloc).begin_turn(notes, head, places, point)
     }
 
     fn caught(
@@ -86,11 +86,7 @@ impl<N: Judge> PartReader<N> for BodyParts<'_> {
         handler: &Handler,
         point: &mut Point,
     ) -> Result<(), AllocError> {
-        let reader = StatementReader {
-            alloc,
-            body: &self.body,
-        };
-        reader.read_caught(notes, handler.caught.as_ref(), handler.name.as_ref(), point)
+        self.reader(alloc).read_caught(notes, handler.caught.as_ref(), handler.name.as_ref(), point)
     }
 
     fn items(
@@ -100,11 +96,7 @@ impl<N: Judge> PartReader<N> for BodyParts<'_> {
         items: &[WithItem],
         point: &mut Point,
     ) -> Result<(), AllocError> {
-        let reader = StatementReader {
-            alloc,
-            body: &self.body,
-        };
-        reader.read_items(notes, items, point)
+        self.reader(alloc).read_items(notes, items, point)
     }
 }
 
