@@ -123,11 +123,12 @@ const SOURCES: &[(&[u8], &str)] = &[
     ),
     (
         b"if a:\n    x: int = \\\n      b'a' b\"\"\n",
-        "3:7 assignment: Incompatible types in assignment (expression has type \"bytes\", variable has type \"int\");",
+        "1:4 name-defined: Name \"a\" is not defined;\
+         3:7 assignment: Incompatible types in assignment (expression has type \"bytes\", variable has type \"int\");",
     ),
     (
         b"def f():\n    x: int = ''\nclass C:\n    x: int = ''\nv: str = 1j\n",
-        "",
+        "4:14 assignment: Incompatible types in assignment (expression has type \"str\", variable has type \"int\");",
     ),
     (
         b"class C:\n    pass\nx: int = ('')\nw: C = ''\nx.y: int = ''\n",
@@ -138,8 +139,8 @@ const SOURCES: &[(&[u8], &str)] = &[
     ),
     (
         b"x: int = ''\nif x:\n    y: str = 1\n",
-        "3:14 assignment: Incompatible types in assignment (expression has type \"int\", variable has type \"str\");\
-         1:10 assignment: Incompatible types in assignment (expression has type \"str\", variable has type \"int\");",
+        "1:10 assignment: Incompatible types in assignment (expression has type \"str\", variable has type \"int\");\
+         3:14 assignment: Incompatible types in assignment (expression has type \"int\", variable has type \"str\");",
     ),
     (b" x: int = 1\n", "1:1 syntax: Unexpected or missing block;"),
     (b"if: int = 1\n", "1:1 syntax: Invalid syntax;"),

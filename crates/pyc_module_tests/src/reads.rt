@@ -28,7 +28,7 @@ const READS: &[(&[u8], usize, &str)] = &[
     (
         b"class A: ...\nclass B(A):\n    x = 1\n    __init__ = 1\n",
         3,
-        "name a A; class A; class B; member B x; member A x; ",
+        "name a A; class A; class B; member B x; member B __init__; member A x; ",
     ),
 ];
 
