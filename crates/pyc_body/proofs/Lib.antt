@@ -1,3 +1,4 @@
+pub mod ListedLemmas
 pub mod OrderLemmas
 pub mod ReadLemmas
 pub mod Steps

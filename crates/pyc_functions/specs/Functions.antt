@@ -27,7 +27,8 @@ use Rattle.pyc_type_forms.specs.Types.{Ty, any}
 abbrev pub is_annotated : FunctionDefinition → Bool
 is_annotated head = is_some head.returns || list_any (λ (p : Parameter). is_some p.annotation) head.parameters
 
--- whether the body of a function is checked: not one that suspends, nor one without annotations unless that is asked for
+-- whether the body of a function is checked: not one that suspends, nor one without annotations unless that is asked
+-- for
 abbrev pub is_checked : Bool → FunctionDefinition → Bool
 is_checked check_untyped head = not (head.is_async || head.suspends) && (is_annotated head || check_untyped)
 
@@ -58,7 +59,8 @@ module _ (outside : Body) where
   -- the statements of a function with these bindings, in turn
   abbrev pub inside_read : HeadTypes → List Binding → Stmts → Step Point
   inside_read types bindings statements =
-      statements_read (body_parts (inside_of types.result)) statements (begun (function_locals types.parameters bindings))
+      statements_read (body_parts (inside_of types.result)) statements
+      (begun (function_locals types.parameters bindings))
 
   -- the statements of a function that begins at a position, and what its end owes
   unfoldable pub statements_and_end_read : Position → HeadTypes → List Binding → Stmts → Step (Unit {0})

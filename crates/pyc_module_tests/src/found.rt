@@ -1,7 +1,7 @@
 //! Sources with the messages that are found in them.
 
 use crate::sources::file_of;
-use pyc_body::{Unit, check_unit, file_units, unsilenced};
+use pyc_body::{Checked, Checker, Meter, unsilenced};
 use pyc_iface::{Options, World};
 use pyc_names::SourceFile;
 use pyc_report::Message;
@@ -39,64 +39,30 @@ fn write_lines(messages: &[Message], shown: &mut String) -> Result<(), Fail> {
     Ok(())
 }
 
-/// The only file of a world, and what it is looked at with.
-#[derive(Drop)]
-struct Setting<'a> {
-    alloc: Global,
-    world: &'a World,
-    file: &'a SourceFile,
-}
-
-/// Writes what is found in a unit of a file.
-fn write_unit(setting: &Setting<'_>, unit: Unit<'_>, shown: &mut String) -> Result<(), Fail> {
-    let Setting { alloc, world, file } = *setting;
-    let checked = check_unit(alloc, OPTIONS, world, file, unit)?;
-    write_messages(checked.messages(), shown)
-}
-
-/// Writes what is found in these units of a file.
-fn write_units(setting: &Setting<'_>, units: &[Unit<'_>], shown: &mut String) -> Result<(), Fail> {
-    for unit in units {
-        write_unit(setting, *unit, shown)?;
+/// Writes what is found in the units of a file, of which these are checks.
+fn write_checks(checks: &[Checked], shown: &mut String) -> Result<(), Fail> {
+    for check in checks {
+        write_messages(check.messages(), shown)?;
     }
     Ok(())
 }
 
-/// Writes the lines of what is told of a file, or what is found in its units.
-fn write_file(setting: &Setting<'_>, is_told: bool, shown: &mut String) -> Result<(), Fail> {
-    let Setting { alloc, world, file } = *setting;
+/// The lines of what is told of a file that is the only one there is, or what is found in its units.
+fn shown_alone(alloc: Global, file: &Rc<SourceFile>, is_told: bool) -> Result<String, Fail> {
+    let world = World::build(alloc, slice::from_ref(file))?;
+    let mut meter = Meter::new(alloc);
+    let checker = Checker::new(alloc, OPTIONS, &world);
+    let checks = checker.check_files(&mut meter, slice::from_ref(file))?;
+    let mut shown = String::new(alloc);
     if is_told {
-        write_lines(&unsilenced(alloc, OPTIONS, world, file)?, shown)
+        write_lines(&unsilenced(alloc, file, &checks)?, &mut shown)?;
     } else {
-        write_units(setting, &file_units(alloc, file.outcome())?, shown)
+        write_checks(&checks, &mut shown)?;
     }
-}
-
-/// The same, as text.
-fn file_shown(setting: &Setting<'_>, is_told: bool) -> Result<String, Fail> {
-    let mut shown = String::new(setting.alloc);
-    write_file(setting, is_told, &mut shown)?;
     Ok(shown)
 }
 
-/// The same of the file of a world.
-fn shown_in(
-    alloc: Global,
-    world: &World,
-    file: &SourceFile,
-    is_told: bool,
-) -> Result<String, Fail> {
-    let setting = Setting { alloc, world, file };
-    file_shown(&setting, is_told)
-}
-
-/// The same of a file that is the only one there is.
-fn shown_alone(alloc: Global, file: &Rc<SourceFile>, is_told: bool) -> Result<String, Fail> {
-    let world = World::build(alloc, slice::from_ref(file))?;
-    shown_in(alloc, &world, file, is_told)
-}
-
-/// The same of a file of this source.
+/// The lines of what is told of a file of this source that is the only one there is, or what is found in its units.
 fn shown(alloc: Global, source: &[u8], is_told: bool) -> Result<String, Fail> {
     let file = Rc::new(alloc, file_of(alloc, "a.py", source)?)?;
     shown_alone(alloc, &file, is_told)

@@ -2,7 +2,7 @@
 
 use crate::sources::file_of;
 use pyc_ast::Text;
-use pyc_body::{check_unit, file_units};
+use pyc_body::{Checker, Meter, numbered_units};
 use pyc_iface::{Key, Options, World};
 use pyc_names::QualifiedName;
 use std::alloc::{AllocError, Global};
@@ -78,10 +78,12 @@ fn push_key(key: &Key, shown: &mut String) -> Result<(), AllocError> {
 fn reads_shown(alloc: Global, source: &[u8], number: usize) -> Result<String, Fail> {
     let file = Rc::new(alloc, file_of(alloc, "a.py", source)?)?;
     let world = World::build(alloc, slice::from_ref(&file))?;
-    let units = file_units(alloc, file.outcome())?;
+    let checker = Checker::new(alloc, OPTIONS, &world);
+    let mut meter = Meter::new(alloc);
+    let units = numbered_units(alloc, &file)?;
     let mut shown = String::new(alloc);
     if let Some(unit) = units.get(number) {
-        let checked = check_unit(alloc, OPTIONS, &world, &file, *unit)?;
+        let checked = checker.check_unit(&mut meter, unit)?;
         for key in checked.reads() {
             push_key(key, &mut shown)?;
             shown.push_str("; ")?;

@@ -7,8 +7,7 @@ ghost use Rattle.pyc_names.specs.ModuleName.{module_of};
 ghost use Rattle.pyc_names.specs.SourceFiles.{source_file};
 ghost use Rattle.pyc_names.specs.SourceFileView.{source_in};
 
-use pyc_body::{count_units, unsilenced};
-use pyc_iface::{Options, World};
+use pyc_body::{Checked, count_units, unsilenced};
 use pyc_lower::read;
 use pyc_names::{ModuleName, SourceFile};
 use pyc_report::Message;
@@ -29,8 +28,8 @@ pub struct File {
 impl File {
     ghost use Rattle.pyc_workspace.specs.Files.{file_in};
     ghost use Rattle.pyc_workspace.specs.Fresh.{source_of};
-    ghost use Rattle.pyc_body.specs.FoundMessages.{unsilenced};
-    ghost use Rattle.pyc_iface.specs.WorldView.{world_in};
+    ghost use Rattle.pyc_body.specs.FoundMessages.{unsilenced_of};
+    ghost use Rattle.pyc_examiner.specs.CheckedView.{checked_of};
     ghost use Rattle.pyc_report.specs.Message.{message_in};
 
     /// A file of this path, the module that it names, and of these bytes. The only error is that memory runs out.
@@ -89,18 +88,18 @@ impl File {
         self.units
     }
 
-    /// The messages of the file that no ignore comment silences, over a world that it stands in. The only error is that
-    /// memory runs out.
+    /// The messages of the file that no ignore comment silences, of whose units these checks are. The only error is
+    /// that memory runs out.
     pub(crate) fn unsilenced(
         &self,
         alloc: Global,
-        options: Options,
-        world: &World,
+        checks: &[Checked],
     ) -> Result<Vec<Message>, AllocError>
         ensures { IfOk result (λ messages. map message_in messages.items
-            ≡ unsilenced options (world_in world.now) (source_of (file_in self.now))) }
+            ≡ unsilenced_of (read_of (file_in self.now).bytes)
+            (map (λ check. (checked_of check).messages) checks.now)) }
     {
-        let found = unsilenced(alloc, options, world, &self.source)?;
+        let found = unsilenced(alloc, &self.source, checks)?;
         Ok(found)
     }
 }

@@ -1,0 +1,4 @@
+pub mod FoundOrder
+pub mod FoundLaws
+pub mod PrintedMessages
+pub mod PlaceView
