@@ -58,323 +58,294 @@ pub fn match_listed<N: Judge, R: Reader<N>>(
         (args_in (R.reads reader.now) arguments.now))
         (N.desk notes.old) result (N.desk notes.new) }
 {
-    match_unless(
+    if has_unpacked(arguments) {
+        return read_all(alloc, notes, reader, arguments);
+    }
+    let call = ListedCall {
         alloc,
-        notes,
-        reader,
-        has_unpacked(arguments),
         call,
-        arguments,
         params,
-    )
+    };
+    call.match_plainly(notes, reader, arguments)
 }
 
-/// Matches arguments to a row of parameters, unless some arguments stand after `*` or `**`: then it reads them alone.
-fn match_unless<N: Judge, R: Reader<N>>(
+/// A call of what takes a row of parameters.
+#[derive(Clone, Copy)]
+struct ListedCall<'a> {
     alloc: Global,
-    notes: &mut N,
-    reader: &R,
-    has_unpacked: bool,
-    call: &Call<'_>,
-    arguments: &Arguments<'_>,
-    params: &[Param],
-) -> Result<(), AllocError>
-    requires { R.ready reader.now }
-    ensures { Performs (λ u. u)
-        (spec.matched_unless has_unpacked (call_in call.now) (param_row params.now)
-        (args_in (R.reads reader.now) arguments.now))
-        (N.desk notes.old) result (N.desk notes.new) }
-{
-    if has_unpacked {
-        read_all(alloc, notes, reader, arguments)
-    } else {
-        match_plainly(alloc, notes, reader, call, arguments, params)
+    call: &'a Call<'a>,
+    params: &'a [Param],
+}
+
+impl ListedCall<'_> {
+    /// Matches arguments of which none stands after `*` or `**`.
+    #[tactic(auto, using(pyc_obligations::proofs::Steps::performing), unfolding(crate::specs::Matched::plainly_matched))]
+    fn match_plainly<N: Judge, R: Reader<N>>(
+        &self,
+        notes: &mut N,
+        reader: &R,
+        arguments: &Arguments<'_>,
+    ) -> Result<(), AllocError>
+        requires { R.ready reader.now }
+        ensures { Performs (λ u. u)
+            (spec.plainly_matched (call_in self.now.call.now) (param_row self.now.params.now)
+            (args_in (R.reads reader.now) arguments.now))
+            (N.desk notes.old) result (N.desk notes.new) }
+    {
+        let filling = self.match_each(notes, reader, arguments)?;
+        self.tell_filling(notes, &filling)
     }
-}
 
-/// Matches arguments to a row of parameters, where none stands after `*` or `**`.
-#[tactic(auto, using(pyc_obligations::proofs::Steps::performing), unfolding(crate::specs::Matched::plainly_matched))]
-fn match_plainly<N: Judge, R: Reader<N>>(
-    alloc: Global,
-    notes: &mut N,
-    reader: &R,
-    call: &Call<'_>,
-    arguments: &Arguments<'_>,
-    params: &[Param],
-) -> Result<(), AllocError>
-    requires { R.ready reader.now }
-    ensures { Performs (λ u. u)
-        (spec.plainly_matched (call_in call.now) (param_row params.now)
-        (args_in (R.reads reader.now) arguments.now))
-        (N.desk notes.old) result (N.desk notes.new) }
-{
-    let filling = match_each(alloc, notes, reader, call, arguments, params)?;
-    tell_filling(alloc, notes, call, params, &filling)
-}
-
-/// What arguments fill, in turn.
-fn match_each<N: Judge, R: Reader<N>>(
-    alloc: Global,
-    notes: &mut N,
-    reader: &R,
-    call: &Call<'_>,
-    arguments: &Arguments<'_>,
-    params: &[Param],
-) -> Result<Filling, AllocError>
-    requires { R.ready reader.now }
-    ensures { Performs filling_in
-        (spec.arguments_matched (call_in call.now) (param_row params.now) 0 spec.no_filling
-        (args_in (R.reads reader.now) arguments.now))
-        (N.desk notes.old) result (N.desk notes.new) }
-{
-    match arguments {
-        Arguments::Unread(arguments) => {
-            match_unread(alloc, notes, reader, call, arguments, params)
+    /// What arguments fill, in turn.
+    fn match_each<N: Judge, R: Reader<N>>(
+        &self,
+        notes: &mut N,
+        reader: &R,
+        arguments: &Arguments<'_>,
+    ) -> Result<Filling, AllocError>
+        requires { R.ready reader.now }
+        ensures { Performs filling_in
+            (spec.arguments_matched (call_in self.now.call.now) (param_row self.now.params.now) 0 spec.no_filling
+            (args_in (R.reads reader.now) arguments.now))
+            (N.desk notes.old) result (N.desk notes.new) }
+    {
+        match arguments {
+            Arguments::Unread(arguments) => self.match_unread(notes, reader, arguments),
+            Arguments::Read(arguments) => self.match_read(notes, arguments),
         }
-        Arguments::Read(arguments) => match_read(alloc, notes, call, arguments, params),
     }
-}
 
-/// What arguments fill that are to be read.
-#[tactic(auto, using(pyc_obligations::proofs::Steps::performing), unfolding(crate::specs::Matched::arguments_matched))]
-fn match_unread<N: Judge, R: Reader<N>>(
-    alloc: Global,
-    notes: &mut N,
-    reader: &R,
-    call: &Call<'_>,
-    arguments: &[Argument],
-    params: &[Param],
-) -> Result<Filling, AllocError>
-    requires { R.ready reader.now }
-    ensures { Performs filling_in
-        (spec.arguments_matched (call_in call.now) (param_row params.now) 0 spec.no_filling
-        (unread_in (R.reads reader.now) arguments.now))
-        (N.desk notes.old) result (N.desk notes.new) }
-{
-    let mut filling = Filling::new(alloc);
-    let mut number = 0;
-    for argument in arguments {
-        number += places_of(given_by(&argument.kind));
-        take_unread(
-            alloc,
-            notes,
-            reader,
-            call,
-            params,
+    /// What arguments fill that are to be read.
+    #[tactic(auto, using(pyc_obligations::proofs::Steps::performing), unfolding(crate::specs::Matched::arguments_matched))]
+    fn match_unread<N: Judge, R: Reader<N>>(
+        &self,
+        notes: &mut N,
+        reader: &R,
+        arguments: &[Argument],
+    ) -> Result<Filling, AllocError>
+        requires { R.ready reader.now }
+        ensures { Performs filling_in
+            (spec.arguments_matched (call_in self.now.call.now) (param_row self.now.params.now) 0 spec.no_filling
+            (unread_in (R.reads reader.now) arguments.now))
+            (N.desk notes.old) result (N.desk notes.new) }
+    {
+        let mut filling = Filling::new(self.alloc);
+        let mut number = 0;
+        for argument in arguments {
+            number += places_of(given_by(&argument.kind));
+            self.take_unread(notes, reader, number, &mut filling, argument)?;
+        }
+        Ok(filling)
+    }
+
+    /// What arguments fill that were read.
+    #[tactic(auto, using(pyc_obligations::proofs::Steps::performing), unfolding(crate::specs::Matched::arguments_matched))]
+    fn match_read<N: Judge>(
+        &self,
+        notes: &mut N,
+        arguments: &[ReadArgument],
+    ) -> Result<Filling, AllocError>
+        ensures { Performs filling_in
+            (spec.arguments_matched (call_in self.now.call.now) (param_row self.now.params.now) 0 spec.no_filling
+            (map read_in arguments.now))
+            (N.desk notes.old) result (N.desk notes.new) }
+    {
+        let mut filling = Filling::new(self.alloc);
+        let mut number = 0;
+        for argument in arguments {
+            number += places_of(given_by(&argument.kind));
+            self.take_read(notes, number, &mut filling, argument)?;
+        }
+        Ok(filling)
+    }
+
+    /// Takes an argument that is to be read, when with it so many are given by place.
+    #[tactic(auto, using(pyc_obligations::proofs::Steps::performing), unfolding(crate::specs::Matched::argument_taken))]
+    fn take_unread<N: Judge, R: Reader<N>>(
+        &self,
+        notes: &mut N,
+        reader: &R,
+        number: usize,
+        filling: &mut Filling,
+        argument: &Argument,
+    ) -> Result<(), AllocError>
+        requires { R.ready reader.now }
+        ensures { Performs (λ u. filling_in filling.new)
+            (spec.argument_matched (call_in self.now.call.now) (param_row self.now.params.now) number
+            (filling_in filling.old) (spec_arguments.unread (R.reads reader.now) (argument_of argument.now)))
+            (N.desk notes.old) result (N.desk notes.new) }
+    {
+        let given = given_by(&argument.kind);
+        let found = matched(&filling.fill, self.params, given);
+        let taken = MatchedArgument {
+            call: self.call,
             number,
-            &mut filling,
-            argument,
-        )?;
+            given,
+            found,
+        };
+        taken.read(self.alloc, notes, reader, argument)?;
+        filling.take(given, found)?;
+        Ok(())
     }
-    Ok(filling)
-}
 
-/// What arguments fill that were read.
-#[tactic(auto, using(pyc_obligations::proofs::Steps::performing), unfolding(crate::specs::Matched::arguments_matched))]
-fn match_read<N: Judge>(
-    alloc: Global,
-    notes: &mut N,
-    call: &Call<'_>,
-    arguments: &[ReadArgument],
-    params: &[Param],
-) -> Result<Filling, AllocError>
-    ensures { Performs filling_in
-        (spec.arguments_matched (call_in call.now) (param_row params.now) 0 spec.no_filling
-        (map read_in arguments.now))
-        (N.desk notes.old) result (N.desk notes.new) }
-{
-    let mut filling = Filling::new(alloc);
-    let mut number = 0;
-    for argument in arguments {
-        number += places_of(given_by(&argument.kind));
-        take_read(alloc, notes, call, params, number, &mut filling, argument)?;
+    /// Takes an argument that was read, when with it so many are given by place.
+    #[tactic(auto, using(pyc_obligations::proofs::Steps::performing), unfolding(crate::specs::Matched::argument_taken))]
+    fn take_read<N: Judge>(
+        &self,
+        notes: &mut N,
+        number: usize,
+        filling: &mut Filling,
+        argument: &ReadArgument,
+    ) -> Result<(), AllocError>
+        ensures { Performs (λ u. filling_in filling.new)
+            (spec.argument_matched (call_in self.now.call.now) (param_row self.now.params.now) number
+            (filling_in filling.old) (read_in argument.now))
+            (N.desk notes.old) result (N.desk notes.new) }
+    {
+        let given = given_by(&argument.kind);
+        let found = matched(&filling.fill, self.params, given);
+        let taken = MatchedArgument {
+            call: self.call,
+            number,
+            given,
+            found,
+        };
+        taken.tell_of_read(self.alloc, notes, argument)?;
+        filling.take(given, found)
     }
-    Ok(filling)
-}
 
-/// Takes an argument that is to be read, when with it so many are given by place.
-#[tactic(auto, using(pyc_obligations::proofs::Steps::performing), unfolding(crate::specs::Matched::argument_taken))]
-fn take_unread<N: Judge, R: Reader<N>>(
-    alloc: Global,
-    notes: &mut N,
-    reader: &R,
-    call: &Call<'_>,
-    params: &[Param],
-    number: usize,
-    filling: &mut Filling,
-    argument: &Argument,
-) -> Result<(), AllocError>
-    requires { R.ready reader.now }
-    ensures { Performs (λ u. filling_in filling.new)
-        (spec.argument_matched (call_in call.now) (param_row params.now) number (filling_in filling.old)
-        (spec_arguments.unread (R.reads reader.now) (argument_of argument.now)))
-        (N.desk notes.old) result (N.desk notes.new) }
-{
-    let given = given_by(&argument.kind);
-    let found = matched(&filling.fill, params, given);
-    read_argument(alloc, notes, reader, call, number, given, found, argument)?;
-    filling.take(given, found)?;
-    Ok(())
-}
+    /// Tells what is told after all arguments.
+    #[tactic(auto, using(pyc_obligations::proofs::Steps::performing), unfolding(crate::specs::Matched::filling_told))]
+    fn tell_filling<N: Judge>(&self, notes: &mut N, filling: &Filling) -> Result<(), AllocError>
+        ensures { Performs (λ u. u)
+            (spec.filling_told (call_in self.now.call.now) (param_row self.now.params.now) (filling_in filling.now))
+            (N.desk notes.old) result (N.desk notes.new) }
+    {
+        tell_if_too_many(self.alloc, notes, self.call, filling.has_too_many)?;
+        self.tell_unfilled(notes, &filling.fill)
+    }
 
-/// Takes an argument that was read, when with it so many are given by place.
-#[tactic(auto, using(pyc_obligations::proofs::Steps::performing), unfolding(crate::specs::Matched::argument_taken))]
-fn take_read<N: Judge>(
-    alloc: Global,
-    notes: &mut N,
-    call: &Call<'_>,
-    params: &[Param],
-    number: usize,
-    filling: &mut Filling,
-    argument: &ReadArgument,
-) -> Result<(), AllocError>
-    ensures { Performs (λ u. filling_in filling.new)
-        (spec.argument_matched (call_in call.now) (param_row params.now) number (filling_in filling.old)
-        (read_in argument.now))
-        (N.desk notes.old) result (N.desk notes.new) }
-{
-    let given = given_by(&argument.kind);
-    let found = matched(&filling.fill, params, given);
-    tell_of_read(alloc, notes, call, number, given, found, argument)?;
-    filling.take(given, found)
-}
-
-/// Reads an argument that comes to this, and tells of it.
-#[tactic(auto, using(pyc_obligations::proofs::Steps::performing), unfolding(crate::specs::Matched::argument_read))]
-fn read_argument<N: Judge, R: Reader<N>>(
-    alloc: Global,
-    notes: &mut N,
-    reader: &R,
-    call: &Call<'_>,
-    number: usize,
-    given: Given<'_>,
-    found: Match<'_>,
-    argument: &Argument,
-) -> Result<(), AllocError>
-    requires { R.ready reader.now }
-    ensures { Performs (λ u. u)
-        (spec.argument_read (call_in call.now) number (given_in given.entry) (match_in found.entry)
-        (spec_arguments.unread (R.reads reader.now) (argument_of argument.now)))
-        (N.desk notes.old) result (N.desk notes.new) }
-{
-    refuse(alloc, notes, call, given, found)?;
-    let want = wanted(found);
-    let got = reader.read(alloc, notes, &argument.value, want)?;
-    owe_argument(alloc, notes, call, argument.at, given, number, &got, want)?;
-    Ok(())
-}
-
-/// Tells of an argument that was read, and comes to this.
-#[tactic(auto, using(pyc_obligations::proofs::Steps::performing), unfolding(crate::specs::Matched::argument_read))]
-fn tell_of_read<N: Judge>(
-    alloc: Global,
-    notes: &mut N,
-    call: &Call<'_>,
-    number: usize,
-    given: Given<'_>,
-    found: Match<'_>,
-    argument: &ReadArgument,
-) -> Result<(), AllocError>
-    ensures { Performs (λ u. u)
-        (spec.argument_read (call_in call.now) number (given_in given.entry) (match_in found.entry)
-        (read_in argument.now))
-        (N.desk notes.old) result (N.desk notes.new) }
-{
-    refuse(alloc, notes, call, given, found)?;
-    owe_argument(
-        alloc,
-        notes,
-        call,
-        argument.at,
-        given,
-        number,
-        &argument.ty,
-        wanted(found),
-    )
-}
-
-/// Tells what is told of an argument before it is read.
-fn refuse<N: Judge>(
-    alloc: Global,
-    notes: &mut N,
-    call: &Call<'_>,
-    given: Given<'_>,
-    found: Match<'_>,
-) -> Result<(), AllocError>
-    ensures { Performs (λ u. u) (spec.refused (call_in call.now) (given_in given.entry) (match_in found.entry))
-        (N.desk notes.old) result (N.desk notes.new) }
-{
-    match given {
-        Given::ByPlace => Ok(()),
-        Given::ByName(name) => refuse_name(alloc, notes, call, name.as_str(), found),
+    /// Tells of the parameters that no argument fills.
+    #[tactic(auto, using(pyc_obligations::proofs::Steps::performing))]
+    fn tell_unfilled<N: Notes>(&self, notes: &mut N, fill: &Fill) -> Result<(), AllocError>
+        ensures { Performs (λ u. u)
+            (each (spec.missing_told (call_in self.now.call.now))
+            (unfilled.missing (fill_of fill.now) (param_row self.now.params.now)))
+            (N.desk notes.old) result (N.desk notes.new) }
+    {
+        let found = missing(self.alloc, fill, self.params)?;
+        tell_each_missing(self.alloc, notes, self.call, &found)
     }
 }
 
-/// Tells what is told of an argument by a name before it is read.
-fn refuse_name<N: Judge>(
-    alloc: Global,
-    notes: &mut N,
-    call: &Call<'_>,
-    name: &str,
-    found: Match<'_>,
-) -> Result<(), AllocError>
-    ensures { Performs (λ u. u) (spec.name_refused (call_in call.now) name.now (match_in found.entry))
-        (N.desk notes.old) result (N.desk notes.new) }
-{
-    match found {
-        Match::Repeated => tell_repeated(alloc, notes, call, name),
-        Match::Unexpected => tell_unexpected(alloc, notes, call, name),
-        _ => Ok(()),
-    }
+/// An argument of a call: how many are given by place with it, how it is given, and what it comes to.
+#[derive(Clone, Copy)]
+struct MatchedArgument<'a> {
+    call: &'a Call<'a>,
+    number: usize,
+    given: Given<'a>,
+    found: Match<'a>,
 }
 
-/// Owes that an argument is of the type that is wanted of it, if one is.
-fn owe_argument<N: Judge>(
-    alloc: Global,
-    notes: &mut N,
-    call: &Call<'_>,
-    at: Position,
-    given: Given<'_>,
-    number: usize,
-    got: &Ty,
-    want: Option<&Ty>,
-) -> Result<(), AllocError>
-    ensures { Performs (λ u. u)
-        (spec.argument_owed (call_in call.now) at (given_in given.entry) number (ty_of got.now)
-        (option_map (λ ty. ty_of ty.now) want.entry))
-        (N.desk notes.old) result (N.desk notes.new) }
-{
-    match want {
-        Some(want) => {
-            let owed = OwedArgument {
-                call,
-                at,
-                given,
-                number,
-                got,
-                want,
-            };
-            owe(alloc, notes, &owed)
+impl MatchedArgument<'_> {
+    /// Reads the argument, and tells of it.
+    #[tactic(auto, using(pyc_obligations::proofs::Steps::performing), unfolding(crate::specs::Matched::argument_read))]
+    fn read<N: Judge, R: Reader<N>>(
+        &self,
+        alloc: Global,
+        notes: &mut N,
+        reader: &R,
+        argument: &Argument,
+    ) -> Result<(), AllocError>
+        requires { R.ready reader.now }
+        ensures { Performs (λ u. u)
+            (spec.argument_read (call_in self.now.call.now) self.now.number (given_in self.now.given)
+            (match_in self.now.found) (spec_arguments.unread (R.reads reader.now) (argument_of argument.now)))
+            (N.desk notes.old) result (N.desk notes.new) }
+    {
+        self.refuse(alloc, notes)?;
+        let want = wanted(self.found);
+        let got = reader.read(alloc, notes, &argument.value, want)?;
+        self.owe(alloc, notes, argument.at, &got, want)?;
+        Ok(())
+    }
+
+    /// Tells of the argument, which was read.
+    #[tactic(auto, using(pyc_obligations::proofs::Steps::performing), unfolding(crate::specs::Matched::argument_read))]
+    fn tell_of_read<N: Judge>(
+        &self,
+        alloc: Global,
+        notes: &mut N,
+        argument: &ReadArgument,
+    ) -> Result<(), AllocError>
+        ensures { Performs (λ u. u)
+            (spec.argument_read (call_in self.now.call.now) self.now.number (given_in self.now.given)
+            (match_in self.now.found) (read_in argument.now))
+            (N.desk notes.old) result (N.desk notes.new) }
+    {
+        self.refuse(alloc, notes)?;
+        self.owe(alloc, notes, argument.at, &argument.ty, wanted(self.found))
+    }
+
+    /// Tells what is told of the argument before it is read.
+    fn refuse<N: Judge>(&self, alloc: Global, notes: &mut N) -> Result<(), AllocError>
+        ensures { Performs (λ u. u)
+            (spec.refused (call_in self.now.call.now) (given_in self.now.given) (match_in self.now.found))
+            (N.desk notes.old) result (N.desk notes.new) }
+    {
+        match self.given {
+            Given::ByPlace => Ok(()),
+            Given::ByName(name) => self.refuse_name(alloc, notes, name.as_str()),
         }
-        None => Ok(()),
     }
-}
 
-/// Tells what is told after all arguments.
-#[tactic(auto, using(pyc_obligations::proofs::Steps::performing), unfolding(crate::specs::Matched::filling_told))]
-fn tell_filling<N: Judge>(
-    alloc: Global,
-    notes: &mut N,
-    call: &Call<'_>,
-    params: &[Param],
-    filling: &Filling,
-) -> Result<(), AllocError>
-    ensures { Performs (λ u. u)
-        (spec.filling_told (call_in call.now) (param_row params.now) (filling_in filling.now)) (N.desk notes.old) result
-        (N.desk notes.new) }
-{
-    tell_if_too_many(alloc, notes, call, filling.has_too_many)?;
-    tell_unfilled(alloc, notes, call, params, &filling.fill)
+    /// Tells what is told of the argument, which is given by a name, before it is read.
+    fn refuse_name<N: Judge>(
+        &self,
+        alloc: Global,
+        notes: &mut N,
+        name: &str,
+    ) -> Result<(), AllocError>
+        ensures { Performs (λ u. u)
+            (spec.name_refused (call_in self.now.call.now) name.now (match_in self.now.found)) (N.desk notes.old) result
+            (N.desk notes.new) }
+    {
+        match self.found {
+            Match::Repeated => tell_repeated(alloc, notes, self.call, name),
+            Match::Unexpected => tell_unexpected(alloc, notes, self.call, name),
+            _ => Ok(()),
+        }
+    }
+
+    /// Owes that the argument, which begins at a position, is of the type that is wanted of it, if one is.
+    fn owe<N: Judge>(
+        &self,
+        alloc: Global,
+        notes: &mut N,
+        at: Position,
+        got: &Ty,
+        want: Option<&Ty>,
+    ) -> Result<(), AllocError>
+        ensures { Performs (λ u. u)
+            (spec.argument_owed (call_in self.now.call.now) at (given_in self.now.given) self.now.number (ty_of got.now)
+            (option_map (λ ty. ty_of ty.now) want.entry))
+            (N.desk notes.old) result (N.desk notes.new) }
+    {
+        match want {
+            Some(want) => {
+                let owed = OwedArgument {
+                    call: self.call,
+                    at,
+                    given: self.given,
+                    number: self.number,
+                    got,
+                    want,
+                };
+                owe(alloc, notes, &owed)
+            }
+            None => Ok(()),
+        }
+    }
 }
 
 /// Tells once that there were too many arguments, if there were.
@@ -392,23 +363,6 @@ fn tell_if_too_many<N: Notes>(
     } else {
         Ok(())
     }
-}
-
-/// Tells of the parameters that no argument fills.
-#[tactic(auto, using(pyc_obligations::proofs::Steps::performing))]
-fn tell_unfilled<N: Notes>(
-    alloc: Global,
-    notes: &mut N,
-    call: &Call<'_>,
-    params: &[Param],
-    fill: &Fill,
-) -> Result<(), AllocError>
-    ensures { Performs (λ u. u)
-        (each (spec.missing_told (call_in call.now)) (unfilled.missing (fill_of fill.now) (param_row params.now)))
-        (N.desk notes.old) result (N.desk notes.new) }
-{
-    let found = missing(alloc, fill, params)?;
-    tell_each_missing(alloc, notes, call, &found)
 }
 
 /// Tells of parameters that no argument fills, in turn.

@@ -1,1 +1,5 @@
 pub mod Kept
+pub mod RememberedLemmas
+pub mod WalkLemmas
+pub mod EndLemmas
+pub mod DepthLemmas

@@ -1,2 +1,3 @@
 pub mod BaseLemmas
 pub mod LawLemmas
+pub mod LineLemmas

@@ -1,6 +1,6 @@
 -- What the known orders hold of the written bases, and in which sequence ("The Python 2.3 method resolution order";
 -- Python reference 3.13, "Data model", `type.__mro__`).
-use Rattle.std.specs.Prelude.{◌≡◌, ◌⊎◌, ◌↔◌, Bool, IsTrue, List, [], ◌∷◌, Option}
+use Rattle.std.specs.Prelude.{◌≡◌, ◌⊎◌, ◌↔◌, ◌≤◌, ◌||◌, Bool, IsTrue, List, [], ◌∷◌, length, Option}
 use Rattle.std.specs.List.{All, find, list_any}
 use Rattle.std.specs.Option.{option_map_or}
 use Rattle.pyc_class.specs.declared.class_id.InstanceForm.TheVariants as form
@@ -68,3 +68,14 @@ abbrev pub HoldsAncestors : Type 0
 HoldsAncestors =
     (declared : List Entry) (c d : Id) → IsKnown (orders_of declared) c
     → (IsTrue (leads (orders_of declared) c d) ↔ (IsTrue (same_class c d) ⊎ IsAncestor declared c d))
+
+-- each class in the order of a class is written with at most one class as a base
+abbrev pub HasSingleBases : List Entry → Id → Type 0
+HasSingleBases declared c = (d : Id) → IsTrue (leads (orders_of declared) c d) → length (bases_of declared d) ≤ 1
+
+-- in a known order in which each class has at most one base, one of each two classes stands in the order of the other
+abbrev pub SingleBasesMakeALine : Type 0
+SingleBasesMakeALine =
+    (declared : List Entry) (c d e : Id) → IsKnown (orders_of declared) c → HasSingleBases declared c
+    → IsTrue (leads (orders_of declared) c d) → IsTrue (leads (orders_of declared) c e)
+    → IsTrue (leads (orders_of declared) d e || leads (orders_of declared) e d)

@@ -1,0 +1,10 @@
+pub mod Rows
+pub mod SameTypes
+pub mod UnionLemmas
+pub mod InstanceLemmas
+pub mod BuiltinLemmas
+pub mod StateLemmas
+pub mod TestLemmas
+pub mod ReadingLemmas
+pub mod ConditionLemmas
+pub mod LookLemmas
