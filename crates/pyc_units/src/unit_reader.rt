@@ -85,7 +85,7 @@ impl<'a> UnitReader<'a> {
         match &found.form {
             StmtForm::Function { head, body } => {
                 let outside = self.body(BodyKind::Module);
-                self.read_function(notes, outside, found.at, head, body)
+                self.read_function(notes, &outside, found.at, head, body)
             }
             StmtForm::Class { head, body } => self.read_class(notes, found.at, head, body),
             _ => Ok(()),
@@ -96,19 +96,19 @@ impl<'a> UnitReader<'a> {
     fn read_function<N: Judge>(
         &self,
         notes: &mut N,
-        outside: Body<'_>,
+        outside: &Body<'_>,
         at: Position,
         head: &FunctionDefinition,
         body: &Block,
     ) -> Result<(), AllocError>
         ensures { Performs (λ u. u)
-            (function_reading (body_in outside) at (function_of head.now) (block_of body.now)) (N.desk notes.old)
+            (function_reading (body_in outside.now) at (function_of head.now) (block_of body.now)) (N.desk notes.old)
             result (N.desk notes.new) }
     {
         let Block::Of(statements) = body;
         let reader = FunctionReader {
             alloc: self.alloc,
-            outside,
+            outside: *outside,
         };
         reader.read(notes, at, head, statements)
     }
@@ -117,10 +117,10 @@ impl<'a> UnitReader<'a> {
     fn read_function_in<N: Judge>(
         &self,
         notes: &mut N,
-        outside: Body<'_>,
+        outside: &Body<'_>,
         found: &Stmt,
     ) -> Result<(), AllocError>
-        ensures { Performs (λ u. u) (spec.function_in (body_in outside) (stmt_of found.now)) (N.desk notes.old) result
+        ensures { Performs (λ u. u) (spec.function_in (body_in outside.now) (stmt_of found.now)) (N.desk notes.old) result
             (N.desk notes.new) }
     {
         match &found.form {
@@ -146,7 +146,7 @@ impl<'a> UnitReader<'a> {
         match &class.form {
             StmtForm::Class { head, body } => {
                 let own = self.class_body(class.at, head, body)?;
-                self.read_function_in(notes, self.body(BodyKind::Class(&own)), found)
+                self.read_function_in(notes, &self.body(BodyKind::Class(&own)), found)
             }
             _ => Ok(()),
         }
