@@ -83,6 +83,7 @@ impl FunctionReader<'_> {
     }
 
     /// Reads the body of a function, where it is checked.
+    #[tactic(auto, using(pyc_obligations::proofs::Steps::performing))]
     fn read_body_if_checked<N: Judge>(
         &self,
         notes: &mut N,
@@ -142,6 +143,7 @@ impl FunctionReader<'_> {
     }
 
     /// Reads the statements of a function, in turn.
+    #[tactic(auto, using(pyc_obligations::proofs::Steps::performing))]
     fn read_inside<N: Judge>(
         &self,
         notes: &mut N,

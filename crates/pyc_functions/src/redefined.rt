@@ -13,6 +13,7 @@ use pyc_report::Code;
 use std::alloc::{AllocError, Global};
 
 /// Tells the names that bindings define again, in turn. The only error is that memory runs out.
+#[tactic(auto, using(pyc_obligations::proofs::Steps::performing))]
 pub(crate) fn tell_redefined<N: Notes>(
     alloc: Global,
     notes: &mut N,
@@ -41,6 +42,7 @@ pub fn tell_redefinitions<N: Notes>(
 }
 
 /// Tells a name that is defined again.
+#[tactic(auto, using(pyc_obligations::proofs::Steps::performing))]
 fn tell_redefinition<N: Notes>(
     alloc: Global,
     notes: &mut N,

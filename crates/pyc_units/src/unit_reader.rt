@@ -132,7 +132,7 @@ impl<'a> UnitReader<'a> {
     }
 
     /// Reads a method of a class.
-    #[tactic(auto, unfolding(crate::specs::DefinitionReadings::method_reading))]
+    #[tactic(auto, using(pyc_obligations::proofs::Steps::performing), unfolding(crate::specs::DefinitionReadings::method_reading))]
     fn read_method<N: Judge>(
         &self,
         notes: &mut N,
@@ -185,6 +185,7 @@ impl<'a> UnitReader<'a> {
     }
 
     /// Reads the body of a class.
+    #[tactic(auto, using(pyc_obligations::proofs::Steps::performing))]
     fn read_class_inside<N: Judge>(
         &self,
         notes: &mut N,
