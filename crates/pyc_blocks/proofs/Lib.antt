@@ -1,2 +1,3 @@
 pub mod FlowLemmas
+pub mod SizeLemmas
 pub mod Turns

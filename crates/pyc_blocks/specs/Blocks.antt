@@ -1,5 +1,5 @@
 -- Blocks of statements (Python reference 3.13, "Compound statements"; typing specification, "Type narrowing"): what is
--- asked and told, and what is known after them. No statement is read to which no run comes.
+-- asked and told, and what is known after them. No statement is checked to which no run comes.
 use Rattle.std.specs.Prelude.{ℕ, List, [], ◌∷◌, ◌++◌, Option}
 use Rattle.pyc_assigned_places.specs.AssignedPlaces.{assigned_places, places_in, handlers_places, dropped_all}
 use Rattle.pyc_ast.specs.declared.position.Position.{Position}
@@ -19,7 +19,7 @@ use Rattle.pyc_reading.specs.Readings.{Done, ◌>>=◌}
 abbrev pub Reader : Type 0
 Reader = Flow → Step Flow
 
--- what is read only if a run comes to it
+-- what is checked only if a run comes to it
 abbrev pub reached : State → Reader → Reader
 reached unreachable read f = Done f
 reached (reachable narrowings) read f = read f
@@ -34,10 +34,9 @@ pub record Rules : Type 0 where
 abbrev pub within_loop : Rules → Rules
 within_loop rules = record { parts = rules.parts; on_the_way_out = [] }
 
--- inside a `try` what its `finally` assigns is assigned on the way out
-abbrev pub within_try : Rules → Stmts → Rules
-within_try rules finally =
-    record { parts = rules.parts; on_the_way_out = rules.on_the_way_out ++ assigned_places finally }
+-- inside a `try` the places that its `finally` assigns are assigned on the way out
+abbrev pub within_try : Rules → List Place → Rules
+within_try rules finally = record { parts = rules.parts; on_the_way_out = rules.on_the_way_out ++ finally }
 
 -- ---- the `if` statement
 
@@ -64,7 +63,7 @@ pub record Begun : Type 0 where
   pub exit : State
   pub around : List State
 
--- a `while` reads its condition at the entry
+-- a `while` checks its condition at the entry
 unfoldable pub while_begun : PartReads → Expr → (places : List Place) → Flow → Step Begun
 while_begun parts test places f = do
   states ← parts.tested test (entered places f).point
@@ -119,14 +118,13 @@ abbrev pub raised_state : TryPlaces → State → State
 raised_state places before = dropped_all places.inside before
 
 -- `finally` begins anywhere in the block, a handler or the `else`
-abbrev pub finally_state : TryPlaces → State → State
-finally_state places before = dropped_all places.others (raised_state places before)
+abbrev pub finally_state : TryPlaces → (raised : State) → State
+finally_state places raised = dropped_all places.others raised
 
 -- after a `try`: where its block with its `else` ends, or one of its handlers; what its block and `finally` assign is
 -- not known there
-abbrev pub tried_state : TryPlaces → Handled → State
-tried_state places tried =
-    dropped_all places.finally (dropped_all places.inside (joined_all tried.flow.point.state tried.ends))
+abbrev pub tried_state : TryPlaces → (end : State) → (ends : List State) → State
+tried_state places end ends = dropped_all places.finally (dropped_all places.inside (joined_all end ends))
 
 -- a handler that begins in a state
 unfoldable pub handler_by
@@ -146,17 +144,18 @@ clauses_by inside handlers orelse f = do
   h ← orelse (with_state caught.flow g.point.state)
   Done (record { flow = h; ends = caught.ends })
 
--- `finally` begins in a state, and what follows it in another
-unfoldable pub finally_by : (from after : State) → (finally : Reader) → Reader
-finally_by from after finally f = do
-  last ← finally (with_state f from)
-  Done (with_state last (after_finally last.point.state after))
+-- `finally`, and after it
+unfoldable pub finally_by : TryPlaces → (raised : State) → (finally : Reader) → Handled → Step Flow
+finally_by places raised finally tried = do
+  last ← finally (with_state tried.flow (finally_state places raised))
+  Done (with_state last
+      (after_finally last.point.state (tried_state places tried.flow.point.state tried.ends)))
 
 unfoldable pub try_by
     : TryPlaces → (inside : Reader) → (handlers : State → Handled → Step Handled) → (orelse finally : Reader) → Reader
 try_by places inside handlers orelse finally f = do
   tried ← clauses_by inside (handlers (raised_state places f.point.state)) orelse f
-  finally_by (finally_state places f.point.state) (tried_state places tried) finally tried.flow
+  finally_by places (raised_state places f.point.state) finally tried
 
 -- ---- the `with` statement
 
@@ -195,9 +194,10 @@ abbrev mutual
       for_by rules.parts head (turn_places head inside) (block_read (within_loop rules) inside)
       (block_read rules orelse) f
   form_read rules at (plain.try inside handlers orelse finally) f =
-      try_by (try_places inside handlers orelse finally) (block_read (within_try rules finally) inside)
-      (handlers_read (within_try rules finally) handlers) (block_read (within_try rules finally) orelse)
-      (block_read rules finally) f
+      try_by (try_places inside handlers orelse finally)
+      (block_read (within_try rules (assigned_places finally)) inside)
+      (handlers_read (within_try rules (assigned_places finally)) handlers)
+      (block_read (within_try rules (assigned_places finally)) orelse) (block_read rules finally) f
   form_read rules at (plain.with is_async items inside) f = with_by rules.parts items (block_read rules inside) f
   form_read rules at plain.break f = Done (broken rules.on_the_way_out f)
   form_read rules at plain.continue f = Done (ended f)

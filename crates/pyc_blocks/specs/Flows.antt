@@ -1,12 +1,12 @@
--- What is known as the statements of a body are read in text order (Python reference 3.13, "Compound statements"; typing
--- specification, "Type narrowing").
+-- What is known as the statements of a body are checked in text order (Python reference 3.13, "Compound statements";
+-- typing specification, "Type narrowing").
 use Rattle.std.specs.Prelude.{List, [], ◌∷◌, ◌++◌}
 use Rattle.pyc_assigned_places.specs.AssignedPlaces.{dropped_all}
 use Rattle.pyc_locals.specs.Points.{Point, in_state}
 use Rattle.pyc_places.specs.Places.{Place}
 use Rattle.pyc_places.specs.States.{State, unreachable, reachable, joined_states}
 
--- the point after what was read, and the states in which the innermost loop was left by a `break`
+-- the point after what was checked, and the states in which the innermost loop was left by a `break`
 pub record Flow : Type 0 where
   pub point : Point
   pub left : List State
@@ -70,7 +70,7 @@ after_loop f left = with_state f (joined_all f.point.state left)
 
 -- ---- `try`
 
--- after `finally`: where it ends nothing goes on if it ends nowhere, and what it narrows is not carried on
+-- after `finally`: no run goes on where none comes to its end, and what it narrows is not carried on
 abbrev pub after_finally : State → State → State
 after_finally unreachable s = unreachable
 after_finally (reachable narrowings) s = s

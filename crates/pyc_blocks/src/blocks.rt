@@ -1,28 +1,27 @@
 //! The statements of blocks, in turn.
 
-ghost use Rattle.std.specs.Prelude.{map};
+ghost use Rattle.std.specs.Prelude.{map, option_map};
 ghost use Rattle.pyc_assigned_places.specs.AssignedPlaces.{assigned_places};
 ghost use Rattle.pyc_ast.specs.ExprView.{expr_of};
 ghost use Rattle.pyc_ast.specs.Statements.{branches, handlers, stmts};
 ghost use Rattle.pyc_ast.specs.StatementView.{block_of, branch_of, for_of, handler_of, stmt_form_of, stmt_of};
 ghost use Rattle.pyc_ast.specs.StatementView.{with_item_of};
-ghost use Rattle.std.specs.Prelude.{option_map};
 ghost use Rattle.pyc_blocks.specs.Blocks as spec;
-ghost use Rattle.pyc_blocks.specs.Views.{begun_in, flow_in, handled_in, rules_of};
+ghost use Rattle.pyc_blocks.specs.Views.{begun_in, flow_in, handled_in, rules_of, try_places_in};
 ghost use Rattle.pyc_places.specs.StateView.{state_of};
 ghost use Rattle.pyc_reading.specs.Desks.{Performs};
 
 use crate::flows::Flow;
 use crate::parts::PartReader;
 use crate::rules::{Begun, Blocks};
-use crate::trying::{Try, try_places};
+use crate::trying::{BegunTry, Try, begin_try};
 use pyc_ast::{Block, Branch, Expr, For, Handler, Position, Stmt, StmtForm, WithItem};
 use pyc_obligations::Judge;
 use pyc_places::State;
 use std::alloc::AllocError;
 
 impl<N: Judge, P: PartReader<N>> Blocks<'_, N, P> {
-    /// Reads the statements of a block in turn, as far as a run comes.
+    /// Checks the statements of a block in turn, as far as a run comes.
     #[cycle(flow)]
     #[tactic(auto, using(pyc_obligations::proofs::Steps::performing))]
     pub(crate) fn read_block(
@@ -42,7 +41,7 @@ impl<N: Judge, P: PartReader<N>> Blocks<'_, N, P> {
         Ok(())
     }
 
-    /// Reads a statement, if a run comes to it.
+    /// Checks a statement, if a run comes to it.
     #[cycle(flow)]
     #[tactic(auto, using(pyc_obligations::proofs::Steps::performing))]
     fn read_reached(
@@ -63,7 +62,7 @@ impl<N: Judge, P: PartReader<N>> Blocks<'_, N, P> {
         }
     }
 
-    /// Reads a statement that begins at a position, by its form.
+    /// Checks a statement that begins at a position, by its form.
     #[cycle(flow)]
     #[tactic(auto, using(pyc_obligations::proofs::Steps::performing))]
     fn read_form(
@@ -106,7 +105,7 @@ impl<N: Judge, P: PartReader<N>> Blocks<'_, N, P> {
         }
     }
 
-    /// Reads the statements of a block.
+    /// Checks the statements of a block.
     #[cycle(flow)]
     #[tactic(auto, using(pyc_obligations::proofs::Steps::performing))]
     fn read_inside(&self, notes: &mut N, block: &Block, flow: &mut Flow) -> Result<(), AllocError>
@@ -119,7 +118,7 @@ impl<N: Judge, P: PartReader<N>> Blocks<'_, N, P> {
         self.read_block(notes, statements, flow)
     }
 
-    /// Reads an `if`.
+    /// Checks an `if`.
     #[cycle(flow)]
     #[tactic(auto, using(pyc_obligations::proofs::Steps::performing), unfolding(crate::specs::Blocks::if_by))]
     fn read_if(
@@ -142,7 +141,7 @@ impl<N: Judge, P: PartReader<N>> Blocks<'_, N, P> {
         Ok(())
     }
 
-    /// Reads the branches of an `if`, and adds the states in which their blocks end.
+    /// Checks the branches of an `if`, and adds the states in which their blocks end.
     #[cycle(flow)]
     #[tactic(auto, using(pyc_obligations::proofs::Steps::performing))]
     fn read_branches(
@@ -163,7 +162,7 @@ impl<N: Judge, P: PartReader<N>> Blocks<'_, N, P> {
         Ok(())
     }
 
-    /// Reads a branch of an `if`, and adds the state in which its block ends.
+    /// Checks a branch of an `if`, and adds the state in which its block ends.
     #[cycle(flow)]
     #[tactic(auto, using(pyc_obligations::proofs::Steps::performing), unfolding(crate::specs::Blocks::branch_by))]
     fn read_branch(
@@ -188,7 +187,7 @@ impl<N: Judge, P: PartReader<N>> Blocks<'_, N, P> {
         Ok(())
     }
 
-    /// Reads a `while`.
+    /// Checks a `while`.
     #[cycle(flow)]
     #[tactic(auto, using(pyc_obligations::proofs::Steps::performing), unfolding(crate::specs::Blocks::while_by))]
     fn read_while(
@@ -210,7 +209,7 @@ impl<N: Judge, P: PartReader<N>> Blocks<'_, N, P> {
         self.read_loop(notes, begun, inside, orelse, flow)
     }
 
-    /// Reads a `for`.
+    /// Checks a `for`.
     #[cycle(flow)]
     #[tactic(auto, using(pyc_obligations::proofs::Steps::performing), unfolding(crate::specs::Blocks::for_by))]
     fn read_for(
@@ -233,7 +232,7 @@ impl<N: Judge, P: PartReader<N>> Blocks<'_, N, P> {
         self.read_loop(notes, begun, inside, orelse, flow)
     }
 
-    /// Reads the block of a loop that has begun, and its `else`.
+    /// Checks the block of a loop that has begun, and its `else`.
     #[cycle(flow)]
     #[tactic(auto, using(pyc_obligations::proofs::Steps::performing), unfolding(crate::specs::Blocks::loop_by))]
     fn read_loop(
@@ -263,7 +262,7 @@ impl<N: Judge, P: PartReader<N>> Blocks<'_, N, P> {
         Ok(())
     }
 
-    /// Reads a `try`.
+    /// Checks a `try`.
     #[cycle(flow)]
     #[tactic(auto, using(pyc_obligations::proofs::Steps::performing), unfolding(crate::specs::Blocks::try_by))]
     fn read_try(&self, notes: &mut N, found: Try<'_>, flow: &mut Flow) -> Result<(), AllocError>
@@ -272,31 +271,55 @@ impl<N: Judge, P: PartReader<N>> Blocks<'_, N, P> {
             (spec.try_by
             (spec.try_places (block_of found.entry.inside.now) (handlers (map handler_of found.entry.handlers.now))
             (block_of found.entry.orelse.now) (block_of found.entry.finally.now))
-            (spec.block_read (spec.within_try (rules_of P.parts self.now) (block_of found.entry.finally.now))
+            (spec.block_read
+            (spec.within_try (rules_of P.parts self.now) (assigned_places (block_of found.entry.finally.now)))
             (block_of found.entry.inside.now))
-            (spec.handlers_read (spec.within_try (rules_of P.parts self.now) (block_of found.entry.finally.now))
+            (spec.handlers_read
+            (spec.within_try (rules_of P.parts self.now) (assigned_places (block_of found.entry.finally.now)))
             (handlers (map handler_of found.entry.handlers.now)))
-            (spec.block_read (spec.within_try (rules_of P.parts self.now) (block_of found.entry.finally.now))
+            (spec.block_read
+            (spec.within_try (rules_of P.parts self.now) (assigned_places (block_of found.entry.finally.now)))
             (block_of found.entry.orelse.now))
             (spec.block_read (rules_of P.parts self.now) (block_of found.entry.finally.now)) (flow_in flow.old))
             (N.desk notes.old) result (N.desk notes.new) }
     {
-        let places = try_places(self.alloc, found)?;
-        let raised = places.raised_state(self.alloc, &flow.point.state)?;
-        let on_the_way_out = places.on_the_way_out(self.alloc, self.on_the_way_out)?;
+        let begun = begin_try(self.alloc, found, &flow.point.state)?;
+        let ends = self.read_within(notes, found, &begun, flow)?;
+        self.read_finally(notes, found.finally, &begun, ends, flow)
+    }
+
+    /// Checks the block of a `try` that has begun, its handlers and its `else`, out of which each `break` passes its
+    /// `finally`; answers the states in which handlers end.
+    #[cycle(flow)]
+    #[tactic(auto, using(pyc_obligations::proofs::Steps::performing))]
+    fn read_within(
+        &self,
+        notes: &mut N,
+        found: Try<'_>,
+        begun: &BegunTry,
+        flow: &mut Flow,
+    ) -> Result<Vec<State>, AllocError>
+        requires { P.ready self.now.parts.now }
+        ensures { Performs (λ ends. handled_in flow.new ends)
+            (spec.clauses_by
+            (spec.block_read (spec.within_try (rules_of P.parts self.now) begun.now.finally.items)
+            (block_of found.entry.inside.now))
+            (spec.handlers_read (spec.within_try (rules_of P.parts self.now) begun.now.finally.items)
+            (handlers (map handler_of found.entry.handlers.now)) (state_of begun.now.raised))
+            (spec.block_read (spec.within_try (rules_of P.parts self.now) begun.now.finally.items)
+            (block_of found.entry.orelse.now)) (flow_in flow.old)) (N.desk notes.old) result (N.desk notes.new) }
+    {
+        let on_the_way_out = begun.on_the_way_out(self.alloc, self.on_the_way_out)?;
         let within = Blocks {
             alloc: self.alloc,
             parts: self.parts,
             on_the_way_out: &on_the_way_out,
             of: self.of,
         };
-        let ends = within.read_clauses(notes, found, &raised, flow)?;
-        let after = places.tried_state(self.alloc, flow, &ends)?;
-        let from = places.finally_state(self.alloc, &raised)?;
-        self.read_finally(notes, found.finally, from, after, flow)
+        within.read_clauses(notes, found, &begun.raised, flow)
     }
 
-    /// Reads the block of a `try`, its handlers, which begin in one state, and its `else`; answers the states in which
+    /// Checks the block of a `try`, its handlers, which begin in one state, and its `else`; answers the states in which
     /// handlers end.
     #[cycle(flow)]
     #[tactic(auto, using(pyc_obligations::proofs::Steps::performing), unfolding(crate::specs::Blocks::clauses_by))]
@@ -323,7 +346,7 @@ impl<N: Judge, P: PartReader<N>> Blocks<'_, N, P> {
         Ok(ends)
     }
 
-    /// Reads the handlers of a `try`, which begin in one state, and adds the states in which they end.
+    /// Checks the handlers of a `try`, which begin in one state, and adds the states in which they end.
     #[cycle(flow)]
     #[tactic(auto, using(pyc_obligations::proofs::Steps::performing))]
     fn read_handlers(
@@ -345,7 +368,7 @@ impl<N: Judge, P: PartReader<N>> Blocks<'_, N, P> {
         Ok(())
     }
 
-    /// Reads a handler, which begins in a state, and adds the state in which it ends.
+    /// Checks a handler, which begins in a state, and adds the state in which it ends.
     #[cycle(flow)]
     #[tactic(auto, using(pyc_obligations::proofs::Steps::performing), unfolding(crate::specs::Blocks::handler_by))]
     fn read_handler(
@@ -371,30 +394,31 @@ impl<N: Judge, P: PartReader<N>> Blocks<'_, N, P> {
         Ok(())
     }
 
-    /// Reads the `finally` of a `try` from a state, and goes on in another.
+    /// Checks the `finally` of a `try` that has begun, whose handlers end in some states, and ends the `try`.
     #[cycle(flow)]
     #[tactic(auto, using(pyc_obligations::proofs::Steps::performing), unfolding(crate::specs::Blocks::finally_by))]
     fn read_finally(
         &self,
         notes: &mut N,
         finally: &Block,
-        from: State,
-        after: State,
+        begun: &BegunTry,
+        ends: Vec<State>,
         flow: &mut Flow,
     ) -> Result<(), AllocError>
         requires { P.ready self.now.parts.now }
         ensures { Performs (λ u. flow_in flow.new)
-            (spec.finally_by (state_of from) (state_of after)
-            (spec.block_read (rules_of P.parts self.now) (block_of finally.now)) (flow_in flow.old)) (N.desk notes.old)
-            result (N.desk notes.new) }
+            (spec.finally_by (try_places_in begun.now) (state_of begun.now.raised)
+            (spec.block_read (rules_of P.parts self.now) (block_of finally.now)) (handled_in flow.old ends))
+            (N.desk notes.old) result (N.desk notes.new) }
     {
-        flow.set(from);
+        let after = begun.tried_state(self.alloc, &flow.point.state, &ends)?;
+        flow.set(begun.finally_state(self.alloc)?);
         self.read_inside(notes, finally, flow)?;
         flow.end_finally(after);
         Ok(())
     }
 
-    /// Reads a `with`.
+    /// Checks a `with`.
     #[cycle(flow)]
     #[tactic(auto, using(pyc_obligations::proofs::Steps::performing), unfolding(crate::specs::Blocks::with_by))]
     fn read_with(
@@ -414,7 +438,7 @@ impl<N: Judge, P: PartReader<N>> Blocks<'_, N, P> {
         self.read_inside(notes, inside, flow)
     }
 
-    /// Reads a simple statement or a definition that begins at a position.
+    /// Checks a simple statement or a definition that begins at a position.
     #[tactic(auto, using(pyc_obligations::proofs::Steps::performing), unfolding(crate::specs::Blocks::simple_by))]
     fn read_simple(
         &self,

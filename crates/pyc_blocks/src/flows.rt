@@ -1,4 +1,4 @@
-//! What is known as statements are read.
+//! What is known as statements are checked.
 
 ghost use Rattle.std.specs.Prelude.{◌≡◌, [], map, IfOk, OnOk};
 ghost use Rattle.pyc_blocks.specs.Flows as spec;
@@ -12,7 +12,7 @@ use pyc_places::{Place, State, join};
 use std::alloc::{AllocError, Global};
 use std::mem;
 
-/// The point after what was read, and the states in which the innermost loop was left by a `break`.
+/// The point after what was checked, and the states in which the innermost loop was left by a `break`.
 #[derive(Drop)]
 pub(crate) struct Flow {
     pub point: Point,

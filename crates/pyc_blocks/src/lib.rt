@@ -1,4 +1,4 @@
-//! Blocks of statements, over a parameter that reads what is no block: branches, loops, `try` and `with`.
+//! Blocks of statements, over a parameter that checks what is no block: branches, loops, `try` and `with`.
 #![tactic(auto)]
 
 mod blocks;

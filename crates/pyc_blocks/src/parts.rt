@@ -1,4 +1,4 @@
-//! What reads the parts of statements that are no blocks.
+//! What checks the parts of statements that are no blocks.
 
 ghost use Rattle.std.specs.Prelude.{map, option_map};
 ghost use Rattle.pyc_ast.specs.ExprView.{expr_of};
@@ -15,14 +15,14 @@ use pyc_obligations::Judge;
 use pyc_places::Place;
 use std::alloc::{AllocError, Global};
 
-/// What reads the parts of statements that are no blocks: simple statements, conditions, and heads. The only error of
+/// What checks the parts of statements that are no blocks: simple statements, conditions, and heads. The only error of
 /// each is that memory runs out; the point is lost then.
 pub trait PartReader<N: Judge> {
     ghost ready: { Self → Type 0 };
 
     ghost parts: { Self → PartReads };
 
-    /// Reads a simple statement or a definition that begins at a position; `break` and `continue` never come here.
+    /// Checks a simple statement or a definition that begins at a position; `break` and `continue` never come here.
     fn simple(
         &self,
         alloc: Global,
@@ -36,7 +36,7 @@ pub trait PartReader<N: Judge> {
             ((parts self.now).simple at (stmt_form_of form.now) (point_in point.old)) (N.desk notes.old) result
             (N.desk notes.new) };
 
-    /// Reads a condition: answers the states where it is true, and where it is not.
+    /// Checks a condition: answers the states where it is true, and where it is not.
     fn tested(
         &self,
         alloc: Global,
@@ -48,7 +48,7 @@ pub trait PartReader<N: Judge> {
         ensures { Performs states_of ((parts self.now).tested (expr_of test.now) (point_in point.now))
             (N.desk notes.old) result (N.desk notes.new) };
 
-    /// Reads the beginning of each turn of a `for` that assigns some places: from the point before the loop to that at
+    /// Checks the beginning of each turn of a `for` that assigns some places: from the point before the loop to that at
     /// which its block begins.
     fn turn(
         &self,
@@ -63,7 +63,7 @@ pub trait PartReader<N: Judge> {
             ((parts self.now).turn (for_of head.now) places.now (point_in point.old)) (N.desk notes.old) result
             (N.desk notes.new) };
 
-    /// Reads what a handler catches, and binds its name; its block is not read here.
+    /// Checks what a handler catches, and binds its name, but not its block.
     fn caught(
         &self,
         alloc: Global,
@@ -76,7 +76,7 @@ pub trait PartReader<N: Judge> {
             ((parts self.now).caught (option_map expr_of handler.now.caught) handler.now.name (point_in point.old))
             (N.desk notes.old) result (N.desk notes.new) };
 
-    /// Reads the items of a `with`.
+    /// Checks the items of a `with`.
     fn items(
         &self,
         alloc: Global,

@@ -1,4 +1,4 @@
-//! What reads blocks, and how loops begin.
+//! What checks blocks, and how loops begin.
 
 ghost use Rattle.std.specs.Prelude.{◌≡◌, IfOk};
 ghost use Rattle.pyc_assigned_places.specs.AssignedPlaces.{assigned_places};
@@ -17,7 +17,7 @@ use pyc_places::{Place, State};
 use std::alloc::{AllocError, Global};
 use std::marker::PhantomData;
 
-/// Reads blocks: what reads their parts, and the places that are assigned on the way out of the innermost loop.
+/// Checks blocks: what checks their parts, and the places that are assigned on the way out of the innermost loop.
 #[derive(Clone, Copy)]
 pub(crate) struct Blocks<'a, N, P> {
     pub alloc: Global,
@@ -34,7 +34,7 @@ pub(crate) struct Begun {
 }
 
 impl<N: Judge, P: PartReader<N>> Blocks<'_, N, P> {
-    /// Begins a turn of a `while`: its condition is read at the entry of the loop.
+    /// Begins a turn of a `while`: it checks its condition at the entry of the loop.
     #[tactic(auto, using(pyc_obligations::proofs::Steps::performing), unfolding(crate::specs::Blocks::while_begun))]
     pub(crate) fn begin_while(
         &self,

@@ -1,14 +1,14 @@
-//! The parts of a `try`, and the places that they assign.
+//! The parts of a `try`, and how it begins and ends.
 
 ghost use Rattle.std.specs.Prelude.{◌≡◌, ◌++◌, map, IfOk, OnOk};
-ghost use Rattle.pyc_assigned_places.specs.AssignedPlaces as places;
+ghost use Rattle.pyc_assigned_places.specs.AssignedPlaces.{assigned_places, handlers_places};
 ghost use Rattle.pyc_ast.specs.Statements.{handlers};
 ghost use Rattle.pyc_ast.specs.StatementView.{block_of, handler_of};
 ghost use Rattle.pyc_blocks.specs.Blocks as spec;
-ghost use Rattle.pyc_blocks.specs.Views.{flow_in, handled_in, try_places_in};
+ghost use Rattle.pyc_blocks.specs.Views.{try_places_in};
 ghost use Rattle.pyc_places.specs.StateView.{state_of};
 
-use crate::flows::{Flow, joined_all};
+use crate::flows::joined_all;
 use crate::rules::places_of;
 use pyc_assigned_places::{dropped_all, push_assigned, push_handlers};
 use pyc_ast::{Block, Handler};
@@ -24,64 +24,81 @@ pub(crate) struct Try<'a> {
     pub finally: &'a Block,
 }
 
-/// The places that the parts of a `try` assign.
+/// How a `try` begins: the places that its parts assign, and the state in which its handlers begin.
 #[derive(Drop)]
-pub(crate) struct TryPlaces {
+pub(crate) struct BegunTry {
     /// The places that its block assigns.
     pub inside: Vec<Place>,
     /// The places that its handlers and its `else` assign.
     pub others: Vec<Place>,
     /// The places that its `finally` assigns.
     pub finally: Vec<Place>,
+    /// The state in which its handlers begin.
+    pub raised: State,
 }
 
-/// The places that the parts of a `try` assign.
-pub(crate) fn try_places(alloc: Global, found: Try<'_>) -> Result<TryPlaces, AllocError>
-    ensures { IfOk result (λ places. try_places_in places
-        ≡ spec.try_places (block_of found.entry.inside.now) (handlers (map handler_of found.entry.handlers.now))
-        (block_of found.entry.orelse.now) (block_of found.entry.finally.now)) }
+/// How a `try` begins in a state.
+pub(crate) fn begin_try(
+    alloc: Global,
+    found: Try<'_>,
+    before: &State,
+) -> Result<BegunTry, AllocError>
+    ensures inside { IfOk result (λ begun. begun.inside.items ≡ assigned_places (block_of found.entry.inside.now)) }
+    ensures others { IfOk result (λ begun. begun.others.items
+        ≡ handlers_places (handlers (map handler_of found.entry.handlers.now))
+        ++ assigned_places (block_of found.entry.orelse.now)) }
+    ensures finally { IfOk result (λ begun. begun.finally.items ≡ assigned_places (block_of found.entry.finally.now)) }
+    ensures raised { IfOk result (λ begun. state_of begun.raised
+        ≡ spec.raised_state (try_places_in begun) (state_of before.now)) }
 {
     let inside = places_of(alloc, found.inside)?;
-    let mut others = Vec::new(alloc);
-    push_handlers(alloc, found.handlers, &mut others)?;
-    let Block::Of(orelse) = found.orelse;
-    push_assigned(alloc, orelse, &mut others)?;
+    let others = places_of_others(alloc, found.handlers, found.orelse)?;
     let finally = places_of(alloc, found.finally)?;
-    Ok(TryPlaces {
+    let raised = dropped_all(alloc, &inside, before)?;
+    Ok(BegunTry {
         inside,
         others,
         finally,
+        raised,
     })
 }
 
-impl TryPlaces {
-    /// The state in which handlers begin, by the state before the `try`.
-    pub(crate) fn raised_state(&self, alloc: Global, before: &State) -> Result<State, AllocError>
+/// The places that the handlers and the `else` of a `try` assign.
+fn places_of_others(
+    alloc: Global,
+    row: &[Handler],
+    orelse: &Block,
+) -> Result<Vec<Place>, AllocError>
+    ensures { IfOk result (λ places. places.items
+        ≡ handlers_places (handlers (map handler_of row.now)) ++ assigned_places (block_of orelse.now)) }
+{
+    let mut places = Vec::new(alloc);
+    push_handlers(alloc, row, &mut places)?;
+    let Block::Of(statements) = orelse;
+    push_assigned(alloc, statements, &mut places)?;
+    Ok(places)
+}
+
+impl BegunTry {
+    /// The state in which `finally` begins.
+    pub(crate) fn finally_state(&self, alloc: Global) -> Result<State, AllocError>
         ensures { IfOk result (λ state. state_of state
-            ≡ spec.raised_state (try_places_in self.now) (state_of before.now)) }
+            ≡ spec.finally_state (try_places_in self.now) (state_of self.now.raised)) }
     {
-        dropped_all(alloc, &self.inside, before)
+        dropped_all(alloc, &self.others, &self.raised)
     }
 
-    /// The state in which `finally` begins, by that in which handlers begin.
-    pub(crate) fn finally_state(&self, alloc: Global, raised: &State) -> Result<State, AllocError>
-        ensures { IfOk result (λ state. state_of state
-            ≡ places.dropped_all (try_places_in self.now).others (state_of raised.now)) }
-    {
-        dropped_all(alloc, &self.others, raised)
-    }
-
-    /// The state after a `try`, by the flow at the end of its `else` and the states in which handlers ended.
+    /// The state after the `try`, by the state in which its block with its `else` ends, and those in which handlers do.
     pub(crate) fn tried_state(
         &self,
         alloc: Global,
-        flow: &Flow,
-        ends: &Vec<State>,
+        end: &State,
+        ends: &[State],
     ) -> Result<State, AllocError>
         ensures { IfOk result (λ state. state_of state
-            ≡ spec.tried_state (try_places_in self.now) (handled_in flow.now ends.now)) }
+            ≡ spec.tried_state (try_places_in self.now) (state_of end.now) (map state_of ends.now)) }
     {
-        let joined = joined_all(alloc, &flow.point.state, ends)?;
+        let joined = joined_all(alloc, end, ends)?;
         let dropped = dropped_all(alloc, &self.inside, &joined)?;
         dropped_all(alloc, &self.finally, &dropped)
     }
@@ -93,7 +110,7 @@ impl TryPlaces {
         alloc: Global,
         around: &[Place],
     ) -> Result<Vec<Place>, AllocError>
-        ensures { IfOk result (λ places. places.items ≡ around.now ++ (try_places_in self.now).finally) }
+        ensures { IfOk result (λ places. places.items ≡ around.now ++ self.now.finally.items) }
     {
         let mut places = Vec::new(alloc);
         push_all(around, &mut places)?;

@@ -1,5 +1,5 @@
 -- What the states after a condition keep.
-use Rattle.std.proofs.Common.{◌≡◌, ℕ, zero, suc, ◌==◌, Bool, true, false, not, ◌&&◌, if◌then◌else◌, List, [], ◌∷◌, Option, None, Some, inl, inr, refl, sym, ap, ◌∙◌, subst}
+use Rattle.std.proofs.Common.{◌≡◌, ℕ, zero, suc, ◌==◌, Bool, true, false, not, ◌&&◌, if◌then◌else◌, List, [], ◌∷◌, Option, None, Some, inl, inr, refl, sym, ◌∙◌, subst, ne_eqb, arith}
 use Rattle.std.proofs.lemmas.Bool.{false≢true, not_from_false, true≢false}
 use Rattle.pyc_ast.specs.declared.constant.Constant.{Constant}
 use Rattle.pyc_ast.specs.declared.constant.Constant.TheVariants as constant
@@ -16,7 +16,7 @@ use Rattle.pyc_ast.specs.Exprs as form
 use Rattle.pyc_class.specs.Class.{Id}
 use Rattle.pyc_class.specs.Order.{Orders}
 use Rattle.pyc_names.specs.declared.fixed.FixedName.TheVariants as fixed
-use Rattle.pyc_narrowing.specs.SplitStates.{States, unchanged, literal_states, digit_states, truth_states, none_of, none_states, in_sense, swapped, and_states, or_states, instance_states}
+use Rattle.pyc_narrowing.specs.SplitStates.{States, unchanged, always, never, literal_states, digit_states, truth_states, none_of, none_states, in_sense, swapped, and_states, or_states, instance_states}
 use Rattle.pyc_narrowing.specs.Splitting.{Looks, Splits, looked, classes_at, split, form_rule, unary_rule, boolean_rule, place_rule, truth_rule, valued, comparison_rule, one_comparison, compared_with_none, sense_rule, none_rule, is_none_literal, sense_of, call_rule, two_arguments, is_positional, pair_rule, callee_rule, called, isinstance_rule, test_by}
 use Rattle.pyc_narrowing_laws.specs.ConditionLaws.{SplitKeeps}
 use Rattle.pyc_narrowing_laws.specs.TestLaws.{state_where, MeetsWhere, IsTold}
@@ -64,11 +64,11 @@ module _ (answers : Key → Answer) (look : Looks) (values : Values) where
 
   -- ---- literals
 
-  always-met : (b : Bool) (s : State) → b ≡ true → Met s → MetWhere b (record { if_true = s; if_false = unreachable })
+  always-met : (b : Bool) (s : State) → b ≡ true → Met s → MetWhere b (always s)
   always-met true s is met = met
   always-met false s is met = absurd (false≢true is)
 
-  never-met : (b : Bool) (s : State) → b ≡ false → Met s → MetWhere b (record { if_true = unreachable; if_false = s })
+  never-met : (b : Bool) (s : State) → b ≡ false → Met s → MetWhere b (never s)
   never-met true s is met = absurd (true≢false is)
   never-met false s is met = met
 
@@ -77,9 +77,13 @@ module _ (answers : Key → Answer) (look : Looks) (values : Values) where
   digit-met b s (Some zero) met comes = never-met b s comes met
   digit-met b s (Some (suc n)) met comes = by_one (suc n == 1)
     where
-      by_one : (one : Bool) → MetWhere b (if one then record { if_true = s; if_false = unreachable } else if suc n == 0 then record { if_true = unreachable; if_false = s } else unchanged s)
+      by_zero : (zeros : Bool) → zeros ≡ false → MetWhere b (if zeros then never s else unchanged s)
+      by_zero true is = absurd (true≢false is)
+      by_zero false is = unchanged-met b s met
+
+      by_one : (one : Bool) → MetWhere b (if one then always s else if suc n == 0 then never s else unchanged s)
       by_one true = always-met b s comes met
-      by_one false = unchanged-met b s met
+      by_one false = by_zero (suc n == 0) (ne_eqb (suc n) 0 (λ same. omega (arith, same)))
 
   literal-met : (b : Bool) (s : State) (c : Constant) → Met s → LiteralComesTo b c → MetWhere b (literal_states s c)
   literal-met b s constant.True met comes = always-met b s comes met
@@ -103,7 +107,7 @@ module _ (answers : Key → Answer) (look : Looks) (values : Values) where
         by_place : (place : Option Place) → place_of x ≡ place → MetWhere b (come (place_rule look s x place))
         by_place None is = unchanged-met b s met
         by_place (Some place) is =
-            let f = found_at answers look values s x in
+            let f = found_at answers look s x in
             subst (λ found. MetWhere b found) (sym (then_result answers (looked look s x) (λ found. Done (valued s place found.ty found.thing))))
             (valued-met b s place f.ty f.thing met (right s x place met is) (comes place is))
 
@@ -120,7 +124,7 @@ module _ (answers : Key → Answer) (look : Looks) (values : Values) where
             → MetWhere b (come (sense_rule look s sense x place))
         by_place sense its literal None is = unchanged-met b s met
         by_place sense its literal (Some place) is =
-            let f = found_at answers look values s x in
+            let f = found_at answers look s x in
             subst (λ found. MetWhere b found) (sym (then_result answers (looked look s x) (λ found. Done (in_sense sense (none_states s place found.ty)))))
             (subst Met (sym (sense-where b sense (none_states s place f.ty)))
             (subst (λ c. MetWhere c (none_states s place f.ty)) (sym (comes place operator y sense is refl literal its))
@@ -147,19 +151,19 @@ module _ (answers : Key → Answer) (look : Looks) (values : Values) where
       call-met b s callee (another_argument (argument at given.Positional x) (another_argument (argument other given.Positional y) no_argument)) met comes =
           by_place (place_of x) refl
         where
-          by_classes : (place : Place) → place_of x ≡ Some place → (found_at answers look values s callee).thing ≡ isinstance_thing
+          by_classes : (place : Place) → place_of x ≡ Some place → (found_at answers look s callee).thing ≡ isinstance_thing
               → (classes : Option (List Id)) → result_of answers (classes_at look s y) ≡ classes
-              → MetWhere b (come (test_by s place (found_at answers look values s x).ty classes))
+              → MetWhere b (come (test_by s place (found_at answers look s x).ty classes))
           by_classes place is thing None found = unchanged-met b s met
           by_classes place is thing (Some classes) found =
-              subst (λ states. MetWhere b states) (sym (test_result answers s place (found_at answers look values s x).ty classes))
-              (instance_test_keeps orders values b s place (found_at answers look values s x).ty classes (told place) met
+              subst (λ states. MetWhere b states) (sym (test_result answers s place (found_at answers look s x).ty classes))
+              (instance_test_keeps orders values b s place (found_at answers look s x).ty classes (told place) met
               (comes at other x y place classes refl is thing found))
 
-          by_thing : (place : Place) → place_of x ≡ Some place → (thing : Thing) → (found_at answers look values s callee).thing ≡ thing
+          by_thing : (place : Place) → place_of x ≡ Some place → (thing : Thing) → (found_at answers look s callee).thing ≡ thing
               → MetWhere b (come (called look s place x y thing))
           by_thing place is isinstance_thing thing =
-              let ty = (found_at answers look values s x).ty in
+              let ty = (found_at answers look s x).ty in
               subst (λ states. MetWhere b states)
               (sym (then_result answers (looked look s x) (λ found. and_then (classes_at look s y) (test_by s place found.ty))
               ∙ then_result answers (classes_at look s y) (test_by s place ty)))
@@ -171,7 +175,7 @@ module _ (answers : Key → Answer) (look : Looks) (values : Values) where
           by_place (Some place) is =
               subst (λ states. MetWhere b states)
               (sym (then_result answers (looked look s callee) (λ found. called look s place x y found.thing)))
-              (by_thing place is (found_at answers look values s callee).thing refl)
+              (by_thing place is (found_at answers look s callee).thing refl)
       call-met b s callee (another_argument (argument at given.Positional x) (another_argument (argument other kind y) no_argument)) met comes =
           unchanged-met b s met
       call-met b s callee (another_argument (argument at kind x) (another_argument (argument other more y) no_argument)) met comes =
@@ -214,7 +218,7 @@ module _ (answers : Key → Answer) (look : Looks) (values : Values) where
       -- ---- the whole
 
       mutual
-        split-met : (b : Bool) (s : State) (x : Expr) → Met s → ComesTo answers look values b s x → MetWhere b (states_after answers look values s x)
+        split-met : (b : Bool) (s : State) (x : Expr) → Met s → ComesTo answers look values b s x → MetWhere b (states_after answers look s x)
         split-met b unreachable x met comes = absurd met
         split-met b (reachable narrowings) (expr at inside found) met comes =
             form-met b (reachable narrowings) (expr at inside found) found met comes
@@ -225,7 +229,7 @@ module _ (answers : Key → Answer) (look : Looks) (values : Values) where
         form-met b s whole (unary operator x) met comes =
             unary-met b operator (λ t. split look t x) s (λ c. ComesTo answers look values c s x) met comes (λ c so. split-met c s x met so)
         form-met b s whole (boolean operator x y) met comes =
-            let next = right_state operator (states_after answers look values s x) in
+            let next = right_state operator (states_after answers look s x) in
             boolean-met b operator (λ t. split look t x) (λ t. split look t y) s (λ c. ComesTo answers look values c s x)
             (λ c. ComesTo answers look values c next y) comes (λ c so. split-met c s x met so) (λ c there so. split-met c next y there so)
         form-met b s whole (call callee given) met comes = call-met b s callee given met comes

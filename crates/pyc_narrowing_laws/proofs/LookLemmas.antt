@@ -17,10 +17,10 @@ use Rattle.pyc_reading.specs.Owing.{orders_by}
 use Rattle.pyc_reading.specs.Readings.{and_then}
 use Rattle.pyc_type_forms.specs.Types.{Ty}
 
-looked-type : (answers : Key → Answer) (declared : Expr → Ty) (values : Values) (s : State) (x : Expr)
-    → (found_at answers (narrowed_or declared) values s x).ty ≡ unwrap_or (narrowed_at s x) (declared x)
+looked-type : (answers : Key → Answer) (declared : Expr → Ty) (s : State) (x : Expr)
+    → (found_at answers (narrowed_or declared) s x).ty ≡ unwrap_or (narrowed_at s x) (declared x)
 unfolding looked quiet quiet_after and_then
-looked-type answers declared values s x = refl
+looked-type answers declared s x = refl
 
 module _ (orders : Orders) (values : Values) where
   narrowed-right : (s : State) (x : Expr) (place : Place) (ty : Ty) → Meets orders values s → place_of x ≡ Some place → is_of orders (values place) ty ≡ true
@@ -35,5 +35,5 @@ module _ (orders : Orders) (values : Values) where
 
 pub narrowed_types_are_right : NarrowedTypesAreRight
 narrowed_types_are_right answers declared values right s x place met is =
-    ap (is_of (orders_by answers) (values place)) (looked-type answers declared values s x)
+    ap (is_of (orders_by answers) (values place)) (looked-type answers declared s x)
     ∙ narrowed-right (orders_by answers) values s x place (declared x) met is (right x place is)

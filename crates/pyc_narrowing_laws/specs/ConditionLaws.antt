@@ -1,6 +1,6 @@
 -- What the states after a condition keep of the values of places (typing specification, "Type narrowing").
 use Rattle.std.specs.Prelude.{◌≡◌, Bool, IsTrue, Option, Some}
-use Rattle.core.specs.Option.{unwrap_or}
+use Rattle.std.specs.Option.{unwrap_or}
 use Rattle.pyc_ast.specs.Exprs.{Expr}
 use Rattle.pyc_narrowing.specs.Splitting.{Looks}
 use Rattle.pyc_narrowing_laws.specs.Conditions.{ComesTo, LooksRightly, states_after}

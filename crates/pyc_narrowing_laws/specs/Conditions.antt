@@ -90,7 +90,7 @@ right_state joins.Or first = first.if_false
 
 -- ---- the whole
 
-module _ (answers : Key → Answer) (look : Looks) (values : Values) where
+module _ (answers : Key → Answer) (look : Looks) where
   -- what an expression is, as it is looked up in a state
   abbrev pub found_at : State → Expr → found.Value
   found_at s x = result_of answers (looked look s x)
@@ -99,36 +99,37 @@ module _ (answers : Key → Answer) (look : Looks) (values : Values) where
   abbrev pub states_after : State → Expr → States
   states_after s x = result_of answers (split look s x)
 
-  -- what is looked up of a place, in each state that the values meet, is a type of its value
-  abbrev pub LooksRightly : Type 0
-  LooksRightly =
-      (s : State) (x : Expr) (place : Place) → Meets (orders_by answers) values s → place_of x ≡ Some place
-      → IsTrue (is_of (orders_by answers) (values place) (found_at s x).ty)
+  module _ (values : Values) where
+    -- what is looked up of a place, in each state that the values meet, is a type of its value
+    abbrev pub LooksRightly : Type 0
+    LooksRightly =
+        (s : State) (x : Expr) (place : Place) → Meets (orders_by answers) values s → place_of x ≡ Some place
+        → IsTrue (is_of (orders_by answers) (values place) (found_at s x).ty)
 
-  -- a place that is taken for its truth
-  abbrev pub PlaceComesTo : Bool → State → Expr → Type 0
-  PlaceComesTo b s x = (place : Place) → place_of x ≡ Some place → TruthComesTo b (values place) (found_at s x).thing
+    -- a place that is taken for its truth
+    abbrev pub PlaceComesTo : Bool → State → Expr → Type 0
+    PlaceComesTo b s x = (place : Place) → place_of x ≡ Some place → TruthComesTo b (values place) (found_at s x).thing
 
-  -- a call of `isinstance` with a place and class objects: those that are looked up are the classes by which it tests
-  abbrev pub CallComesTo : Bool → State → Expr → Arguments → Type 0
-  CallComesTo b s callee given =
-      (at other : Position) (x tested : Expr) (place : Place) (classes : List Id) → given ≡ two_given at other x tested
-      → place_of x ≡ Some place → (found_at s callee).thing ≡ isinstance_thing
-      → result_of answers (classes_at look s tested) ≡ Some classes
-      → IsTest (orders_by answers) b (values place) (found_at s x).ty classes
+    -- a call of `isinstance` with a place and class objects: those that are looked up are the classes by which it tests
+    abbrev pub CallComesTo : Bool → State → Expr → Arguments → Type 0
+    CallComesTo b s callee given =
+        (at other : Position) (x tested : Expr) (place : Place) (classes : List Id) → given ≡ two_given at other x tested
+        → place_of x ≡ Some place → (found_at s callee).thing ≡ isinstance_thing
+        → result_of answers (classes_at look s tested) ≡ Some classes
+        → IsTest (orders_by answers) b (values place) (found_at s x).ty classes
 
-  abbrev mutual
-    -- a condition in a state may come to yes, or to no
-    pub ComesTo : Bool → State → Expr → Type 0
-    ComesTo b s (expr at inside found) = FormComesTo b s (expr at inside found) found
+    abbrev mutual
+      -- a condition in a state may come to yes, or to no
+      pub ComesTo : Bool → State → Expr → Type 0
+      ComesTo b s (expr at inside found) = FormComesTo b s (expr at inside found) found
 
-    -- a condition of a form
-    pub FormComesTo : Bool → State → Expr → Form → Type 0
-    FormComesTo b s whole (form.constant found) = LiteralComesTo b found
-    FormComesTo b s whole (unary operator x) = UnaryComesTo b operator (λ c. ComesTo c s x)
-    FormComesTo b s whole (boolean operator x y) =
-        BooleanComesTo b operator (λ c. ComesTo c s x)
-        (λ c. ComesTo c (right_state operator (states_after s x)) y)
-    FormComesTo b s whole (call callee given) = CallComesTo b s callee given
-    FormComesTo b s whole (compare x rest) = ComparisonComesTo values b x rest
-    FormComesTo b s whole _ = PlaceComesTo b s whole
+      -- a condition of a form
+      pub FormComesTo : Bool → State → Expr → Form → Type 0
+      FormComesTo b s whole (form.constant found) = LiteralComesTo b found
+      FormComesTo b s whole (unary operator x) = UnaryComesTo b operator (λ c. ComesTo c s x)
+      FormComesTo b s whole (boolean operator x y) =
+          BooleanComesTo b operator (λ c. ComesTo c s x)
+          (λ c. ComesTo c (right_state operator (states_after s x)) y)
+      FormComesTo b s whole (call callee given) = CallComesTo b s callee given
+      FormComesTo b s whole (compare x rest) = ComparisonComesTo values b x rest
+      FormComesTo b s whole _ = PlaceComesTo b s whole

@@ -59,13 +59,13 @@ both a b left right = ap₂ (λ x y. x && y) left right
 
 class_at : ℕ → BuiltinClass
 class_at n =
-    if n == 0 then class.Object else if n == 1 then class.Int else if n == 2 then class.Float else 
-    if n == 3 then class.Str else if n == 4 then class.Bytes else if n == 5 then class.List else 
-    if n == 6 then class.Dict else if n == 7 then class.Tuple else if n == 8 then class.BaseException else 
-    if n == 9 then class.Bool else if n == 10 then class.Exception else if n == 11 then class.LookupError else 
-    if n == 12 then class.ArithmeticError else if n == 13 then class.ValueError else if n == 14 then class.TypeError else 
-    if n == 15 then class.RuntimeError else if n == 16 then class.AssertionError else if n == 17 then class.KeyError else 
-    if n == 18 then class.IndexError else if n == 19 then class.ZeroDivisionError else if n == 20 then class.OverflowError else 
+    if n == 0 then class.Object else if n == 1 then class.Int else if n == 2 then class.Float else
+    if n == 3 then class.Str else if n == 4 then class.Bytes else if n == 5 then class.List else
+    if n == 6 then class.Dict else if n == 7 then class.Tuple else if n == 8 then class.BaseException else
+    if n == 9 then class.Bool else if n == 10 then class.Exception else if n == 11 then class.LookupError else
+    if n == 12 then class.ArithmeticError else if n == 13 then class.ValueError else if n == 14 then class.TypeError else
+    if n == 15 then class.RuntimeError else if n == 16 then class.AssertionError else if n == 17 then class.KeyError else
+    if n == 18 then class.IndexError else if n == 19 then class.ZeroDivisionError else if n == 20 then class.OverflowError else
     if n == 21 then class.NotImplementedError else class.RecursionError
 
 class_at-number : (b : BuiltinClass) → b ≡ class_at (number_of b)
@@ -105,8 +105,7 @@ classes_are (user m n) (user k l) same =
     ap₂ user (paths_are m k parts.0) (texts_are n l parts.1)
 
 classes_decide : (a b : Id) → Decides (same_class a b) (a ≡ b)
-classes_decide a b = (classes_are a b , (λ e. subst (λ c. same_class a c ≡ true) e (same_class_equiv.refl a)))
-
+classes_decide a b = (classes_are a b, (λ e. subst (λ c. same_class a c ≡ true) e (same_class_equiv.refl a)))
 
 -- ---- parameters
 
@@ -336,7 +335,7 @@ mutual
       (both (same_slot slot slot) (same_type x x) (slot_itself slot) (type_itself x)) (listed_itself ps)
 
 pub types_decide : (x y : Ty) → Decides (same_type x y) (x ≡ y)
-types_decide x y = (types_are x y , (λ e. subst (λ z. same_type x z ≡ true) e (type_itself x)))
+types_decide x y = (types_are x y, (λ e. subst (λ z. same_type x z ≡ true) e (type_itself x)))
 
 -- ---- whether a thing is there
 
@@ -378,8 +377,8 @@ presence_itself there.There = refl
 
 name_at : ℕ → FixedName
 name_at n =
-    if n == 0 then name.Any else if n == 1 then name.Optional else if n == 2 then name.Union else if n == 3 then name.List else 
-    if n == 4 then name.Dict else if n == 5 then name.Tuple else if n == 6 then name.Callable else if n == 7 then name.Cast else 
+    if n == 0 then name.Any else if n == 1 then name.Optional else if n == 2 then name.Union else if n == 3 then name.List else
+    if n == 4 then name.Dict else if n == 5 then name.Tuple else if n == 6 then name.Callable else if n == 7 then name.Cast else
     if n == 8 then name.RevealType else name.TypeChecking
 
 name_at-number : (a : FixedName) → a ≡ name_at (fixed_number a)
@@ -575,7 +574,6 @@ name_answer_itself a = both (same_kind a.kind a.kind) (same_type a.ty a.ty) (kin
 class_rows_decide : (cs ds : List Id) → Decides (same_classes cs ds) (cs ≡ ds)
 class_rows_decide = pointwise_decides classes_decide
 
-
 reasons_are : (a b : Option UnknownOrder) → same_reason a b ≡ true → a ≡ b
 reasons_are None None same = refl
 reasons_are None (Some reason.Base) same = absurd (false≢true same)
@@ -606,7 +604,7 @@ order_with classes why has_call = record { classes = classes; unknown = why; has
 orders_are : (a b : Order) → same_order a b ≡ true → a ≡ b
 orders_are a b same =
     let parts = and_parts (same_classes a.classes b.classes)
-        (same_reason a.unknown b.unknown && beq a.has_call b.has_call) same in
+    (same_reason a.unknown b.unknown && beq a.has_call b.has_call) same in
     let rest = and_parts (same_reason a.unknown b.unknown) (beq a.has_call b.has_call) parts.1 in
     ap₂ (λ (made : Bool → Order) flag. made flag)
     (ap₂ order_with ((class_rows_decide a.classes b.classes).0 parts.0) (reasons_are a.unknown b.unknown rest.0))
@@ -721,4 +719,4 @@ answer_itself (order_is a) = order_itself a
 answer_itself (member_is a) = member_itself a
 
 pub answers_decide : (a b : Answer) → Decides (same_answer a b) (a ≡ b)
-answers_decide a b = (answers_are a b , (λ e. subst (λ z. same_answer a z ≡ true) e (answer_itself a)))
+answers_decide a b = (answers_are a b, (λ e. subst (λ z. same_answer a z ≡ true) e (answer_itself a)))

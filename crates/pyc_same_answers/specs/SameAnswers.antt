@@ -1,4 +1,5 @@
--- When two answers are one: where they are equal, so that a reading that is given the one cannot tell it from the other.
+-- When two answers are one: where they are equal, so that a reading that is given the one cannot tell it from the
+-- other.
 use Rattle.std.specs.Prelude.{ℕ, ◌≡◌, ◌==◌, ◌&&◌, Bool, true, false, Decides, List, Option, None, Some, bytes_eq}
 use Rattle.std.specs.Bool.{beq}
 use Rattle.std.specs.Cmp.Lexicographic.{pointwise}

@@ -119,7 +119,8 @@ fn same_reason(reason: Option<UnknownOrder>, other: Option<UnknownOrder>) -> boo
 
 /// Whether two classes have one thing under a name, or neither has any.
 fn same_member(member: &Option<MemberAnswer>, other: &Option<MemberAnswer>) -> bool
-    ensures { result ≡ spec.same_member (option_map member_answer_of member.now) (option_map member_answer_of other.now) }
+    ensures { result
+        ≡ spec.same_member (option_map member_answer_of member.now) (option_map member_answer_of other.now) }
 {
     match member {
         Some(found) => matches!(other, Some(own) if same_found(found, own)),

@@ -17,7 +17,7 @@ use Rattle.pyc_reading.specs.declared.answer.Presence.TheVariants as presence
 use Rattle.pyc_reading.specs.Desks.{Step}
 use Rattle.pyc_reading.specs.Keys.{Key}
 use Rattle.pyc_reading.specs.Keys as key
-use Rattle.pyc_reading.specs.Readings.{Done, Ask, and_then, asked, each}
+use Rattle.pyc_reading.specs.Readings.{Done, and_then, asked, each}
 use Rattle.pyc_statement_read_laws.proofs.AskedLemmas.{asked-alone, asked-both, asked-each, asked-unless}
 use Rattle.pyc_statement_read_laws.proofs.ImportLemmas.{import_asks}
 use Rattle.pyc_statement_read_laws.specs.ImportRows.{Answers, HeaderReads, binding_keys, header_keys, is_fixed, part_keys, ring_keys, all_ring_keys}

@@ -10,14 +10,14 @@ use Rattle.pyc_local_imports.specs.LocalImports.{asked_type, class_import_read, 
 use Rattle.pyc_local_imports.specs.Names.{alias_name}
 use Rattle.pyc_locals.specs.Locals.{bound}
 use Rattle.pyc_locals.specs.Points.{Point, name_bound}
+use Rattle.pyc_names.specs.Following.{QualifiedName}
 use Rattle.pyc_names.specs.Interfaces.{Interface}
-use Rattle.pyc_obligations.specs.Asking.{name_in}
 use Rattle.pyc_reading.specs.declared.answer.Presence.{Presence}
 use Rattle.pyc_reading.specs.declared.answer.Presence.TheVariants as presence
 use Rattle.pyc_reading.specs.Desks.{telling}
 use Rattle.pyc_reading.specs.Keys.{Key}
 use Rattle.pyc_reading.specs.Keys as key
-use Rattle.pyc_reading.specs.Readings.{Done, Ask, and_then, asked, each}
+use Rattle.pyc_reading.specs.Readings.{Done, and_then, asked}
 use Rattle.pyc_report.specs.Message.{Remark}
 use Rattle.pyc_statement_read_laws.proofs.AskedLemmas.{asked-alone, asked-both, asked-each, asked-unless}
 use Rattle.pyc_statement_read_laws.specs.ImportRows.{Answers, ClassImportReads, ImportReads, LocalImportReads, home_of, import_keys, is_fixed, local_name_keys, module_keys, presence_keys}
@@ -84,7 +84,7 @@ imported-asks : (answers : Answers) (options : Options) (file : Interface) (at :
 imported-asks answers options file at from a = name_reading-asks answers options at (written_module from.dots from.path) a.name (home_of file from)
 
 -- what the type of a name asks
-type_keys : Option (List (List ℕ)) → List ℕ → List Key
+abbrev type_keys : Option (List (List ℕ)) → List ℕ → List Key
 type_keys None x = []
 type_keys (Some m) x = if is_fixed m then [] else key.name (record { home = m; name = x }) ∷ []
 
@@ -92,7 +92,7 @@ type-asks : (answers : Answers) (home : Option (List (List ℕ))) (x : List ℕ)
 unfolding and_then
 type-asks answers None x = refl
 type-asks answers (Some m) x =
-    let q = record { home = m; name = x } in
+    let q : QualifiedName = record { home = m; name = x } in
     asked-unless answers (is_fixed m) _ (asked_type q) (key.name q ∷ []) refl
 
 either : (b : Bool) (k l : Key) → (if b then [] else k ∷ []) ++ (if b then [] else l ∷ []) ≡ (if b then [] else k ∷ l ∷ [])

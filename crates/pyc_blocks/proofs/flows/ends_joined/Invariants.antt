@@ -7,7 +7,7 @@ use Rattle.pyc_blocks.proofs.flows.ends_joined.Given as goal
 abbrev pub invariant-loop-end : goal.invariant-loop-end
 invariant-loop-end l =
     ends_joined (map state_of l.ends.items) (state_of l.joined)
-    ≡ ends_joined (map state_of l.initial.ends.items) (state_of l.last)
+    ≡ ends_joined (map state_of l.fn.ends.items) (state_of l.fn.last)
 
 abbrev pub decreases-loop-end : goal.decreases-loop-end
 decreases-loop-end l = length l.ends.items

@@ -35,53 +35,58 @@ invariant-read_handlers-loop-handler g l =
 -- ---- each call is of a part that stands less deep, or of a function further down in its rule
 
 abbrev pub decreases-read_block : goal.decreases-read_block
-decreases-read_block g l = 4 * most (λ (x : Stmt). stmt_size x) l.statements.now + 3
+decreases-read_block g l = 5 * most (λ (x : Stmt). stmt_size x) l.statements.now + 4
 
 abbrev pub decreases-read_reached : goal.decreases-read_reached
-decreases-read_reached g l = 4 * stmt_size l.statement.now + 1
+decreases-read_reached g l = 5 * stmt_size l.statement.now + 1
 
 abbrev pub decreases-read_form : goal.decreases-read_form
-decreases-read_form g l = 4 * form_size l.form.now
+decreases-read_form g l = 5 * form_size l.form.now
 
 abbrev pub decreases-read_inside : goal.decreases-read_inside
-decreases-read_inside g l = 4 * the_size l.block.now
+decreases-read_inside g l = 5 * the_size l.block.now
 
 abbrev pub decreases-read_if : goal.decreases-read_if
-decreases-read_if g l = 4 * max (most (λ (x : Branch). branch_size x) l.row.now) (the_size l.orelse.now) + 2
+decreases-read_if g l = 5 * max (most (λ (x : Branch). branch_size x) l.row.now) (the_size l.orelse.now) + 2
 
 abbrev pub decreases-read_branches : goal.decreases-read_branches
-decreases-read_branches g l = 4 * most (λ (x : Branch). branch_size x) l.row.now + 1
+decreases-read_branches g l = 5 * most (λ (x : Branch). branch_size x) l.row.now + 1
 
 abbrev pub decreases-read_branch : goal.decreases-read_branch
-decreases-read_branch g l = 4 * branch_size l.branch.now
+decreases-read_branch g l = 5 * branch_size l.branch.now
 
 abbrev pub decreases-read_while : goal.decreases-read_while
-decreases-read_while g l = 4 * max (the_size l.inside.now) (the_size l.orelse.now) + 2
+decreases-read_while g l = 5 * max (the_size l.inside.now) (the_size l.orelse.now) + 2
 
 abbrev pub decreases-read_for : goal.decreases-read_for
-decreases-read_for g l = 4 * max (the_size l.inside.now) (the_size l.orelse.now) + 2
+decreases-read_for g l = 5 * max (the_size l.inside.now) (the_size l.orelse.now) + 2
 
 abbrev pub decreases-read_loop : goal.decreases-read_loop
-decreases-read_loop g l = 4 * max (the_size l.inside.now) (the_size l.orelse.now) + 1
+decreases-read_loop g l = 5 * max (the_size l.inside.now) (the_size l.orelse.now) + 1
 
 abbrev pub decreases-read_try : goal.decreases-read_try
 decreases-read_try g l =
-    4 * max (max (the_size l.found.inside.now) (the_size l.found.orelse.now))
-    (max (most (λ (x : Handler). handler_size x) l.found.handlers.now) (the_size l.found.finally.now)) + 3
+    5 * max (max (the_size l.found.inside.now) (the_size l.found.orelse.now))
+    (max (most (λ (x : Handler). handler_size x) l.found.handlers.now) (the_size l.found.finally.now)) + 4
+
+abbrev pub decreases-read_within : goal.decreases-read_within
+decreases-read_within g l =
+    5 * max (max (the_size l.found.inside.now) (the_size l.found.orelse.now))
+    (most (λ (x : Handler). handler_size x) l.found.handlers.now) + 3
 
 abbrev pub decreases-read_clauses : goal.decreases-read_clauses
 decreases-read_clauses g l =
-    4 * max (max (the_size l.found.inside.now) (the_size l.found.orelse.now))
+    5 * max (max (the_size l.found.inside.now) (the_size l.found.orelse.now))
     (most (λ (x : Handler). handler_size x) l.found.handlers.now) + 2
 
 abbrev pub decreases-read_handlers : goal.decreases-read_handlers
-decreases-read_handlers g l = 4 * most (λ (x : Handler). handler_size x) l.row.now + 1
+decreases-read_handlers g l = 5 * most (λ (x : Handler). handler_size x) l.row.now + 1
 
 abbrev pub decreases-read_handler : goal.decreases-read_handler
-decreases-read_handler g l = 4 * handler_size l.handler.now
+decreases-read_handler g l = 5 * handler_size l.handler.now
 
 abbrev pub decreases-read_finally : goal.decreases-read_finally
-decreases-read_finally g l = 4 * the_size l.finally.now + 1
+decreases-read_finally g l = 5 * the_size l.finally.now + 1
 
 abbrev pub decreases-read_with : goal.decreases-read_with
-decreases-read_with g l = 4 * the_size l.inside.now + 1
+decreases-read_with g l = 5 * the_size l.inside.now + 1
