@@ -35,27 +35,10 @@ impl StatementReader<'_> {
     {
         let left = self.target_type(notes, &found.target, point)?;
         let right = self.infer_part(notes, &found.value, None, point)?;
-        let is_in_place = self.is_in_place(notes, found.operator, &left)?;
-        self.store_unless(notes, is_in_place, found, (&left, &right), point)
-    }
-
-    /// Assigns the result of the operation, unless the target is changed in place.
-    fn store_unless<N: Judge>(
-        &self,
-        notes: &mut N,
-        is_in_place: bool,
-        found: &AugmentedAssignment,
-        operands: (&Ty, &Ty),
-        point: &mut Point,
-    ) -> Result<(), AllocError>
-        ensures { Performs (λ u. point_in point.new)
-            (spec.stored_unless (body_in self.now.body.now) (augmented_of found.now) (ty_of operands.0.now)
-            (ty_of operands.1.now) (point_in point.old) is_in_place) (N.desk notes.old) result (N.desk notes.new) }
-    {
-        if is_in_place {
+        if self.is_in_place(notes, found.operator, &left)? {
             Ok(())
         } else {
-            self.store_operation(notes, found, operands.0, operands.1, point)
+            self.store_operation(notes, found, &left, &right, point)
         }
     }
 
