@@ -138,7 +138,8 @@ handler_by parts from found name inside so_far = do
 
 -- the block, the handlers, and the `else` where the block ended: the flow at the end of the `else`, and the states in
 -- which handlers ended
-unfoldable pub clauses_by : (inside : Reader) → (handlers : Handled → Step Handled) → (orelse : Reader) → Flow → Step Handled
+unfoldable pub clauses_by
+    : (inside : Reader) → (handlers : Handled → Step Handled) → (orelse : Reader) → Flow → Step Handled
 clauses_by inside handlers orelse f = do
   g ← inside f
   caught ← handlers (record { flow = ended g; ends = [] })

@@ -13,8 +13,8 @@ pub record PartReads : Type 0 where
   pub simple : Position → StmtForm → Point → Step Point
   -- a condition: the states where it is true, and where it is not
   pub tested : Expr → Point → Step States
-  -- the beginning of each turn of a `for` that assigns these places: from the point before the loop to that at which its
-  -- block begins
+  -- the beginning of each turn of a `for` that assigns these places: from the point before the loop to that at which
+  -- its block begins
   pub turn : For → List Place → Point → Step Point
   -- what a handler catches, and the name that it binds: from the point at which the handler begins to that at which its
   -- block does

@@ -270,15 +270,15 @@ impl<N: Judge, P: PartReader<N>> Blocks<'_, N, P> {
         requires { P.ready self.now.parts.now }
         ensures { Performs (λ u. flow_in flow.new)
             (spec.try_by
-            (spec.try_places (block_of found.inside.now) (handlers (map handler_of found.handlers.now))
-            (block_of found.orelse.now) (block_of found.finally.now))
-            (spec.block_read (spec.within_try (rules_of P.parts self.now) (block_of found.finally.now))
-            (block_of found.inside.now))
-            (spec.handlers_read (spec.within_try (rules_of P.parts self.now) (block_of found.finally.now))
-            (handlers (map handler_of found.handlers.now)))
-            (spec.block_read (spec.within_try (rules_of P.parts self.now) (block_of found.finally.now))
-            (block_of found.orelse.now))
-            (spec.block_read (rules_of P.parts self.now) (block_of found.finally.now)) (flow_in flow.old))
+            (spec.try_places (block_of found.entry.inside.now) (handlers (map handler_of found.entry.handlers.now))
+            (block_of found.entry.orelse.now) (block_of found.entry.finally.now))
+            (spec.block_read (spec.within_try (rules_of P.parts self.now) (block_of found.entry.finally.now))
+            (block_of found.entry.inside.now))
+            (spec.handlers_read (spec.within_try (rules_of P.parts self.now) (block_of found.entry.finally.now))
+            (handlers (map handler_of found.entry.handlers.now)))
+            (spec.block_read (spec.within_try (rules_of P.parts self.now) (block_of found.entry.finally.now))
+            (block_of found.entry.orelse.now))
+            (spec.block_read (rules_of P.parts self.now) (block_of found.entry.finally.now)) (flow_in flow.old))
             (N.desk notes.old) result (N.desk notes.new) }
     {
         let places = try_places(self.alloc, found)?;
@@ -309,9 +309,9 @@ impl<N: Judge, P: PartReader<N>> Blocks<'_, N, P> {
     ) -> Result<Vec<State>, AllocError>
         requires { P.ready self.now.parts.now }
         ensures { Performs (λ ends. handled_in flow.new ends)
-            (spec.clauses_by (spec.block_read (rules_of P.parts self.now) (block_of found.inside.now))
-            (spec.handlers_read (rules_of P.parts self.now) (handlers (map handler_of found.handlers.now))
-            (state_of raised.now)) (spec.block_read (rules_of P.parts self.now) (block_of found.orelse.now))
+            (spec.clauses_by (spec.block_read (rules_of P.parts self.now) (block_of found.entry.inside.now))
+            (spec.handlers_read (rules_of P.parts self.now) (handlers (map handler_of found.entry.handlers.now))
+            (state_of raised.now)) (spec.block_read (rules_of P.parts self.now) (block_of found.entry.orelse.now))
             (flow_in flow.old)) (N.desk notes.old) result (N.desk notes.new) }
     {
         let mut ends = Vec::new(self.alloc);

@@ -77,8 +77,8 @@ impl Flow {
         mem::replace(&mut self.left, Vec::new(alloc))
     }
 
-    /// Begins the `else` of a loop in a state, inside the loop around it; answers the states in which the loop itself was
-    /// left.
+    /// Begins the `else` of a loop in a state, inside the loop around it; answers the states in which the loop itself
+    /// was left.
     pub(crate) fn exhaust(&mut self, exit: State, around: Vec<State>) -> Vec<State>
         ensures flow { flow_in self.new
             ≡ spec.exhausted (flow_in self.old) (state_of exit) (map state_of around.items) }

@@ -18,8 +18,8 @@ use std::alloc::{AllocError, Global};
 use std::marker::PhantomData;
 use std::mem;
 
-/// Reads the statements of a body in turn, as far as a run comes, from a point to that after them. The only error is that
-/// memory runs out; the point is lost then.
+/// Reads the statements of a body in turn, as far as a run comes, from a point to that after them. The only error is
+/// that memory runs out; the point is lost then.
 #[tactic(auto, using(pyc_obligations::proofs::Steps::performing))]
 pub fn read_statements<N: Judge, P: PartReader<N>>(
     alloc: Global,

@@ -38,8 +38,8 @@ pub(crate) struct TryPlaces {
 /// The places that the parts of a `try` assign.
 pub(crate) fn try_places(alloc: Global, found: Try<'_>) -> Result<TryPlaces, AllocError>
     ensures { IfOk result (λ places. try_places_in places
-        ≡ spec.try_places (block_of found.inside.now) (handlers (map handler_of found.handlers.now))
-        (block_of found.orelse.now) (block_of found.finally.now)) }
+        ≡ spec.try_places (block_of found.entry.inside.now) (handlers (map handler_of found.entry.handlers.now))
+        (block_of found.entry.orelse.now) (block_of found.entry.finally.now)) }
 {
     let inside = places_of(alloc, found.inside)?;
     let mut others = Vec::new(alloc);
@@ -86,8 +86,8 @@ impl TryPlaces {
         dropped_all(alloc, &self.finally, &dropped)
     }
 
-    /// The places that are assigned on the way out of the innermost loop inside the `try`: those on the way out of where
-    /// it stands, and those of its `finally`.
+    /// The places that are assigned on the way out of the innermost loop inside the `try`: those on the way out of
+    /// where it stands, and those of its `finally`.
     pub(crate) fn on_the_way_out(
         &self,
         alloc: Global,
