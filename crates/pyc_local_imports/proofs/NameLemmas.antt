@@ -7,7 +7,7 @@ use Rattle.pyc_bindings.specs.declared.place.Place.{Place}
 use Rattle.pyc_bindings.specs.Bindings.{Binding, imported_binding, module_bindings, path_bindings}
 use Rattle.pyc_local_imports.specs.Names.{ImportsBindTheirNames, alias_name, module_names, path_names}
 
-name_of : Binding → List ℕ
+abbrev name_of : Binding → List ℕ
 name_of b = b.name
 
 path-names : (place : Place) (path : List (List ℕ)) (alias : Option (List ℕ)) → map name_of (path_bindings place path alias) ≡ path_names path alias

@@ -35,13 +35,13 @@ impl LocalImportReader<'_> {
     /// reports those that are not there. Any other statement changes nothing. The only error is that memory runs out.
     #[tactic(auto, unfolding(crate::specs::LocalImports::local_import_read))]
     pub fn read_local_import<N: Notes>(
-        self,
+        &self,
         notes: &mut N,
         form: &StmtForm,
         point: &mut Point,
     ) -> Result<(), AllocError>
         ensures { Performs (λ u. point_in point.new)
-            (spec.local_import_read self.imports.options (interface_in self.file.now) self.imports.at
+            (spec.local_import_read self.now.imports.options (interface_in self.now.file.now) self.now.imports.at
             (stmt_form_of form.now) (point_in point.old)) (N.desk notes.old) result (N.desk notes.new) }
     {
         match form {
@@ -56,13 +56,13 @@ impl LocalImportReader<'_> {
     /// runs out.
     #[tactic(auto, using(crate::proofs::Steps::performing), unfolding(crate::specs::LocalImports::class_import_read))]
     pub fn read_class_import<N: Notes>(
-        self,
+        &self,
         notes: &mut N,
         form: &StmtForm,
         point: &mut Point,
     ) -> Result<(), AllocError>
         ensures { Performs (λ u. point_in point.new)
-            (spec.class_import_read self.imports.options (interface_in self.file.now) self.imports.at
+            (spec.class_import_read self.now.imports.options (interface_in self.now.file.now) self.now.imports.at
             (stmt_form_of form.now) (point_in point.old)) (N.desk notes.old) result (N.desk notes.new) }
     {
         self.imports.read_import(notes, self.file, form)?;
@@ -71,13 +71,13 @@ impl LocalImportReader<'_> {
 
     /// Reads the modules of `import`, in turn.
     fn read_modules<N: Notes>(
-        self,
+        &self,
         notes: &mut N,
         modules: &[Rc<ImportedModule>],
         point: &mut Point,
     ) -> Result<(), AllocError>
         ensures { Performs (λ u. point_in point.new)
-            (spec.modules_read self.imports.options self.imports.at (map imported_of modules.now)
+            (spec.modules_read self.now.imports.options self.now.imports.at (map imported_of modules.now)
             (point_in point.old)) (N.desk notes.old) result (N.desk notes.new) }
     {
         for imported in modules {
@@ -89,13 +89,13 @@ impl LocalImportReader<'_> {
     /// Reads a module of `import`, and binds its name: to Any where the module is not there.
     #[tactic(auto, using(crate::proofs::Steps::performing))]
     fn read_module<N: Notes>(
-        self,
+        &self,
         notes: &mut N,
         imported: &ImportedModule,
         point: &mut Point,
     ) -> Result<(), AllocError>
         ensures { Performs (λ u. point_in point.new)
-            (spec.module_read self.imports.options self.imports.at (imported_module_of imported.now)
+            (spec.module_read self.now.imports.options self.now.imports.at (imported_module_of imported.now)
             (point_in point.old)) (N.desk notes.old) result (N.desk notes.new) }
     {
         let is_there = self.imports.read_module(notes, imported)?;
@@ -105,13 +105,13 @@ impl LocalImportReader<'_> {
 
     /// Reads the names of a from-import, in turn.
     fn read_names<N: Notes>(
-        self,
+        &self,
         notes: &mut N,
         from: &ImportFrom,
         point: &mut Point,
     ) -> Result<(), AllocError>
         ensures { Performs (λ u. point_in point.new)
-            (spec.names_read self.imports.options (interface_in self.file.now) self.imports.at
+            (spec.names_read self.now.imports.options (interface_in self.now.file.now) self.now.imports.at
             (import_from_of from.now) from.now.names.items (point_in point.old)) (N.desk notes.old) result
             (N.desk notes.new) }
     {
@@ -124,14 +124,14 @@ impl LocalImportReader<'_> {
     /// Reads a name of a from-import, and binds it to its type.
     #[tactic(auto, using(crate::proofs::Steps::performing))]
     fn read_name<N: Notes>(
-        self,
+        &self,
         notes: &mut N,
         from: &ImportFrom,
         alias: &Alias,
         point: &mut Point,
     ) -> Result<(), AllocError>
         ensures { Performs (λ u. point_in point.new)
-            (spec.name_read self.imports.options (interface_in self.file.now) self.imports.at
+            (spec.name_read self.now.imports.options (interface_in self.now.file.now) self.now.imports.at
             (import_from_of from.now) alias.now (point_in point.old)) (N.desk notes.old) result
             (N.desk notes.new) }
     {

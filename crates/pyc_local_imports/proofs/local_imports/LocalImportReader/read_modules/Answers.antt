@@ -8,8 +8,8 @@ use Rattle.pyc_local_imports.proofs.local_imports.LocalImportReader.read_modules
 
 pub loop-imported-preserved : goal.loop-imported-preserved
 loop-imported-preserved g c =
-    let options = c.args.self.imports.options in
-    let at = c.args.self.imports.at in
+    let options = c.args.self.now.imports.options in
+    let at = c.args.self.now.imports.at in
     let p = point_in c.loop-imported.point in
     let first = ap (λ m. run (module_read options at (imported_module_of m) p) (g.N.Notes.desk c.loop-imported.notes)) (sym c.deref.ensures) ∙ c.in_ok-read_module.ensures.done in
     record {

@@ -8,9 +8,9 @@ use Rattle.pyc_local_imports.proofs.local_imports.LocalImportReader.read_names.G
 
 pub loop-alias-preserved : goal.loop-alias-preserved
 loop-alias-preserved g c =
-    let options = c.args.self.imports.options in
-    let file = interface_in c.args.self.file.now in
-    let at = c.args.self.imports.at in
+    let options = c.args.self.now.imports.options in
+    let file = interface_in c.args.self.now.file.now in
+    let at = c.args.self.now.imports.at in
     let from = import_from_of c.args.from.now in
     let p = point_in c.loop-alias.point in
     record {
