@@ -72,7 +72,7 @@ impl<'a> Body<'a> {
     }
 
     /// The class that the statement around the body declares. It takes no memory.
-    pub(crate) fn class_around(&self) -> Option<&'a ClassId>
+    pub fn class_around(&self) -> Option<&'a ClassId>
         ensures { option_map (λ class. class.now) result ≡ spec.class_around (body_in self.now).kind }
     {
         match self.kind {
