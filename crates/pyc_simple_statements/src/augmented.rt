@@ -43,7 +43,7 @@ impl StatementReader<'_> {
     }
 
     /// Assigns the result of the operation on operands of these types.
-    #[tactic(auto, using(pyc_obligations::proofs::Steps::performing), unfolding(crate::specs::Augmented::operation_stored))]
+    #[tactic(auto, using(crate::proofs::Places::placing), unfolding(crate::specs::Augmented::operation_stored))]
     fn store_operation<N: Judge>(
         &self,
         notes: &mut N,
