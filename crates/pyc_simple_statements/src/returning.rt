@@ -1,6 +1,6 @@
 //! What a `return` gives.
 
-ghost use Rattle.std.specs.Prelude.{◌≡◌, IfOk, option_map, string_bytes};
+ghost use Rattle.std.specs.Prelude.{◌≡◌, IfOk, false, option_map, string_bytes, true};
 ghost use Rattle.pyc_ast.specs.ExprView.{expr_of};
 ghost use Rattle.pyc_bodies.specs.Bodies as bodies;
 ghost use Rattle.pyc_bodies.specs.Views.{body_in};
