@@ -1,6 +1,6 @@
 -- The bodies of classes, as functions of the class statements (Python reference 3.13, "Class definitions" and "Binding
 -- of names").
-use Rattle.std.specs.Prelude.{ℕ, Bool, true, false, not, ◌&&◌, is_some, if◌then◌else◌, List, Option, None, Some}
+use Rattle.std.specs.Prelude.{ℕ, Bool, false, not, ◌&&◌, is_some, if◌then◌else◌, List, Option, None, Some}
 use Rattle.pyc_ast.specs.declared.position.Position.{Position}
 use Rattle.pyc_ast.specs.Statements.{ClassDefinition, Stmts}
 use Rattle.pyc_bindings.specs.Bindings.{Binding, bindings_of}

@@ -61,23 +61,34 @@ in_place operator _ = Done false
 abbrev pub out_of : Target → Position
 out_of (target at inside form) = at
 
+-- the types of the target and of the right side
+pub record Operands : Type 0 where
+  pub left : Ty
+  pub right : Ty
+
 module _ (body : Body) where
-  -- the result of the operation on operands of some types is assigned: it stands where the right side does
-  unfoldable pub operation_stored : AugmentedAssignment → (left right : Ty) → Point → Step Point
-  operation_stored found left right p = do
-    ty ← binary method_called (out_of found.target) found.operator left right
+  -- the target is read, and then the right side
+  unfoldable pub operands_read : AugmentedAssignment → Point → Step Operands
+  operands_read found p = do
+    left ← target_type body p found.target
+    right ← part_type body p found.value None
+    Done (record { left = left; right = right })
+
+  -- the result of the operation is assigned: it stands where the right side does
+  unfoldable pub operation_stored : AugmentedAssignment → Operands → Point → Step Point
+  operation_stored found operands p = do
+    ty ← binary method_called (out_of found.target) found.operator operands.left operands.right
     meets ← met (body_reads body) p found.target
     stored (at_of found.value) found.target meets ty p
 
   -- by whether the target is changed in place
-  abbrev pub stored_unless : AugmentedAssignment → (left right : Ty) → Point → Bool → Step Point
-  stored_unless found left right p true = Done p
-  stored_unless found left right p false = operation_stored found left right p
+  abbrev pub stored_unless : AugmentedAssignment → Operands → Point → Bool → Step Point
+  stored_unless found operands p true = Done p
+  stored_unless found operands p false = operation_stored found operands p
 
-  -- an augmented assignment reads its target, and then its right side
+  -- an augmented assignment
   unfoldable pub augmented_read : AugmentedAssignment → Point → Step Point
   augmented_read found p = do
-    left ← target_type body p found.target
-    right ← part_type body p found.value None
-    is_in_place ← in_place found.operator left
-    stored_unless found left right p is_in_place
+    operands ← operands_read found p
+    is_in_place ← in_place found.operator operands.left
+    stored_unless found operands p is_in_place

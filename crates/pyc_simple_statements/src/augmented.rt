@@ -6,6 +6,7 @@ ghost use Rattle.pyc_bodies.specs.Views.{body_in};
 ghost use Rattle.pyc_locals.specs.Views.{point_in};
 ghost use Rattle.pyc_reading.specs.Desks.{Performs};
 ghost use Rattle.pyc_simple_statements.specs.Augmented as spec;
+ghost use Rattle.pyc_simple_statements.specs.Views.{operands_in};
 ghost use Rattle.pyc_type_forms.specs.TypeView.{ty_of};
 
 use crate::reader::StatementReader;
@@ -18,6 +19,13 @@ use pyc_obligations::{Judge, asked_member, is_unknown_class};
 use pyc_operators::{binary, in_place_method};
 use pyc_type_forms::Ty;
 use std::alloc::AllocError;
+
+/// The types of the target and of the right side of an augmented assignment.
+#[derive(Drop)]
+struct Operands {
+    left: Ty,
+    right: Ty,
+}
 
 impl StatementReader<'_> {
     /// Reads an augmented assignment: its target, its right side, and unless the target is changed in place the result
@@ -33,10 +41,26 @@ impl StatementReader<'_> {
             (spec.augmented_read (body_in self.now.body.now) (augmented_of found.now) (point_in point.old))
             (N.desk notes.old) result (N.desk notes.new) }
     {
+        let operands = self.read_operands(notes, found, point)?;
+        let is_in_place = self.is_in_place(notes, found.operator, &operands.left)?;
+        self.store_unless(notes, is_in_place, found, &operands, point)
+    }
+
+    /// Reads the target and the right side of an augmented assignment.
+    #[tactic(auto, using(pyc_obligations::proofs::Steps::performing), unfolding(crate::specs::Augmented::operands_read))]
+    fn read_operands<N: Judge>(
+        &self,
+        notes: &mut N,
+        found: &AugmentedAssignment,
+        point: &Point,
+    ) -> Result<Operands, AllocError>
+        ensures { Performs operands_in
+            (spec.operands_read (body_in self.now.body.now) (augmented_of found.now) (point_in point.now))
+            (N.desk notes.old) result (N.desk notes.new) }
+    {
         let left = self.target_type(notes, &found.target, point)?;
         let right = self.infer_part(notes, &found.value, None, point)?;
-        let is_in_place = self.is_in_place(notes, found.operator, &left)?;
-        self.store_unless(notes, is_in_place, found, (&left, &right), point)
+        Ok(Operands { left, right })
     }
 
     /// Assigns the result of the operation, unless the target is changed in place.
@@ -45,33 +69,32 @@ impl StatementReader<'_> {
         notes: &mut N,
         is_in_place: bool,
         found: &AugmentedAssignment,
-        operands: (&Ty, &Ty),
+        operands: &Operands,
         point: &mut Point,
     ) -> Result<(), AllocError>
         ensures { Performs (λ u. point_in point.new)
-            (spec.stored_unless (body_in self.now.body.now) (augmented_of found.now) (ty_of operands.0.now)
-            (ty_of operands.1.now) (point_in point.old) is_in_place) (N.desk notes.old) result (N.desk notes.new) }
+            (spec.stored_unless (body_in self.now.body.now) (augmented_of found.now) (operands_in operands.now)
+            (point_in point.old) is_in_place) (N.desk notes.old) result (N.desk notes.new) }
     {
         if is_in_place {
             Ok(())
         } else {
-            self.store_operation(notes, found, operands.0, operands.1, point)
+            self.store_operation(notes, found, operands, point)
         }
     }
 
-    /// Assigns the result of the operation on operands of these types.
-    #[tactic(auto, using(pyc_obligations::proofs::Steps::performing), unfolding(crate::specs::Augmented::operation_stored))]
+    /// Assigns the result of the operation.
+    #[tactic(auto, using(crate::proofs::Places::placing), unfolding(crate::specs::Augmented::operation_stored))]
     fn store_operation<N: Judge>(
         &self,
         notes: &mut N,
         found: &AugmentedAssignment,
-        left: &Ty,
-        right: &Ty,
+        operands: &Operands,
         point: &mut Point,
     ) -> Result<(), AllocError>
         ensures { Performs (λ u. point_in point.new)
-            (spec.operation_stored (body_in self.now.body.now) (augmented_of found.now) (ty_of left.now)
-            (ty_of right.now) (point_in point.old)) (N.desk notes.old) result (N.desk notes.new) }
+            (spec.operation_stored (body_in self.now.body.now) (augmented_of found.now) (operands_in operands.now)
+            (point_in point.old)) (N.desk notes.old) result (N.desk notes.new) }
     {
         let target = &found.target;
         let ty = binary(
@@ -80,8 +103,8 @@ impl StatementReader<'_> {
             &MethodCaller,
             target.at,
             found.operator,
-            left,
-            right,
+            &operands.left,
+            &operands.right,
         )?;
         let met = met(self.alloc, notes, self.body, point, target)?;
         stored(self.alloc, notes, found.value.at, target, &met, &ty, point)

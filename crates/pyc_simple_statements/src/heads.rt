@@ -23,7 +23,7 @@ use std::alloc::AllocError;
 impl StatementReader<'_> {
     /// Begins a turn of a `for` whose turns assign `places`: its iterable is read before the loop, and its target is
     /// assigned where nothing is known of the places.
-    #[tactic(auto, using(pyc_obligations::proofs::Steps::performing), unfolding(crate::specs::Heads::turn_begun))]
+    #[tactic(auto, using(crate::proofs::Places::placing), unfolding(crate::specs::Heads::turn_begun))]
     pub(crate) fn begin_turn<N: Judge>(
         &self,
         notes: &mut N,
@@ -50,7 +50,7 @@ impl StatementReader<'_> {
     }
 
     /// The type of what each turn of a `for` assigns.
-    #[tactic(auto, using(pyc_obligations::proofs::Steps::performing), unfolding(crate::specs::Heads::turn_item))]
+    #[tactic(auto, using(crate::proofs::Places::placing), unfolding(crate::specs::Heads::turn_item))]
     fn turn_item<N: Judge>(
         &self,
         notes: &mut N,
@@ -84,7 +84,7 @@ impl StatementReader<'_> {
     }
 
     /// Reads an item of a `with`.
-    #[tactic(auto, using(pyc_obligations::proofs::Steps::performing), unfolding(crate::specs::Heads::item_read))]
+    #[tactic(auto, using(crate::proofs::Places::placing), unfolding(crate::specs::Heads::item_read))]
     fn read_item<N: Judge>(
         &self,
         notes: &mut N,

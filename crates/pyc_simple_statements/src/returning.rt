@@ -1,6 +1,6 @@
 //! What a `return` gives.
 
-ghost use Rattle.std.specs.Prelude.{◌≡◌, IfOk, option_map, string_bytes};
+ghost use Rattle.std.specs.Prelude.{◌≡◌, IfOk, false, option_map, string_bytes, true};
 ghost use Rattle.pyc_ast.specs.ExprView.{expr_of};
 ghost use Rattle.pyc_bodies.specs.Bodies as bodies;
 ghost use Rattle.pyc_bodies.specs.Views.{body_in};
@@ -8,6 +8,7 @@ ghost use Rattle.pyc_locals.specs.Views.{point_in};
 ghost use Rattle.pyc_reading.specs.Desks.{Performs};
 ghost use Rattle.pyc_simple_statements.specs.Returning as spec;
 ghost use Rattle.pyc_simple_statements.specs.Views.{owed_in};
+ghost use Rattle.pyc_type_forms.specs.Types.{none};
 ghost use Rattle.pyc_type_forms.specs.TypeView.{ty_of};
 
 use crate::reader::StatementReader;
@@ -116,7 +117,7 @@ impl StatementReader<'_> {
             (N.desk notes.old) result (N.desk notes.new) }
     {
         let got = self.infer_part(notes, value, self.body.result(), point)?;
-        self.owe_result(notes, at, false, &got)?;
+        self.owe_value(notes, at, &got)?;
         point.set_state(State::Unreachable);
         Ok(())
     }
@@ -133,25 +134,31 @@ impl StatementReader<'_> {
             (spec.none_returned (body_in self.now.body.now) at (point_in point.old)) (N.desk notes.old) result
             (N.desk notes.new) }
     {
-        self.owe_result(notes, at, true, &Ty::None)?;
+        self.owe_none(notes, at)?;
         point.set_state(State::Unreachable);
         Ok(())
     }
 
-    /// Owes that what a `return` gives is of the type of the function's result. Outside functions nothing is owed.
-    fn owe_result<N: Judge>(
-        &self,
-        notes: &mut N,
-        at: Position,
-        is_bare: bool,
-        got: &Ty,
-    ) -> Result<(), AllocError>
+    /// Owes that a value is of the type of the function's result. Outside functions nothing is owed.
+    fn owe_value<N: Judge>(&self, notes: &mut N, at: Position, got: &Ty) -> Result<(), AllocError>
         ensures { Performs (λ u. u)
-            (spec.result_owed at is_bare (ty_of got.now) (bodies.result_of (body_in self.now.body.now).kind))
+            (spec.result_owed at false (ty_of got.now) (bodies.result_of (body_in self.now.body.now).kind))
             (N.desk notes.old) result (N.desk notes.new) }
     {
         match self.body.result() {
-            Some(want) => self.owe_return(notes, at, is_bare, got, want),
+            Some(want) => self.owe_return(notes, at, false, got, want),
+            None => Ok(()),
+        }
+    }
+
+    /// Owes that None is of the type of the function's result. Outside functions nothing is owed.
+    fn owe_none<N: Judge>(&self, notes: &mut N, at: Position) -> Result<(), AllocError>
+        ensures { Performs (λ u. u)
+            (spec.result_owed at true none (bodies.result_of (body_in self.now.body.now).kind)) (N.desk notes.old)
+            result (N.desk notes.new) }
+    {
+        match self.body.result() {
+            Some(want) => self.owe_return(notes, at, true, &Ty::None, want),
             None => Ok(()),
         }
     }

@@ -120,8 +120,8 @@ impl<'a> UnitReader<'a> {
         outside: &Body<'_>,
         found: &Stmt,
     ) -> Result<(), AllocError>
-        ensures { Performs (λ u. u) (spec.function_in (body_in outside.now) (stmt_of found.now)) (N.desk notes.old) result
-            (N.desk notes.new) }
+        ensures { Performs (λ u. u) (spec.function_in (body_in outside.now) (stmt_of found.now)) (N.desk notes.old)
+            result (N.desk notes.new) }
     {
         match &found.form {
             StmtForm::Function { head, body } => {
