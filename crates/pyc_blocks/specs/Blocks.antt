@@ -1,6 +1,6 @@
 -- Blocks of statements (Python reference 3.13, "Compound statements"; typing specification, "Type narrowing"): what is
 -- asked and told, and what is known after them. No statement is checked to which no run comes.
-use Rattle.std.specs.Prelude.{ℕ, List, [], ◌∷◌, ◌++◌, Option}
+use Rattle.std.specs.Prelude.{ℕ, List, [], ◌++◌, Option}
 use Rattle.pyc_assigned_places.specs.AssignedPlaces.{assigned_places, places_in, handlers_places, dropped_all}
 use Rattle.pyc_ast.specs.declared.position.Position.{Position}
 use Rattle.pyc_ast.specs.Exprs.{Expr}

@@ -147,7 +147,6 @@ pub(crate) fn joined_all(
 }
 
 /// What is known where a block of an `if` ended, the last of them in a state.
-#[tactic(auto, using(crate::proofs::FlowLemmas::ends_joined_last))]
 fn ends_joined(alloc: Global, ends: Vec<State>, last: State) -> Result<State, AllocError>
     ensures { IfOk result (λ joined. state_of joined ≡ spec.ends_joined (map state_of ends.items) (state_of last)) }
 {

@@ -6,6 +6,7 @@ use Rattle.pyc_body.specs.FoundLaws.{AlikeAnswersFindAlike, AlikeInterfacesFindA
 use Rattle.pyc_body.specs.FoundMessages.{reads}
 use Rattle.pyc_units.specs.UnitReadings.{unit_reading}
 use Rattle.pyc_examiner.proofs.ReadListLemmas.{asked_are_the_list, one_list_alone}
+use Rattle.pyc_examiner.specs.CheckedView.{Checked}
 use Rattle.pyc_examiner.specs.KeyEquality.{keys_are}
 use Rattle.pyc_found.specs.FoundOrder.{in_order}
 use Rattle.pyc_iface.specs.Answers.{answer_by, answer_of}
@@ -25,11 +26,10 @@ module _ (r : Step (Unit {0})) (desk after : Desk) (answers : Key → Answer) (u
       sym (ap (λ (found : Unit {0} × Desk). found.1) done) ∙ ap (λ (found : Unit {0} × Desk). found.1) (runs_are_folds r desk)
       ∙ ap (desk_after r) new
 
-  pub told_there : after.messages ≡ told answers r
-  told_there = ap (λ (d : Desk). d.messages) is_after
-
-  pub read_there : after.keys ≡ with_keys [] (asked answers r)
-  read_there = ap (λ (d : Desk). d.keys) is_after
+  -- what comes of the reading: its keys, each once, and what it tells, in order
+  pub checked_there : (made : Checked) → made ≡ record { reads = after.keys; messages = in_order after.messages }
+      → made ≡ record { reads = with_keys [] (asked answers r); messages = in_order (told answers r) }
+  checked_there made is = is ∙ ap (λ (d : Desk). record { reads = d.keys; messages = in_order d.messages }) is_after
 
 -- ---- keys, each once
 

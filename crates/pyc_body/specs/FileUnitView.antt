@@ -1,6 +1,6 @@
 -- Units of files of the code, and what names them, as plain values.
 use Rattle.pyc_body.specs.FileUnits.{FileUnit, UnitId}
-use Rattle.pyc_body.specs.declared.file_units.FileUnit.{FileUnit as FileUnitOf}
+use Rattle.pyc_body.specs.declared.numbering.FileUnit.{FileUnit as FileUnitOf}
 use Rattle.pyc_body.specs.declared.meter.MeteredUnit.{MeteredUnit}
 use Rattle.pyc_names.specs.SourceFileView.{source_in}
 use Rattle.pyc_units.specs.UnitView.{unit_of}

@@ -3,7 +3,6 @@
 -- statements and its end; in a class, what is told of its bases, its order, its body and what its ancestors declare as
 -- well. Each unit is one reading, and its reads are the keys that this asks.
 use Rattle.std.specs.Prelude.{List, [], flat_map}
-use Rattle.std.specs.List.{concat}
 use Rattle.pyc_ast.specs.Modules.{Outcome, tree, fault}
 use Rattle.pyc_body.specs.FileUnits.{FileUnit}
 use Rattle.pyc_examiner.specs.CheckedView.{Checked}
@@ -48,10 +47,6 @@ found_in_units options files file = flat_map (found options files file) (units.f
 abbrev pub without_ignored : Outcome → List Message → List Message
 without_ignored (tree m) messages = without_silenced m messages
 without_ignored (fault line text) messages = messages
-
--- of messages that are found in the units of a file those that are not silenced
-abbrev pub unsilenced_of : Outcome → List (List Message) → List Message
-unsilenced_of outcome founds = without_ignored outcome (concat founds)
 
 -- the unsilenced messages of a file
 unfoldable pub unsilenced : Options → List SourceFile → SourceFile → List Message

@@ -10,8 +10,8 @@ ghost use Rattle.pyc_examiner.specs.CheckedView.{checked_of};
 ghost use Rattle.pyc_iface.specs.WorldView.{world_in};
 ghost use Rattle.pyc_names.specs.SourceFileView.{source_in, sources_in};
 
-use crate::file_units::{FileUnit, numbered_units};
 use crate::meter::Meter;
+use crate::numbering::{FileUnit, numbered_units};
 use pyc_examiner::{Checked, Examiner};
 use pyc_iface::{Options, World};
 use pyc_names::SourceFile;

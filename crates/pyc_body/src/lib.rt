@@ -2,14 +2,14 @@
 #![tactic(auto)]
 
 mod checker;
-mod file_units;
 pub mod laws;
 mod meter;
-mod unsilenced;
+mod numbering;
+mod silencing;
 
 pub use checker::Checker;
-pub use file_units::{FileUnit, numbered_units};
 pub use meter::Meter;
+pub use numbering::{FileUnit, numbered_units};
 pub use pyc_examiner::Checked;
 pub use pyc_units::{Unit, UnitId, count_units, file_units, unit_definitions};
-pub use unsilenced::unsilenced;
+pub use silencing::unsilenced;

@@ -1,7 +1,9 @@
 //! Tests of classes and files: what class statements bind, what classes have under names, and their orders; when files
-//! have one interface; in a crate of their own.
+//! have one interface, and when answers are one; in a crate of their own.
 #![tactic(auto)]
 
+#[cfg(test)]
+mod answers;
 #[cfg(test)]
 mod attributes;
 #[cfg(test)]

@@ -86,11 +86,12 @@ module _ (answers : Key → Answer) where
   -- keys of which none is lacking
   agree_known : (keys more : List Key) → first_of keys more ≡ None → Agree (by_known (answered answers keys)) answers more
   agree_known keys [] none = nothing_asked
-  agree_known keys (key ∷ more) none = by (among keys key) refl none
+  agree_known keys (key ∷ more) none = by (among keys key) refl none (agree_known keys more)
     where
-      by : (b : Bool) → among keys key ≡ b → cond b (first_of keys more) (Some key) ≡ None → Agree (by_known (answered answers keys)) answers (key ∷ more)
-      by true is none = one_more (by_known-is keys key is) (agree_known keys more none)
-      by false is none = absurd (false≢true (sym (ap is_some none)))
+      by : (b : Bool) → among keys key ≡ b → cond b (first_of keys more) (Some key) ≡ None
+          → (first_of keys more ≡ None → Agree (by_known (answered answers keys)) answers more) → Agree (by_known (answered answers keys)) answers (key ∷ more)
+      by true is none rest = one_more (by_known-is keys key is) (rest none)
+      by false is none rest = absurd (false≢true (sym (ap is_some none)))
 
   -- ---- what a reading comes to
 

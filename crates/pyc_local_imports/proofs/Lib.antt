@@ -1,3 +1,2 @@
-pub mod BindingLemmas
 pub mod NameLemmas
 pub mod Steps

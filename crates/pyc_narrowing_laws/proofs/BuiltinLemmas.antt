@@ -8,7 +8,7 @@ use Rattle.pyc_class.specs.declared.builtin_class.BuiltinClass.TheVariants as cl
 use Rattle.pyc_class.specs.Class.{Id, builtin, same_class}
 use Rattle.pyc_class.specs.Order.{leads}
 use Rattle.pyc_classes.proofs.BuiltinLemmas.{same_class-is}
-use Rattle.pyc_narrowing_laws.specs.TypeLaws.{BuiltinValuesMeetThePremises}
+use Rattle.pyc_narrowing_laws.specs.TypeLaws.{BuiltinValuesMeetThePremises, RulesLoseValues}
 
 -- each class of a row has the rest of the row as its order, itself at the front
 abbrev IsChain : List BuiltinClass → Type 0
@@ -62,3 +62,6 @@ chain class.RecursionError = (refl, (refl, (refl, (refl, (refl, tt)))))
 
 pub builtin_values_meet_the_premises : BuiltinValuesMeetThePremises
 builtin_values_meet_the_premises c fits = (in_chain (builtin_order c) (chain c), refl)
+
+pub rules_lose_values : RulesLoseValues
+rules_lose_values fits = ((refl, refl, refl), (refl, refl, refl), (refl, refl, refl))

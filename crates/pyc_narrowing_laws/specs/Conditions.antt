@@ -113,8 +113,8 @@ module _ (answers : Key → Answer) (look : Looks) where
     -- a call of `isinstance` with a place and class objects: those that are looked up are the classes by which it tests
     abbrev pub CallComesTo : Bool → State → Expr → Arguments → Type 0
     CallComesTo b s callee given =
-        (at other : Position) (x tested : Expr) (place : Place) (classes : List Id) → given ≡ two_given at other x tested
-        → place_of x ≡ Some place → (found_at s callee).thing ≡ isinstance_thing
+        (at other : Position) (x tested : Expr) (place : Place) (classes : List Id)
+        → given ≡ two_given at other x tested → place_of x ≡ Some place → (found_at s callee).thing ≡ isinstance_thing
         → result_of answers (classes_at look s tested) ≡ Some classes
         → IsTest (orders_by answers) b (values place) (found_at s x).ty classes
 

@@ -1,15 +1,17 @@
 -- What the tests of a place keep of the type of its value (typing specification, "Type narrowing"; the library
 -- reference, `isinstance`).
-use Rattle.std.specs.Prelude.{◌≡◌, Bool, true, false, not, ◌&&◌, ◌||◌, IsTrue, List, Option, None, Some, nat_lt}
+use Rattle.std.specs.Prelude.{◌≡◌, Bool, true, false, not, ◌&&◌, ◌||◌, IsTrue, List, [], ◌∷◌, Option}
+use Rattle.std.specs.Prelude.{None, Some}
 use Rattle.std.specs.List.{list_any}
 use Rattle.pyc_class.specs.declared.builtin_class.BuiltinClass.{BuiltinClass}
+use Rattle.pyc_class.specs.declared.builtin_class.BuiltinClass.TheVariants as class
 use Rattle.pyc_class.specs.Class.{Id, builtin, same_class, int_id, float_id}
 use Rattle.pyc_class.specs.Order.{Orders, leads}
 use Rattle.pyc_builtins.specs.Orders.{builtin_orders}
 use Rattle.pyc_narrowing.specs.SplitStates.{none_of}
-use Rattle.pyc_narrowing_laws.specs.Values.{Value, instance_value, is_none_value, has_known_order, is_instance, is_of}
+use Rattle.pyc_narrowing_laws.specs.Values.{Value, none_value, instance_value, is_none_value, has_known_order}
+use Rattle.pyc_narrowing_laws.specs.Values.{is_instance, is_of}
 use Rattle.pyc_type_forms.specs.Narrowing.{narrow_to, narrow_away, without_none}
-use Rattle.pyc_type_forms.specs.Size.{size}
 use Rattle.pyc_type_forms.specs.Types.{Ty, none, module_type, instance}
 use Rattle.pyc_type_forms.specs.Unions.{items_of, union_of}
 use Rattle.pyc_types.specs.OrderLaws.{AreOrderly}
@@ -99,5 +101,27 @@ NarrowAwayKeeps =
 -- the instances of builtin classes, by the builtin orders, meet what the laws of `isinstance` ask of values
 abbrev pub BuiltinValuesMeetThePremises : Type 0
 BuiltinValuesMeetThePremises =
-    (class : BuiltinClass) (fits : Ty → Bool) → let v = instance_value (builtin class) fits in
+    (c : BuiltinClass) (fits : Ty → Bool) → let v = instance_value (builtin c) fits in
     IsInLine builtin_orders v × IsTrue (has_known_order builtin_orders v)
+
+-- ---- values that the rules lose
+
+-- a value of a type of which a test by one builtin class says yes, where the rule leaves nothing
+abbrev pub IsLostByYes : Value → Ty → BuiltinClass → Type 0
+IsLostByYes v ty tested =
+    IsTrue (is_of builtin_orders v ty) × IsTrue (is_accepted builtin_orders (builtin tested ∷ []) v)
+    × (narrow_to builtin_orders ty (builtin tested ∷ []) ≡ None)
+
+-- a value of a type of which a test by one builtin class says no, where the rule leaves nothing
+abbrev pub IsLostByNo : Value → Ty → BuiltinClass → Type 0
+IsLostByNo v ty tested =
+    IsTrue (is_of builtin_orders v ty) × IsTrue (not (is_accepted builtin_orders (builtin tested ∷ []) v))
+    × (narrow_away builtin_orders ty (builtin tested ∷ []) ≡ None)
+
+-- None is lost where `object` is tested, and an int that stands for a float where `bool` or `float` is tested
+abbrev pub RulesLoseValues : Type 0
+RulesLoseValues =
+    (fits : Ty → Bool)
+    → IsLostByYes none_value none class.Object
+    × IsLostByYes (instance_value (builtin class.Bool) fits) (instance float_id) class.Bool
+    × IsLostByNo (instance_value int_id fits) (instance float_id) class.Float

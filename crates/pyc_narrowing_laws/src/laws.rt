@@ -5,7 +5,8 @@ ghost use Rattle.pyc_narrowing_laws.specs.StateLaws.{AssignedKeeps, DroppedKeeps
 ghost use Rattle.pyc_narrowing_laws.specs.StateLaws.{WithPlaceKeeps};
 ghost use Rattle.pyc_narrowing_laws.specs.TestLaws.{ComparisonKeeps, InstanceTestKeeps, TruthKeeps};
 ghost use Rattle.pyc_narrowing_laws.specs.TypeLaws.{BuiltinValuesMeetThePremises, NarrowAwayKeeps, NarrowToKeeps};
-ghost use Rattle.pyc_narrowing_laws.specs.TypeLaws.{NoneKeeps, UnionIsItsItems, UnionKeeps, WithoutNoneKeeps};
+ghost use Rattle.pyc_narrowing_laws.specs.TypeLaws.{NoneKeeps, RulesLoseValues, UnionIsItsItems, UnionKeeps};
+ghost use Rattle.pyc_narrowing_laws.specs.TypeLaws.{WithoutNoneKeeps};
 
 /// A value of one of some types is of their union, and a value is of a type just where it is of one of its items.
 pub fn unions()
@@ -36,6 +37,12 @@ pub fn refused_instances()
 /// The instances of a builtin class meet what the two laws of `isinstance` ask of a value, by the builtin orders.
 pub fn builtin_values()
     ensures { BuiltinValuesMeetThePremises }
+{}
+
+/// The rules of `isinstance` lose values that the two laws leave out: None where `object` is tested, and an int that
+/// stands for a `float` where `bool` or `float` is tested.
+pub fn lost_values()
+    ensures { RulesLoseValues }
 {}
 
 /// All values meet the state in which no place is narrowed. Values that meet a state meet it with a place narrowed to

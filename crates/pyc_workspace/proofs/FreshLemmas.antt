@@ -1,16 +1,15 @@
 -- What is told of a file, from the parts of what the code finds.
 use Rattle.std.proofs.Common.{◌≡◌, ℕ, zero, suc, ◌+◌, ◌<◌, List, [], ◌∷◌, ◌++◌, map, flat_map, take, drop, length, get_or, ap, sym, ◌∙◌, refl, add-one, arith, take_all, drop_all}
 use Rattle.std.proofs.lemmas.List.{take_more, map-append, length-map, take-append-le, drop-append-le}
-use Rattle.std.proofs.lemmas.List.Concat.{concat_is}
 use Rattle.std.specs.declared.alloc.Global.{Global}
 use Rattle.std.specs.declared.rc.Rc.{Rc}
 use Rattle.std.proofs.Math.Logic.{∥∥₁_elim}
 use Rattle.std.proofs.Props.{props}
 use Rattle.pyc_ast.specs.Modules.{Outcome, tree, fault}
-use Rattle.pyc_body.specs.FileUnits as body
+use Rattle.pyc_body.specs.FileUnits as parts
 use Rattle.pyc_body.specs.FileUnits.{UnitId}
 use Rattle.pyc_body.specs.FoundMessages as body
-use Rattle.pyc_body.specs.FoundMessages.{unsilenced, unsilenced_of}
+use Rattle.pyc_body.specs.FoundMessages.{unsilenced, without_ignored}
 use Rattle.pyc_examiner.specs.CheckedView.{Checked}
 use Rattle.pyc_iface.specs.declared.options.Options.{Options}
 use Rattle.pyc_lower.specs.Reading.{read_of}
@@ -28,26 +27,26 @@ use Rattle.pyc_workspace.specs.Files.{file_in, files_in}
 use Rattle.pyc_workspace.specs.Workspace.{File, Unit}
 
 -- the messages of a file by the source that it is known to have
-pub messages_from : (path bytes : List ℕ) (founds : List (List Message)) (messages : List Message) (source : SourceFile) → messages ≡ unsilenced_of source.outcome founds
-    → ∥ source ≡ source_file path (read_of bytes) ∥₁ → messages ≡ unsilenced_of (read_of bytes) founds
-messages_from path bytes founds messages source told is =
-    ∥∥₁_elim is (Prim.hlevel props) (λ same. told ∙ ap (λ outcome. unsilenced_of outcome founds) (outcome_is path bytes source (read_of bytes) same refl))
+pub messages_from : (path bytes : List ℕ) (found messages : List Message) (source : SourceFile) → messages ≡ without_ignored source.outcome found
+    → ∥ source ≡ source_file path (read_of bytes) ∥₁ → messages ≡ without_ignored (read_of bytes) found
+messages_from path bytes found messages source told is =
+    ∥∥₁_elim is (Prim.hlevel props) (λ same. told ∙ ap (λ outcome. without_ignored outcome found) (outcome_is path bytes source (read_of bytes) same refl))
 
 -- checks over the sources that files are known to have
-pub checks_from : (options : Options) (files : List File) (checks : List Checked) (sources : List SourceFile) → checks ≡ map (body.checked options sources) (body.units_of sources)
+pub checks_from : (options : Options) (files : List File) (checks : List Checked) (sources : List SourceFile) → checks ≡ map (body.checked options sources) (parts.units_of sources)
     → ∥ sources ≡ map source_of files ∥₁ → checks ≡ checks_of options files
 checks_from options files checks sources made are =
-    ∥∥₁_elim are (Prim.hlevel props) (λ same. made ∙ ap (λ s. map (body.checked options s) (body.units_of s)) same)
+    ∥∥₁_elim are (Prim.hlevel props) (λ same. made ∙ ap (λ s. map (body.checked options s) (parts.units_of s)) same)
 
 -- ---- the units of a file
 
-found_in_numbered : (options : Options) (sources : List SourceFile) (source : SourceFile) (from : ℕ) (units : List units.Unit)
-    → flat_map (λ l. l) (map (λ (c : Checked). c.messages) (map (body.checked options sources) (body.numbered source from units))) ≡ flat_map (body.found options sources source) units
+found_in_numbered : (options : Options) (sources : List SourceFile) (source : SourceFile) (from : ℕ) (us : List units.Unit)
+    → flat_map (λ (c : Checked). c.messages) (map (body.checked options sources) (parts.numbered source from us)) ≡ flat_map (body.found options sources source) us
 found_in_numbered options sources source from [] = refl
 found_in_numbered options sources source from (unit ∷ more) =
     ap (λ l. body.found options sources source unit ++ l) (found_in_numbered options sources source (from + 1) more)
 
-length-numbered : (source : SourceFile) (from : ℕ) (units : List units.Unit) → length (body.numbered source from units) ≡ length units
+length-numbered : (source : SourceFile) (from : ℕ) (us : List units.Unit) → length (parts.numbered source from us) ≡ length us
 length-numbered source from [] = refl
 length-numbered source from (unit ∷ more) = ap suc (length-numbered source (from + 1) more)
 
@@ -62,50 +61,41 @@ module _ (file : File) where
   path-of : (source_of file).path ≡ file.path
   path-of = path_is file.path file.bytes (source_of file) (read_of file.bytes) refl refl
 
-  count-of : length (body.file_units (source_of file)) ≡ unit_count (read_of file.bytes)
+  count-of : length (parts.file_units (source_of file)) ≡ unit_count (read_of file.bytes)
   count-of = length-numbered (source_of file) 0 (units.file_units (source_of file).outcome) ∙ unit_count-is (source_of file).outcome ∙ ap unit_count outcome-of
 
 -- ---- the report
 
 module _ (options : Options) (sources : List SourceFile) where
-  -- what is found in units
-  abbrev founds : List body.FileUnit → List (List Message)
-  founds units = map (λ (c : Checked). c.messages) (map (body.checked options sources) units)
+  -- what comes of units
+  abbrev checks : List parts.FileUnit → List Checked
+  checks us = map (body.checked options sources) us
 
-  told_of_file : (file : File) → told_of file (founds (body.file_units (source_of file))) ≡ checked options sources file
+  told_of_file : (file : File) → told_of file (checks (parts.file_units (source_of file))) ≡ checked options sources file
   unfolding unsilenced
   told_of_file file =
-      let all = concat_is (founds (body.file_units (source_of file))) ∙ found_in_numbered options sources (source_of file) 0 (units.file_units (source_of file).outcome) in
-      (λ i. record { path = file.path; messages = body.without_ignored (sym (outcome-of file) i) (all i) })
+      let all = found_in_numbered options sources (source_of file) 0 (units.file_units (source_of file).outcome) in
+      (λ i. record { path = file.path; messages = without_ignored (sym (outcome-of file) i) (all i) })
 
-  founds-append : (units more : List body.FileUnit) → founds (units ++ more) ≡ founds units ++ founds more
-  founds-append units more =
-      ap (map (λ (c : Checked). c.messages)) (map-append (body.checked options sources) units more)
-      ∙ map-append (λ (c : Checked). c.messages) (map (body.checked options sources) units) (map (body.checked options sources) more)
-
-  length-founds : (units : List body.FileUnit) → length (founds units) ≡ length units
-  length-founds units = length-map (map (body.checked options sources) units) (λ (c : Checked). c.messages) ∙ length-map units (body.checked options sources)
-
-  told_by_files : (files : List File) → told_by files (founds (body.units_of (map source_of files))) ≡ map (checked options sources) files
+  told_by_files : (files : List File) → told_by files (checks (parts.units_of (map source_of files))) ≡ map (checked options sources) files
   told_by_files [] = refl
   told_by_files (file ∷ files) =
-      let own = founds (body.file_units (source_of file)) in
-      let others = founds (body.units_of (map source_of files)) in
+      let own = checks (parts.file_units (source_of file)) in
+      let others = checks (parts.units_of (map source_of files)) in
       let count = unit_count (read_of file.bytes) in
-      let many : length own ≡ count = length-founds (body.file_units (source_of file)) ∙ count-of file in
+      let many : length own ≡ count = length-map (parts.file_units (source_of file)) (body.checked options sources) ∙ count-of file in
       let taken : take count (own ++ others) ≡ own = take-append-le count own others (omega (arith, many)) ∙ take_all count own (omega (arith, many)) in
       let left : drop count (own ++ others) ≡ others = drop-append-le count own others (omega (arith, many)) ∙ ap (λ l. l ++ others) (drop_all count own (omega (arith, many))) in
-      let whole = founds-append (body.file_units (source_of file)) (body.units_of (map source_of files)) in
+      let whole = map-append (body.checked options sources) (parts.file_units (source_of file)) (parts.units_of (map source_of files)) in
       (λ i. told_of file (take count (whole i)) ∷ told_by files (drop count (whole i)))
       ∙ (λ i. told_of file (taken i) ∷ told_by files (left i))
       ∙ (λ i. told_of_file file i ∷ told_by_files files i)
 
 -- the report on what was found
-pub report_from : (options : Options) (files : List File) (report : Report) (checks : List Checked) → report ≡ report_of (told_by files (map (λ (c : Checked). c.messages) checks))
+pub report_from : (options : Options) (files : List File) (report : Report) (checks : List Checked) → report ≡ report_of (told_by files checks)
     → checks ≡ checks_of options files → report ≡ fresh options files
 unfolding fresh
-report_from options files report checks made are =
-    made ∙ ap (λ cs. report_of (told_by files (map (λ (c : Checked). c.messages) cs))) are ∙ ap report_of (told_by_files options (map source_of files) files)
+report_from options files report checks made are = made ∙ ap (λ cs. report_of (told_by files cs)) are ∙ ap report_of (told_by_files options (map source_of files) files)
 
 -- one file more, with its source
 pub sources_more : (files : List (Rc FileOf Global)) (i : ℕ) (file : Rc FileOf Global) (at : FileOf) (sources : List (Rc SourceFileOf Global)) (source : Rc SourceFileOf Global) (shared : SourceFileOf)
@@ -137,19 +127,19 @@ numbered-next path n = let same : 0 + n ≡ n = omega arith in numbered-more pat
 
 -- ---- what names the units of files
 
-ids-numbered : (source : SourceFile) (from : ℕ) (units : List units.Unit) → map body.id_of (body.numbered source from units) ≡ numbered source.path from (length units)
+ids-numbered : (source : SourceFile) (from : ℕ) (us : List units.Unit) → map parts.id_of (parts.numbered source from us) ≡ numbered source.path from (length us)
 unfolding numbered
 ids-numbered source from [] = refl
 ids-numbered source from (unit ∷ more) = ap (λ ids. record { path = source.path; index = from } ∷ ids) (ids-numbered source (from + 1) more)
 
-ids-of : (files : List File) → map body.id_of (body.units_of (map source_of files)) ≡ units_of files
+ids-of : (files : List File) → map parts.id_of (parts.units_of (map source_of files)) ≡ units_of files
 ids-of [] = refl
 ids-of (file ∷ files) =
-    map-append body.id_of (body.file_units (source_of file)) (body.units_of (map source_of files))
+    map-append parts.id_of (parts.file_units (source_of file)) (parts.units_of (map source_of files))
     ∙ (λ i. (ids-numbered (source_of file) 0 (units.file_units (source_of file).outcome)
     ∙ (λ j. numbered (path-of file j) 0 ((unit_count-is (source_of file).outcome ∙ ap unit_count (outcome-of file)) j))) i ++ ids-of files i)
 
-pub metered_from : (files : List File) (old new : List UnitId) (sources : List SourceFile) → new ≡ old ++ map body.id_of (body.units_of sources)
+pub metered_from : (files : List File) (old new : List UnitId) (sources : List SourceFile) → new ≡ old ++ map parts.id_of (parts.units_of sources)
     → ∥ sources ≡ map source_of files ∥₁ → new ≡ old ++ units_of files
 metered_from files old new sources made are =
-    ∥∥₁_elim are (Prim.hlevel props) (λ same. made ∙ ap (λ s. old ++ map body.id_of (body.units_of s)) same ∙ ap (λ ids. old ++ ids) (ids-of files))
+    ∥∥₁_elim are (Prim.hlevel props) (λ same. made ∙ ap (λ s. old ++ map parts.id_of (parts.units_of s)) same ∙ ap (λ ids. old ++ ids) (ids-of files))

@@ -1,6 +1,6 @@
 //! A file of a session.
 
-ghost use Rattle.std.specs.Prelude.{◌≡◌, map, IfOk};
+ghost use Rattle.std.specs.Prelude.{◌≡◌, flat_map, map, IfOk};
 ghost use Rattle.pyc_units.specs.Units.{unit_count};
 ghost use Rattle.pyc_lower.specs.Reading.{read_of};
 ghost use Rattle.pyc_names.specs.ModuleName.{module_of};
@@ -28,7 +28,7 @@ pub struct File {
 impl File {
     ghost use Rattle.pyc_workspace.specs.Files.{file_in};
     ghost use Rattle.pyc_workspace.specs.Fresh.{source_of};
-    ghost use Rattle.pyc_body.specs.FoundMessages.{unsilenced_of};
+    ghost use Rattle.pyc_body.specs.FoundMessages.{without_ignored};
     ghost use Rattle.pyc_examiner.specs.CheckedView.{checked_of};
     ghost use Rattle.pyc_report.specs.Message.{message_in};
 
@@ -96,8 +96,8 @@ impl File {
         checks: &[Checked],
     ) -> Result<Vec<Message>, AllocError>
         ensures { IfOk result (λ messages. map message_in messages.items
-            ≡ unsilenced_of (read_of (file_in self.now).bytes)
-            (map (λ check. (checked_of check).messages) checks.now)) }
+            ≡ without_ignored (read_of (file_in self.now).bytes)
+            (flat_map (λ check. check.messages) (map checked_of checks.now))) }
     {
         let found = unsilenced(alloc, &self.source, checks)?;
         Ok(found)

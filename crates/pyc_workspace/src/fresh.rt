@@ -51,7 +51,7 @@ pub fn check_files(
 /// memory runs out.
 pub fn report(alloc: Global, files: &[Rc<File>], checks: &[Checked]) -> Result<Report, AllocError>
     ensures { IfOk result (λ report. report_in report
-        ≡ report_of (told_by (files_in files.now) (map (λ check. (checked_of check).messages) checks.now))) }
+        ≡ report_of (told_by (files_in files.now) (map checked_of checks.now))) }
 {
     let found = told_by(alloc, files, checks)?;
     reports::report(alloc, &found)
@@ -76,7 +76,7 @@ fn told_by<'a>(
     checks: &[Checked],
 ) -> Result<Vec<Found<'a>>, AllocError>
     ensures { IfOk result (λ found. map found_in found.items
-        ≡ told_by (files_in files.now) (map (λ check. (checked_of check).messages) checks.now)) }
+        ≡ told_by (files_in files.now) (map checked_of checks.now)) }
 {
     let mut all = Vec::with_capacity(alloc, files.len())?;
     let mut rest = checks;
@@ -101,7 +101,7 @@ fn cut(checks: &[Checked], count: usize) -> (&[Checked], &[Checked])
 /// What is told of a file.
 fn told_of<'a>(alloc: Global, file: &'a File, checks: &[Checked]) -> Result<Found<'a>, AllocError>
     ensures { IfOk result (λ found. found_in found
-        ≡ told_of (file_in file.now) (map (λ check. (checked_of check).messages) checks.now)) }
+        ≡ told_of (file_in file.now) (map checked_of checks.now)) }
 {
     let messages = file.unsilenced(alloc, checks)?;
     Ok(Found {

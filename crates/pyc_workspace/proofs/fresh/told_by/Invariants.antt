@@ -8,5 +8,5 @@ use Rattle.pyc_workspace.proofs.fresh.told_by.Given as goal
 -- what is told so far, with what is told of the files that are left, is all
 abbrev pub invariant-loop-file : goal.invariant-loop-file
 invariant-loop-file l =
-    map found_in l.all.items ++ told_by (files_in (drop l.file-index l.files)) (map (λ check. (checked_of check).messages) l.rest)
-    ≡ told_by (files_in l.files) (map (λ check. (checked_of check).messages) l.fn.checks)
+    map found_in l.all.items ++ told_by (files_in (drop l.file-index l.files)) (map checked_of l.rest)
+    ≡ told_by (files_in l.files) (map checked_of l.fn.checks)

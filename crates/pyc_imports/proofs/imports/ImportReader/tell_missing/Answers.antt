@@ -7,6 +7,3 @@ returns g c = first_of (grind (arith, common_steps), search rules)
 
 pub returns-in_err-text : goal.returns-in_err-text
 returns-in_err-text g c = first_of (grind (arith, common_steps), search rules)
-
-pub returns-then-self : goal.returns-then-self
-returns-then-self g c = first_of (grind (arith, common_steps), search rules)

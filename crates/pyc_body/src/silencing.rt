@@ -1,8 +1,7 @@
 //! The messages that are found in the units of a file and that no ignore comment silences.
 
-ghost use Rattle.std.specs.Prelude.{◌≡◌, ◌++◌, map, IfOk, OnOk};
-ghost use Rattle.std.specs.List.{concat};
-ghost use Rattle.pyc_body.specs.FoundMessages as spec;
+ghost use Rattle.std.specs.Prelude.{◌≡◌, ◌++◌, flat_map, map, IfOk, OnOk};
+ghost use Rattle.pyc_body.specs.FoundMessages.{without_ignored};
 ghost use Rattle.pyc_examiner.specs.CheckedView.{checked_of};
 ghost use Rattle.pyc_names.specs.SourceFileView.{source_in};
 ghost use Rattle.pyc_report.specs.Message.{message_in};
@@ -21,7 +20,8 @@ pub fn unsilenced(
     checks: &[Checked],
 ) -> Result<Vec<Message>, AllocError>
     ensures { IfOk result (λ messages. map message_in messages.items
-        ≡ spec.unsilenced_of (source_in file.now).outcome (map (λ check. (checked_of check).messages) checks.now)) }
+        ≡ without_ignored (source_in file.now).outcome
+        (flat_map (λ check. check.messages) (map checked_of checks.now))) }
 {
     let mut messages = all_found(alloc, checks)?;
     if let Outcome::Tree(module) = file.outcome() {
@@ -33,7 +33,7 @@ pub fn unsilenced(
 /// The messages of checks, one after another.
 fn all_found(alloc: Global, checks: &[Checked]) -> Result<Vec<Message>, AllocError>
     ensures { IfOk result (λ messages. map message_in messages.items
-        ≡ concat (map (λ check. (checked_of check).messages) checks.now)) }
+        ≡ flat_map (λ check. check.messages) (map checked_of checks.now)) }
 {
     let mut messages = Vec::new(alloc);
     for check in checks {

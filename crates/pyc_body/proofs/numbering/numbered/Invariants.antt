@@ -3,7 +3,7 @@ use Rattle.pyc_body.specs.FileUnits.{numbered}
 use Rattle.pyc_body.specs.FileUnitView.{file_unit_in}
 use Rattle.pyc_names.specs.SourceFileView.{source_in}
 use Rattle.pyc_units.specs.UnitView.{unit_of}
-use Rattle.pyc_body.proofs.file_units.numbered.Given as goal
+use Rattle.pyc_body.proofs.numbering.numbered.Given as goal
 
 -- those so far are numbered
 abbrev pub invariant-loop-unit : goal.invariant-loop-unit

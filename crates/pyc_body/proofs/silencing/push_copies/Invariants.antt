@@ -1,6 +1,6 @@
 use Rattle.std.proofs.Common.{◌≡◌, ◌++◌, map, take}
 use Rattle.pyc_report.specs.Message.{message_in}
-use Rattle.pyc_body.proofs.unsilenced.push_copies.Given as goal
+use Rattle.pyc_body.proofs.silencing.push_copies.Given as goal
 
 abbrev pub invariant-loop-message : goal.invariant-loop-message
 invariant-loop-message l =
