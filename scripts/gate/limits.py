@@ -55,6 +55,24 @@ def ring(count):
     return session, OK * count + report(messages, count) + OK + clean(count)
 
 
+def classes(count, called="C{}"):
+    """So many classes, each of which is called by the next, of which a type may be made, and the last by a method."""
+    calls = [f"\"{called.format(at + 1)}\"" for at in range(count - 1)]
+    lines = [f"class C{at}:\n    __call__: {call}\n" for at, call in enumerate(calls)]
+    return "".join(lines) + f"class C{count - 1}:\n    def __call__(self, a: int) -> int: ...\n"
+
+
+def called_through(count):
+    """A session that calls an instance of the first of so many such classes, and what it prints."""
+    return checked("c.py", f"{classes(count)}x: str = C0()(\"\")\n", [(2 * count + 1, no_str("int")), (2 * count + 1, NO_FIRST)])
+
+
+def called_through_unions(count):
+    """The same, where each class but the last is called by a union of the next and of another callable."""
+    text = f"from typing import Callable\n{classes(count, 'C{} | Callable[[int], bytes]')}x: str = C0()(\"\")\n"
+    return checked("c.py", text, [(2 * count + 2, no_str("int | bytes")), (2 * count + 2, NO_FIRST)])
+
+
 TOO_DEEP = "Too deeply nested  [syntax]"
 INVALID = "Invalid syntax  [syntax]"
 LISTS = "list[" * 60 + "int" + "]" * 60
@@ -70,6 +88,7 @@ NARROWED = "a: int | None = f()\n" + " and ".join(["a", *["a + 1"] * 898, f"a + 
 NO_SUM = 'Unsupported operand types for + ("int" and "str")  [operator]'
 NO_ITEM = 'List item 19999 has incompatible type "str"; expected "int"  [list-item]'
 NO_ENTRY = 'Dict entry 19999 has incompatible type "int": "str"; expected "int": "int"  [dict-item]'
+NO_FIRST = 'Argument 1 to "function" has incompatible type "str"; expected "int"  [arg-type]'
 NO_ARGUMENT = 'Argument 20000 to "g" has incompatible type "str"; expected "int"  [arg-type]'
 
 
@@ -131,6 +150,12 @@ LIMITS = [
     ("limits/list_with_a_wrong_end", *checked("e.py", f"x: list[int] = [{row(20_000, '1', EMPTY)}]\n", [(1, NO_ITEM)])),
     ("limits/dict_with_a_wrong_end", *checked("e.py", f"{DICT} = {{{row(20_000, '1: 1', ENTRY)}}}\n", [(1, NO_ENTRY)])),
     ("limits/call_with_a_wrong_end", *checked("e.py", f"{CALLEE}g({row(20_000, '1', EMPTY)})\n", [(2, NO_ARGUMENT)])),
+    # a call goes through as many classes as there are
+    ("limits/call_through_999_classes", *called_through(999)),
+    ("limits/call_through_1500_classes", *called_through(1500)),
+    ("limits/call_through_20000_classes", *called_through(20_000)),
+    ("limits/call_through_1500_unions", *called_through_unions(1500)),
+    ("limits/call_through_10000_unions", *called_through_unions(10_000)),
     # a tuple of 999 items is a type of 1,000 types; one of more is Any
     ("limits/largest_type", *assigned(f"({row(999, '1')})", f"tuple[{row(999, 'int')}]")),
     ("limits/type_that_is_too_large", *assigned(f"({row(1000, '1')})")),

@@ -2,3 +2,4 @@ pub mod ListedLemmas
 pub mod OrderLemmas
 pub mod ReadLemmas
 pub mod Steps
+pub mod UnitLemmas

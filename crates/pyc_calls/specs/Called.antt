@@ -1,6 +1,6 @@
 -- The type of a call (Python reference 3.13, "Calls" and "Emulating callable objects"; typing specification,
 -- "Callables", "Constructors" and "Union types").
-use Rattle.std.specs.Prelude.{ℕ, zero, suc, Bool, true, false, codes, List, [], ◌∷◌, ◌++◌, map, Option, None, Some}
+use Rattle.std.specs.Prelude.{ℕ, zero, suc, ◌^◌, Bool, true, false, codes, List, [], ◌∷◌, ◌++◌, map, Option, None, Some}
 use Rattle.pyc_arguments.specs.Arguments.{Arg, Reads, all_read, read_once, unread}
 use Rattle.pyc_arguments.specs.Matched.{matched}
 use Rattle.pyc_arguments.specs.Telling.{Call, Shown}
@@ -8,12 +8,12 @@ use Rattle.pyc_ast.specs.declared.position.Position.{Position}
 use Rattle.pyc_ast.specs.Exprs.{Argument}
 use Rattle.pyc_attributes.specs.Binding.{through_instance}
 use Rattle.pyc_calls.specs.Constructors.{constructor}
-use Rattle.pyc_calls.specs.Remembered.{Memory, Progress, fresh, under_way, gave, progress_of, remembering}
+use Rattle.pyc_calls.specs.Remembered.{Memory, Progress, fresh, under_way, gave, nothing_met, progress_of, remembering}
 use Rattle.pyc_class.specs.Class.{Id, builtin, user}
 use Rattle.pyc_obligations.specs.Asking.{asked_member, is_unknown_class}
 use Rattle.pyc_reading.specs.Answers.{MemberAnswer}
 use Rattle.pyc_reading.specs.Desks.{Step}
-use Rattle.pyc_reading.specs.Readings.{Done, Tell, and_then}
+use Rattle.pyc_reading.specs.Readings.{Done, Tell, and_then, ◌>>=◌}
 use Rattle.pyc_report.specs.declared.message.Code.TheVariants as code
 use Rattle.pyc_report.specs.Message.{error_at}
 use Rattle.pyc_type_forms.specs.Instances.{instance_of}
@@ -89,12 +89,13 @@ remembering_same memory call = and_then call (λ ty. Done (record { ty = ty; mem
 
 -- after the `__call__` of a class gave this
 abbrev pub call_given : Id → Called → Called
-call_given c called = record { ty = called.ty; memory = remembering called.memory c (Some called.ty) }
+call_given c called = record { ty = called.ty; memory = remembering called.memory c (gave called.ty) }
 
 -- the `__call__` of a class is called
 unfoldable pub member_called : Calls → Memory → List Arg → Id → MemberAnswer → Step Called
-member_called deeper memory args c found =
-    and_then (deeper (remembering memory c None) args (through_instance found)) (λ called. Done (call_given c called))
+member_called deeper memory args c found = do
+  called ← deeper (remembering memory c under_way) args (through_instance found)
+  Done (call_given c called)
 
 -- the same, by how far it is: one that comes back to itself is Any
 abbrev pub by_progress : Calls → Memory → List Arg → Id → Progress → MemberAnswer → Step Called
@@ -122,64 +123,45 @@ pub record ItemsCalled : Type 0 where
   pub types : List Ty
   pub memory : Memory
 
--- after these types, each item of a union is called in turn
-unfoldable pub items_called : Calls → List Ty → Memory → List Arg → Tys → Step ItemsCalled
-items_called deeper before memory args nil = Done (record { types = before; memory = memory })
-items_called deeper before memory args (cons item items) =
-    and_then (deeper memory args item) (λ called.
-    items_called deeper (before ++ (called.ty ∷ [])) called.memory args items)
-
 -- the union of the types of calls of items
 abbrev pub joined : ItemsCalled → Called
 joined called = record { ty = union_of called.types; memory = called.memory }
 
--- the items of a union are called with arguments that were read
-unfoldable pub row_called : Calls → Memory → Tys → List Arg → Step Called
-row_called deeper memory items args =
-    and_then (items_called deeper [] memory args items) (λ called. Done (joined called))
+abbrev mutual
+  -- something of a type is called: of a union each item, with arguments that are read once
+  pub called_by : Calls → Call → Memory → List Arg → Ty → Step Called
+  called_by deeper call memory args (instance c) = instance_called deeper call memory args c
+  called_by deeper call memory args (union items) = do
+    read ← read_once args
+    called ← items_called deeper call [] memory read items
+    Done (joined called)
+  called_by deeper call memory args ty = remembering_same memory (plainly_called call args ty)
 
--- a union is called: the arguments are read once
-unfoldable pub union_called : Calls → Memory → List Arg → Tys → Step Called
-union_called deeper memory args items = and_then (read_once args) (row_called deeper memory items)
-
--- what is called, by what it calls in turn
-pub data CalleeForm : Type 0 where
-  an_instance : Id → CalleeForm
-  a_union : Tys → CalleeForm
-  another_callee : CalleeForm
-
-abbrev pub callee_form : Ty → CalleeForm
-callee_form (instance c) = an_instance c
-callee_form (union items) = a_union items
-callee_form ty = another_callee
-
--- something of a type is called, by its form
-abbrev pub by_form : Calls → Call → Memory → List Arg → Ty → CalleeForm → Step Called
-by_form deeper call memory args ty (an_instance c) = instance_called deeper call memory args c
-by_form deeper call memory args ty (a_union items) = union_called deeper memory args items
-by_form deeper call memory args ty another_callee = remembering_same memory (plainly_called call args ty)
-
--- something of a type is called
-abbrev pub called_by : Calls → Call → Memory → List Arg → Ty → Step Called
-called_by deeper call memory args ty = by_form deeper call memory args ty (callee_form ty)
+  -- after these types, each item of a union is called in turn
+  pub items_called : Calls → Call → List Ty → Memory → List Arg → Tys → Step ItemsCalled
+  items_called deeper call before memory args nil = Done (record { types = before; memory = memory })
+  items_called deeper call before memory args (cons item items) = do
+    called ← called_by deeper call memory args item
+    items_called deeper call (before ++ (called.ty ∷ [])) called.memory args items
 
 -- ---- the whole
 
--- the same, where so many calls may lie one in another; one that lies deeper is Any
+-- the same, where the `__call__` of so many classes, less one, may lie one in another; one that lies deeper is Any
 abbrev pub called_to : ℕ → Call → Calls
 called_to zero call memory args ty = remembering_same memory (any_called args)
 called_to (suc depth) call memory args ty = called_by (called_to depth call) call memory args ty
 
--- how many calls may lie one in another
+-- more than there are classes in the memory of a machine: a reading ends, and so it has some depth
 unfoldable pub most_calls : ℕ
-most_calls = 1000
+most_calls = 2 ^ 64
 
-abbrev pub ty_called : Called → Ty
-ty_called called = called.ty
+-- a call, by its type alone
+abbrev pub typed : Step Called → Step Ty
+typed walk = and_then walk (λ called. Done called.ty)
 
 -- something of a type is called with arguments
 unfoldable pub called : Call → List Arg → Ty → Step Ty
-called call args callee = and_then (called_to most_calls call [] args callee) (λ found. Done (ty_called found))
+called call args callee = typed (called_to most_calls call nothing_met args callee)
 
 -- a call that begins at a position, of something that messages show so, of this type, with arguments that are to be
 -- read: its type

@@ -1,17 +1,24 @@
 -- The plain values that those of the code are.
-use Rattle.std.specs.Prelude.{map, option_map}
+use Rattle.std.specs.Prelude.{ℕ, ◌+◌, List, length, drop, map, reverse, Option, None, Some}
 use Rattle.std.specs.declared.alloc.Global.{Global}
 use Rattle.std.specs.declared.vec.Vec.{Vec}
-use Rattle.pyc_calls.specs.Called.{Called, CalleeForm, ItemsCalled, an_instance, a_union, another_callee}
+use Rattle.indexmap.specs.IndexMap.{IndexMap, get, index_map_len}
 use Rattle.pyc_calls.specs.Constructors.{no_params, params_in}
-use Rattle.pyc_calls.specs.declared.calls.CalleeForm.{CalleeForm as CalleeFormOf}
-use Rattle.pyc_calls.specs.declared.calls.CalleeForm.TheVariants as f
 use Rattle.pyc_calls.specs.declared.constructors.ClassParams.{ClassParams}
 use Rattle.pyc_calls.specs.declared.constructors.ClassParams.TheVariants as c
 use Rattle.pyc_calls.specs.declared.remembered.Progress.{Progress as ProgressOf}
 use Rattle.pyc_calls.specs.declared.remembered.Progress.TheVariants as p
-use Rattle.pyc_calls.specs.declared.remembered.Remembered.{Remembered as RememberedOf}
-use Rattle.pyc_calls.specs.Remembered.{Memory, Progress, Remembered, fresh, under_way, gave}
+use Rattle.pyc_calls.specs.declared.walks.Met.{Met as MetOf}
+use Rattle.pyc_calls.specs.declared.walks.Met.TheVariants as m
+use Rattle.pyc_calls.specs.declared.walks.Standing.{Standing as StandingOf}
+use Rattle.pyc_calls.specs.declared.walks.Standing.TheVariants as s
+use Rattle.pyc_calls.specs.declared.walks.Waiting.{Waiting as WaitingOf}
+use Rattle.pyc_calls.specs.declared.walks.Waiting.TheVariants as w
+use Rattle.pyc_calls.specs.declared.walks.Walk.{Walk as WalkOf}
+use Rattle.pyc_calls.specs.Remembered.{Memory, Progress, fresh, under_way, gave}
+use Rattle.pyc_calls.specs.Walks.{Met, came, met_new, Waiting, class_waits, union_waits, Walk, Standing, calls, gives}
+use Rattle.pyc_calls.specs.Walks.{meets, ends, Stood}
+use Rattle.pyc_class.specs.Class.{Id, same_class}
 use Rattle.pyc_type_forms.specs.declared.types.Ty.{Ty}
 use Rattle.pyc_type_forms.specs.Types.{Params, dots}
 use Rattle.pyc_type_forms.specs.TypeView.{row, ty_of}
@@ -22,9 +29,23 @@ class_params_in c.Unmatched = dots
 class_params_in c.Bare = no_params
 class_params_in (c.Typed ty) = params_in (ty_of ty)
 
--- what the `__call__` of a class gave
-abbrev pub remembered_in : RememberedOf → Remembered
-remembered_in entry = record { class = entry.class; given = option_map ty_of entry.given }
+-- how far the `__call__` of a class is that gave this
+abbrev pub given_in : Option Ty → Progress
+given_in None = under_way
+given_in (Some ty) = gave (ty_of ty)
+
+-- how far that of a class is of which this is remembered
+abbrev pub progress_in : Option (Option Ty) → Progress
+progress_in None = fresh
+progress_in (Some given) = given_in given
+
+-- what is remembered
+abbrev pub memory_in : {S : Type 0} → IndexMap Id (Option Ty) S → Memory
+memory_in memory = λ c. progress_in (get same_class memory c)
+
+-- of how many classes something is remembered
+abbrev pub count_of : {S : Type 0} → IndexMap Id (Option Ty) S → ℕ
+count_of memory = index_map_len memory
 
 -- how far the `__call__` of a class is
 abbrev pub how_far : ProgressOf → Progress
@@ -32,20 +53,32 @@ how_far p.Fresh = fresh
 how_far p.UnderWay = under_way
 how_far (p.Gave ty) = gave (ty_of ty)
 
--- what is remembered
-abbrev pub memory_in : Vec RememberedOf Global → Memory
-memory_in memory = map remembered_in memory.items
+-- what a call of an instance of a class comes to
+abbrev pub met_in : MetOf → Met
+met_in (m.Came ty) = came (ty_of ty)
+met_in (m.New class bound) = met_new class (ty_of bound)
 
--- the type of a call, where this is remembered after it
-abbrev pub called_with : Vec RememberedOf Global → Ty → Called
-called_with memory ty = record { ty = ty_of ty; memory = memory_in memory }
+-- what waits for the type of a call
+abbrev pub waiting_of : WaitingOf → Waiting
+waiting_of (w.Class class) = class_waits class
+waiting_of (w.Union items types) =
+    union_waits (map ty_of types.items) (row (drop (length types.items + 1) items.value.items))
 
--- the types of calls, where this is remembered after them
-abbrev pub items_called_with : Vec RememberedOf Global → Vec Ty Global → ItemsCalled
-items_called_with memory types = record { types = map ty_of types.items; memory = memory_in memory }
+-- what waits, the innermost first
+abbrev pub waiting_in : Vec WaitingOf Global → List Waiting
+waiting_in waiting = reverse (map waiting_of waiting.items)
 
--- what is called, by what it calls in turn
-abbrev pub form_in : CalleeFormOf → CalleeForm
-form_in (f.Instance class) = an_instance class.now
-form_in (f.Union items) = a_union (row items.now)
-form_in f.Other = another_callee
+-- a walk
+abbrev pub walk_in : WalkOf → Walk
+walk_in walk = record { memory = memory_in walk.memory; waiting = waiting_in walk.waiting }
+
+-- how a walk stands
+abbrev pub standing_in : StandingOf → Standing
+standing_in (s.Calls ty) = calls (ty_of ty)
+standing_in (s.Gives ty) = gives (ty_of ty)
+standing_in (s.Meets class bound) = meets class (ty_of bound)
+standing_in (s.Ends ty) = ends (ty_of ty)
+
+-- a walk and how it stands
+abbrev pub stood_in : WalkOf → StandingOf → Stood
+stood_in walk standing = record { walk = walk_in walk; standing = standing_in standing }

@@ -1,6 +1,6 @@
 -- What is told of a file, from the parts of what the code finds.
-use Rattle.std.proofs.Common.{◌≡◌, ℕ, zero, suc, ◌+◌, ◌<◌, List, [], ◌∷◌, ◌++◌, map, flat_map, take, drop, length, get_or, ap, sym, ◌∙◌, refl, add-one, arith, take_all, drop_all}
-use Rattle.std.proofs.lemmas.List.{take_more, map-append, length-map, take-append-le, drop-append-le}
+use Rattle.std.proofs.Common.{◌≡◌, ℕ, zero, suc, ◌+◌, ◌<◌, List, [], ◌∷◌, ◌++◌, map, flat_map, take, drop, length, get_or, ap, sym, ◌∙◌, refl, add-one, append_assoc, arith, drop-cons, take_all, drop_all}
+use Rattle.std.proofs.lemmas.List.{take_more, take-map, drop-map, map-append, length-map, take-append-le, drop-append-le}
 use Rattle.std.specs.declared.alloc.Global.{Global}
 use Rattle.std.specs.declared.rc.Rc.{Rc}
 use Rattle.std.proofs.Math.Logic.{∥∥₁_elim}
@@ -10,7 +10,8 @@ use Rattle.pyc_body.specs.FileUnits as parts
 use Rattle.pyc_body.specs.FileUnits.{UnitId}
 use Rattle.pyc_body.specs.FoundMessages as body
 use Rattle.pyc_body.specs.FoundMessages.{unsilenced, without_ignored}
-use Rattle.pyc_examiner.specs.CheckedView.{Checked}
+use Rattle.pyc_examiner.specs.CheckedView.{Checked, checked_of}
+use Rattle.pyc_examiner.specs.declared.checked.Checked.{Checked as CheckedOf}
 use Rattle.pyc_iface.specs.declared.options.Options.{Options}
 use Rattle.pyc_lower.specs.Reading.{read_of}
 use Rattle.pyc_names.specs.SourceFiles.{SourceFile, source_file}
@@ -19,7 +20,7 @@ use Rattle.pyc_units.specs.Units.{unit_count}
 use Rattle.pyc_workspace.proofs.FileLemmas.{outcome_is, path_is}
 use Rattle.pyc_workspace.specs.Fresh.{source_of, checked, checks_of, fresh, numbered, told_by, told_of, unit_in, units_of}
 use Rattle.pyc_report.specs.Message.{Message}
-use Rattle.pyc_report.specs.Report.{Report, report_of}
+use Rattle.pyc_report.specs.Report.{Found, Report, report_of}
 use Rattle.pyc_names.specs.declared.source_file.SourceFile.{SourceFile as SourceFileOf}
 use Rattle.pyc_names.specs.SourceFileView.{source_in, sources_in}
 use Rattle.pyc_workspace.specs.declared.file.File.{File as FileOf}
@@ -96,6 +97,23 @@ pub report_from : (options : Options) (files : List File) (report : Report) (che
     → checks ≡ checks_of options files → report ≡ fresh options files
 unfolding fresh
 report_from options files report checks made are = made ∙ ap (λ cs. report_of (told_by files cs)) are ∙ ap report_of (told_by_files options (map source_of files) files)
+
+-- what is told of one file more
+pub told_more : (files : List (Rc FileOf Global)) (i : ℕ) (file : Rc FileOf Global) (at : FileOf) (count : ℕ) (all : List Found) (found : Found) (checks own others : List CheckedOf) (whole : List Found)
+    → i < length files → file ≡ get_or files i file → at ≡ file.value → count ≡ unit_count (read_of (file_in at).bytes) → own ≡ take count checks → others ≡ drop count checks
+    → found ≡ told_of (file_in at) (map checked_of own) → all ++ told_by (files_in (drop i files)) (map checked_of checks) ≡ whole
+    → (all ++ found ∷ []) ++ told_by (files_in (drop (i + 1) files)) (map checked_of others) ≡ whole
+told_more files i file at count all found checks own others whole within is same many first rest told before =
+    let left : drop i files ≡ file ∷ drop (i + 1) files = rw add-one (drop-cons files i file within ∙ ap (λ f. f ∷ drop (suc i) files) (sym is)) in
+    let n : count ≡ unit_count (read_of (file_in file.value).bytes) = many ∙ ap (λ f. unit_count (read_of (file_in f).bytes)) same in
+    let mine : found ≡ told_of (file_in file.value) (take (unit_count (read_of (file_in file.value).bytes)) (map checked_of checks)) =
+    told ∙ (λ j. told_of (file_in (same j)) (map checked_of (first j))) ∙ ap (told_of (file_in file.value)) (sym (take-map checked_of count checks) ∙ ap (λ k. take k (map checked_of checks)) n) in
+    let later : map checked_of others ≡ drop (unit_count (read_of (file_in file.value).bytes)) (map checked_of checks) =
+    ap (map checked_of) rest ∙ sym (drop-map checked_of count checks) ∙ ap (λ k. drop k (map checked_of checks)) n in
+    append_assoc all (found ∷ []) (told_by (files_in (drop (i + 1) files)) (map checked_of others))
+    ∙ (λ j. all ++ mine j ∷ told_by (files_in (drop (i + 1) files)) (later j))
+    ∙ ap (λ fs. all ++ told_by (files_in fs) (map checked_of checks)) (sym left)
+    ∙ before
 
 -- one file more, with its source
 pub sources_more : (files : List (Rc FileOf Global)) (i : ℕ) (file : Rc FileOf Global) (at : FileOf) (sources : List (Rc SourceFileOf Global)) (source : Rc SourceFileOf Global) (shared : SourceFileOf)

@@ -7,4 +7,6 @@ use Rattle.pyc_workspace.proofs.FreshLemmas.{report_from}
 use Rattle.pyc_workspace.proofs.fresh.fresh_report.Goals as goal
 
 pub returns : goal.returns
-returns c = ?
+returns c =
+    let made = c.in_ok-report.ensures ∙ ap (λ cs. report_of (told_by (files_in c.args.files.now) (map checked_of cs))) c.deref.ensures.value in
+    report_from _ _ _ _ made c.in_ok-checks.ensures.checked
