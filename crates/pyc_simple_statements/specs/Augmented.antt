@@ -1,7 +1,6 @@
 -- Augmented assignments (Python reference 3.13, "Augmented assignment statements" and "Emulating numeric types").
 use Rattle.std.specs.Prelude.{ℕ, Bool, true, false, is_some, Option, None}
-use Rattle.pyc_assignments.specs.Singles.{met}
-use Rattle.pyc_assignments.specs.Storing.{stored}
+use Rattle.pyc_assignments.specs.Assignments.{assigned}
 use Rattle.pyc_ast.specs.declared.operator.Operator.{Operator}
 use Rattle.pyc_ast.specs.declared.operator.Operator.TheVariants as o
 use Rattle.pyc_ast.specs.declared.position.Position.{Position}
@@ -66,6 +65,11 @@ pub record Operands : Type 0 where
   pub left : Ty
   pub right : Ty
 
+-- the type of the operation, which is reported at the target
+unfoldable pub operation_type : AugmentedAssignment → Operands → Step Ty
+operation_type found operands =
+    binary method_called (out_of found.target) found.operator operands.left operands.right
+
 module _ (body : Body) where
   -- the target is read, and then the right side
   unfoldable pub operands_read : AugmentedAssignment → Point → Step Operands
@@ -77,9 +81,8 @@ module _ (body : Body) where
   -- the result of the operation is assigned: it stands where the right side does
   unfoldable pub operation_stored : AugmentedAssignment → Operands → Point → Step Point
   operation_stored found operands p = do
-    ty ← binary method_called (out_of found.target) found.operator operands.left operands.right
-    meets ← met (body_reads body) p found.target
-    stored (at_of found.value) found.target meets ty p
+    ty ← operation_type found operands
+    assigned (body_reads body) (at_of found.value) found.target ty p
 
   -- by whether the target is changed in place
   abbrev pub stored_unless : AugmentedAssignment → Operands → Point → Bool → Step Point

@@ -10,7 +10,7 @@ ghost use Rattle.pyc_simple_statements.specs.Views.{operands_in};
 ghost use Rattle.pyc_type_forms.specs.TypeView.{ty_of};
 
 use crate::reader::StatementReader;
-use pyc_assignments::{met, stored};
+use pyc_assignments::assigned;
 use pyc_ast::{AugmentedAssignment, Operator};
 use pyc_class::ClassId;
 use pyc_expr_forms::MethodCaller;
@@ -96,18 +96,38 @@ impl StatementReader<'_> {
             (spec.operation_stored (body_in self.now.body.now) (augmented_of found.now) (operands_in operands.now)
             (point_in point.old)) (N.desk notes.old) result (N.desk notes.new) }
     {
-        let target = &found.target;
-        let ty = binary(
+        let ty = self.operation_type(notes, found, operands)?;
+        assigned(
+            self.alloc,
+            notes,
+            self.body,
+            found.value.at,
+            &found.target,
+            &ty,
+            point,
+        )
+    }
+
+    /// The type of the operation.
+    #[tactic(auto, using(crate::proofs::Places::placing), unfolding(crate::specs::Augmented::operation_type))]
+    fn operation_type<N: Judge>(
+        &self,
+        notes: &mut N,
+        found: &AugmentedAssignment,
+        operands: &Operands,
+    ) -> Result<Ty, AllocError>
+        ensures { Performs ty_of (spec.operation_type (augmented_of found.now) (operands_in operands.now))
+            (N.desk notes.old) result (N.desk notes.new) }
+    {
+        binary(
             self.alloc,
             notes,
             &MethodCaller,
-            target.at,
+            found.target.at,
             found.operator,
             &operands.left,
             &operands.right,
-        )?;
-        let met = met(self.alloc, notes, self.body, point, target)?;
-        stored(self.alloc, notes, found.value.at, target, &met, &ty, point)
+        )
     }
 
     /// Whether an augmented assignment changes a target of some type in place: `+=` does a list, and each operator an
