@@ -1,6 +1,6 @@
 -- What is told of a file, from the parts of what the code finds.
-use Rattle.std.proofs.Common.{◌≡◌, ℕ, zero, suc, ◌+◌, ◌<◌, List, [], ◌∷◌, ◌++◌, map, flat_map, take, drop, length, get_or, ap, sym, ◌∙◌, refl, add-one, append_assoc, arith, drop-cons, take_all, drop_all}
-use Rattle.std.proofs.lemmas.List.{take_more, take-map, drop-map, map-append, length-map, take-append-le, drop-append-le}
+use Rattle.std.proofs.Common.{◌≡◌, ℕ, zero, suc, ◌+◌, ◌<◌, List, [], ◌∷◌, ◌++◌, map, flat_map, take, drop, length, get_or, ap, sym, ◌∙◌, refl, add-one, append_assoc, arith, drop-cons, take_all}
+use Rattle.std.proofs.lemmas.List.{drop_all, take_more, take-map, drop-map, map-append, length-map, take-append-le, drop-append-le}
 use Rattle.std.specs.declared.alloc.Global.{Global}
 use Rattle.std.specs.declared.rc.Rc.{Rc}
 use Rattle.std.proofs.Math.Logic.{∥∥₁_elim}
