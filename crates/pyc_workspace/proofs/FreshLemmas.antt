@@ -18,7 +18,7 @@ use Rattle.pyc_names.specs.SourceFiles.{SourceFile, source_file}
 use Rattle.pyc_units.specs.Units as units
 use Rattle.pyc_units.specs.Units.{unit_count}
 use Rattle.pyc_workspace.proofs.FileLemmas.{outcome_is, path_is}
-use Rattle.pyc_workspace.specs.Fresh.{source_of, checked, checks_of, fresh, numbered, told_by, told_of, unit_in, units_of}
+use Rattle.pyc_workspace.specs.Fresh.{source_of, checked, checks_of, fresh, numbered, told_by, told_of, units_of}
 use Rattle.pyc_report.specs.Message.{Message}
 use Rattle.pyc_report.specs.Report.{Found, Report, report_of}
 use Rattle.pyc_names.specs.declared.source_file.SourceFile.{SourceFile as SourceFileOf}
