@@ -1,6 +1,5 @@
 -- What is found in a unit is what its listing tells, in order.
-use Rattle.std.proofs.Common.{◌≡◌, Bool, true, false, if◌then◌else◌, List, [], ◌∷◌, ◌++◌, ◌↔◌, IsTrue, refl, sym, ap, ◌∙◌, subst}
-use Rattle.std.proofs.lemmas.Bool.{false≢true}
+use Rattle.std.proofs.Common.{◌≡◌, Bool, true, false, if◌then◌else◌, List, [], ◌∷◌, ◌++◌, IsTrue, refl, sym, ap, ◌∙◌, subst}
 use Rattle.pyc_body.specs.FoundLaws.{FoundIsListed, FoundWhereListed}
 use Rattle.pyc_body.specs.FoundMessages.{told_in}
 use Rattle.pyc_units.specs.UnitReadings.{unit_reading}
@@ -11,7 +10,7 @@ use Rattle.pyc_iface.specs.Answers.{answer_of}
 use Rattle.pyc_reading.proofs.ListingLemmas.{tells}
 use Rattle.pyc_reading.specs.Answers.{Answer}
 use Rattle.pyc_reading.specs.Keys.{Key}
-use Rattle.pyc_reading.specs.Listings.{Holds, RowTells, no_obligation, holding, failing, Tells, no_entry, remark_told, row_told, listed}
+use Rattle.pyc_reading.specs.Listings.{RowTells, no_obligation, holding, failing, Tells, no_entry, remark_told, row_told, listed}
 use Rattle.pyc_reading.specs.Owing.{Obligation, holds, orders_by, message_by}
 use Rattle.pyc_reading.specs.Owing as owing
 use Rattle.pyc_reading.specs.Readings.{Reading, Done, Ask, Tell, Owe, told}

@@ -1,6 +1,6 @@
 -- The units of a file with their numbers, one more.
 use Rattle.std.proofs.Common.{◌≡◌, ℕ, suc, ◌+◌, ◌<◌, List, [], ◌∷◌, ◌++◌, map, take, length, get_or, refl, sym, ap, ◌∙◌, arith}
-use Rattle.std.proofs.lemmas.List.{length-map, map-append, take_more}
+use Rattle.std.proofs.lemmas.List.{map-append, take_more}
 use Rattle.pyc_body.specs.FileUnits.{FileUnit, numbered}
 use Rattle.pyc_names.specs.SourceFiles.{SourceFile}
 use Rattle.pyc_units.specs.declared.unit.Unit.{Unit as UnitOf}

@@ -1,6 +1,6 @@
 -- What is told of a file, from the parts of what the code finds.
-use Rattle.std.proofs.Common.{◌≡◌, ℕ, zero, suc, ◌+◌, ◌<◌, List, [], ◌∷◌, ◌++◌, map, flat_map, take, drop, length, get_or, ap, sym, ◌∙◌, refl, add-one, append_assoc, arith, drop-cons, take_all, drop_all}
-use Rattle.std.proofs.lemmas.List.{take_more, take-map, drop-map, map-append, length-map, take-append-le, drop-append-le}
+use Rattle.std.proofs.Common.{◌≡◌, ℕ, zero, suc, ◌+◌, ◌<◌, List, [], ◌∷◌, ◌++◌, map, flat_map, take, drop, length, get_or, ap, sym, ◌∙◌, refl, add-one, append_assoc, arith, drop-cons, take_all}
+use Rattle.std.proofs.lemmas.List.{drop_all, take_more, take-map, drop-map, map-append, length-map, take-append-le, drop-append-le}
 use Rattle.std.specs.declared.alloc.Global.{Global}
 use Rattle.std.specs.declared.rc.Rc.{Rc}
 use Rattle.std.proofs.Math.Logic.{∥∥₁_elim}
@@ -18,7 +18,7 @@ use Rattle.pyc_names.specs.SourceFiles.{SourceFile, source_file}
 use Rattle.pyc_units.specs.Units as units
 use Rattle.pyc_units.specs.Units.{unit_count}
 use Rattle.pyc_workspace.proofs.FileLemmas.{outcome_is, path_is}
-use Rattle.pyc_workspace.specs.Fresh.{source_of, checked, checks_of, fresh, numbered, told_by, told_of, unit_in, units_of}
+use Rattle.pyc_workspace.specs.Fresh.{source_of, checked, checks_of, fresh, numbered, told_by, told_of, units_of}
 use Rattle.pyc_report.specs.Message.{Message}
 use Rattle.pyc_report.specs.Report.{Found, Report, report_of}
 use Rattle.pyc_names.specs.declared.source_file.SourceFile.{SourceFile as SourceFileOf}
