@@ -1,5 +1,4 @@
-pub mod ListedLemmas
+pub mod BlockLemmas
 pub mod OrderLemmas
 pub mod ReadLemmas
 pub mod Steps
-pub mod UnitLemmas

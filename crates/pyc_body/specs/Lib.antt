@@ -1,5 +1,2 @@
-pub mod FileUnits
-pub mod FileUnitView
+pub mod ModuleBodies
 pub mod FoundMessages
-pub mod CheckerView
-pub mod FoundLaws

@@ -1,15 +1,12 @@
 //! What is found in a file: its messages, unit by unit, with those that no ignore comment silences.
 #![tactic(auto)]
 
-mod checker;
+mod found_messages;
 pub mod laws;
-mod meter;
-mod numbering;
-mod silencing;
+mod module_body;
 
-pub use checker::Checker;
-pub use meter::Meter;
-pub use numbering::{FileUnit, numbered_units};
+pub use found_messages::{check_unit, unsilenced};
 pub use pyc_examiner::Checked;
-pub use pyc_units::{Unit, UnitId, count_units, file_units, unit_definitions};
-pub use silencing::unsilenced;
+pub use pyc_units::{
+    LiteralForm, Unit, UnitId, count_units, file_units, literal_forms, unit_definitions,
+};

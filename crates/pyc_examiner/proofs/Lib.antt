@@ -1,4 +1,3 @@
 mod TypeTokens
 pub mod AnswerSets
 pub mod KeptLemmas
-pub mod ReadListLemmas

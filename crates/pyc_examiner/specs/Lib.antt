@@ -3,4 +3,3 @@ pub mod KeyHash
 pub mod KeptAnswers
 pub mod ExaminerView
 pub mod CheckedView
-pub mod ReadLists

@@ -7,7 +7,6 @@ mod checked;
 mod copies;
 mod examiner;
 mod kept;
-pub mod laws;
 
 pub use checked::Checked;
 pub use examiner::Examiner;

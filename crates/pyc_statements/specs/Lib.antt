@@ -1,0 +1,2 @@
+pub mod TopLevel
+pub mod Statements

@@ -1,0 +1,13 @@
+use Rattle.std.proofs.Common.{◌≡◌, ◌++◌, map, flat_map, drop}
+use Rattle.pyc_ast.specs.StatementView.{stmt_of}
+use Rattle.pyc_bindings.specs.Scopes.{Part}
+use Rattle.pyc_bindings.specs.ScopeView.{part_of}
+use Rattle.pyc_units.specs.Units.{units_of}
+use Rattle.pyc_units.proofs.units.unit_definitions.Given as goal
+
+-- the units so far, with those of the parts that are left, are all
+abbrev pub invariant-loop-part : goal.invariant-loop-part
+invariant-loop-part l =
+    let each = λ (part : Part). units_of part.form in
+    map (λ unit. stmt_of unit.now) l.units.items ++ flat_map each (map part_of (drop l.part-index l.part-items))
+    ≡ flat_map each (map part_of l.part-items)
