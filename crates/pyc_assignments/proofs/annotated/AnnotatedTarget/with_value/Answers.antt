@@ -1,7 +1,7 @@
 use Rattle.pyc_assignments.specs.Assignments.{with_value}
 use Rattle.pyc_obligations.proofs.Steps.{performing}
 use Rattle.std.proofs.Common.{arith, rules}
-use Rattle.pyc_assignments.proofs.annotated.with_value.Goals as goal
+use Rattle.pyc_assignments.proofs.annotated.AnnotatedTarget.with_value.Goals as goal
 
 pub returns-in_err-early : goal.returns-in_err-early
 unfolding with_value

@@ -1,9 +1,9 @@
 use Rattle.std.proofs.Common.{arith, rules}
 use Rattle.std.proofs.lemmas.Grind.{common_steps}
-use Rattle.pyc_assignments.proofs.annotated.name_want.Goals as goal
+use Rattle.pyc_assignments.proofs.annotated.AnnotatedTarget.name_want.Goals as goal
 
-pub returns-else-declares : goal.returns-else-declares
-returns-else-declares g c = first_of (grind (arith, common_steps), search rules)
+pub returns-else-self : goal.returns-else-self
+returns-else-self g c = first_of (grind (arith, common_steps), search rules)
 
 pub returns-in_err-clone : goal.returns-in_err-clone
 returns-in_err-clone g c = first_of (grind (arith, common_steps), search rules)

@@ -1,6 +1,6 @@
 use Rattle.std.proofs.Common.{arith, rules}
 use Rattle.std.proofs.lemmas.Grind.{common_steps}
-use Rattle.pyc_assignments.proofs.annotated.if_value.Goals as goal
+use Rattle.pyc_assignments.proofs.annotated.AnnotatedTarget.if_value.Goals as goal
 
 pub returns-in-None : goal.returns-in-None
 returns-in-None g c = first_of (grind (arith, common_steps), search rules)

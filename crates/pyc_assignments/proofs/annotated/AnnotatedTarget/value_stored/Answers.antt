@@ -13,21 +13,21 @@ use Rattle.pyc_reading.specs.Desks.{run}
 use Rattle.pyc_reading.specs.Readings.{Done, and_then}
 use Rattle.pyc_type_forms.specs.Types.{Ty}
 use Rattle.pyc_type_forms.specs.TypeView.{ty_of}
-use Rattle.pyc_assignments.proofs.annotated.value_stored.Goals as goal
+use Rattle.pyc_assignments.proofs.annotated.AnnotatedTarget.value_stored.Goals as goal
 
 pub returns : goal.returns
 unfolding value_stored
 returns g c =
-    let read = g.R.AssignmentReader.reads c.args.reader.now in
+    let read = g.R.AssignmentReader.reads c.args.self.now.reader.now in
     let p = point_in c.args.point.now in
-    let to = target_of c.args.target.now in
+    let to = target_of c.args.self.now.target.now in
     let got = ty_of c.args.got.now in
-    let want = ty_of c.args.want.now in
+    let want = ty_of c.args.self.now.want.now in
     let at = c.args.at in
     let takes = option_map ty_of c.in_ok-takes.takes in
     record {
       done =
-          after (late_want read c.args.declares want p (met_in c.args.early.now) to) (λ takes. and_then (assignment_owed at false got want) (λ u. and_then (renarrowed to takes got p.state) (λ s. Done (in_state p s)))) (g.N.Notes.desk c.args.notes.now) _ _ _ _ c.in_ok-takes.ensures.done
+          after (late_want read c.args.self.now.declares want p (met_in c.args.early.now) to) (λ takes. and_then (assignment_owed at false got want) (λ u. and_then (renarrowed to takes got p.state) (λ s. Done (in_state p s)))) (g.N.Notes.desk c.args.notes.now) _ _ _ _ c.in_ok-takes.ensures.done
           (after (assignment_owed at false got want) (λ u. and_then (renarrowed to takes got p.state) (λ s. Done (in_state p s))) (g.N.Notes.desk c.late_want.new.notes) _ _ _ _ c.in_ok-assignment_owed.ensures.done
           (after (renarrowed to takes got p.state) (λ s. Done (in_state p s)) (g.N.Notes.desk c.assignment_owed.new.notes) _ _ _ _
           (ap (λ (d : Option Ty). run (renarrowed to d got p.state) (g.N.Notes.desk c.assignment_owed.new.notes)) (sym (lent ty_of c.as_ref.result _ c.as_ref.ensures.value)) ∙ c.in_ok-state.ensures.done)
