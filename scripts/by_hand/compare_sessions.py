@@ -2,7 +2,7 @@
 """Compares what `dmypy session` prints with what a reference implementation in Python prints, on many sessions.
 
     scripts/by_hand/compare_sessions.py [--program PROGRAM] [--seed SEED] [--stage STAGE] [--python FOLDER]
-        [--expressions] [--keep FOLDER] REFERENCE [COUNT]
+        [--expressions | --statements] [--keep FOLDER] REFERENCE [COUNT]
 
 REFERENCE is the folder that has the reference, a package `oracle` with the module `__main__`; STAGE is the one that it
 is run at. PROGRAM is `dmypy`, built; without it, `rt try` builds and runs it, without proofs. The sessions are:
@@ -13,7 +13,9 @@ is run at. PROGRAM is `dmypy`, built; without it, `rt try` builds and runs it, w
   few names, some of them with a fault, and commands that add, change, remove and check them, with options at random;
 - with `--expressions` only COUNT sessions of other files (typed_files.py), each a workspace of one to three files with
   classes, functions, variables of many types and some 30 statements a file, expressions and assignments, which is
-  checked once.
+  checked once;
+- with `--statements` only COUNT sessions of such files whose functions, methods, classes and blocks hold many statements
+  (statement_files.py), with options at random.
 
 At its stage 6 the reference leaves out what it is to tell later and the program tells already: names that nothing
 defines in signatures, in bases and in annotations inside blocks, names that the body of a class defines again, those that
@@ -39,6 +41,7 @@ import sysconfig
 import tempfile
 from pathlib import Path
 
+from statement_files import StatementMaker
 from typed_files import TypedMaker
 
 PROGRAM = Path(__file__).resolve().parents[2] / "crates" / "dmypy"
@@ -384,10 +387,10 @@ class Maker:
         return Session(f"random_{number:05}", b"".join(commands), options, files)
 
 
-def expression_session(number, files):
+def checking_session(name, files, options):
     """The session that adds these files, each a path with its text, and checks them."""
     commands = b"".join(added(path, text.encode()) for path, text in files) + b"check\nstatus\nstop\n"
-    return Session(f"expressions_{number:05}", commands, [], len(files))
+    return Session(name, commands, options, len(files))
 
 
 # ---- what the reference prints
@@ -529,6 +532,7 @@ def main():
     parser.add_argument("--program", type=lambda word: Path(word).absolute(), help="dmypy, built; else rt try runs it")
     parser.add_argument("--seed", type=int, default=1)
     parser.add_argument("--expressions", action="store_true", help="only sessions of files with many expressions")
+    parser.add_argument("--statements", action="store_true", help="only sessions of files with many statements")
     parser.add_argument("--stage", type=int, help=f"{STAGE} if none is given, with --expressions {LED_ON}")
     parser.add_argument("--python", type=Path, default=Path(sysconfig.get_path("stdlib")))
     parser.add_argument("--keep", type=Path, help="the folder for the sessions; without it they go")
@@ -538,7 +542,10 @@ def main():
     words.stage = words.stage or (LED_ON if words.expressions else STAGE)
     if words.expressions:
         maker = TypedMaker(words.seed)
-        sessions = [expression_session(number, maker.files()) for number in range(words.count)]
+        sessions = [checking_session(f"expressions_{it:05}", maker.files(), []) for it in range(words.count)]
+    elif words.statements:
+        maker = StatementMaker(words.seed)
+        sessions = [checking_session(f"statements_{it:05}", maker.files(), maker.options()) for it in range(words.count)]
     else:
         maker = Maker(words.seed)
         sessions = [*package_sessions(words.python), *(maker.session(number) for number in range(words.count))]

@@ -1,4 +1,5 @@
-pub mod BlockLemmas
+pub mod ListedLemmas
 pub mod OrderLemmas
 pub mod ReadLemmas
 pub mod Steps
+pub mod UnitLemmas

@@ -1,6 +1,6 @@
 -- The orders over which obligations hold or not.
 use Rattle.std.proofs.Common.{refl}
-use Rattle.pyc_body.specs.FoundMessages.{OrdersAreTheFiles}
+use Rattle.pyc_body.specs.FoundLaws.{OrdersAreTheFiles}
 use Rattle.pyc_class.specs.Class.{builtin, user}
 use Rattle.pyc_iface.specs.Answers.{orders_by}
 

@@ -2,9 +2,14 @@
 use Rattle.std.proofs.Common.{◌≡◌, Bool, true, false, ◌||◌, List, [], ◌∷◌, ◌++◌, if◌then◌else◌, refl, sym, ap, ◌∙◌}
 use Rattle.std.specs.List.{list_any}
 use Rattle.std.proofs.lemmas.Bool.{false≢true}
-use Rattle.pyc_body.specs.FoundMessages.{UnitsHaveTheirReads, unit_reading}
+use Rattle.pyc_body.specs.FoundLaws.{AlikeAnswersFindAlike, AlikeInterfacesFindAlike, OneListAlone, ReadsAreTheList, UnitsHaveTheirReads}
+use Rattle.pyc_body.specs.FoundMessages.{reads}
+use Rattle.pyc_units.specs.UnitReadings.{unit_reading}
+use Rattle.pyc_examiner.proofs.ReadListLemmas.{asked_are_the_list, one_list_alone}
+use Rattle.pyc_examiner.specs.CheckedView.{Checked}
 use Rattle.pyc_examiner.specs.KeyEquality.{keys_are}
-use Rattle.pyc_iface.specs.Answers.{answer_of}
+use Rattle.pyc_found.specs.FoundOrder.{in_order}
+use Rattle.pyc_iface.specs.Answers.{answer_by, answer_of}
 use Rattle.pyc_reading.proofs.RunLemmas.{frame, runs_are_folds}
 use Rattle.pyc_reading.specs.Answers.{Answer}
 use Rattle.pyc_reading.specs.Desks.{Step, Desk, run, desk_after, with_key, with_keys}
@@ -21,11 +26,10 @@ module _ (r : Step (Unit {0})) (desk after : Desk) (answers : Key → Answer) (u
       sym (ap (λ (found : Unit {0} × Desk). found.1) done) ∙ ap (λ (found : Unit {0} × Desk). found.1) (runs_are_folds r desk)
       ∙ ap (desk_after r) new
 
-  pub told_there : after.messages ≡ told answers r
-  told_there = ap (λ (d : Desk). d.messages) is_after
-
-  pub read_there : after.keys ≡ with_keys [] (asked answers r)
-  read_there = ap (λ (d : Desk). d.keys) is_after
+  -- what comes of the reading: its keys, each once, and what it tells, in order
+  pub checked_there : (made : Checked) → made ≡ record { reads = after.keys; messages = in_order after.messages }
+      → made ≡ record { reads = with_keys [] (asked answers r); messages = in_order (told answers r) }
+  checked_there made is = is ∙ ap (λ (d : Desk). record { reads = d.keys; messages = in_order d.messages }) is_after
 
 -- ---- keys, each once
 
@@ -66,4 +70,27 @@ pub units_have_their_reads : UnitsHaveTheirReads
 units_have_their_reads options files others file unit agree =
     let r = unit_reading options file unit in
     let same = frame (answer_of files) (answer_of others) r (agree_on_all (answer_of files) (answer_of others) [] (asked (answer_of files) r) agree).1 in
-    (same.1, ap (with_keys []) same.0)
+    (ap in_order same.1, ap (with_keys []) same.0)
+
+-- its reads are its list, and it has no other
+pub reads_are_the_list : ReadsAreTheList
+reads_are_the_list options files file unit = asked_are_the_list (answer_of files) (unit_reading options file unit)
+
+pub no_other_list : OneListAlone
+no_other_list options files file unit = one_list_alone (answer_of files) (unit_reading options file unit)
+
+-- ---- alike worlds
+
+agree_everywhere : (answers others : Key → Answer) → ((key : Key) → answers key ≡ others key) → (keys : List Key) → Agree answers others keys
+agree_everywhere answers others same [] = nothing_asked
+agree_everywhere answers others same (key ∷ keys) = one_more (same key) (agree_everywhere answers others same keys)
+
+-- files that give the same answers
+pub alike_answers : AlikeAnswersFindAlike
+alike_answers options files others file unit same =
+    units_have_their_reads options files others file unit (agree_everywhere (answer_of files) (answer_of others) same (reads options files file unit))
+
+-- files with the same interfaces
+pub alike_interfaces : AlikeInterfacesFindAlike
+alike_interfaces options files others file unit same =
+    alike_answers options files others file unit (λ key. ap (λ interfaces. answer_by interfaces key) same)

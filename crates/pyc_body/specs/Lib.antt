@@ -1,2 +1,5 @@
-pub mod ModuleBodies
+pub mod FileUnits
+pub mod FileUnitView
 pub mod FoundMessages
+pub mod CheckerView
+pub mod FoundLaws

@@ -1,12 +1,15 @@
 //! What is found in a file: its messages, unit by unit, with those that no ignore comment silences.
 #![tactic(auto)]
 
-mod found_messages;
+mod checker;
 pub mod laws;
-mod module_body;
+mod meter;
+mod numbering;
+mod silencing;
 
-pub use found_messages::{check_unit, unsilenced};
+pub use checker::Checker;
+pub use meter::Meter;
+pub use numbering::{FileUnit, numbered_units};
 pub use pyc_examiner::Checked;
-pub use pyc_units::{
-    LiteralForm, Unit, UnitId, count_units, file_units, literal_forms, unit_definitions,
-};
+pub use pyc_units::{Unit, UnitId, count_units, file_units, unit_definitions};
+pub use silencing::unsilenced;

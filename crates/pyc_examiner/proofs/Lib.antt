@@ -1,3 +1,4 @@
 mod TypeTokens
 pub mod AnswerSets
 pub mod KeptLemmas
+pub mod ReadListLemmas

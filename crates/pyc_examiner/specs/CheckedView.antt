@@ -5,7 +5,7 @@ use Rattle.pyc_reading.specs.Keys.{Key}
 use Rattle.pyc_reading.specs.KeyView.{key_of}
 use Rattle.pyc_report.specs.Message.{Message, message_in}
 
--- the keys that were asked, each once and in the order in which they were first asked, and what was told
+-- the keys that were asked, each once and in the order in which they were first asked, and what was found
 pub record Checked : Type 0 where
   pub reads : List Key
   pub messages : List Message

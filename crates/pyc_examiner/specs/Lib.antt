@@ -3,3 +3,4 @@ pub mod KeyHash
 pub mod KeptAnswers
 pub mod ExaminerView
 pub mod CheckedView
+pub mod ReadLists

@@ -12,7 +12,7 @@ use pyc_report::Message;
 use std::alloc::{AllocError, Global};
 
 /// What came of examining a part of a file: its reads, which are the keys that were asked, each once and in the order
-/// in which they were first asked, and the messages that were told, in turn.
+/// in which they were first asked, and what was found, which are the messages that were told, in order.
 #[derive(Drop)]
 pub struct Checked {
     reads: Vec<Key>,
@@ -37,14 +37,14 @@ impl Checked {
         &self.reads
     }
 
-    /// What was told.
+    /// What was found.
     pub fn messages(&self) -> &[Message]
         ensures { map message_in result.now ≡ (checked_of self.now).messages }
     {
         &self.messages
     }
 
-    /// What was told, by itself.
+    /// What was found, by itself.
     pub fn into_messages(self) -> Vec<Message>
         ensures { map message_in result.items ≡ (checked_of self).messages }
     {

@@ -12,6 +12,7 @@ use crate::copies::copy_of;
 use crate::kept::keep;
 use indexmap::IndexMap;
 use pyc_class::{ClassId, Lin, Lins};
+use pyc_found::in_order;
 use pyc_iface::World;
 use pyc_obligations::Judge;
 use pyc_reading::{Answer, Key, Notes};
@@ -31,6 +32,7 @@ pub struct Examiner<'a> {
 impl<'a> Examiner<'a> {
     ghost use Rattle.pyc_examiner.specs.CheckedView.{checked_of};
     ghost use Rattle.pyc_examiner.specs.ExaminerView.{desk_of};
+    ghost use Rattle.pyc_found.specs.FoundOrder.{in_order};
 
     /// An examiner over a world, at which nothing was asked or told. It takes no memory.
     pub fn new(alloc: Global, world: &'a World) -> Examiner<'a>
@@ -50,13 +52,15 @@ impl<'a> Examiner<'a> {
         self.messages
     }
 
-    /// What was asked and told. The only error is that memory runs out.
+    /// What was asked, and what was told in order, each line, code and text once. The only error is that memory runs
+    /// out.
     pub fn into_checked(self, alloc: Global) -> Result<Checked, AllocError>
         ensures { IfOk result (λ checked. checked_of checked
-            ≡ record { reads = (desk_of self.entry).keys; messages = (desk_of self.entry).messages }) }
+            ≡ record { reads = (desk_of self.entry).keys; messages = in_order (desk_of self.entry).messages }) }
     {
         let reads = listed(alloc, self.answers)?;
-        Ok(Checked::new(reads, self.messages))
+        let messages = in_order(alloc, self.messages)?;
+        Ok(Checked::new(reads, messages))
     }
 }
 

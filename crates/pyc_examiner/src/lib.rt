@@ -7,6 +7,7 @@ mod checked;
 mod copies;
 mod examiner;
 mod kept;
+pub mod laws;
 
 pub use checked::Checked;
 pub use examiner::Examiner;

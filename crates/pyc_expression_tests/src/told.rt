@@ -1,16 +1,27 @@
 //! What is told of statements of a file's top level.
 
 use pyc_ast::{Module, Outcome};
+use pyc_blocks::read_statements;
+use pyc_bodies::{Body, BodyKind};
 use pyc_examiner::Examiner;
-use pyc_iface::World;
+use pyc_iface::{Options, World};
+use pyc_locals::{Locals, Point};
 use pyc_lower::read as read_source;
 use pyc_names::{ModuleName, SourceFile};
+use pyc_places::State;
 use pyc_report::Message;
-use pyc_statements::read_top_level;
+use pyc_simple_statements::BodyParts;
 use std::alloc::{AllocError, Global};
 use std::fmt::Write;
 use std::rc::Rc;
 use std::test::Fail;
+
+/// What each file is looked at with.
+const OPTIONS: Options = Options {
+    ignore_missing: false,
+    check_untyped: false,
+    turns: 1_000_000,
+};
 
 /// What stands before a statement, and the file `base.py` that it imports from.
 pub(crate) struct Setting {
@@ -181,7 +192,18 @@ fn told_in(
 ) -> Result<String, Fail> {
     let mut examiner = Examiner::new(alloc, world);
     let last = module.statements.len().saturating_sub(1);
-    read_top_level(alloc, &mut examiner, file, &module.statements[last..])?;
+    let body = Body {
+        options: OPTIONS,
+        file,
+        kind: BodyKind::Module,
+    };
+    let parts = BodyParts { body: &body };
+    let mut point = Point {
+        locals: Locals::none(alloc),
+        state: State::nothing_narrowed(alloc),
+    };
+    let statements = &module.statements[last..];
+    read_statements(alloc, &mut examiner, &parts, statements, &mut point)?;
     shown(alloc, &examiner.into_messages())
 }
 

@@ -1,11 +1,10 @@
 //! Sources with the messages that are found in them.
 
 use crate::sources::file_of;
-use pyc_body::{Unit, check_unit, file_units, unsilenced};
+use pyc_body::{Checked, Checker, Meter, unsilenced};
 use pyc_iface::{Options, World};
 use pyc_names::SourceFile;
 use pyc_report::Message;
-use pyc_types::Builtins;
 use std::alloc::Global;
 use std::fmt::Write;
 use std::rc::Rc;
@@ -40,81 +39,30 @@ fn write_lines(messages: &[Message], shown: &mut String) -> Result<(), Fail> {
     Ok(())
 }
 
-/// The only file of a world, and what it is looked at with.
-#[derive(Drop)]
-struct Setting<'a> {
-    alloc: Global,
-    builtins: &'a Builtins,
-    world: &'a World,
-    file: &'a SourceFile,
-}
-
-/// Writes what is found in a unit of a file.
-fn write_unit(setting: &Setting<'_>, unit: Unit<'_>, shown: &mut String) -> Result<(), Fail> {
-    let Setting {
-        alloc,
-        builtins,
-        world,
-        file,
-    } = *setting;
-    let checked = check_unit(alloc, builtins, OPTIONS, world, file, unit)?;
-    write_messages(checked.messages(), shown)
-}
-
-/// Writes what is found in these units of a file.
-fn write_units(setting: &Setting<'_>, units: &[Unit<'_>], shown: &mut String) -> Result<(), Fail> {
-    for unit in units {
-        write_unit(setting, *unit, shown)?;
+/// Writes what is found in the units of a file, of which these are checks.
+fn write_checks(checks: &[Checked], shown: &mut String) -> Result<(), Fail> {
+    for check in checks {
+        write_messages(check.messages(), shown)?;
     }
     Ok(())
 }
 
-/// Writes the lines of what is told of a file, or what is found in its units.
-fn write_file(setting: &Setting<'_>, is_told: bool, shown: &mut String) -> Result<(), Fail> {
-    let Setting {
-        alloc,
-        builtins,
-        world,
-        file,
-    } = *setting;
+/// The lines of what is told of a file that is the only one there is, or what is found in its units.
+fn shown_alone(alloc: Global, file: &Rc<SourceFile>, is_told: bool) -> Result<String, Fail> {
+    let world = World::build(alloc, slice::from_ref(file))?;
+    let mut meter = Meter::new(alloc);
+    let checker = Checker::new(alloc, OPTIONS, &world);
+    let checks = checker.check_files(&mut meter, slice::from_ref(file))?;
+    let mut shown = String::new(alloc);
     if is_told {
-        write_lines(&unsilenced(alloc, builtins, OPTIONS, world, file)?, shown)
+        write_lines(&unsilenced(alloc, file, &checks)?, &mut shown)?;
     } else {
-        write_units(setting, &file_units(alloc, file.outcome())?, shown)
+        write_checks(&checks, &mut shown)?;
     }
-}
-
-/// The same, as text.
-fn file_shown(setting: &Setting<'_>, is_told: bool) -> Result<String, Fail> {
-    let mut shown = String::new(setting.alloc);
-    write_file(setting, is_told, &mut shown)?;
     Ok(shown)
 }
 
-/// The same of the file of a world.
-fn shown_in(
-    alloc: Global,
-    world: &World,
-    file: &SourceFile,
-    is_told: bool,
-) -> Result<String, Fail> {
-    let builtins = Builtins::new(alloc)?;
-    let setting = Setting {
-        alloc,
-        builtins: &builtins,
-        world,
-        file,
-    };
-    file_shown(&setting, is_told)
-}
-
-/// The same of a file that is the only one there is.
-fn shown_alone(alloc: Global, file: &Rc<SourceFile>, is_told: bool) -> Result<String, Fail> {
-    let world = World::build(alloc, slice::from_ref(file))?;
-    shown_in(alloc, &world, file, is_told)
-}
-
-/// The same of a file of this source.
+/// The lines of what is told of a file of this source that is the only one there is, or what is found in its units.
 fn shown(alloc: Global, source: &[u8], is_told: bool) -> Result<String, Fail> {
     let file = Rc::new(alloc, file_of(alloc, "a.py", source)?)?;
     shown_alone(alloc, &file, is_told)
@@ -141,11 +89,12 @@ const SOURCES: &[(&[u8], &str)] = &[
     ),
     (
         b"if a:\n    x: int = \\\n      b'a' b\"\"\n",
-        "3:7 assignment: Incompatible types in assignment (expression has type \"bytes\", variable has type \"int\");",
+        "1:4 name-defined: Name \"a\" is not defined;\
+         3:7 assignment: Incompatible types in assignment (expression has type \"bytes\", variable has type \"int\");",
     ),
     (
         b"def f():\n    x: int = ''\nclass C:\n    x: int = ''\nv: str = 1j\n",
-        "",
+        "4:14 assignment: Incompatible types in assignment (expression has type \"str\", variable has type \"int\");",
     ),
     (
         b"class C:\n    pass\nx: int = ('')\nw: C = ''\nx.y: int = ''\n",
@@ -156,8 +105,8 @@ const SOURCES: &[(&[u8], &str)] = &[
     ),
     (
         b"x: int = ''\nif x:\n    y: str = 1\n",
-        "3:14 assignment: Incompatible types in assignment (expression has type \"int\", variable has type \"str\");\
-         1:10 assignment: Incompatible types in assignment (expression has type \"str\", variable has type \"int\");",
+        "1:10 assignment: Incompatible types in assignment (expression has type \"str\", variable has type \"int\");\
+         3:14 assignment: Incompatible types in assignment (expression has type \"int\", variable has type \"str\");",
     ),
     (b" x: int = 1\n", "1:1 syntax: Unexpected or missing block;"),
     (b"if: int = 1\n", "1:1 syntax: Invalid syntax;"),

@@ -9,8 +9,6 @@ mod found;
 #[cfg(test)]
 mod imports;
 #[cfg(test)]
-mod literal_forms;
-#[cfg(test)]
 mod module_names;
 #[cfg(test)]
 mod names;

@@ -2,10 +2,9 @@
 
 use crate::sources::file_of;
 use pyc_ast::Text;
-use pyc_body::{check_unit, file_units};
+use pyc_body::{Checker, Meter, numbered_units};
 use pyc_iface::{Key, Options, World};
 use pyc_names::QualifiedName;
-use pyc_types::Builtins;
 use std::alloc::{AllocError, Global};
 use std::rc::Rc;
 use std::slice;
@@ -29,7 +28,7 @@ const READS: &[(&[u8], usize, &str)] = &[
     (
         b"class A: ...\nclass B(A):\n    x = 1\n    __init__ = 1\n",
         3,
-        "name a A; class A; class B; member B x; member A x; ",
+        "name a A; class A; class B; member B x; member B __init__; member A x; ",
     ),
 ];
 
@@ -79,11 +78,12 @@ fn push_key(key: &Key, shown: &mut String) -> Result<(), AllocError> {
 fn reads_shown(alloc: Global, source: &[u8], number: usize) -> Result<String, Fail> {
     let file = Rc::new(alloc, file_of(alloc, "a.py", source)?)?;
     let world = World::build(alloc, slice::from_ref(&file))?;
-    let builtins = Builtins::new(alloc)?;
-    let units = file_units(alloc, file.outcome())?;
+    let checker = Checker::new(alloc, OPTIONS, &world);
+    let mut meter = Meter::new(alloc);
+    let units = numbered_units(alloc, &file)?;
     let mut shown = String::new(alloc);
     if let Some(unit) = units.get(number) {
-        let checked = check_unit(alloc, &builtins, OPTIONS, &world, &file, *unit)?;
+        let checked = checker.check_unit(&mut meter, unit)?;
         for key in checked.reads() {
             push_key(key, &mut shown)?;
             shown.push_str("; ")?;

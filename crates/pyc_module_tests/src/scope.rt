@@ -1,9 +1,9 @@
 //! Modules, with the lines of their parts and of their units.
 
 use crate::sources::tree_of;
-use pyc_ast::{Stmt, StmtForm};
+use pyc_ast::StmtForm;
 use pyc_bindings::{Part, PartForm, scope_parts};
-use pyc_body::unit_definitions;
+use pyc_body::{Unit, unit_definitions};
 use std::alloc::Global;
 use std::fmt::Write;
 use std::test::Fail;
@@ -44,12 +44,22 @@ fn units_of(alloc: Global, source: &str) -> Result<String, Fail> {
     lines_of(alloc, &unit_definitions(alloc, &module.statements)?)
 }
 
-/// The lines of these definitions, each with a space after it.
-fn lines_of(alloc: Global, definitions: &[&Stmt]) -> Result<String, Fail> {
+/// The lines of these definitions, each with a space after it, and that of its class before a method's.
+fn lines_of(alloc: Global, definitions: &[Unit<'_>]) -> Result<String, Fail> {
     let mut shown = String::new(alloc);
     for unit in definitions {
-        let line = unit.at.line;
-        write!(shown, "{line} ")?;
+        match unit {
+            Unit::Definition(found) => {
+                let line = found.at.line;
+                write!(shown, "{line} ")?;
+            }
+            Unit::Method(class, found) => {
+                let line = found.at.line;
+                let around = class.at.line;
+                write!(shown, "{around}.{line} ")?;
+            }
+            _ => {}
+        }
     }
     Ok(shown)
 }
@@ -89,17 +99,17 @@ fn opens_blocks_and_no_definitions(rt: HostRuntime) -> Result<(), Fail> {
     Ok(())
 }
 
-/// Sources, with the lines of their definitions and methods.
+/// Sources, with the lines of their definitions and methods, each method behind its class.
 const UNITS: &[(&str, &str)] = &[
     ("a\nb\n", ""),
     ("def f():\n    def g(): a\n", "1 "),
     (
         "class C:\n    a\n    def f(x): a\n    if x:\n        @x\n        def g(x): a\n    else:\n        async def h(x): a\n",
-        "1 3 6 8 ",
+        "1 1.3 1.6 1.8 ",
     ),
     (
         "class C:\n    class D:\n        def f(x): a\n    def g(x): a\n",
-        "1 4 ",
+        "1 1.4 ",
     ),
     (
         "if x:\n    class C: a\nelse:\n    def f(): a\ndef g(): a\n",

@@ -1,29 +1,27 @@
--- What is told of a function, a method or a class, as a reading (Python reference 3.13, "Function definitions", "Class
--- definitions"; "The Python 2.3 method resolution order").
-use Rattle.std.specs.Prelude.{ℕ, Bool, false, not, ◌&&◌, ◌==◌, is_some, if◌then◌else◌, List, ◌++◌, codes}
-use Rattle.std.specs.Prelude.{Option, None, Some}
+-- What is told of a class, of a function and of a method, as a reading (Python reference 3.13, "Function definitions",
+-- "Class definitions"; "The Python 2.3 method resolution order").
+use Rattle.std.specs.Prelude.{ℕ, if◌then◌else◌, List, ◌++◌, codes, Option, None, Some}
 use Rattle.pyc_annotations.specs.Bases.{Base, class_base, bases}
 use Rattle.pyc_ast.specs.declared.position.Position.{Position}
 use Rattle.pyc_ast.specs.Statements.{ClassDefinition, FunctionDefinition, Stmt, StmtForm, Stmts, stmt}
 use Rattle.pyc_ast.specs.Statements as plain
-use Rattle.pyc_bindings.specs.Bindings.{Binding, bindings_of}
-use Rattle.pyc_bindings.specs.Redefinitions.{declaration, redefinitions}
-use Rattle.pyc_units.specs.Header.{redefinition_reading}
+use Rattle.pyc_bodies.specs.Bodies.{Body, BodyKind, in_class, in_module}
+use Rattle.pyc_bodies.specs.ClassBodies.{class_body, declares_class}
 use Rattle.pyc_class.specs.declared.order.UnknownOrder.{UnknownOrder}
 use Rattle.pyc_class.specs.declared.order.UnknownOrder.TheVariants as unknown
 use Rattle.pyc_class.specs.Class.{Id, user}
-use Rattle.pyc_names.specs.FixedModules.{fixed_module}
+use Rattle.pyc_functions.specs.Bodies.{class_body_reading}
+use Rattle.pyc_functions.specs.Functions.{function_reading}
+use Rattle.pyc_iface.specs.declared.options.Options.{Options}
 use Rattle.pyc_names.specs.Interfaces.{interface_of}
 use Rattle.pyc_names.specs.SourceFiles.{SourceFile}
 use Rattle.pyc_overrides.specs.Overrides.{overrides_read}
 use Rattle.pyc_reading.specs.Answers.{Answer, order_is}
 use Rattle.pyc_reading.specs.Desks.{Step, asking}
 use Rattle.pyc_reading.specs.Keys.{class}
-use Rattle.pyc_reading.specs.Readings.{Done, Ask, Tell, and_then, each}
+use Rattle.pyc_reading.specs.Readings.{Done, Ask, Tell, each, ◌>>=◌}
 use Rattle.pyc_report.specs.declared.message.Code.TheVariants.{Misc}
 use Rattle.pyc_report.specs.Message.{error_at}
-use Rattle.pyc_signatures.specs.Signatures.{function_type}
-use Rattle.pyc_type_forms.specs.Types.{any}
 
 -- ---- the order of a class
 
@@ -42,8 +40,9 @@ unknown_told at name _ = Done tt
 
 -- the order that an answer gives, the class itself first: why it is not known is told
 abbrev pub order_reading : Position → List ℕ → Answer → Step (Option (List Id))
-order_reading at name (order_is order) =
-    and_then (unknown_told at name order.unknown) (λ u. Done (Some order.classes))
+order_reading at name (order_is order) = do
+  u ← unknown_told at name order.unknown
+  Done (Some order.classes)
 order_reading at name _ = Done None
 
 -- the order of a base that is a class of a file
@@ -51,56 +50,64 @@ abbrev pub base_reading : Base → Step (Unit {0})
 base_reading (class_base (user m x)) = Ask (class (user m x)) (λ answer. Done tt)
 base_reading _ = Done tt
 
--- whether a binding stands at a position
-abbrev pub stands_at : Option Binding → Position → Bool
-stands_at (Some b) at = b.place.at.line == at.line && b.place.at.column == at.column
-stands_at None at = false
-
--- whether a class statement of this name at a position declares a class of the file: it is the declaration of its name,
--- and the file is not named as a fixed module
-abbrev pub declares : SourceFile → Position → List ℕ → Bool
-declares file at name =
-    not (is_some (fixed_module file.name)) && stands_at (declaration file.bindings name) at
-
 -- the orders of its bases, and its own, which is the answer
 abbrev pub declared_reading : SourceFile → Position → List ℕ → List Base → Step (Option (List Id))
-declared_reading file at name found =
-    and_then (each base_reading found)
-    (λ u. and_then (asking (class (user file.name name))) (order_reading at name))
+declared_reading file at name found = do
+  u ← each base_reading found
+  answer ← asking (class (user file.name name))
+  order_reading at name answer
 
 -- a class: its bases, and where it is a class that the file declares its order, which is the answer
 abbrev pub class_reading : SourceFile → Position → ClassDefinition → Step (Option (List Id))
-class_reading file at head =
-    and_then (bases (interface_of file) head.arguments)
-    (λ found. if declares file at head.name then declared_reading file at head.name found else Done None)
+class_reading file at head = do
+  found ← bases (interface_of file) head.arguments
+  if declares_class file at head.name then declared_reading file at head.name found else Done None
+
+-- ---- bodies
+
+-- a body of a file
+abbrev pub body_of : Options → SourceFile → BodyKind → Body
+body_of options file kind = record { options = options; file = file; kind = kind }
+
+-- the body of its module
+abbrev pub module_body : Options → SourceFile → Body
+module_body options file = body_of options file in_module
+
+-- the body of the class statement at a position
+abbrev pub statement_body : Options → SourceFile → Position → ClassDefinition → Stmts → Body
+statement_body options file at head body = body_of options file (in_class (class_body file at head body))
 
 -- ---- definitions
-
--- the names that the body of a class defines again: a body that suspends is skipped
-abbrev pub class_body_reading : Bool → Stmts → Step (Unit {0})
-class_body_reading suspends body =
-    if suspends then Done tt else each redefinition_reading (redefinitions (bindings_of body))
-
--- a function or a method: its signature
-abbrev pub signature_reading : SourceFile → FunctionDefinition → Step (Unit {0})
-signature_reading file head = and_then (function_type (interface_of file) any head) (λ ty. Done tt)
 
 -- what a class that the file declares, with this order, declares as an ancestor does
 abbrev pub heir_reading : SourceFile → List ℕ → Stmts → Option (List Id) → Step (Unit {0})
 heir_reading file name body None = Done tt
 heir_reading file name body (Some order) = overrides_read file name body order
 
--- a class: its bases and its order, the names that its body defines again, and those that its ancestors declare as well
-abbrev pub class_statement_reading : SourceFile → Position → ClassDefinition → Stmts → Step (Unit {0})
-class_statement_reading file at head body =
-    and_then (class_reading file at head)
-    (λ order. and_then (class_body_reading head.suspends body) (λ u. heir_reading file head.name body order))
+-- a class: its bases and its order, its body, and the names that its ancestors declare as well
+unfoldable pub class_statement_reading
+    : Options → SourceFile → Position → ClassDefinition → Stmts → Step (Unit {0})
+class_statement_reading options file at head body = do
+  order ← class_reading file at head
+  u ← class_body_reading (statement_body options file at head body) head.suspends body
+  heir_reading file head.name body order
 
-abbrev pub form_reading : SourceFile → Position → StmtForm → Step (Unit {0})
-form_reading file at (plain.function head body) = signature_reading file head
-form_reading file at (plain.class head body) = class_statement_reading file at head body
-form_reading file at _ = Done tt
+-- a function or a class of the top level of a file
+abbrev pub form_reading : Options → SourceFile → Position → StmtForm → Step (Unit {0})
+form_reading options file at (plain.function head body) = function_reading (module_body options file) at head body
+form_reading options file at (plain.class head body) = class_statement_reading options file at head body
+form_reading options file at _ = Done tt
 
--- what is told of a function, a method or a class
-unfoldable pub definition_reading : SourceFile → Stmt → Step (Unit {0})
-definition_reading file (stmt at form) = form_reading file at form
+unfoldable pub definition_reading : Options → SourceFile → Stmt → Step (Unit {0})
+definition_reading options file (stmt at form) = form_reading options file at form
+
+-- a function that stands in this body
+abbrev pub function_in : Body → Stmt → Step (Unit {0})
+function_in outside (stmt at (plain.function head body)) = function_reading outside at head body
+function_in outside _ = Done tt
+
+-- a method of a class
+unfoldable pub method_reading : Options → SourceFile → (class found : Stmt) → Step (Unit {0})
+method_reading options file (stmt at (plain.class head body)) found =
+    function_in (statement_body options file at head body) found
+method_reading options file _ found = Done tt

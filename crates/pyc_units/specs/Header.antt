@@ -2,13 +2,14 @@
 -- again. It is a reading: it asks keys, and knows no other file (Python reference 3.13, "The import statement"; mypy's
 -- documentation, "Missing imports", "Check that each name is defined once").
 use Rattle.std.specs.Prelude.{ℕ, ◌&&◌, is_none, is_some, if◌then◌else◌, List, [], ◌∷◌, ◌++◌}
-use Rattle.std.specs.Prelude.{codes, decimal, false, Option, Some}
+use Rattle.std.specs.Prelude.{codes, false, Option, Some}
 use Rattle.pyc_ast.specs.declared.position.Position.{Position}
 use Rattle.pyc_ast.specs.Modules.{Outcome, tree, fault}
 use Rattle.pyc_bindings.specs.declared.place.Place.{Place}
 use Rattle.pyc_bindings.specs.Bindings.{Binding, form_of}
-use Rattle.pyc_bindings.specs.Redefinitions.{declaration, Redefinition}
+use Rattle.pyc_bindings.specs.Redefinitions.{declaration}
 use Rattle.pyc_bindings.specs.Scopes.{Part, PartForm, statement, parts_of}
+use Rattle.pyc_functions.specs.Redefined.{redefinition_reading}
 use Rattle.pyc_iface.specs.declared.options.Options.{Options}
 use Rattle.pyc_imports.specs.ImportReadings.{import_reading, asked_presence}
 use Rattle.pyc_names.specs.FixedModules.{fixed_module}
@@ -27,9 +28,6 @@ use Rattle.pyc_report.specs.Message.{error_at}
 
 unfoldable pub cycle_text : List ℕ → List ℕ
 cycle_text name = codes "Cannot resolve name \"" ++ (name ++ codes "\" (possible cyclic definition)")
-
-unfoldable pub redefinition_text : List ℕ → ℕ → List ℕ
-redefinition_text name line = codes "Name \"" ++ (name ++ (codes "\" already defined on line " ++ decimal line))
 
 -- ---- imports
 
@@ -66,9 +64,6 @@ cycles_after file earlier (b ∷ later) =
     and_then (binding_reading file earlier b) (λ u. cycles_after file (earlier ++ (b ∷ [])) later)
 
 -- ---- the whole
-
-abbrev pub redefinition_reading : Redefinition → Step (Unit {0})
-redefinition_reading found = telling (error_at found.at code.NoRedef (redefinition_text found.name found.line))
 
 -- the header of a file with this source: of one with a fault the fault alone is told
 abbrev pub outcome_reading : Options → SourceFile → Outcome → Step (Unit {0})

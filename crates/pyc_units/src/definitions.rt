@@ -1,119 +1,30 @@
-//! What is told of functions, methods and classes.
+//! The bases and orders of classes, and what their ancestors declare as well.
 
 ghost use Rattle.std.specs.Prelude.{◌≡◌, map, IfOk, option_map, string_bytes};
 ghost use Rattle.pyc_annotations.specs.Bases.{class_base};
 ghost use Rattle.pyc_annotations.specs.Views.{base_of};
-ghost use Rattle.pyc_ast.specs.StatementView.{block_of, class_of, function_of, stmt_of, stmt_form_of};
-ghost use Rattle.pyc_bindings.specs.BindingView.{binding_of};
+ghost use Rattle.pyc_ast.specs.StatementView.{block_of, class_of};
 ghost use Rattle.pyc_units.specs.DefinitionReadings as spec;
-ghost use Rattle.pyc_names.specs.InterfaceView.{interface_in};
 ghost use Rattle.pyc_names.specs.SourceFileView.{source_in};
 ghost use Rattle.pyc_reading.specs.AnswerView.{answer_in};
 ghost use Rattle.pyc_reading.specs.Desks.{Performs};
 ghost use Rattle.pyc_reading.specs.Readings.{each};
-ghost use Rattle.pyc_signatures.specs.Signatures.{function_type};
-ghost use Rattle.pyc_type_forms.specs.TypeView.{ty_of};
-ghost use Rattle.pyc_type_forms.specs.Types.{any};
 
-use crate::redefined::tell_redefinitions;
 use pyc_annotations::{Base, read_bases};
-use pyc_ast::{Block, ClassDefinition, FunctionDefinition, Position, Stmt, StmtForm, Text};
-use pyc_bindings::{Binding, redefinitions, scope_bindings};
+use pyc_ast::{Block, ClassDefinition, Position, Text};
+use pyc_bodies::declares_class;
 use pyc_class::{ClassId, UnknownOrder};
 use pyc_declarations::own_class;
 use pyc_iface::{Answer, Key, Notes};
-use pyc_names::{SourceFile, fixed_module};
+use pyc_names::SourceFile;
 use pyc_obligations::Judge;
 use pyc_overrides::read_overrides;
 use pyc_reading::tell_error;
 use pyc_report::Code;
-use pyc_signatures::read_function;
-use pyc_types::Ty;
 use std::alloc::{AllocError, Global};
 
-/// Reads the signature of a function or a method, or the bases of a class, its order, the names that its body defines
-/// again and those that its ancestors declare as well. The only error is that memory runs out.
-#[tactic(auto, unfolding(crate::specs::DefinitionReadings::definition_reading))]
-pub fn read_definition<N: Judge>(
-    alloc: Global,
-    notes: &mut N,
-    file: &SourceFile,
-    found: &Stmt,
-) -> Result<(), AllocError>
-    ensures { Performs (λ u. u) (spec.definition_reading (source_in file.now) (stmt_of found.now))
-        (N.desk notes.old) result (N.desk notes.new) }
-{
-    read_form(alloc, notes, file, found.at, &found.form)
-}
-
-/// Reads a definition of this form.
-fn read_form<N: Judge>(
-    alloc: Global,
-    notes: &mut N,
-    file: &SourceFile,
-    at: Position,
-    form: &StmtForm,
-) -> Result<(), AllocError>
-    ensures { Performs (λ u. u) (spec.form_reading (source_in file.now) at (stmt_form_of form.now)) (N.desk notes.old)
-        result (N.desk notes.new) }
-{
-    match form {
-        StmtForm::Function { head, .. } => read_signature(alloc, notes, file, head),
-        StmtForm::Class { head, body } => read_class_statement(alloc, notes, file, at, head, body),
-        _ => Ok(()),
-    }
-}
-
-/// Reads the signature of a function or a method.
-#[tactic(auto, using(crate::proofs::Steps::performing))]
-fn read_signature<N: Notes>(
-    alloc: Global,
-    notes: &mut N,
-    file: &SourceFile,
-    head: &FunctionDefinition,
-) -> Result<(), AllocError>
-    ensures { Performs (λ u. u) (spec.signature_reading (source_in file.now) (function_of head.now)) (N.desk notes.old)
-        result (N.desk notes.new) }
-{
-    read_plain_function(alloc, notes, file, head)?;
-    Ok(())
-}
-
-/// Reads the signature of a function that is called on nothing.
-fn read_plain_function<N: Notes>(
-    alloc: Global,
-    notes: &mut N,
-    file: &SourceFile,
-    head: &FunctionDefinition,
-) -> Result<Ty, AllocError>
-    ensures { Performs ty_of (function_type (interface_in file.now) any (function_of head.now)) (N.desk notes.old)
-        result (N.desk notes.new) }
-{
-    read_function(alloc, notes, file, Ty::Any, head)
-}
-
-/// Reads the bases of a class, its order, the names that its body defines again and those that its ancestors declare as
-/// well.
-#[tactic(auto, using(crate::proofs::Steps::performing))]
-fn read_class_statement<N: Judge>(
-    alloc: Global,
-    notes: &mut N,
-    file: &SourceFile,
-    at: Position,
-    head: &ClassDefinition,
-    body: &Block,
-) -> Result<(), AllocError>
-    ensures { Performs (λ u. u)
-        (spec.class_statement_reading (source_in file.now) at (class_of head.now) (block_of body.now))
-        (N.desk notes.old) result (N.desk notes.new) }
-{
-    let order = read_class(alloc, notes, file, at, head)?;
-    read_class_body(alloc, notes, head.suspends, body)?;
-    read_heir(alloc, notes, file, &head.name, body, order)
-}
-
 /// Reads what a class of this order, if it has one, declares as an ancestor does.
-fn read_heir<N: Judge>(
+pub(crate) fn read_heir<N: Judge>(
     alloc: Global,
     notes: &mut N,
     file: &SourceFile,
@@ -132,28 +43,9 @@ fn read_heir<N: Judge>(
     }
 }
 
-/// Tells the names that the body of a class defines again: a body that suspends is skipped.
-fn read_class_body<N: Notes>(
-    alloc: Global,
-    notes: &mut N,
-    suspends: bool,
-    body: &Block,
-) -> Result<(), AllocError>
-    ensures { Performs (λ u. u) (spec.class_body_reading suspends (block_of body.now)) (N.desk notes.old) result
-        (N.desk notes.new) }
-{
-    if suspends {
-        return Ok(());
-    }
-    let Block::Of(statements) = body;
-    let bindings = scope_bindings(alloc, statements)?;
-    let again = redefinitions(alloc, &bindings)?;
-    tell_redefinitions(alloc, notes, &again)
-}
-
 /// Reads the bases of a class, and its order where the file declares it.
 #[tactic(auto, using(crate::proofs::Steps::performing))]
-fn read_class<N: Notes>(
+pub(crate) fn read_class<N: Notes>(
     alloc: Global,
     notes: &mut N,
     file: &SourceFile,
@@ -164,7 +56,7 @@ fn read_class<N: Notes>(
         (N.desk notes.old) result (N.desk notes.new) }
 {
     let bases = read_bases(alloc, notes, file, &head.arguments)?;
-    if declares(file, at, &head.name) {
+    if declares_class(file, at, &head.name) {
         read_declared(alloc, notes, file, at, &head.name, &bases)
     } else {
         Ok(None)
@@ -293,21 +185,4 @@ fn no_order_text(alloc: Global, name: &Text) -> Result<String, AllocError>
 {
     let name = name.as_str();
     format!(in alloc; "Cannot determine consistent method resolution order (MRO) for \"{name}\"")
-}
-
-/// Whether a class statement of this name at a position declares a class of the file.
-fn declares(file: &SourceFile, at: Position, name: &Text) -> bool
-    ensures { result ≡ spec.declares (source_in file.now) at name.now }
-{
-    fixed_module(file.name().parts()).is_none() && stands_at(file.declaration(name), at)
-}
-
-/// Whether a binding stands at a position.
-fn stands_at(found: Option<&Binding>, at: Position) -> bool
-    ensures { result ≡ spec.stands_at (option_map (λ b. binding_of b.now) found.entry) at }
-{
-    match found {
-        Some(binding) => binding.place.at == at,
-        None => false,
-    }
 }

@@ -12,9 +12,9 @@ ghost use Rattle.pyc_reading.specs.Readings.{each};
 ghost use Rattle.pyc_report.specs.declared.message.Code.TheVariants as code;
 
 use crate::header_texts::cycle_text;
-use crate::redefined::tell_redefinitions;
 use pyc_ast::{Fault, Module, Outcome, Position, Text};
 use pyc_bindings::{Binding, BindingForm, Part, PartForm, Place, scope_parts};
+use pyc_functions::tell_redefinitions;
 use pyc_iface::{Key, Notes, Options, Presence};
 use pyc_imports::{ImportReader, asked_presence};
 use pyc_names::{QualifiedName, SourceFile, fixed_module};

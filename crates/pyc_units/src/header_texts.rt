@@ -1,4 +1,4 @@
-//! The texts on cyclic definitions and on names that are defined again.
+//! The text on cyclic definitions.
 
 ghost use Rattle.std.specs.Prelude.{◌≡◌, IfOk, string_bytes};
 ghost use Rattle.pyc_units.specs.Header as spec;
@@ -11,12 +11,4 @@ pub(crate) fn cycle_text(alloc: Global, name: &str) -> Result<String, AllocError
     ensures { IfOk result (λ text. string_bytes text ≡ spec.cycle_text name.now) }
 {
     format!(in alloc; "Cannot resolve name \"{name}\" (possible cyclic definition)")
-}
-
-/// What is told of a name that is defined again, by the line of its declaration.
-#[tactic(auto, unfolding(crate::specs::Header::redefinition_text))]
-pub(crate) fn redefinition_text(alloc: Global, name: &str, line: u32) -> Result<String, AllocError>
-    ensures { IfOk result (λ text. string_bytes text ≡ spec.redefinition_text name.now line) }
-{
-    format!(in alloc; "Name \"{name}\" already defined on line {line}")
 }

@@ -16,6 +16,8 @@ pub enum Unit<'a> {
     /// The imports at module level, and the names that are defined again.
     Header,
     ModuleBody,
-    /// A function, a class or a method.
+    /// A function or a class of the top level.
     Definition(&'a Stmt),
+    /// The class statement in whose body a method stands, and the method.
+    Method(&'a Stmt, &'a Stmt),
 }

@@ -6,7 +6,7 @@ ghost use Rattle.pyc_ast.specs.Statements.{stmts};
 ghost use Rattle.pyc_ast.specs.StatementView.{stmt_of, block_of};
 ghost use Rattle.pyc_bindings.specs.ScopeView.{part_form_of};
 ghost use Rattle.pyc_units.specs.Units as spec;
-ghost use Rattle.pyc_units.specs.Units.{methods_in, unit_count, unit_definitions, units_of, file_units, definition};
+ghost use Rattle.pyc_units.specs.Units.{methods_in, unit_count, unit_definitions, units_of, file_units};
 ghost use Rattle.pyc_units.specs.UnitView.{unit_of};
 
 use crate::unit::Unit;
@@ -38,48 +38,44 @@ pub fn file_units(alloc: Global, outcome: &Outcome) -> Result<Vec<Unit<'_>>, All
     Ok(units)
 }
 
+/// The functions, classes and methods among the units of a module that has these statements, in text order: each
+/// function and class, and after a class its methods. The only error is that memory runs out.
+pub fn unit_definitions<'a>(
+    alloc: Global,
+    statements: &'a [Stmt],
+) -> Result<Vec<Unit<'a>>, AllocError>
+    ensures { IfOk result (λ units. map unit_of units.items ≡ unit_definitions (stmts (map stmt_of statements.now))) }
+{
+    let mut units = Vec::new(alloc);
+    push_definitions(alloc, statements, &mut units)?;
+    Ok(units)
+}
+
 /// Adds the definitions of a module that has these statements.
+#[tactic(auto, unfolding(crate::specs::Units::unit_definitions))]
 fn push_definitions<'a>(
     alloc: Global,
     statements: &'a [Stmt],
     units: &mut Vec<Unit<'a>>,
 ) -> Result<(), AllocError>
     ensures { OnOk result (map unit_of units.new.items
-        ≡ map unit_of units.old.items ++ map definition (unit_definitions (stmts (map stmt_of statements.now)))) }
-{
-    let definitions = unit_definitions(alloc, statements)?;
-    for found in &definitions {
-        units.push(Unit::Definition(found))?;
-    }
-    Ok(())
-}
-
-/// The definitions among the units of a module that has these statements, in text order: each function and class, and
-/// after a class its methods. The only error is that memory runs out.
-#[tactic(auto, unfolding(crate::specs::Units::unit_definitions))]
-pub fn unit_definitions<'a>(
-    alloc: Global,
-    statements: &'a [Stmt],
-) -> Result<Vec<&'a Stmt>, AllocError>
-    ensures { IfOk result (λ units. map (λ unit. stmt_of unit.now) units.items
-        ≡ unit_definitions (stmts (map stmt_of statements.now))) }
+        ≡ map unit_of units.old.items ++ unit_definitions (stmts (map stmt_of statements.now))) }
 {
     let parts = scope_parts(alloc, statements)?;
-    let mut units = Vec::new(alloc);
     for part in &parts {
-        push_units(alloc, part.form, &mut units)?;
+        push_units(alloc, part.form, units)?;
     }
-    Ok(units)
+    Ok(())
 }
 
 /// Adds the units that a part of a module makes.
 fn push_units<'a>(
     alloc: Global,
     part: PartForm<'a>,
-    units: &mut Vec<&'a Stmt>,
+    units: &mut Vec<Unit<'a>>,
 ) -> Result<(), AllocError>
-    ensures { OnOk result (map (λ unit. stmt_of unit.now) units.new.items
-        ≡ map (λ unit. stmt_of unit.now) units.old.items ++ units_of (part_form_of part.entry)) }
+    ensures { OnOk result (map unit_of units.new.items
+        ≡ map unit_of units.old.items ++ units_of (part_form_of part.entry)) }
 {
     match part {
         PartForm::Statement(statement) => push_definition(alloc, statement, units),
@@ -91,16 +87,16 @@ fn push_units<'a>(
 fn push_definition<'a>(
     alloc: Global,
     statement: &'a Stmt,
-    units: &mut Vec<&'a Stmt>,
+    units: &mut Vec<Unit<'a>>,
 ) -> Result<(), AllocError>
-    ensures { OnOk result (map (λ unit. stmt_of unit.now) units.new.items
-        ≡ map (λ unit. stmt_of unit.now) units.old.items ++ spec.statement_units (stmt_of statement.now)) }
+    ensures { OnOk result (map unit_of units.new.items
+        ≡ map unit_of units.old.items ++ spec.statement_units (stmt_of statement.now)) }
 {
     match &statement.form {
-        StmtForm::Function { .. } => Ok(units.push(statement)?),
+        StmtForm::Function { .. } => Ok(units.push(Unit::Definition(statement))?),
         StmtForm::Class { body, .. } => {
-            units.push(statement)?;
-            push_methods(alloc, body, units)
+            units.push(Unit::Definition(statement))?;
+            push_methods(alloc, statement, body, units)
         }
         _ => Ok(()),
     }
@@ -109,38 +105,47 @@ fn push_definition<'a>(
 /// Adds the methods of a class that has this block.
 fn push_methods<'a>(
     alloc: Global,
+    class: &'a Stmt,
     body: &'a Block,
-    units: &mut Vec<&'a Stmt>,
+    units: &mut Vec<Unit<'a>>,
 ) -> Result<(), AllocError>
-    ensures { OnOk result (map (λ unit. stmt_of unit.now) units.new.items
-        ≡ map (λ unit. stmt_of unit.now) units.old.items ++ methods_in (block_of body.now)) }
+    ensures { OnOk result (map unit_of units.new.items
+        ≡ map unit_of units.old.items ++ methods_in (stmt_of class.now) (block_of body.now)) }
 {
     let Block::Of(statements) = body;
     let parts = scope_parts(alloc, statements)?;
     for part in &parts {
-        push_method(part.form, units)?;
+        push_method(class, part.form, units)?;
     }
     Ok(())
 }
 
 /// Adds a part of a class, where it is a method.
-fn push_method<'a>(part: PartForm<'a>, units: &mut Vec<&'a Stmt>) -> Result<(), AllocError>
-    ensures { OnOk result (map (λ unit. stmt_of unit.now) units.new.items
-        ≡ map (λ unit. stmt_of unit.now) units.old.items ++ spec.method_of (part_form_of part.entry)) }
+fn push_method<'a>(
+    class: &'a Stmt,
+    part: PartForm<'a>,
+    units: &mut Vec<Unit<'a>>,
+) -> Result<(), AllocError>
+    ensures { OnOk result (map unit_of units.new.items
+        ≡ map unit_of units.old.items ++ spec.part_methods (stmt_of class.now) (part_form_of part.entry)) }
 {
     match part {
-        PartForm::Statement(statement) => push_function(statement, units),
+        PartForm::Statement(statement) => push_function(class, statement, units),
         _ => Ok(()),
     }
 }
 
-/// Adds a statement, where it is a function.
-fn push_function<'a>(statement: &'a Stmt, units: &mut Vec<&'a Stmt>) -> Result<(), AllocError>
-    ensures { OnOk result (map (λ unit. stmt_of unit.now) units.new.items
-        ≡ map (λ unit. stmt_of unit.now) units.old.items ++ spec.function_of (stmt_of statement.now)) }
+/// Adds a statement in the body of a class, where it is a method.
+fn push_function<'a>(
+    class: &'a Stmt,
+    statement: &'a Stmt,
+    units: &mut Vec<Unit<'a>>,
+) -> Result<(), AllocError>
+    ensures { OnOk result (map unit_of units.new.items
+        ≡ map unit_of units.old.items ++ spec.statement_methods (stmt_of class.now) (stmt_of statement.now)) }
 {
     if let StmtForm::Function { .. } = &statement.form {
-        units.push(statement)?;
+        units.push(Unit::Method(class, statement))?;
     }
     Ok(())
 }

@@ -1,32 +1,119 @@
 -- What is told of a file, from the parts of what the code finds.
-use Rattle.std.proofs.Common.{◌≡◌, ℕ, zero, suc, ◌+◌, ◌<◌, List, [], ◌∷◌, ◌++◌, map, take, length, get_or, ap, sym, ◌∙◌, refl, add-one, arith}
-use Rattle.std.proofs.lemmas.List.{take_more, map-append}
+use Rattle.std.proofs.Common.{◌≡◌, ℕ, zero, suc, ◌+◌, ◌<◌, List, [], ◌∷◌, ◌++◌, map, flat_map, take, drop, length, get_or, ap, sym, ◌∙◌, refl, add-one, append_assoc, arith, drop-cons, take_all}
+use Rattle.std.proofs.lemmas.List.{drop_all, take_more, take-map, drop-map, map-append, length-map, take-append-le, drop-append-le}
 use Rattle.std.specs.declared.alloc.Global.{Global}
 use Rattle.std.specs.declared.rc.Rc.{Rc}
 use Rattle.std.proofs.Math.Logic.{∥∥₁_elim}
 use Rattle.std.proofs.Props.{props}
-use Rattle.pyc_body.specs.FoundMessages.{unsilenced}
+use Rattle.pyc_ast.specs.Modules.{Outcome, tree, fault}
+use Rattle.pyc_body.specs.FileUnits as parts
+use Rattle.pyc_body.specs.FileUnits.{UnitId}
+use Rattle.pyc_body.specs.FoundMessages as body
+use Rattle.pyc_body.specs.FoundMessages.{unsilenced, without_ignored}
+use Rattle.pyc_examiner.specs.CheckedView.{Checked, checked_of}
+use Rattle.pyc_examiner.specs.declared.checked.Checked.{Checked as CheckedOf}
 use Rattle.pyc_iface.specs.declared.options.Options.{Options}
-use Rattle.pyc_names.specs.SourceFiles.{SourceFile}
-use Rattle.pyc_workspace.specs.Fresh.{source_of, checked, fresh, numbered, unit_in}
+use Rattle.pyc_lower.specs.Reading.{read_of}
+use Rattle.pyc_names.specs.SourceFiles.{SourceFile, source_file}
+use Rattle.pyc_units.specs.Units as units
+use Rattle.pyc_units.specs.Units.{unit_count}
+use Rattle.pyc_workspace.proofs.FileLemmas.{outcome_is, path_is}
+use Rattle.pyc_workspace.specs.Fresh.{source_of, checked, checks_of, fresh, numbered, told_by, told_of, units_of}
 use Rattle.pyc_report.specs.Message.{Message}
-use Rattle.pyc_report.specs.Report.{Report, report_of}
+use Rattle.pyc_report.specs.Report.{Found, Report, report_of}
 use Rattle.pyc_names.specs.declared.source_file.SourceFile.{SourceFile as SourceFileOf}
 use Rattle.pyc_names.specs.SourceFileView.{source_in, sources_in}
 use Rattle.pyc_workspace.specs.declared.file.File.{File as FileOf}
 use Rattle.pyc_workspace.specs.Files.{file_in, files_in}
 use Rattle.pyc_workspace.specs.Workspace.{File, Unit}
 
--- what is told of a file by the source that it is known to have
-pub messages_from : (options : Options) (files : List SourceFile) (messages : List Message) (source known : SourceFile) → messages ≡ unsilenced options files source
-    → ∥ source ≡ known ∥₁ → messages ≡ unsilenced options files known
-messages_from options files messages source known told is = ∥∥₁_elim is (Prim.hlevel props) (λ same. told ∙ ap (unsilenced options files) same)
+-- the messages of a file by the source that it is known to have
+pub messages_from : (path bytes : List ℕ) (found messages : List Message) (source : SourceFile) → messages ≡ without_ignored source.outcome found
+    → ∥ source ≡ source_file path (read_of bytes) ∥₁ → messages ≡ without_ignored (read_of bytes) found
+messages_from path bytes found messages source told is =
+    ∥∥₁_elim is (Prim.hlevel props) (λ same. told ∙ ap (λ outcome. without_ignored outcome found) (outcome_is path bytes source (read_of bytes) same refl))
 
--- the report over the sources that files are known to have
-pub report_from : (options : Options) (files : List File) (report : Report) (sources : List SourceFile) → report ≡ report_of (map (checked options sources) files)
-    → ∥ sources ≡ map source_of files ∥₁ → report ≡ fresh options files
+-- checks over the sources that files are known to have
+pub checks_from : (options : Options) (files : List File) (checks : List Checked) (sources : List SourceFile) → checks ≡ map (body.checked options sources) (parts.units_of sources)
+    → ∥ sources ≡ map source_of files ∥₁ → checks ≡ checks_of options files
+checks_from options files checks sources made are =
+    ∥∥₁_elim are (Prim.hlevel props) (λ same. made ∙ ap (λ s. map (body.checked options s) (parts.units_of s)) same)
+
+-- ---- the units of a file
+
+found_in_numbered : (options : Options) (sources : List SourceFile) (source : SourceFile) (from : ℕ) (us : List units.Unit)
+    → flat_map (λ (c : Checked). c.messages) (map (body.checked options sources) (parts.numbered source from us)) ≡ flat_map (body.found options sources source) us
+found_in_numbered options sources source from [] = refl
+found_in_numbered options sources source from (unit ∷ more) =
+    ap (λ l. body.found options sources source unit ++ l) (found_in_numbered options sources source (from + 1) more)
+
+length-numbered : (source : SourceFile) (from : ℕ) (us : List units.Unit) → length (parts.numbered source from us) ≡ length us
+length-numbered source from [] = refl
+length-numbered source from (unit ∷ more) = ap suc (length-numbered source (from + 1) more)
+
+unit_count-is : (outcome : Outcome) → length (units.file_units outcome) ≡ unit_count outcome
+unit_count-is (tree m) = omega (arith, length-map (units.unit_definitions m.statements) units.definition)
+unit_count-is (fault line text) = refl
+
+module _ (file : File) where
+  outcome-of : (source_of file).outcome ≡ read_of file.bytes
+  outcome-of = outcome_is file.path file.bytes (source_of file) (read_of file.bytes) refl refl
+
+  path-of : (source_of file).path ≡ file.path
+  path-of = path_is file.path file.bytes (source_of file) (read_of file.bytes) refl refl
+
+  count-of : length (parts.file_units (source_of file)) ≡ unit_count (read_of file.bytes)
+  count-of = length-numbered (source_of file) 0 (units.file_units (source_of file).outcome) ∙ unit_count-is (source_of file).outcome ∙ ap unit_count outcome-of
+
+-- ---- the report
+
+module _ (options : Options) (sources : List SourceFile) where
+  -- what comes of units
+  abbrev checks : List parts.FileUnit → List Checked
+  checks us = map (body.checked options sources) us
+
+  told_of_file : (file : File) → told_of file (checks (parts.file_units (source_of file))) ≡ checked options sources file
+  unfolding unsilenced
+  told_of_file file =
+      let all = found_in_numbered options sources (source_of file) 0 (units.file_units (source_of file).outcome) in
+      (λ i. record { path = file.path; messages = without_ignored (sym (outcome-of file) i) (all i) })
+
+  told_by_files : (files : List File) → told_by files (checks (parts.units_of (map source_of files))) ≡ map (checked options sources) files
+  told_by_files [] = refl
+  told_by_files (file ∷ files) =
+      let own = checks (parts.file_units (source_of file)) in
+      let others = checks (parts.units_of (map source_of files)) in
+      let count = unit_count (read_of file.bytes) in
+      let many : length own ≡ count = length-map (parts.file_units (source_of file)) (body.checked options sources) ∙ count-of file in
+      let taken : take count (own ++ others) ≡ own = take-append-le count own others (omega (arith, many)) ∙ take_all count own (omega (arith, many)) in
+      let left : drop count (own ++ others) ≡ others = drop-append-le count own others (omega (arith, many)) ∙ ap (λ l. l ++ others) (drop_all count own (omega (arith, many))) in
+      let whole = map-append (body.checked options sources) (parts.file_units (source_of file)) (parts.units_of (map source_of files)) in
+      (λ i. told_of file (take count (whole i)) ∷ told_by files (drop count (whole i)))
+      ∙ (λ i. told_of file (taken i) ∷ told_by files (left i))
+      ∙ (λ i. told_of_file file i ∷ told_by_files files i)
+
+-- the report on what was found
+pub report_from : (options : Options) (files : List File) (report : Report) (checks : List Checked) → report ≡ report_of (told_by files checks)
+    → checks ≡ checks_of options files → report ≡ fresh options files
 unfolding fresh
-report_from options files report sources made are = ∥∥₁_elim are (Prim.hlevel props) (λ same. made ∙ ap (λ s. report_of (map (checked options s) files)) same)
+report_from options files report checks made are = made ∙ ap (λ cs. report_of (told_by files cs)) are ∙ ap report_of (told_by_files options (map source_of files) files)
+
+-- what is told of one file more
+pub told_more : (files : List (Rc FileOf Global)) (i : ℕ) (file : Rc FileOf Global) (at : FileOf) (count : ℕ) (all : List Found) (found : Found) (checks own others : List CheckedOf) (whole : List Found)
+    → i < length files → file ≡ get_or files i file → at ≡ file.value → count ≡ unit_count (read_of (file_in at).bytes) → own ≡ take count checks → others ≡ drop count checks
+    → found ≡ told_of (file_in at) (map checked_of own) → all ++ told_by (files_in (drop i files)) (map checked_of checks) ≡ whole
+    → (all ++ found ∷ []) ++ told_by (files_in (drop (i + 1) files)) (map checked_of others) ≡ whole
+told_more files i file at count all found checks own others whole within is same many first rest told before =
+    let left : drop i files ≡ file ∷ drop (i + 1) files = rw add-one (drop-cons files i file within ∙ ap (λ f. f ∷ drop (suc i) files) (sym is)) in
+    let n : count ≡ unit_count (read_of (file_in file.value).bytes) = many ∙ ap (λ f. unit_count (read_of (file_in f).bytes)) same in
+    let mine : found ≡ told_of (file_in file.value) (take (unit_count (read_of (file_in file.value).bytes)) (map checked_of checks)) =
+    told ∙ (λ j. told_of (file_in (same j)) (map checked_of (first j))) ∙ ap (told_of (file_in file.value)) (sym (take-map checked_of count checks) ∙ ap (λ k. take k (map checked_of checks)) n) in
+    let later : map checked_of others ≡ drop (unit_count (read_of (file_in file.value).bytes)) (map checked_of checks) =
+    ap (map checked_of) rest ∙ sym (drop-map checked_of count checks) ∙ ap (λ k. drop k (map checked_of checks)) n in
+    append_assoc all (found ∷ []) (told_by (files_in (drop (i + 1) files)) (map checked_of others))
+    ∙ (λ j. all ++ mine j ∷ told_by (files_in (drop (i + 1) files)) (later j))
+    ∙ ap (λ fs. all ++ told_by (files_in fs) (map checked_of checks)) (sym left)
+    ∙ before
 
 -- one file more, with its source
 pub sources_more : (files : List (Rc FileOf Global)) (i : ℕ) (file : Rc FileOf Global) (at : FileOf) (sources : List (Rc SourceFileOf Global)) (source : Rc SourceFileOf Global) (shared : SourceFileOf)
@@ -55,3 +142,22 @@ numbered-more path from (suc n) =
 pub numbered-next : (path : List ℕ) (n : ℕ) → numbered path 0 (n + 1) ≡ numbered path 0 n ++ record { path = path; index = n } ∷ []
 unfolding unit_at
 numbered-next path n = let same : 0 + n ≡ n = omega arith in numbered-more path 0 n ∙ ap (λ i. numbered path 0 n ++ unit_at path i ∷ []) same
+
+-- ---- what names the units of files
+
+ids-numbered : (source : SourceFile) (from : ℕ) (us : List units.Unit) → map parts.id_of (parts.numbered source from us) ≡ numbered source.path from (length us)
+unfolding numbered
+ids-numbered source from [] = refl
+ids-numbered source from (unit ∷ more) = ap (λ ids. record { path = source.path; index = from } ∷ ids) (ids-numbered source (from + 1) more)
+
+ids-of : (files : List File) → map parts.id_of (parts.units_of (map source_of files)) ≡ units_of files
+ids-of [] = refl
+ids-of (file ∷ files) =
+    map-append parts.id_of (parts.file_units (source_of file)) (parts.units_of (map source_of files))
+    ∙ (λ i. (ids-numbered (source_of file) 0 (units.file_units (source_of file).outcome)
+    ∙ (λ j. numbered (path-of file j) 0 ((unit_count-is (source_of file).outcome ∙ ap unit_count (outcome-of file)) j))) i ++ ids-of files i)
+
+pub metered_from : (files : List File) (old new : List UnitId) (sources : List SourceFile) → new ≡ old ++ map parts.id_of (parts.units_of sources)
+    → ∥ sources ≡ map source_of files ∥₁ → new ≡ old ++ units_of files
+metered_from files old new sources made are =
+    ∥∥₁_elim are (Prim.hlevel props) (λ same. made ∙ ap (λ s. old ++ map parts.id_of (parts.units_of s)) same ∙ ap (λ ids. old ++ ids) (ids-of files))

@@ -1,7 +1,10 @@
 -- What a check of files from scratch finds and examines.
-use Rattle.std.specs.Prelude.{ℕ, zero, suc, ◌+◌, List, [], ◌∷◌, map, flat_map}
+use Rattle.std.specs.Prelude.{ℕ, zero, suc, ◌+◌, List, [], ◌∷◌, map, flat_map, take, drop}
+use Rattle.pyc_body.specs.FileUnits as parts
+use Rattle.pyc_body.specs.FoundMessages as body
+use Rattle.pyc_body.specs.FoundMessages.{unsilenced, without_ignored}
+use Rattle.pyc_examiner.specs.CheckedView.{Checked}
 use Rattle.pyc_units.specs.declared.unit.UnitId.{UnitId}
-use Rattle.pyc_body.specs.FoundMessages.{unsilenced}
 use Rattle.pyc_report.specs.Report.{Report, Found, report_of}
 use Rattle.pyc_units.specs.Units.{unit_count}
 use Rattle.pyc_iface.specs.declared.options.Options.{Options}
@@ -20,6 +23,27 @@ checked options files file = record { path = file.path; messages = unsilenced op
 -- the report of a check of these files from scratch
 unfoldable pub fresh : Options → List File → Report
 fresh options files = report_of (map (checked options (map source_of files)) files)
+
+-- what is told of a file, of whose units these are checks
+abbrev pub told_of : File → List Checked → Found
+told_of file checks =
+    record {
+      path = file.path;
+      messages = without_ignored (read_of file.bytes) (flat_map (λ check. check.messages) checks);
+    }
+
+-- what is told of files, of which these are checks, one for each of their units, in the order of the units
+abbrev pub told_by : List File → List Checked → List Found
+told_by [] checks = []
+told_by (file ∷ files) checks =
+    let count = unit_count (read_of file.bytes) in
+    told_of file (take count checks) ∷ told_by files (drop count checks)
+
+-- what comes of the units of these files, checked over one another
+abbrev pub checks_of : Options → List File → List Checked
+checks_of options files =
+    let sources = map source_of files in
+    map (body.checked options sources) (parts.units_of sources)
 
 -- so many units of the file of a path, the first with this number
 unfoldable pub numbered : List ℕ → ℕ → ℕ → List Unit

@@ -6,6 +6,7 @@ use Rattle.std.specs.Cmp.Lexicographic.{slice_cmp}
 use Rattle.std.specs.List.{list_any}
 use Rattle.std.specs.List.Sorted.{IsStrictlySortedBy}
 use Rattle.std.specs.Ordering.{nat_cmp, match_ordering}
+use Rattle.pyc_body.specs.FileUnits.{UnitId}
 use Rattle.pyc_names.specs.ModuleName.{module_of, same_module}
 
 -- one file: its path and its bytes
@@ -53,7 +54,6 @@ pub record IsGapFor (files : List File) (path : List ℕ) (place : ℕ) : Type 0
   pub higher_after : (i : ℕ) (d : File) → place ≤ i → i < length files → path_cmp (slice_index_or files i d).path path
       ≡ Greater
 
--- a part of a file that is examined by itself; the parts of a file are counted from 0
-pub record Unit : Type 0 where
-  pub path : List ℕ
-  pub index : ℕ
+-- a part of a file that is checked by itself: the path of the file, and which of its units it is, counted from 0
+abbrev pub Unit : Type 0
+Unit = UnitId

@@ -1,18 +1,16 @@
 //! A file of a session.
 
-ghost use Rattle.std.specs.Prelude.{◌≡◌, map, IfOk};
+ghost use Rattle.std.specs.Prelude.{◌≡◌, flat_map, map, IfOk};
 ghost use Rattle.pyc_units.specs.Units.{unit_count};
 ghost use Rattle.pyc_lower.specs.Reading.{read_of};
 ghost use Rattle.pyc_names.specs.ModuleName.{module_of};
 ghost use Rattle.pyc_names.specs.SourceFiles.{source_file};
 ghost use Rattle.pyc_names.specs.SourceFileView.{source_in};
 
-use pyc_body::{count_units, unsilenced};
-use pyc_iface::{Options, World};
+use pyc_body::{Checked, count_units, unsilenced};
 use pyc_lower::read;
 use pyc_names::{ModuleName, SourceFile};
 use pyc_report::Message;
-use pyc_types::Builtins;
 use std::alloc::{AllocError, Global};
 use std::rc::Rc;
 
@@ -30,8 +28,8 @@ pub struct File {
 impl File {
     ghost use Rattle.pyc_workspace.specs.Files.{file_in};
     ghost use Rattle.pyc_workspace.specs.Fresh.{source_of};
-    ghost use Rattle.pyc_body.specs.FoundMessages.{unsilenced};
-    ghost use Rattle.pyc_iface.specs.WorldView.{world_in};
+    ghost use Rattle.pyc_body.specs.FoundMessages.{without_ignored};
+    ghost use Rattle.pyc_examiner.specs.CheckedView.{checked_of};
     ghost use Rattle.pyc_report.specs.Message.{message_in};
 
     /// A file of this path, the module that it names, and of these bytes. The only error is that memory runs out.
@@ -90,19 +88,18 @@ impl File {
         self.units
     }
 
-    /// The messages of the file that no ignore comment silences, over a world that it stands in. The only error is that
-    /// memory runs out.
+    /// The messages of the file that no ignore comment silences, of whose units these checks are. The only error is
+    /// that memory runs out.
     pub(crate) fn unsilenced(
         &self,
         alloc: Global,
-        builtins: &Builtins,
-        options: Options,
-        world: &World,
+        checks: &[Checked],
     ) -> Result<Vec<Message>, AllocError>
         ensures { IfOk result (λ messages. map message_in messages.items
-            ≡ unsilenced options (world_in world.now) (source_of (file_in self.now))) }
+            ≡ without_ignored (read_of (file_in self.now).bytes)
+            (flat_map (λ check. check.messages) (map checked_of checks.now))) }
     {
-        let found = unsilenced(alloc, builtins, options, world, &self.source)?;
+        let found = unsilenced(alloc, &self.source, checks)?;
         Ok(found)
     }
 }

@@ -1,22 +1,22 @@
 //! The report of a check from scratch.
 
-ghost use Rattle.std.specs.Prelude.{◌≡◌, IfOk, map};
-ghost use Rattle.pyc_iface.specs.WorldView.{world_in};
+ghost use Rattle.std.specs.Prelude.{◌≡◌, ◌++◌, IfOk, OnOk, map, take, drop};
+ghost use Rattle.pyc_examiner.specs.CheckedView.{checked_of};
 ghost use Rattle.pyc_names.specs.SourceFileView.{sources_in};
 ghost use Rattle.pyc_report.specs.Report.{found_in, report_in, report_of};
 ghost use Rattle.pyc_workspace.specs.Files.{file_in, files_in};
-ghost use Rattle.pyc_workspace.specs.Fresh.{checked, fresh, source_of};
+ghost use Rattle.pyc_workspace.specs.Fresh.{checks_of, fresh, source_of, told_by, told_of, units_of};
 
 use crate::file::File;
+use pyc_body::{Checked, Checker, Meter};
 use pyc_iface::{Options, World};
 use pyc_names::SourceFile;
-use pyc_report::{Found, Report, report};
-use pyc_types::Builtins;
+use pyc_report as reports;
+use pyc_report::{Found, Report};
 use std::alloc::{AllocError, Global};
 use std::rc::Rc;
 
 /// The report of a check of these files from scratch. The only error is that memory runs out.
-#[tactic(auto, unfolding(crate::specs::Fresh::fresh))]
 pub fn fresh_report(
     alloc: Global,
     options: Options,
@@ -24,9 +24,37 @@ pub fn fresh_report(
 ) -> Result<Report, AllocError>
     ensures { IfOk result (λ report. report_in report ≡ fresh options (files_in files.now)) }
 {
-    let sources = sources_of(alloc, files)?;
-    let report = report_over(alloc, options, &sources, files)?;
+    let mut meter = Meter::new(alloc);
+    let checks = check_files(alloc, options, &mut meter, files)?;
+    let report = report(alloc, files, &checks)?;
     Ok(report)
+}
+
+/// Checks the units of these files over one another, in order, each of which the meter then counts. The only error is
+/// that memory runs out.
+pub fn check_files(
+    alloc: Global,
+    options: Options,
+    meter: &mut Meter,
+    files: &[Rc<File>],
+) -> Result<Vec<Checked>, AllocError>
+    ensures checked { IfOk result (λ checks. map checked_of checks.items ≡ checks_of options (files_in files.now)) }
+    ensures metered { OnOk result (meter.new ≡ meter.old ++ units_of (files_in files.now)) }
+{
+    let sources = sources_of(alloc, files)?;
+    let world = World::build(alloc, &sources)?;
+    let checks = Checker::new(alloc, options, &world).check_files(meter, &sources)?;
+    Ok(checks)
+}
+
+/// The report on these files, from a check of each of their units, in the order of the units. The only error is that
+/// memory runs out.
+pub fn report(alloc: Global, files: &[Rc<File>], checks: &[Checked]) -> Result<Report, AllocError>
+    ensures { IfOk result (λ report. report_in report
+        ≡ report_of (told_by (files_in files.now) (map checked_of checks.now))) }
+{
+    let found = told_by(alloc, files, checks)?;
+    reports::report(alloc, &found)
 }
 
 /// The files as names see them.
@@ -41,66 +69,43 @@ fn sources_of(alloc: Global, files: &[Rc<File>]) -> Result<Vec<Rc<SourceFile>>, 
     Ok(sources)
 }
 
-/// The report of a check of these files over the world of some.
-fn report_over(
-    alloc: Global,
-    options: Options,
-    sources: &[Rc<SourceFile>],
-    files: &[Rc<File>],
-) -> Result<Report, AllocError>
-    ensures { IfOk result (λ report. report_in report
-        ≡ report_of (map (checked options (sources_in sources.now)) (files_in files.now))) }
-{
-    let world = World::build(alloc, sources)?;
-    let builtins = Builtins::new(alloc)?;
-    report_with(alloc, &builtins, options, &world, files)
-}
-
-/// The report of a check of these files over a world and the builtins.
-fn report_with(
-    alloc: Global,
-    builtins: &Builtins,
-    options: Options,
-    world: &World,
-    files: &[Rc<File>],
-) -> Result<Report, AllocError>
-    ensures { IfOk result (λ report. report_in report
-        ≡ report_of (map (checked options (world_in world.now)) (files_in files.now))) }
-{
-    let found = found_in_files(alloc, builtins, options, world, files)?;
-    report(alloc, found.as_slice())
-}
-
 /// What is told of each file.
-fn found_in_files<'a>(
+fn told_by<'a>(
     alloc: Global,
-    builtins: &Builtins,
-    options: Options,
-    world: &World,
     files: &'a [Rc<File>],
+    checks: &[Checked],
 ) -> Result<Vec<Found<'a>>, AllocError>
     ensures { IfOk result (λ found. map found_in found.items
-        ≡ map (checked options (world_in world.now)) (files_in files.now)) }
+        ≡ told_by (files_in files.now) (map checked_of checks.now)) }
 {
     let mut all = Vec::with_capacity(alloc, files.len())?;
+    let mut rest = checks;
     for file in files {
-        all.push(check_file(alloc, builtins, options, world, file)?)?;
+        let (own, others) = cut(rest, file.count_units());
+        let found = told_of(alloc, file, own)?;
+        all.push(found)?;
+        rest = others;
     }
     Ok(all)
 }
 
-/// What is told of a file.
-fn check_file<'a>(
-    alloc: Global,
-    builtins: &Builtins,
-    options: Options,
-    world: &World,
-    file: &'a File,
-) -> Result<Found<'a>, AllocError>
-    ensures { IfOk result (λ found. found_in found ≡ checked options (world_in world.now) (file_in file.now)) }
+/// So many of these checks, or all if there are fewer, and the rest.
+fn cut(checks: &[Checked], count: usize) -> (&[Checked], &[Checked])
+    ensures own { result.0.now ≡ take count checks.now }
+    ensures rest { result.1.now ≡ drop count checks.now }
 {
+    let count = count.min(checks.len());
+    (&checks[..count], &checks[count..])
+}
+
+/// What is told of a file.
+fn told_of<'a>(alloc: Global, file: &'a File, checks: &[Checked]) -> Result<Found<'a>, AllocError>
+    ensures { IfOk result (λ found. found_in found
+        ≡ told_of (file_in file.now) (map checked_of checks.now)) }
+{
+    let messages = file.unsilenced(alloc, checks)?;
     Ok(Found {
         path: file.path(),
-        messages: file.unsilenced(alloc, builtins, options, world)?,
+        messages,
     })
 }

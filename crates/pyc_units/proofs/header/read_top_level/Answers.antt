@@ -7,7 +7,8 @@ use Rattle.pyc_ast.specs.StatementView.{stmt_of}
 use Rattle.pyc_bindings.specs.Redefinitions.{Redefinition}
 use Rattle.pyc_bindings.specs.Scopes.{Part, parts_of}
 use Rattle.pyc_bindings.specs.ScopeView.{part_of}
-use Rattle.pyc_units.specs.Header.{part_reading, cycles_after, redefinition_reading}
+use Rattle.pyc_functions.specs.Redefined.{redefinition_reading}
+use Rattle.pyc_units.specs.Header.{part_reading, cycles_after}
 use Rattle.pyc_names.specs.SourceFileView.{source_in}
 use Rattle.pyc_reading.proofs.RunLemmas.{after, grown_trans}
 use Rattle.pyc_reading.specs.Desks.{run}

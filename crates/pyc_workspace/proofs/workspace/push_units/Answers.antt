@@ -1,7 +1,6 @@
-use Rattle.std.proofs.Common.{◌≡◌, map, sym, ◌∙◌, ap, ◌++◌, ◌∷◌, [], append-nil, append_assoc}
+use Rattle.std.proofs.Common.{map, sym, ◌∷◌, [], append-nil, append_assoc}
 use Rattle.std.proofs.lemmas.List.{map-append}
 use Rattle.pyc_workspace.specs.Fresh.{numbered, unit_in}
-use Rattle.pyc_workspace.specs.Workspace.{Unit}
 use Rattle.pyc_workspace.proofs.FreshLemmas.{numbered-next}
 use Rattle.pyc_workspace.proofs.workspace.push_units.Goals as goal
 

@@ -1,9 +1,9 @@
-use Rattle.std.proofs.Common.{◌≡◌, ℕ, List, sym, ap, ◌∙◌}
+use Rattle.std.proofs.Common.{ℕ, List, ap, ◌∙◌}
 use Rattle.pyc_units.specs.Units.{unit_count}
 use Rattle.pyc_lower.specs.Reading.{read_of}
 use Rattle.pyc_names.specs.SourceFileView.{source_in}
 use Rattle.pyc_workspace.specs.Workspace.{File}
-use Rattle.pyc_workspace.proofs.FileLemmas.{path_is, name_is, outcome_is, source_is}
+use Rattle.pyc_workspace.proofs.FileLemmas.{path_is, name_is, source_is}
 use Rattle.pyc_workspace.proofs.file.File.new.Goals as goal
 
 pub invariant_of-result-clause-module_is : goal.invariant_of-result-clause-module_is

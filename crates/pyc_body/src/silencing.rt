@@ -1,0 +1,67 @@
+//! The messages that are found in the units of a file and that no ignore comment silences.
+
+ghost use Rattle.std.specs.Prelude.{◌≡◌, ◌++◌, flat_map, map, IfOk, OnOk};
+ghost use Rattle.pyc_body.specs.FoundMessages.{without_ignored};
+ghost use Rattle.pyc_examiner.specs.CheckedView.{checked_of};
+ghost use Rattle.pyc_names.specs.SourceFileView.{source_in};
+ghost use Rattle.pyc_report.specs.Message.{message_in};
+
+use pyc_ast::Outcome;
+use pyc_examiner::Checked;
+use pyc_names::SourceFile;
+use pyc_report::{Message, drop_silenced};
+use std::alloc::{AllocError, Global};
+
+/// The unsilenced messages of a file, of whose units these checks are: what is found in them, one after another,
+/// without what the ignore comments of the file silence. The only error is that memory runs out.
+pub fn unsilenced(
+    alloc: Global,
+    file: &SourceFile,
+    checks: &[Checked],
+) -> Result<Vec<Message>, AllocError>
+    ensures { IfOk result (λ messages. map message_in messages.items
+        ≡ without_ignored (source_in file.now).outcome
+        (flat_map (λ check. check.messages) (map checked_of checks.now))) }
+{
+    let mut messages = all_found(alloc, checks)?;
+    if let Outcome::Tree(module) = file.outcome() {
+        drop_silenced(module, &mut messages);
+    }
+    Ok(messages)
+}
+
+/// The messages of checks, one after another.
+fn all_found(alloc: Global, checks: &[Checked]) -> Result<Vec<Message>, AllocError>
+    ensures { IfOk result (λ messages. map message_in messages.items
+        ≡ flat_map (λ check. check.messages) (map checked_of checks.now)) }
+{
+    let mut messages = Vec::new(alloc);
+    for check in checks {
+        push_copies(&mut messages, check.messages())?;
+    }
+    Ok(messages)
+}
+
+/// Adds messages once more.
+fn push_copies(messages: &mut Vec<Message>, more: &[Message]) -> Result<(), AllocError>
+    ensures { OnOk result (map message_in messages.new.items
+        ≡ map message_in messages.old.items ++ map message_in more.now) }
+{
+    for message in more {
+        let copy = copy_of(message)?;
+        messages.push(copy)?;
+    }
+    Ok(())
+}
+
+/// A message once more.
+fn copy_of(message: &Message) -> Result<Message, AllocError>
+    ensures { IfOk result (λ copy. message_in copy ≡ message_in message.now) }
+{
+    Ok(Message {
+        line: message.line,
+        column: message.column,
+        kind: message.kind,
+        text: message.text.clone()?,
+    })
+}

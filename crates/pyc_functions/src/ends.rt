@@ -1,0 +1,114 @@
+//! The ends of functions.
+
+ghost use Rattle.std.specs.Prelude.{◌≡◌, map, false, true};
+ghost use Rattle.pyc_ast.specs.ExprView.{expr_of};
+ghost use Rattle.pyc_ast.specs.Statements.{stmts};
+ghost use Rattle.pyc_ast.specs.StatementView.{stmt_of, stmt_form_of};
+ghost use Rattle.pyc_functions.specs.Ends as spec;
+ghost use Rattle.pyc_functions.specs.Views.{owed_end_in};
+ghost use Rattle.pyc_reading.specs.Desks.{Performs};
+ghost use Rattle.pyc_type_forms.specs.TypeView.{ty_of};
+
+use pyc_ast::{Constant, Expr, Form, Position, Stmt, StmtForm};
+use pyc_obligations::{Judge, Owed, owe};
+use pyc_report::{Duty, Message};
+use pyc_type_forms::Ty;
+use std::alloc::{AllocError, Global};
+
+/// Whether a body is only a docstring, `pass` or `...`. It takes no memory.
+pub(crate) fn is_stub(statements: &[Stmt]) -> bool
+    ensures { result ≡ spec.is_stub (stmts (map stmt_of statements.now)) }
+{
+    match statements.split_first() {
+        Some((first, rest)) => is_idle(true, &first.form) && all_idle(rest),
+        None => true,
+    }
+}
+
+/// Whether statements that begin no body do nothing.
+fn all_idle(statements: &[Stmt]) -> bool
+    ensures { result ≡ spec.all_idle false (stmts (map stmt_of statements.now)) }
+{
+    for statement in statements {
+        if !is_idle(false, &statement.form) {
+            return false;
+        }
+    }
+    true
+}
+
+/// Whether a statement does nothing: `pass`, `...`, or a string at the beginning.
+fn is_idle(is_first: bool, form: &StmtForm) -> bool
+    ensures { result ≡ spec.is_idle is_first (stmt_form_of form.now) }
+{
+    match form {
+        StmtForm::Pass => true,
+        StmtForm::Expression(e) => is_idle_expression(is_first, e),
+        _ => false,
+    }
+}
+
+/// Whether an expression does nothing as a statement.
+fn is_idle_expression(is_first: bool, e: &Expr) -> bool
+    ensures { result ≡ spec.is_idle_expression is_first (expr_of e.now) }
+{
+    match &e.form {
+        Form::Constant(Constant::Ellipsis) => true,
+        Form::Constant(Constant::Str) => is_first,
+        Form::Quoted(_) => is_first,
+        _ => false,
+    }
+}
+
+/// Owes what the end of a function that begins at a position owes, if it is reached: that None is of the type that the
+/// function gives. The only error is that memory runs out.
+#[tactic(auto, unfolding(crate::specs::Ends::end_read))]
+pub(crate) fn read_end<N: Judge>(
+    alloc: Global,
+    notes: &mut N,
+    at: Position,
+    gives: &Ty,
+    is_reached: bool,
+) -> Result<(), AllocError>
+    ensures { Performs (λ u. u) (spec.end_read at (ty_of gives.now) is_reached) (N.desk notes.old) result
+        (N.desk notes.new) }
+{
+    if !is_reached {
+        return Ok(());
+    }
+    let owed = OwedEnd {
+        at,
+        got: &Ty::None,
+        want: gives,
+    };
+    owe(alloc, notes, &owed)
+}
+
+/// The end of a function: where the function begins, and the types that it gives there and has to give.
+#[derive(Clone, Copy)]
+struct OwedEnd<'a> {
+    at: Position,
+    got: &'a Ty,
+    want: &'a Ty,
+}
+
+impl<N: Judge> Owed<N> for OwedEnd<'_> {
+    ghost obligation = { owed_end_in };
+
+    fn got(&self) -> &Ty {
+        self.got
+    }
+
+    fn want(&self) -> &Ty {
+        self.want
+    }
+
+    fn ask_details(&self, _alloc: Global, _notes: &mut N) -> Result<(), AllocError> {
+        Ok(())
+    }
+
+    fn message(&self, alloc: Global, _notes: &N) -> Result<Message, AllocError> {
+        let text = String::from_str(alloc, "Missing return statement")?;
+        Ok(Message::failing_at(self.at, Duty::MissingReturn, text))
+    }
+}

@@ -1,0 +1,64 @@
+//! What is told of names that are defined again.
+
+ghost use Rattle.std.specs.Prelude.{◌≡◌, map, IfOk, string_bytes};
+ghost use Rattle.pyc_bindings.specs.BindingView.{binding_of};
+ghost use Rattle.pyc_bindings.specs.RedefinitionView.{redefinition_of};
+ghost use Rattle.pyc_functions.specs.Redefined as spec;
+ghost use Rattle.pyc_reading.specs.Desks.{Performs};
+ghost use Rattle.pyc_reading.specs.Readings.{each};
+
+use pyc_bindings::{Binding, Redefinition, redefinitions};
+use pyc_reading::{Notes, tell_error};
+use pyc_report::Code;
+use std::alloc::{AllocError, Global};
+
+/// Tells the names that bindings define again, in turn. The only error is that memory runs out.
+#[tactic(auto, using(pyc_obligations::proofs::Steps::performing))]
+pub(crate) fn tell_redefined<N: Notes>(
+    alloc: Global,
+    notes: &mut N,
+    bindings: &[Binding],
+) -> Result<(), AllocError>
+    ensures { Performs (λ u. u) (spec.redefined_told (map binding_of bindings.now)) (N.desk notes.old) result
+        (N.desk notes.new) }
+{
+    let again = redefinitions(alloc, bindings)?;
+    tell_redefinitions(alloc, notes, &again)
+}
+
+/// Tells names that are defined again, in turn. The only error is that memory runs out.
+pub fn tell_redefinitions<N: Notes>(
+    alloc: Global,
+    notes: &mut N,
+    again: &[Redefinition],
+) -> Result<(), AllocError>
+    ensures { Performs (λ u. u) (each spec.redefinition_reading (map redefinition_of again.now)) (N.desk notes.old)
+        result (N.desk notes.new) }
+{
+    for found in again {
+        tell_redefinition(alloc, notes, found)?;
+    }
+    Ok(())
+}
+
+/// Tells a name that is defined again.
+#[tactic(auto, using(pyc_obligations::proofs::Steps::performing))]
+fn tell_redefinition<N: Notes>(
+    alloc: Global,
+    notes: &mut N,
+    found: &Redefinition,
+) -> Result<(), AllocError>
+    ensures { Performs (λ u. u) (spec.redefinition_reading (redefinition_of found.now)) (N.desk notes.old) result
+        (N.desk notes.new) }
+{
+    let text = redefinition_text(alloc, found.name.as_str(), found.line)?;
+    tell_error(notes, found.at, Code::NoRedef, text)
+}
+
+/// The text on a name that is defined again, by the line of its declaration.
+#[tactic(auto, unfolding(crate::specs::Redefined::redefinition_text))]
+fn redefinition_text(alloc: Global, name: &str, line: u32) -> Result<String, AllocError>
+    ensures { IfOk result (λ text. string_bytes text ≡ spec.redefinition_text name.now line) }
+{
+    format!(in alloc; "Name \"{name}\" already defined on line {line}")
+}

@@ -1,0 +1,16 @@
+use Rattle.std.proofs.Common.{◌≡◌, ◌∙◌, ap}
+use Rattle.pyc_ast.specs.declared.target.TargetElement.{TargetElement}
+use Rattle.pyc_ast.specs.TargetView.{target_of}
+use Rattle.pyc_bodies.specs.Views.{body_in}
+use Rattle.pyc_locals.specs.Views.{point_in}
+use Rattle.pyc_reading.proofs.RunLemmas.{grown_trans}
+use Rattle.pyc_simple_statements.proofs.Turns.{element_turn}
+use Rattle.pyc_simple_statements.proofs.reader.StatementReader.+deleting.Goals as goal
+
+pub delete_each-loop-element-preserved : goal.delete_each-loop-element-preserved
+delete_each-loop-element-preserved g t c = record {
+  same =
+      element_turn (body_in c.args.self.now.body.now) c.args.elements.now c.loop-element.element-index c.element-item.result (point_in c.loop-element.point) _ _ _ c.loop-element-test.true c.element-item.is c.in_ok-delete.ensures.done
+      ∙ c.loop-element.invariant.same;
+  grown = grown_trans c.loop-element.invariant.grown c.delete.ensures.grown;
+}

@@ -1,0 +1,9 @@
+pub mod Expressions
+pub mod TargetTypes
+pub mod Augmented
+pub mod Deleting
+pub mod Returning
+pub mod Raising
+pub mod Heads
+pub mod BodyParts
+pub mod Views

@@ -1,0 +1,187 @@
+//! What a `return` gives.
+
+ghost use Rattle.std.specs.Prelude.{◌≡◌, IfOk, false, option_map, string_bytes, true};
+ghost use Rattle.pyc_ast.specs.ExprView.{expr_of};
+ghost use Rattle.pyc_bodies.specs.Bodies as bodies;
+ghost use Rattle.pyc_bodies.specs.Views.{body_in};
+ghost use Rattle.pyc_locals.specs.Views.{point_in};
+ghost use Rattle.pyc_reading.specs.Desks.{Performs};
+ghost use Rattle.pyc_simple_statements.specs.Returning as spec;
+ghost use Rattle.pyc_simple_statements.specs.Views.{owed_in};
+ghost use Rattle.pyc_type_forms.specs.Types.{none};
+ghost use Rattle.pyc_type_forms.specs.TypeView.{ty_of};
+
+use crate::reader::StatementReader;
+use pyc_ast::{Expr, Position};
+use pyc_locals::Point;
+use pyc_obligations::{Judge, Owed, owe};
+use pyc_places::State;
+use pyc_report::{Duty, Message};
+use pyc_type_forms::{Ty, show};
+use std::alloc::{AllocError, Global};
+
+/// What a `return` gives and the type of the function's result, and whether the `return` is bare.
+#[derive(Clone, Copy)]
+pub(crate) struct OwedReturn<'a> {
+    pub(crate) at: Position,
+    pub(crate) is_bare: bool,
+    pub(crate) got: &'a Ty,
+    pub(crate) want: &'a Ty,
+}
+
+impl<N: Judge> Owed<N> for OwedReturn<'_> {
+    ghost obligation = { owed_in };
+
+    fn got(&self) -> &Ty {
+        self.got
+    }
+
+    fn want(&self) -> &Ty {
+        self.want
+    }
+
+    fn ask_details(&self, _alloc: Global, _notes: &mut N) -> Result<(), AllocError> {
+        Ok(())
+    }
+
+    fn message(&self, alloc: Global, _notes: &N) -> Result<Message, AllocError> {
+        let text = return_text(alloc, self.is_bare, self.got, self.want)?;
+        Ok(Message::failing_at(self.at, Duty::Return, text))
+    }
+}
+
+/// The text on a `return`, by whether it is bare.
+fn return_text(alloc: Global, is_bare: bool, got: &Ty, want: &Ty) -> Result<String, AllocError>
+    ensures { IfOk result (λ text. string_bytes text ≡ spec.return_text is_bare (ty_of got.now) (ty_of want.now)) }
+{
+    if is_bare {
+        format!(in alloc; "Return value expected")
+    } else {
+        value_text(alloc, got, want)
+    }
+}
+
+/// The text on a value of another type than its function gives.
+fn value_text(alloc: Global, got: &Ty, want: &Ty) -> Result<String, AllocError>
+    ensures { IfOk result (λ text. string_bytes text ≡ spec.value_text (ty_of got.now) (ty_of want.now)) }
+{
+    match want {
+        Ty::None => format!(in alloc; "No return value expected"),
+        _ => {
+            let got = show(alloc, got)?;
+            let want = show(alloc, want)?;
+            wrong_type_text(alloc, got.as_str(), want.as_str())
+        }
+    }
+}
+
+/// The text on a value of another type than its function gives, which is not None.
+#[tactic(auto, unfolding(crate::specs::Returning::wrong_type_text))]
+fn wrong_type_text(alloc: Global, got: &str, want: &str) -> Result<String, AllocError>
+    ensures { IfOk result (λ text. string_bytes text ≡ spec.wrong_type_text got.now want.now) }
+{
+    format!(in alloc; "Incompatible return value type (got \"{got}\", expected \"{want}\")")
+}
+
+impl StatementReader<'_> {
+    /// Reads the `return` that begins at `at`: its value must be of the type of the function's result, and without a
+    /// value None must be. No run goes on.
+    pub(crate) fn read_return<N: Judge>(
+        &self,
+        notes: &mut N,
+        at: Position,
+        value: Option<&Expr>,
+        point: &mut Point,
+    ) -> Result<(), AllocError>
+        ensures { Performs (λ u. point_in point.new)
+            (spec.returned (body_in self.now.body.now) at (option_map (λ e. expr_of e.now) value.entry)
+            (point_in point.old)) (N.desk notes.old) result (N.desk notes.new) }
+    {
+        match value {
+            Some(value) => self.return_value(notes, at, value, point),
+            None => self.return_none(notes, at, point),
+        }
+    }
+
+    /// Reads a `return` with a value.
+    #[tactic(auto, using(pyc_obligations::proofs::Steps::performing), unfolding(crate::specs::Returning::value_returned))]
+    fn return_value<N: Judge>(
+        &self,
+        notes: &mut N,
+        at: Position,
+        value: &Expr,
+        point: &mut Point,
+    ) -> Result<(), AllocError>
+        ensures { Performs (λ u. point_in point.new)
+            (spec.value_returned (body_in self.now.body.now) at (expr_of value.now) (point_in point.old))
+            (N.desk notes.old) result (N.desk notes.new) }
+    {
+        let got = self.infer_part(notes, value, self.body.result(), point)?;
+        self.owe_value(notes, at, &got)?;
+        point.set_state(State::Unreachable);
+        Ok(())
+    }
+
+    /// Reads a bare `return`.
+    #[tactic(auto, using(pyc_obligations::proofs::Steps::performing), unfolding(crate::specs::Returning::none_returned))]
+    fn return_none<N: Judge>(
+        &self,
+        notes: &mut N,
+        at: Position,
+        point: &mut Point,
+    ) -> Result<(), AllocError>
+        ensures { Performs (λ u. point_in point.new)
+            (spec.none_returned (body_in self.now.body.now) at (point_in point.old)) (N.desk notes.old) result
+            (N.desk notes.new) }
+    {
+        self.owe_none(notes, at)?;
+        point.set_state(State::Unreachable);
+        Ok(())
+    }
+
+    /// Owes that a value is of the type of the function's result. Outside functions nothing is owed.
+    fn owe_value<N: Judge>(&self, notes: &mut N, at: Position, got: &Ty) -> Result<(), AllocError>
+        ensures { Performs (λ u. u)
+            (spec.result_owed at false (ty_of got.now) (bodies.result_of (body_in self.now.body.now).kind))
+            (N.desk notes.old) result (N.desk notes.new) }
+    {
+        match self.body.result() {
+            Some(want) => self.owe_return(notes, at, false, got, want),
+            None => Ok(()),
+        }
+    }
+
+    /// Owes that None is of the type of the function's result. Outside functions nothing is owed.
+    fn owe_none<N: Judge>(&self, notes: &mut N, at: Position) -> Result<(), AllocError>
+        ensures { Performs (λ u. u)
+            (spec.result_owed at true none (bodies.result_of (body_in self.now.body.now).kind)) (N.desk notes.old)
+            result (N.desk notes.new) }
+    {
+        match self.body.result() {
+            Some(want) => self.owe_return(notes, at, true, &Ty::None, want),
+            None => Ok(()),
+        }
+    }
+
+    /// Owes that what a `return` gives is of a type.
+    #[tactic(auto, using(pyc_obligations::proofs::Steps::performing), unfolding(crate::specs::Returning::return_owed))]
+    fn owe_return<N: Judge>(
+        &self,
+        notes: &mut N,
+        at: Position,
+        is_bare: bool,
+        got: &Ty,
+        want: &Ty,
+    ) -> Result<(), AllocError>
+        ensures { Performs (λ u. u) (spec.return_owed at is_bare (ty_of got.now) (ty_of want.now)) (N.desk notes.old)
+            result (N.desk notes.new) }
+    {
+        let owed = OwedReturn {
+            at,
+            is_bare,
+            got,
+            want,
+        };
+        owe(self.alloc, notes, &owed)
+    }
+}

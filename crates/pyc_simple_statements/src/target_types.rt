@@ -1,0 +1,143 @@
+//! The types of targets before they are assigned or deleted.
+
+ghost use Rattle.std.specs.Prelude.{◌≡◌, IfOk, option_map};
+ghost use Rattle.pyc_ast.specs.ExprView.{expr_of, index_of};
+ghost use Rattle.pyc_ast.specs.TargetView.{target_form_of, target_of};
+ghost use Rattle.pyc_bodies.specs.Views.{body_in};
+ghost use Rattle.pyc_locals.specs.Views.{point_in};
+ghost use Rattle.pyc_places.specs.StateView.{state_of};
+ghost use Rattle.pyc_places.specs.TargetPlaces as places;
+ghost use Rattle.pyc_reading.specs.Desks.{Performs};
+ghost use Rattle.pyc_simple_statements.specs.TargetTypes as spec;
+ghost use Rattle.pyc_type_forms.specs.TypeView.{ty_of};
+
+use crate::reader::StatementReader;
+use pyc_assignments::AssignmentReader;
+use pyc_ast::{Expr, Index, Position, Target, TargetForm, Text};
+use pyc_attributes::attribute;
+use pyc_expr::Context;
+use pyc_items::subscript;
+use pyc_locals::Point;
+use pyc_obligations::Judge;
+use pyc_places::{State, target_place};
+use pyc_type_forms::Ty;
+use std::alloc::{AllocError, Global};
+
+impl StatementReader<'_> {
+    /// The type of a target: a narrowed place has the type to which it is narrowed.
+    pub(crate) fn target_type<N: Judge>(
+        &self,
+        notes: &mut N,
+        target: &Target,
+        point: &Point,
+    ) -> Result<Ty, AllocError>
+        ensures { Performs ty_of
+            (spec.target_type (body_in self.now.body.now) (point_in point.now) (target_of target.now))
+            (N.desk notes.old) result (N.desk notes.new) }
+    {
+        match known_type(self.alloc, &point.state, target)? {
+            Some(ty) => Ok(ty),
+            None => self.form_type(notes, target.inside, &target.form, point),
+        }
+    }
+
+    /// The type of a target that begins at `at` within its parentheses, by its form.
+    fn form_type<N: Judge>(
+        &self,
+        notes: &mut N,
+        at: Position,
+        form: &TargetForm,
+        point: &Point,
+    ) -> Result<Ty, AllocError>
+        ensures { Performs ty_of
+            (spec.form_type (body_in self.now.body.now) (point_in point.now) at (target_form_of form.now))
+            (N.desk notes.old) result (N.desk notes.new) }
+    {
+        match form {
+            TargetForm::Name(name) => self.name_type(notes, at, name, point),
+            TargetForm::Attribute { value, name } => {
+                self.attribute_type(notes, at, value, name, point)
+            }
+            TargetForm::Subscript { value, index } => {
+                self.item_type(notes, at, value, index, point)
+            }
+            TargetForm::Unpacking(_) => Ok(Ty::Any),
+        }
+    }
+
+    /// The type of the name at a position.
+    #[tactic(auto, using(pyc_obligations::proofs::Steps::performing), unfolding(crate::specs::TargetTypes::name_type))]
+    fn name_type<N: Judge>(
+        &self,
+        notes: &mut N,
+        at: Position,
+        name: &Text,
+        point: &Point,
+    ) -> Result<Ty, AllocError>
+        ensures { Performs ty_of
+            (spec.name_type (body_in self.now.body.now) (point_in point.now) at name.now) (N.desk notes.old) result
+            (N.desk notes.new) }
+    {
+        let found = self.context(point).named(self.alloc, notes, at, name)?;
+        Ok(found.ty)
+    }
+
+    /// The type of an attribute of a value.
+    #[tactic(auto, using(pyc_obligations::proofs::Steps::performing), unfolding(crate::specs::TargetTypes::attribute_type))]
+    fn attribute_type<N: Judge>(
+        &self,
+        notes: &mut N,
+        at: Position,
+        value: &Expr,
+        name: &Text,
+        point: &Point,
+    ) -> Result<Ty, AllocError>
+        ensures { Performs ty_of
+            (spec.attribute_type (body_in self.now.body.now) (point_in point.now) at (expr_of value.now) name.now)
+            (N.desk notes.old) result (N.desk notes.new) }
+    {
+        let owner = self.body.value(self.alloc, notes, point, value, None)?;
+        let found = attribute(self.alloc, notes, at, &owner, name)?;
+        Ok(found.ty)
+    }
+
+    /// The type of an item of a value.
+    #[tactic(auto, using(pyc_obligations::proofs::Steps::performing), unfolding(crate::specs::TargetTypes::item_type))]
+    fn item_type<N: Judge>(
+        &self,
+        notes: &mut N,
+        at: Position,
+        value: &Expr,
+        index: &Index,
+        point: &Point,
+    ) -> Result<Ty, AllocError>
+        ensures { Performs ty_of
+            (spec.item_type (body_in self.now.body.now) (point_in point.now) at (expr_of value.now)
+            (index_of index.now)) (N.desk notes.old) result (N.desk notes.new) }
+    {
+        let ty = self.infer_part(notes, value, None, point)?;
+        let got = self.body.index(self.alloc, notes, point, index)?;
+        subscript(self.alloc, notes, at, index, &got, &ty)
+    }
+}
+
+/// The type to which the place is narrowed that a target is.
+fn known_type(alloc: Global, state: &State, target: &Target) -> Result<Option<Ty>, AllocError>
+    ensures { IfOk result (λ ty. option_map ty_of ty
+        ≡ spec.known_at (state_of state.now) (places.target_place (target_of target.now))) }
+{
+    match target_place(alloc, target)? {
+        Some(place) => Ok(copied(state.narrowed_type(&place))?),
+        None => Ok(None),
+    }
+}
+
+/// A copy of some type.
+fn copied(ty: Option<&Ty>) -> Result<Option<Ty>, AllocError>
+    ensures { IfOk result (λ copy. option_map ty_of copy ≡ option_map (λ ty. ty_of ty.now) ty.entry) }
+{
+    match ty {
+        Some(ty) => Ok(Some(ty.clone()?)),
+        None => Ok(None),
+    }
+}

@@ -1,2 +1,0 @@
-pub mod TopLevel
-pub mod Statements
