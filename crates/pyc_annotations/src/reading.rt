@@ -35,6 +35,14 @@ pub struct Annotation {
     pub class: Option<ClassId>,
 }
 
+/// What stands before the arguments of an annotation in brackets.
+#[derive(Clone, Copy)]
+struct Subscript<'a> {
+    /// Where the annotation is written.
+    at: Position,
+    name: &'a DottedName,
+}
+
 /// An annotation of this type, which is no name of a class.
 pub(crate) fn of_type(ty: Ty) -> Annotation
     ensures { annotation_in result ≡ spec.of_type (ty_of ty) }
@@ -149,7 +157,10 @@ fn read_type<N: Notes>(
             name,
             is_nested,
             arguments,
-        } => read_subscript(alloc, notes, file, *at, name, *is_nested, arguments),
+        } => {
+            let written = Subscript { at: *at, name };
+            read_subscript(alloc, notes, file, &written, *is_nested, arguments)
+        }
         TypeExpr::Wrong(at) => invalid(alloc, notes, *at),
     }
 }
@@ -161,19 +172,19 @@ fn read_subscript<N: Notes>(
     alloc: Global,
     notes: &mut N,
     file: &SourceFile,
-    at: Position,
-    name: &DottedName,
+    written: &Subscript<'_>,
     is_nested: bool,
     arguments: &[TypeArgument],
 ) -> Result<Annotation, AllocError>
     ensures { Performs annotation_in
-        (spec.subscript_rule (interface_in file.now) at (dotted_name_of name.now) is_nested
+        (spec.subscript_rule (interface_in file.now) written.now.at (dotted_name_of written.now.name.now) is_nested
         (spec.argument_readings (interface_in file.now) (type_arguments (map type_argument_of arguments.now))))
         (N.desk notes.old) result (N.desk notes.new) }
 {
+    let name = written.name;
     let meaning = dotted_meaning(alloc, notes, Role::Annotation, file, name.at, &name.names)?;
     let subscripted = with_arguments(is_nested, meaning);
-    read_subscripted(alloc, notes, file, at, name, arguments, subscripted)
+    read_subscripted(alloc, notes, file, written, arguments, subscripted)
 }
 
 /// What stands right of `|`, where the left side has this type.
@@ -203,28 +214,27 @@ fn read_subscripted<N: Notes>(
     alloc: Global,
     notes: &mut N,
     file: &SourceFile,
-    at: Position,
-    name: &DottedName,
+    written: &Subscript<'_>,
     arguments: &[TypeArgument],
     subscripted: Subscripted,
 ) -> Result<Annotation, AllocError>
     ensures { Performs annotation_in
-        (spec.subscripted_rule at (dotted_name_of name.now)
+        (spec.subscripted_rule written.now.at (dotted_name_of written.now.name.now)
         (spec.argument_readings (interface_in file.now) (type_arguments (map type_argument_of arguments.now)))
         (subscripted_of subscripted)) (N.desk notes.old) result (N.desk notes.new) }
 {
     match subscripted {
         Subscripted::Form(form) => {
             if form.takes(arguments.len()) {
-                read_form(alloc, notes, file, at, form, arguments)
+                read_form(alloc, notes, file, written.at, form, arguments)
             } else {
-                wrong_count(alloc, notes, at, form)
+                wrong_count(alloc, notes, written.at, form)
             }
         }
         Subscripted::Class(class) => Ok(of_class(alloc, class)?),
         Subscripted::Any => Ok(of_type(Ty::Any)),
-        Subscripted::Value => not_a_type(alloc, notes, name),
-        Subscripted::Wrong => invalid(alloc, notes, at),
+        Subscripted::Value => not_a_type(alloc, notes, written.name),
+        Subscripted::Wrong => invalid(alloc, notes, written.at),
     }
 }
 

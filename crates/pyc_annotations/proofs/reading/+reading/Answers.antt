@@ -77,17 +77,17 @@ read_callable-returns-in_default g t c =
 
 pub read_subscripted-returns-then-takes : goal.read_subscripted-returns-then-takes
 read_subscripted-returns-then-takes g t c =
-    let name = dotted_name_of c.args.name.now in
+    let name = dotted_name_of c.args.written.now.name.now in
     let xs = readings_of (interface_in c.args.file.now) c.args.arguments.now in
     let taken : takes c.in-Form.form (length xs) ≡ true = ap (takes c.in-Form.form) (length_readings (interface_in c.args.file.now) c.args.arguments.now) ∙ sym c.takes.ensures ∙ c.if-takes.true in
-    performs_same _ _ _ _ _ _ (ap (λ s. subscripted_rule c.args.at name xs (subscripted_of s)) c.in-Form.is ∙ form_taken c.args.at name xs c.in-Form.form taken) c.read_form.ensures
+    performs_same _ _ _ _ _ _ (ap (λ s. subscripted_rule c.args.written.now.at name xs (subscripted_of s)) c.in-Form.is ∙ form_taken c.args.written.now.at name xs c.in-Form.form taken) c.read_form.ensures
 
 pub read_subscripted-returns-else-takes : goal.read_subscripted-returns-else-takes
 read_subscripted-returns-else-takes g t c =
-    let name = dotted_name_of c.args.name.now in
+    let name = dotted_name_of c.args.written.now.name.now in
     let xs = readings_of (interface_in c.args.file.now) c.args.arguments.now in
     let not_taken : takes c.in-Form.form (length xs) ≡ false = ap (takes c.in-Form.form) (length_readings (interface_in c.args.file.now) c.args.arguments.now) ∙ sym c.takes.ensures ∙ c.if-takes.false in
-    performs_same _ _ _ _ _ _ (ap (λ s. subscripted_rule c.args.at name xs (subscripted_of s)) c.in-Form.is ∙ form_not_taken c.args.at name xs c.in-Form.form not_taken) c.wrong_count.ensures
+    performs_same _ _ _ _ _ _ (ap (λ s. subscripted_rule c.args.written.now.at name xs (subscripted_of s)) c.in-Form.is ∙ form_not_taken c.args.written.now.at name xs c.in-Form.form not_taken) c.wrong_count.ensures
 
 pub read_tuple-returns-in_default : goal.read_tuple-returns-in_default
 read_tuple-returns-in_default g t c =
