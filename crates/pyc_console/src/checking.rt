@@ -55,7 +55,7 @@ pub fn check_files<S: Sources, O: Write, E: Write>(
     }
 }
 
-// The same, with the fault of a write that ends it.
+// Checks the files, and answers the status, or the fault of a write that ends the check.
 fn check_and_tell<S: Sources, O: Write, E: Write>(
     alloc: Global,
     sources: &mut S,

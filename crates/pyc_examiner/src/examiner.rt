@@ -1,4 +1,4 @@
-//! Who examines the bodies of files.
+//! The examiner of files.
 
 ghost use Rattle.std.specs.Prelude.{◌≡◌, [], map, IfOk, is_ok};
 ghost use Rattle.pyc_examiner.specs.KeptAnswers.{AreAnswers};
@@ -19,8 +19,8 @@ use pyc_reading::{Answer, Key, Notes};
 use pyc_report::Message;
 use std::alloc::{AllocError, Global};
 
-/// Who performs the readings of bodies over a world, and keeps the keys that were asked, each once with its answer, in
-/// the order in which they were first asked, and the messages that were told.
+/// The examiner performs readings over a world, and keeps the keys that were asked, each once with its answer, in the
+/// order in which they were first asked, and the messages that were told.
 #[derive(Drop)]
 pub struct Examiner<'a> {
     world: &'a World,

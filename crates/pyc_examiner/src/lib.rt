@@ -1,5 +1,5 @@
-//! Who examines the bodies of files: it performs readings over a world, and keeps which keys were asked, what was
-//! answered and what was told.
+//! The examiner of files: it performs readings over a world, and keeps which keys were asked, what was answered and
+//! what was told.
 #![tactic(auto)]
 
 mod asked_key;

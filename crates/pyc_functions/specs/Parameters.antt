@@ -8,7 +8,8 @@ use Rattle.pyc_ast.specs.Exprs.{Expr, at_of}
 use Rattle.pyc_ast.specs.Statements.{Parameter}
 use Rattle.pyc_bodies.specs.Bodies.{Body}
 use Rattle.pyc_bodies.specs.BodyNames.{body_context}
-use Rattle.pyc_builtins.specs.Builtin.{str_type}
+use Rattle.pyc_builtins.specs.Builtin.{builtin_type}
+use Rattle.pyc_builtins.specs.declared.builtin.Builtin.TheVariants as builtin
 use Rattle.pyc_class.specs.Class.{Id}
 use Rattle.pyc_expr.specs.Values.{infer_type}
 use Rattle.pyc_locals.specs.Locals.{no_locals}
@@ -71,7 +72,7 @@ receiver_of None decorators = any
 -- the type of a parameter inside the function: `*name` is the tuple of what is left, `**name` the dict of it
 abbrev pub inside_type : ParameterKind → Ty → Ty
 inside_type kind.Star ty = tuple_of ty
-inside_type kind.DoubleStar ty = dict str_type ty
+inside_type kind.DoubleStar ty = dict (builtin_type builtin.Str) ty
 inside_type _ ty = ty
 
 abbrev pub parameter_type : Parameter → Ty → ParameterType

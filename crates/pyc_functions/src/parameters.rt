@@ -5,7 +5,8 @@ ghost use Rattle.pyc_ast.specs.ExprView.{expr_of};
 ghost use Rattle.pyc_ast.specs.StatementView.{boxed_expr_of, parameter_of};
 ghost use Rattle.pyc_bodies.specs.BodyNames.{body_context};
 ghost use Rattle.pyc_bodies.specs.Views.{body_in};
-ghost use Rattle.pyc_builtins.specs.Builtin.{str_type};
+ghost use Rattle.pyc_builtins.specs.Builtin.{builtin_type};
+ghost use Rattle.pyc_builtins.specs.declared.builtin.Builtin.TheVariants as builtin;
 ghost use Rattle.pyc_expr.specs.Values.{infer_type};
 ghost use Rattle.pyc_functions.specs.Parameters as spec;
 ghost use Rattle.pyc_functions.specs.Views.{owed_default_in, parameter_type_in};
@@ -157,7 +158,7 @@ impl FunctionReader<'_> {
 
     /// Reads the default of the parameter of this name and type: where the function stands, and nothing is narrowed
     /// there.
-    #[tactic(auto, using(pyc_obligations::proofs::Steps::performing), unfolding(crate::specs::Parameters::default_read))]
+    #[tactic(auto, using(pyc_simple_statements::proofs::Places::placing), unfolding(crate::specs::Parameters::default_read))]
     fn read_default<N: Judge>(
         &self,
         notes: &mut N,
@@ -224,7 +225,7 @@ fn inside_type(alloc: Global, kind: ParameterKind, ty: Ty) -> Result<Ty, AllocEr
 
 /// A dict whose keys are texts.
 fn str_dict(alloc: Global, value: Ty) -> Result<Ty, AllocError>
-    ensures { IfOk result (λ found. ty_of found ≡ dict str_type (ty_of value)) }
+    ensures { IfOk result (λ found. ty_of found ≡ dict (builtin_type builtin.Str) (ty_of value)) }
 {
     let key = Ty::Instance(ClassId::builtin(BuiltinClass::Str));
     Ok(Ty::Dict(Rc::new(alloc, DictTypes { key, value })?))

@@ -1,4 +1,4 @@
-//! Who reads the parts of an expression.
+//! The reader of the parts of an expression.
 
 ghost use Rattle.std.specs.Prelude.{Option, option_map};
 ghost use Rattle.pyc_ast.specs.ExprView.{expr_of};
@@ -12,7 +12,7 @@ use pyc_ast::Expr;
 use pyc_type_forms::Ty;
 use std::alloc::{AllocError, Global};
 
-/// Who reads the parts of an expression, each with the type that is expected of it, if one is.
+/// A reader reads the parts of an expression, each with the type that is expected of it, if one is.
 pub trait Reader<N: Judge> {
     ghost ready: { Self → Type 0 };
 

@@ -54,7 +54,7 @@ place_in_part (part.statement found) n = place_in_statement (form_of found) n
 place_in_part (part.target to) n = place_in to n
 place_in_part (part.caught caught) n = None
 
--- the same of a part of the statement that begins at a position
+-- where a part declares a name, if it is a part of the statement that begins at a position
 abbrev pub place_in_part_at : Part → Position → List ℕ → Option Position
 place_in_part_at found at n =
     if found.place.at.line == at.line && found.place.at.column == at.column then place_in_part found.form n else None

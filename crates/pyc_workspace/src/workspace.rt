@@ -105,7 +105,7 @@ impl Workspace {
         true
     }
 
-    /// The same files, shared and not copied.
+    /// A workspace of these files, shared and not copied.
     pub fn share(&self, alloc: Global) -> Result<Workspace, AllocError>
         ensures same { IfOk result (λ shared. shared ≡ self.now) }
         ensures ordered { IfOk result IsInOrder }
@@ -145,7 +145,7 @@ fn place_of(files: &[Rc<File>], path: &[u8]) -> Result<usize, usize>
     )
 }
 
-/// The same files, shared.
+/// These files, shared.
 fn share(alloc: Global, files: &[Rc<File>]) -> Result<Vec<Rc<File>>, AllocError>
     ensures { IfOk result (λ shared. files_in shared.items ≡ files_in files.now) }
 {

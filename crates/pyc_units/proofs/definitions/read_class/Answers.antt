@@ -8,5 +8,5 @@ returns g c = first_of (grind (arith, performing), search rules)
 pub returns-in_err-bases : goal.returns-in_err-bases
 returns-in_err-bases g c = first_of (grind (arith, performing), search rules)
 
-pub returns-then-declares : goal.returns-then-declares
-returns-then-declares g c = first_of (grind (arith, performing), search rules)
+pub returns-then-declares_class : goal.returns-then-declares_class
+returns-then-declares_class g c = first_of (grind (arith, performing), search rules)
