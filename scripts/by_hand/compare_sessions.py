@@ -495,14 +495,15 @@ def compare(sessions, words, room):
 
 def main():
     parser = argparse.ArgumentParser(description="Compares replies of sessions with those of a reference.")
-    parser.add_argument("--program", type=lambda word: Path(word).absolute(), help="dmypy, built; else rt try runs it")
+    place = lambda word: Path(word).absolute()
+    parser.add_argument("--program", type=place, help="dmypy, built; else rt try runs it")
     parser.add_argument("--seed", type=int, default=1)
     parser.add_argument("--expressions", action="store_true", help="only sessions of files with many expressions")
     parser.add_argument("--statements", action="store_true", help="only sessions of files with many statements")
     parser.add_argument("--stage", type=int, default=STAGE, help=f"{STAGE} if none is given")
-    parser.add_argument("--python", type=Path, default=Path(sysconfig.get_path("stdlib")))
-    parser.add_argument("--keep", type=Path, help="the folder for the sessions; without it they go")
-    parser.add_argument("reference", type=Path)
+    parser.add_argument("--python", type=place, default=Path(sysconfig.get_path("stdlib")))
+    parser.add_argument("--keep", type=place, help="the folder for the sessions; without it they go")
+    parser.add_argument("reference", type=place)
     parser.add_argument("count", nargs="?", type=int, default=COUNT)
     words = parser.parse_args()
     if words.expressions:
@@ -514,9 +515,11 @@ def main():
     else:
         maker = Maker(words.seed)
         sessions = [*package_sessions(words.python), *(maker.session(number) for number in range(words.count))]
-    with tempfile.TemporaryDirectory() as room:
-        if words.keep:
-            words.keep.mkdir(parents=True, exist_ok=True)
+    if words.keep:
+        words.keep.mkdir(parents=True, exist_ok=True)
+    with tempfile.TemporaryDirectory() as room, tempfile.TemporaryDirectory() as empty:
+        # the program fetches nothing: the reference cannot
+        os.chdir(empty)
         return 0 if compare(sessions, words, words.keep or Path(room)) else 1
 
 
