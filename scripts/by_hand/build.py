@@ -25,7 +25,7 @@ LIBRARIES = {
     "assigning": ["pyc_types", "pyc_ast"],
     "types": ["pyc_types"],
     "orders": ["pyc_mro", "pyc_class"],
-    "checking": ["pyc_body", "pyc_iface", "pyc_lower", "pyc_names", "pyc_types"],
+    "checking": ["pyc_body", "pyc_iface", "pyc_lower", "pyc_names"],
     "classes": ["pyc_classes", "pyc_ast", "pyc_class", "pyc_builtins"],
 }
 

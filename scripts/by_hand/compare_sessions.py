@@ -17,11 +17,6 @@ is run at. PROGRAM is `dmypy`, built; without it, `rt try` builds and runs it, w
 - with `--statements` only COUNT sessions of such files whose functions, methods, classes and blocks hold many statements
   (statement_files.py), with options at random.
 
-At its stage 6 the reference leaves out what it is to tell later and the program tells already: names that nothing
-defines in signatures, in bases and in annotations inside blocks, names that the body of a class defines again, those that
-its ancestors declare with types to which its own do not go, and statements of the top level that hold `yield` or `await`.
-It is led to tell these too.
-
 A session passes where all that is printed and the status are the same. Decorators in parentheses are not among the
 random lines: the reference reads them in another way. With `--keep` the sessions stay in that folder: `NAME` what is
 read, `NAME.args` the options, `NAME.stdout` what the reference prints. Each session that differs is named.
@@ -46,9 +41,7 @@ from typed_files import TypedMaker
 
 PROGRAM = Path(__file__).resolve().parents[2] / "crates" / "dmypy"
 COUNT = 1_000
-STAGE = 4
-# the stage at which the reference is led to tell more, and the one for sessions of expressions
-LED_ON = 6
+STAGE = 7
 LOT = 300_000
 SECONDS = 600
 IGNORE_MISSING, CHECK_UNTYPED = "--ignore-missing-imports", "--check-untyped-defs"
@@ -396,40 +389,13 @@ def checking_session(name, files, options):
 # ---- what the reference prints
 
 
-def lead_on(stages, body):
-    """Leads the reference at its stage 6 to tell what it would leave out there, in its modules of these names."""
-    head, top_level, suspends = stages.StagedBody.class_head, stages.StagedBody.top_level, body.suspends
-
-    def whole_head(self, unit):
-        head(self, unit)
-        info, own = unit.cls, (self.own, unit.cls.name)
-        if not suspends(unit.node.body):
-            self.check_redefinitions(info.bindings, info.decl)
-        if info.declares:
-            self.state = {}
-            self.overrides(info, own, self.class_answer(own)[0])
-
-    def whole_top_level(self, stage):
-        body.suspends = lambda statement: False
-        top_level(self, stage)
-        body.suspends = suspends
-
-    stages.LATE = frozenset()
-    stages.StagedBody.class_head, stages.StagedBody.top_level = whole_head, whole_top_level
-
-
 class Reference:
     """The reference implementation at a stage, in this process."""
-
-    led_on = False
 
     def __init__(self, folder, stage):
         sys.path.insert(0, str(folder))
         self.main = importlib.import_module("oracle.__main__")
         self.stage = stage
-        if stage == LED_ON and not Reference.led_on:
-            lead_on(*(importlib.import_module(f"oracle.{name}") for name in ("stages", "body")))
-            Reference.led_on = True
 
     def replies(self, session):
         """What the reference prints, and its status."""
@@ -529,17 +495,17 @@ def compare(sessions, words, room):
 
 def main():
     parser = argparse.ArgumentParser(description="Compares replies of sessions with those of a reference.")
-    parser.add_argument("--program", type=lambda word: Path(word).absolute(), help="dmypy, built; else rt try runs it")
+    place = lambda word: Path(word).absolute()
+    parser.add_argument("--program", type=place, help="dmypy, built; else rt try runs it")
     parser.add_argument("--seed", type=int, default=1)
     parser.add_argument("--expressions", action="store_true", help="only sessions of files with many expressions")
     parser.add_argument("--statements", action="store_true", help="only sessions of files with many statements")
-    parser.add_argument("--stage", type=int, help=f"{STAGE} if none is given, with --expressions {LED_ON}")
-    parser.add_argument("--python", type=Path, default=Path(sysconfig.get_path("stdlib")))
-    parser.add_argument("--keep", type=Path, help="the folder for the sessions; without it they go")
-    parser.add_argument("reference", type=Path)
+    parser.add_argument("--stage", type=int, default=STAGE, help=f"{STAGE} if none is given")
+    parser.add_argument("--python", type=place, default=Path(sysconfig.get_path("stdlib")))
+    parser.add_argument("--keep", type=place, help="the folder for the sessions; without it they go")
+    parser.add_argument("reference", type=place)
     parser.add_argument("count", nargs="?", type=int, default=COUNT)
     words = parser.parse_args()
-    words.stage = words.stage or (LED_ON if words.expressions else STAGE)
     if words.expressions:
         maker = TypedMaker(words.seed)
         sessions = [checking_session(f"expressions_{it:05}", maker.files(), []) for it in range(words.count)]
@@ -549,9 +515,11 @@ def main():
     else:
         maker = Maker(words.seed)
         sessions = [*package_sessions(words.python), *(maker.session(number) for number in range(words.count))]
-    with tempfile.TemporaryDirectory() as room:
-        if words.keep:
-            words.keep.mkdir(parents=True, exist_ok=True)
+    if words.keep:
+        words.keep.mkdir(parents=True, exist_ok=True)
+    with tempfile.TemporaryDirectory() as room, tempfile.TemporaryDirectory() as empty:
+        # the program fetches nothing: the reference cannot
+        os.chdir(empty)
         return 0 if compare(sessions, words, words.keep or Path(room)) else 1
 
 
