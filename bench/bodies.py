@@ -4,7 +4,8 @@
     bench/bodies.py [PROGRAM]
 
 Each straining text is one file with one function: with many assignments, with many locals, with narrowings of many places
-and blocks after them, with a `try` of many handlers, with blocks of a kind one in another. A session adds it and checks
+and blocks after them, with a `try` of many handlers, with blocks of a kind one in another; or with one class of many
+methods. A session adds it and checks
 it, at half its size and at its whole size. The processor seconds of the whole session are printed, and how many times
 those of the half they are: two where the cost grows as the text does, four where it grows as its square.
 
@@ -128,12 +129,21 @@ def nested(kinds):
     return lines
 
 
+def methods(count):
+    """A class of methods, each of which calls another."""
+    rows = [
+        (f"    def m{number}(self, a: int) -> int:", f"        return self.m{7 * number % count}(a)") for number in range(count)
+    ]
+    return ["class Many:", *(line for row in rows for line in row), WRONG]
+
+
 STRAINING = (
     ("assignments to a hundred narrowed locals", assignments, 10_000),
     ("locals", plain_locals, 5_000),
     ("narrowed locals", narrowed_locals, 5_000),
     ("narrowed locals before ten joins", joins, 2_000),
     ("handlers of a try", handlers, 500),
+    ("methods of a class", methods, 1_000),
     *((f"{kind}, one in another", nested([kind]), 63) for kind in KINDS),
     ("blocks of each kind, one in another", nested(list(KINDS)), 63),
 )
