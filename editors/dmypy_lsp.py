@@ -182,7 +182,7 @@ class Server:
         self.due = None
         self.status = None
         self.trouble = ""
-        # what the editor was shown, by path, and the files that were edited since it was shown all
+        # what the editor was shown, by path, and the files that were edited since the last check
         self.shown = {}
         self.edited = set()
 
@@ -341,8 +341,7 @@ class Server:
         for path in sorted({*self.shown, *found, *documents, *self.project.refused}):
             if not is_typing or path in faulty or path in self.edited:
                 self.show_file(path, tuple(found.get(path, ())))
-        if not is_typing:
-            self.edited.clear()
+        self.edited.clear()
         for path in documents.keys() - faulty:
             documents[path].was_read = True
 
