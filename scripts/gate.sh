@@ -149,6 +149,9 @@ run python3 "$tree/scripts/gate/rows.py"
 run python3 "$tree/scripts/gate/refused_growths.py"
 run python3 "$tree/scripts/gate/real_files.py"
 run python3 "$tree/scripts/gate/editor.py"
+run python3 "$tree/scripts/gate/hooks.py"
+run python3 "$tree/scripts/gate/commits.py"
+run python3 "$tree/scripts/gate/ignores.py"
 judge_beside "$tests" "$tested" scripts/gate/tests.py
 judge_beside "$edits_test" "$edits_tested" scripts/gate/edits_test.py
 judge_beside "$edits" "$tried" scripts/gate/edits.py

@@ -78,6 +78,11 @@ def is_file_path(path):
     )
 
 
+def program_at(program):
+    """Returns the path of a program, which is seen from the current folder, or else found as a command is."""
+    return os.path.abspath(shutil.which(program) or program)
+
+
 class Session:
     """A running session in a folder. `held` has the paths of the files that are present in it.
 
@@ -87,11 +92,9 @@ class Session:
 
     def __init__(self, program, options, folder):
         self.held = set()
-        # (a path of the program is seen from the current folder, not from the session's)
-        found = os.path.abspath(shutil.which(program) or program)
         pipes = {"stdin": subprocess.PIPE, "stdout": subprocess.PIPE}
         try:
-            self.process = subprocess.Popen([found, "session", *options], cwd=folder, **pipes)
+            self.process = subprocess.Popen([program_at(program), "session", *options], cwd=folder, **pipes)
         except OSError as why:
             raise Ended(f"{program} cannot be started: {why.strerror}") from why
 

@@ -16,7 +16,8 @@ import time
 from pathlib import Path
 
 from judging import PROGRAM, SECONDS, Tally
-from language_client import ENVIRONMENT, Client, Silent, edit
+from language_client import Client, Silent, edit
+from small_repository import SmallRepository
 
 MODELS = """class Item:
     def __init__(self, price: int) -> None:
@@ -52,19 +53,12 @@ def f(a: "A | None", *, n: float = 2) -> int:
 """
 
 
-class Room:
-    """A folder with a small project, and the program that checks it."""
+class Room(SmallRepository):
+    """A folder with a small project."""
 
     def __init__(self, folder, program):
-        self.folder = Path(folder)
-        self.program = program
+        super().__init__(folder, program)
         self.write(**{"models.py": MODELS, "shop.py": SHOP})
-
-    def write(self, **texts):
-        """Writes files."""
-        for path, text in texts.items():
-            (self.folder / path).parent.mkdir(parents=True, exist_ok=True)
-            (self.folder / path).write_text(text, encoding="utf-8")
 
     def client(self, *words):
         """A server of the project that nobody has spoken to."""
@@ -76,10 +70,6 @@ class Room:
         client.begin(**how)
         client.checked("shop.py")
         return client
-
-    def git(self, *words):
-        """Runs git in the folder."""
-        subprocess.run(["git", *words], cwd=self.folder, env=ENVIRONMENT, check=True, stdout=subprocess.DEVNULL)
 
 
 def protocol(room, tally):

@@ -1,7 +1,6 @@
 """A client of the language server, as an editor is one: it sends texts and edits, and keeps what it is shown."""
 
 import json
-import os
 import queue
 import subprocess
 import sys
@@ -10,9 +9,9 @@ import threading
 
 from judging import SECONDS
 from repository import ROOT
+from small_repository import ENVIRONMENT
 
 SERVER = ROOT / "editors" / "dmypy_lsp.py"
-ENVIRONMENT = {**os.environ, "GIT_CONFIG_GLOBAL": os.devnull, "GIT_CONFIG_NOSYSTEM": "1", "PYTHONDONTWRITEBYTECODE": "1"}
 
 
 class Silent(Exception):
