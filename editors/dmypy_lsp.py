@@ -348,7 +348,8 @@ class Server:
     def show_file(self, path, messages):
         """Shows the editor the messages of a file, if they changed, or are those of another version of its text."""
         document = self.project.documents.get(path)
-        if reason := self.project.refused.get(path):
+        reason = self.project.refused.get(path)
+        if reason:
             messages += (Message(path, 1, "warning", f"dmypy does not check this file: {REASONS[reason]}"),)
         now = Shown(self.project.sent.get(path), document and document.version, messages)
         before = self.shown.get(path, NOTHING)

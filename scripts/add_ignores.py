@@ -86,7 +86,8 @@ def main():
     given = words.parse_args()
     session = Session(program_at(given.program), given.options or [], ".")
     for path in given.files or stamps(Path(".")):
-        if reason := session.update(path):
+        reason = session.update(path)
+        if reason:
             print(f"{ascii(path)} is skipped: {REASONS[reason]}")
     found = codes_by_line(session.check().messages())
     for path, codes in found.items():

@@ -68,10 +68,11 @@ class Follower:
             self.sent.pop(path, None)
         changed = sorted(path for path, blob in files.items() if self.sent.get(path) != blob)
         for path in changed:
-            self.refused.pop(path, None)
-            if reason := self.session.give(path, self.repository.content(files[path])):
-                self.refused[path] = reason
             self.sent[path] = files[path]
+            self.refused.pop(path, None)
+            reason = self.session.give(path, self.repository.content(files[path]))
+            if reason:
+                self.refused[path] = reason
         self.refused = {path: reason for path, reason in self.refused.items() if path in files}
         return len(gone) + len(changed)
 

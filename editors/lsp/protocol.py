@@ -25,7 +25,8 @@ class Channel:
     def receive(self, timeout=None):
         """Returns the next message, or None where none came within `timeout` seconds."""
         until = None if timeout is None else time.monotonic() + timeout
-        while (body := self._take()) is None:
+        body = self._take()
+        while body is None:
             left = None if until is None else max(0, until - time.monotonic())
             if not select.select([self.source], [], [], left)[0]:
                 return None
@@ -33,6 +34,7 @@ class Channel:
             if not chunk:
                 raise Closed("the input ended")
             self.buffer += chunk
+            body = self._take()
         return self._message(body)
 
     def _take(self):

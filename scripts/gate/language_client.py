@@ -57,7 +57,7 @@ class Client:
 
     def read(self):
         """Puts the server's messages into the inbox, and None at their end."""
-        while (head := self.server.stdout.readline()).startswith(b"Content-Length: "):
+        for head in iter(self.server.stdout.readline, b""):
             self.server.stdout.readline()
             self.inbox.put(json.loads(self.server.stdout.read(int(head.partition(b":")[2]))))
         self.inbox.put(None)
