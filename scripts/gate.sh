@@ -145,6 +145,7 @@ nice -n 19 python3 scripts/gate/edits.py "${how[@]}" > "$tried" 2>&1 &
 edits=$!
 prove
 run python3 "$tree/scripts/gate/readme.py"
+run python3 "$tree/scripts/gate/examples.py"
 run python3 "$tree/scripts/gate/rows.py"
 run python3 "$tree/scripts/gate/refused_growths.py"
 run python3 "$tree/scripts/gate/real_files.py"
