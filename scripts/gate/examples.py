@@ -3,10 +3,11 @@
 
     scripts/gate/examples.py [--program PROGRAM]
 
-Each indented block of the first two pages is a file a.py, or the report on the file before it, without the last line. The command
-with its options stands on the page. A file without a report is clean. The README has two files and the whole report. CODES.md has a part for each code of the messages
-in INDEX.md, in order, and the report of each has the code. A problem matcher finds the parts of an error, and no note and
-no summary. Ends with the line `examples: P passed, F failed`, and with status 0 or 1.
+Each indented block of the first two pages is a file a.py, or the report on the file before it, without the last line. The
+command with its options stands on the page. A file without a report is clean. The README has two files and the whole
+report. CODES.md has a part for each code of the messages in INDEX.md, in order, and the report of each has the code. A problem
+matcher finds the parts of an error, and no note and no summary. Ends with the line `examples: P passed, F failed`, and with
+status 0 or 1.
 """
 
 import argparse
