@@ -4,7 +4,8 @@
 # First comes what is told in seconds: the layout of the code, by the kit's formatter and in its columns, the names in the
 # documents, and whether each must-fail edit fits its text. Where one of these fails the gate ends at once; with --quick they are
 # all. Then it runs the tests and proves and builds every crate by `rt ci`; with --proofs that is all, and what it proved is kept
-# on this machine. Then it runs the built program by the other scripts, and tries the must-fail edits.
+# on this machine. Then it runs the built program by the other scripts, and tries the must-fail edits. Where nothing failed it
+# leaves the program and its SHA-256 in out/.
 # The crates are proved and built in a copy without the edits: `rt ci` would try these one by one, each with a load of its
 # crate, after it had proved each crate a second time; scripts/gate/edits.py tries several in one check, each crate's once
 # `rt ci` has proved it. What it found refused is kept, too; with --anew nothing that is kept counts, and all is proved and tried.
@@ -86,7 +87,7 @@ quick() {
 
 # Makes the copy in which the crates are proved.
 copy() {
-    local left_out=(--exclude=./.git --exclude='./crates/*/out' --exclude='./crates/*/must-fail' --exclude='./crates/*tests')
+    local left_out=(--exclude=./.git --exclude=./out --exclude='./crates/*/out' --exclude='./crates/*/must-fail' --exclude='./crates/*tests')
     tar -c --no-wildcards-match-slash "${left_out[@]}" . | tar -x -C "$tree" &&
         sed -i '/^[a-z_]*tests:/d' "$tree/crates.txt"
 }
@@ -110,6 +111,13 @@ tell() {
     echo "gate: $(((SECONDS + 30) / 60)) minutes; proofs: $made made, $kept kept; edits: ${edits:-none tried}"
 }
 
+# Leaves the proved program and its sum in out/, from where a release may take them, if nothing has failed.
+leave() {
+    [[ $failed -eq 0 ]] || return
+    mkdir -p out && cp "$tree/crates/dmypy/out/dmypy" out/dmypy && (cd out && sha256sum dmypy > dmypy.sha256) ||
+        { echo "gate: failed: the program cannot be left in out/" && failed=1; }
+}
+
 anew=()
 minutes=150
 case $part in
@@ -124,6 +132,7 @@ fi
 
 quick || { echo "gate: it ends here, since what is told in seconds failed" && close; }
 [[ $part != --quick ]] || close
+rm -f out/dmypy out/dmypy.sha256
 copy || { echo "gate: failed: no copy of the repository" && failed=1 && close; }
 
 # Four checks side by side, each with one job: `rt ci` alone reckons with twice the memory that these crates take, and lets
@@ -145,11 +154,17 @@ nice -n 19 python3 scripts/gate/edits.py "${how[@]}" > "$tried" 2>&1 &
 edits=$!
 prove
 run python3 "$tree/scripts/gate/readme.py"
+run python3 "$tree/scripts/gate/examples.py"
 run python3 "$tree/scripts/gate/rows.py"
 run python3 "$tree/scripts/gate/refused_growths.py"
 run python3 "$tree/scripts/gate/real_files.py"
+run python3 "$tree/scripts/gate/editor.py"
+run python3 "$tree/scripts/gate/hooks.py"
+run python3 "$tree/scripts/gate/commits.py"
+run python3 "$tree/scripts/gate/ignores.py"
 judge_beside "$tests" "$tested" scripts/gate/tests.py
 judge_beside "$edits_test" "$edits_tested" scripts/gate/edits_test.py
 judge_beside "$edits" "$tried" scripts/gate/edits.py
+leave
 tell
 close

@@ -33,7 +33,7 @@ CRATE = re.compile(r"(?:pyc_\w+|dmypy)")
 SUFFIXES = (".rt", ".antt", ".py", ".sh", ".c", ".md", ".txt", ".edit", ".test", ".session", ".stdout")
 NOT_OURS = {".git", "out", "__pycache__"}
 # what begins a path of the repository
-FIRST = {"crates", "scripts", "docs", "bench", ".ci", "src", "specs", "proofs", "must-fail"}
+FIRST = {"crates", "editors", "scripts", "docs", "bench", ".ci", "src", "specs", "proofs", "must-fail"}
 # no path of the repository: made by `rt`, or words that stand for a name
 NO_PATH = re.compile(r"(^|/)out(/|$)|NAME|\.\.|^\.git/")
 ATTIC = "attic"

@@ -7,6 +7,7 @@ use Rattle.pyc_bindings.specs.Redefinitions.{declaration, Redefinition}
 use Rattle.pyc_bindings.specs.Scopes.{Part, statement, target, caught, parts_of}
 use Rattle.pyc_bindings.specs.declared.place.Place.{Place}
 use Rattle.pyc_bindings.specs.Scopes.{PartForm}
+use Rattle.pyc_functions.specs.Redefined.{redefinition_reading}
 use Rattle.pyc_iface.specs.declared.options.Options.{Options}
 use Rattle.pyc_imports.specs.ImportReadings.{asked_presence, presence_in}
 use Rattle.pyc_names.specs.Following.{is_import_from}
@@ -21,7 +22,7 @@ use Rattle.pyc_reading.specs.Readings.{Done, and_then, asked, each}
 use Rattle.pyc_statement_read_laws.proofs.AskedLemmas.{asked-alone, asked-both, asked-each, asked-unless}
 use Rattle.pyc_statement_read_laws.proofs.ImportLemmas.{import_asks}
 use Rattle.pyc_statement_read_laws.specs.ImportRows.{Answers, HeaderReads, binding_keys, header_keys, is_fixed, part_keys, ring_keys, all_ring_keys}
-use Rattle.pyc_units.specs.Header.{binding_reading, cycle_reading, cycle_told, cycles_after, form_reading, header_reading, outcome_reading, part_reading, redefinition_reading}
+use Rattle.pyc_units.specs.Header.{binding_reading, cycle_reading, cycle_told, cycles_after, form_reading, header_reading, outcome_reading, part_reading}
 
 -- ---- parts
 

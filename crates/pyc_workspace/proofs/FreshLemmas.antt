@@ -52,7 +52,7 @@ length-numbered source from [] = refl
 length-numbered source from (unit ∷ more) = ap suc (length-numbered source (from + 1) more)
 
 unit_count-is : (outcome : Outcome) → length (units.file_units outcome) ≡ unit_count outcome
-unit_count-is (tree m) = omega (arith, length-map (units.unit_definitions m.statements) units.definition)
+unit_count-is (tree m) = omega arith
 unit_count-is (fault line text) = refl
 
 module _ (file : File) where

@@ -8,10 +8,10 @@ use Rattle.pyc_workspace.proofs.fresh.check_files.Goals as goal
 
 pub returns-clause-checked : goal.returns-clause-checked
 returns-clause-checked c =
-    let world = c.new-2.ensures.files ∙ c.in_ok-world.ensures ∙ ap sources_in c.deref.ensures.value in
+    let world = c.new.ensures.files ∙ c.in_ok-world.ensures ∙ ap sources_in c.deref.ensures.value in
     checks_from c.args.options (files_in c.args.files.now) _ _
     (c.in_ok-checks.ensures.checked
-    ∙ (λ i. map (body.checked (c.new-2.ensures.options i) (world i)) (parts.units_of (sources_in (c.deref-2.ensures.value i)))))
+    ∙ (λ i. map (body.checked (c.new.ensures.options i) (world i)) (parts.units_of (sources_in (c.deref-2.ensures.value i)))))
     c.in_ok-sources.ensures
 
 pub returns-clause-metered : goal.returns-clause-metered

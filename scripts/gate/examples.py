@@ -1,0 +1,130 @@
+#!/usr/bin/env python3
+"""Runs the examples of docs/CODES.md, docs/DIFFERENCES.md and the README, and tries the problem matchers of docs/USING.md.
+
+    scripts/gate/examples.py [--program PROGRAM]
+
+Each indented block of the first two pages is a file a.py, or the report on the file before it, without the last line. The
+command with its options stands on the page. A file without a report is clean. The README has two files and the whole
+report. CODES.md has a part for each code of the messages in INDEX.md, in order, and the report of each has the code. A problem
+matcher finds the parts of an error, and no note and no summary. Ends with the line `examples: P passed, F failed`, and with
+status 0 or 1.
+"""
+
+import argparse
+import json
+import re
+import subprocess
+import sys
+import tempfile
+from pathlib import Path
+
+from judging import PROGRAM, SECONDS, Tally
+from repository import ROOT
+
+CODES = ROOT / "docs" / "CODES.md"
+PAGES = (CODES, ROOT / "docs" / "DIFFERENCES.md")
+MESSAGES = ROOT / "docs" / "INDEX.md"
+README = ROOT / "README.md"
+RECIPES = ROOT / "docs" / "USING.md"
+ERROR = {"file": "pkg/a.py", "line": "12", "severity": "error", "message": 'Name "x" is not defined', "code": "name-defined"}
+NO_ERRORS = ('a.py:1: note: Revealed type is "int"', "Found 1 error in 1 file (checked 1 source file)")
+COMMAND = re.compile(r"`dmypy (check(?: --[a-z-]+)*) a\.py`")
+BLOCK = re.compile(r"(?:^    .*\n|^\n(?=    ))+", re.MULTILINE)
+REPORT = re.compile(r"a\.py:\d+: ")
+CODE = re.compile(r"  \[([a-z-]+)\]$", re.MULTILINE)
+LISTED = re.compile(r"^\| `[^|]*\| `([a-z-]+)` \|", re.MULTILINE)
+CLEAN = "Success: no issues found in 1 source file"
+
+
+def blocks_of(text):
+    """The indented blocks of a page."""
+    return [re.sub(r"(?m)^    ", "", found[0]).strip("\n") + "\n" for found in BLOCK.finditer(text)]
+
+
+def examples(text):
+    """The files of a page, each with the report on it, which is empty where the file is clean."""
+    blocks = blocks_of(text)
+    for block, after in zip(blocks, [*blocks[1:], ""]):
+        if not REPORT.match(block):
+            yield block, after if REPORT.match(after) else ""
+
+
+def run(program, words, files):
+    """Runs a check on files with these texts."""
+    with tempfile.TemporaryDirectory() as folder:
+        for path, text in files.items():
+            Path(folder, path).write_text(text, encoding="utf-8")
+        how = {"cwd": folder, "capture_output": True, "text": True, "timeout": SECONDS, "check": False}
+        return subprocess.run([program, *words, *files], **how)
+
+
+def judge_readme(program, tally):
+    """The example of the README: two files, and the whole report on them."""
+    prices, shop, report = blocks_of(README.read_text(encoding="utf-8"))[:3]
+    done = run(program, ["check"], {"prices.py": prices, "shop.py": shop})
+    tally.judge((done.stdout, done.returncode) == (report, 1), f"the README's example: {done}")
+
+
+def judge_example(program, words, source, wanted, tally):
+    """The report on a file, less its last line."""
+    done = run(program, words, {"a.py": source})
+    *lines, last = done.stdout.splitlines(keepends=True)
+    is_right = ("".join(lines), done.returncode) == (wanted, 1 if wanted else 0) and bool(wanted) != last.startswith(CLEAN)
+    tally.judge(is_right, f"{source}{done.stdout}{done.stderr}")
+
+
+def judge_page(page, program, tally):
+    """The examples of a page."""
+    text = page.read_text(encoding="utf-8")
+    words = COMMAND.search(text)[1].split()
+    for source, wanted in examples(text):
+        judge_example(program, words, source, wanted, tally)
+    wanted = len(re.findall(r"(?m)^The report:$", text))
+    reports = sum(bool(report) for _, report in examples(text))
+    tally.judge(reports == wanted > 0, f"{page.name}: {reports} reports, not {wanted}")
+
+
+def judge_codes(tally):
+    """The parts of CODES.md are the codes of all messages, and each has a report with its code."""
+    codes = sorted(set(LISTED.findall(MESSAGES.read_text(encoding="utf-8").partition("\n## Messages\n")[2])))
+    parts = re.split(r"(?m)^## ", CODES.read_text(encoding="utf-8"))[1:]
+    names = [part.partition("\n")[0] for part in parts]
+    tally.judge(names == codes != [], f"CODES.md has {names}, not {codes}")
+    for name, part in zip(names, parts):
+        first = next((report for _, report in examples(part)), "")
+        tally.judge(set(CODE.findall(first)) == {name}, f"CODES.md: the report of {name}: {first}")
+
+
+def front(value):
+    """The first item of a list, or what is no list."""
+    return value[0] if isinstance(value, list) else value
+
+
+def judge_matchers(tally):
+    """The problem matchers of USING.md, of which an editor and a server have one each."""
+    found = [json.loads(block) for block in blocks_of(RECIPES.read_text(encoding="utf-8")) if block.startswith("{")]
+    tally.judge(len(found) == 2, f"USING.md has {len(found)} problem matchers")
+    for matcher in found:
+        pattern = front(front(matcher["problemMatcher"])["pattern"])
+        match = re.search(pattern["regexp"], "{file}:{line}: {severity}: {message}  [{code}]".format(**ERROR))
+        parts = {name: match and match[pattern[name]] for name in ERROR}
+        tally.judge(parts == ERROR, f"what a problem matcher finds: {parts}")
+        for line in NO_ERRORS:
+            tally.judge(not re.search(pattern["regexp"], line), f"a problem matcher finds an error: {line}")
+
+
+def main():
+    words = argparse.ArgumentParser(description="Runs the examples of the pages for users.")
+    words.add_argument("--program", type=Path, default=PROGRAM, help="another program")
+    program = words.parse_args().program.resolve()
+    tally = Tally("examples")
+    for page in PAGES:
+        judge_page(page, program, tally)
+    judge_readme(program, tally)
+    judge_codes(tally)
+    judge_matchers(tally)
+    return tally.close()
+
+
+if __name__ == "__main__":
+    sys.exit(main())

@@ -1,0 +1,103 @@
+#!/usr/bin/env python3
+"""Adds ignore comments to small projects by scripts/add_ignores.py.
+
+    scripts/gate/ignores.py [--program PROGRAM]
+
+Ends with the line `ignores: P passed, F failed`, and with status 0 or 1.
+"""
+
+import argparse
+import subprocess
+import sys
+import tempfile
+from pathlib import Path
+
+from judging import PROGRAM, Tally
+from small_repository import SmallRepository
+
+LISTED = """x: list[int] = [
+    '',\t
+    1,  # one
+    b'',  # two
+]
+"""
+LISTED_AFTER = """x: list[int] = [
+    '',  # type: ignore[list-item]
+    1,  # one
+    b'',  # type: ignore[list-item]  # two
+]
+"""
+ENDED = """def f() -> int:
+    if g:
+        '''
+'''
+"""
+ENDED_AFTER = """def f() -> int:  # type: ignore[return]
+    if g:  # type: ignore[name-defined]
+        '''
+'''
+"""
+# the text of a file, and what the script makes of it
+TEXTS = (
+    ('x: int = ""\n', 'x: int = ""  # type: ignore[assignment]\n'),
+    ('x: int = ""', 'x: int = ""  # type: ignore[assignment]'),
+    ('x: int = ""  # why\ny = 1\n', 'x: int = ""  # type: ignore[assignment]  # why\ny = 1\n'),
+    ("x: int = ''.a + y\n", "x: int = ''.a + y  # type: ignore[attr-defined, name-defined]\n"),
+    ("x = y # type:ignore[a , b]# z\n", "x = y  # type: ignore[a, b, name-defined]  # z\n"),
+    ('x: int = "#"\r\ny: int = 1\r\n', 'x: int = "#"  # type: ignore[assignment]\r\ny: int = 1\r\n'),
+    ('\ufeffx: int = "\U0001f600"\rz = 1\r', '\ufeffx: int = "\U0001f600"  # type: ignore[assignment]\rz = 1\r'),
+    ("x: int = \\\n  ''\n", "x: int = \\\n  ''  # type: ignore[assignment]\n"),
+    (LISTED, LISTED_AFTER),
+    (ENDED, ENDED_AFTER),
+)
+# texts with a line that can have no comment, or no comment that counts
+OPEN = ("x: int = '''\n'''\n", "x = y + \\\n  1\n", "if (n := 1):\n    pass\n", "x = (\n", "x = $\n")
+
+
+def judge_texts(room, tally):
+    """Each text, and that nothing is changed the second time."""
+    for text, wanted in TEXTS:
+        room.write(**{"a.py": text})
+        done = room.script("add_ignores.py", "a.py")
+        got = room.read("a.py")
+        clean = b"Success: no issues found in 1 source file\n"
+        tally.judge((got, done.stdout, done.returncode) == (wanted, clean, 0), f"{text!r}: {got!r}: {done}")
+        room.script("add_ignores.py", "a.py")
+        tally.judge(room.read("a.py") == wanted, f"{text!r}: the second time: {room.read('a.py')!r}")
+    for text in OPEN:
+        room.write(**{"a.py": text})
+        done = room.script("add_ignores.py", "a.py")
+        got = room.read("a.py")
+        is_told = done.stdout.startswith(b"a.py:1: error: ")
+        tally.judge((got, is_told, done.returncode) == (text, True, 1), f"{text!r}: {got!r}: {done}")
+
+
+def judge_projects(room, tally):
+    """Whole folders, options, and files that are refused."""
+    inner = {"a.py": "import b\n\nx: str = b.f(1)\n", "b.py": "def f(n: int) -> int:\n    return n\n", "c/d.py": "import os\n"}
+    room.write(**inner, **{"my file.py": "x: int = ''\n"})
+    done = room.script("add_ignores.py", "--ignore-missing-imports")
+    tally.judge(b"'my file.py' is skipped: " in done.stdout and done.returncode == 0, f"a folder: {done}")
+    changed = {"a.py": inner["a.py"].replace(")\n", ")  # type: ignore[assignment]\n")}
+    for path, text in {**inner, **changed, "my file.py": "x: int = ''\n"}.items():
+        tally.judge(room.read(path) == text, f"{path}: {room.read(path)!r}")
+    room.script("add_ignores.py")
+    tally.judge(room.read("c/d.py") == "import os  # type: ignore[import-not-found]\n", "an import that is not found")
+
+
+def main():
+    words = argparse.ArgumentParser(description="Adds ignore comments to small projects.")
+    words.add_argument("--program", type=Path, default=PROGRAM, help="another program")
+    program = words.parse_args().program.resolve()
+    tally = Tally("ignores")
+    for test in (judge_texts, judge_projects):
+        with tempfile.TemporaryDirectory() as folder:
+            try:
+                test(SmallRepository(folder, program), tally)
+            except (OSError, subprocess.SubprocessError) as why:
+                tally.judge(False, f"{test.__name__}: {why}")
+    return tally.close()
+
+
+if __name__ == "__main__":
+    sys.exit(main())
