@@ -1,0 +1,4 @@
+pub mod AskedLemmas
+pub mod NameLemmas
+pub mod AnnotationLemmas
+pub mod ClassLemmas

@@ -1,0 +1,2 @@
+pub mod AnnotationRows
+pub mod ClassRows
