@@ -2,3 +2,4 @@ pub mod AskedLemmas
 pub mod NameLemmas
 pub mod AnnotationLemmas
 pub mod ClassLemmas
+pub mod FunctionLemmas

@@ -1,2 +1,3 @@
 pub mod AnnotationRows
 pub mod ClassRows
+pub mod FunctionRows

@@ -4,3 +4,4 @@
 
 pub mod annotations;
 pub mod classes;
+pub mod functions;
