@@ -1,9 +1,9 @@
 -- What functions ask.
-use Rattle.std.proofs.Common.{◌≡◌, ℕ, Bool, true, false, not, ◌&&◌, if◌then◌else◌, List, [], ◌∷◌, ◌++◌, Option, None, Some, refl, ap, ◌∙◌, append-nil}
+use Rattle.std.proofs.Common.{◌≡◌, ℕ, Bool, true, false, not, ◌&&◌, if◌then◌else◌, List, [], ◌∷◌, ◌++◌, Option, None, Some, refl, ◌∙◌, append-nil}
 use Rattle.pyc_annotations.specs.Annotations.{read_type}
 use Rattle.pyc_ast.specs.declared.position.Position.{Position}
 use Rattle.pyc_ast.specs.Exprs.{Expr, at_of}
-use Rattle.pyc_ast.specs.Statements.{FunctionDefinition, Parameter, Stmts}
+use Rattle.pyc_ast.specs.Statements.{Parameter, Stmts}
 use Rattle.pyc_bindings.specs.Bindings.{Binding}
 use Rattle.pyc_bindings.specs.Redefinitions.{Redefinition, redefinitions}
 use Rattle.pyc_bodies.specs.Bodies.{Body, class_around}
@@ -12,7 +12,7 @@ use Rattle.pyc_bodies.specs.BodyNames.{body_context}
 use Rattle.pyc_body_read_laws.proofs.AnnotationLemmas.{annotation_asks}
 use Rattle.pyc_body_read_laws.proofs.AskedLemmas.{asked-after}
 use Rattle.pyc_body_read_laws.specs.AnnotationRows.{annotation_keys}
-use Rattle.pyc_body_read_laws.specs.FunctionRows.{EndReads, FunctionReads, HeadReads, ParameterReads, ReturnReads, default_keys, end_keys, given_keys, head_keys, inside_keys, inside_of, optional_annotation_keys, parameter_keys, parameters_keys, return_keys, type_at}
+use Rattle.pyc_body_read_laws.specs.FunctionRows.{EndReads, FunctionReads, HeadReads, ParameterReads, ReturnReads, default_keys, end_keys, given_keys, head_keys, inside_keys, optional_annotation_keys, parameter_keys, parameters_keys}
 use Rattle.pyc_expr.specs.Values.{infer_type}
 use Rattle.pyc_functions.specs.Ends.{end_read, is_stub, owed_end}
 use Rattle.pyc_functions.specs.FunctionNames.{function_bindings}
@@ -26,7 +26,7 @@ use Rattle.pyc_places.specs.States.{is_reachable, nothing_narrowed}
 use Rattle.pyc_read_laws.proofs.ObligationLemmas.{obligation_asks}
 use Rattle.pyc_read_laws.specs.ObligationRows.{obligation_keys}
 use Rattle.pyc_read_laws.specs.Rows.{Answers}
-use Rattle.pyc_reading.specs.Desks.{Step, owed, owing}
+use Rattle.pyc_reading.specs.Desks.{Step, owed}
 use Rattle.pyc_reading.specs.Keys.{Key}
 use Rattle.pyc_reading.specs.Readings.{Done, and_then, asked, each, result_of}
 use Rattle.pyc_signatures.specs.Signatures.{annotated_or, first_type}

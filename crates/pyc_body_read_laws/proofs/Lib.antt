@@ -3,3 +3,4 @@ pub mod NameLemmas
 pub mod AnnotationLemmas
 pub mod ClassLemmas
 pub mod FunctionLemmas
+pub mod TargetLemmas

@@ -1,3 +1,4 @@
 pub mod AnnotationRows
 pub mod ClassRows
 pub mod FunctionRows
+pub mod TargetRows

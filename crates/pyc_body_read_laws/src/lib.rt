@@ -5,3 +5,4 @@
 pub mod annotations;
 pub mod classes;
 pub mod functions;
+pub mod targets;
