@@ -50,7 +50,7 @@ own_module answers file x =
 abbrev pub attribute_module : Answers → List (List ℕ) → List ℕ → Option (List (List ℕ))
 attribute_module answers m n = if is_dunder n || is_fixed m then None else module_in (answers (name_key m n))
 
--- attributes one behind another: each asks what it stands for in its module; attributes of what is no module ask nothing
+-- attributes one behind another: each asks what it stands for in its module; one of what is no module asks nothing
 abbrev pub attributes_keys : Answers → List (List ℕ) → Option (List (List ℕ)) → List Key
 attributes_keys answers [] found = []
 attributes_keys answers (n ∷ names) (Some m) =

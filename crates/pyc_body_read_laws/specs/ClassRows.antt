@@ -42,8 +42,8 @@ classes_of_bases answers file head = base_classes (result_of answers (bases (int
 abbrev pub own_class : SourceFile → ClassDefinition → Id
 own_class file head = user file.name head.name
 
--- a class statement that declares its class: the names of its bases, the order of each base that is a class of a source,
--- and its own order; any other asks the names of its bases alone
+-- a class statement that declares its class: the names of its bases, the order of each base that is a class of a
+-- source, and its own order; any other asks the names of its bases alone
 abbrev pub class_keys : Answers → SourceFile → Position → ClassDefinition → List Key
 class_keys answers file at head =
     bases_keys answers (interface_of file) head.arguments
@@ -73,7 +73,8 @@ declared_at answers n (user m x) = declared_by (user m x) (member_at answers (us
 abbrev pub pair_keys : List ℕ → MemberAnswer → MemberAnswer → List Key
 pair_keys n got want =
     obligation_keys got.ty want.ty
-    ++ flat_map (λ (d : Detail). obligation_keys d.got d.want) (override_details (override_by n got want) got.ty want.ty)
+    ++ flat_map (λ (d : Detail). obligation_keys d.got d.want)
+    (override_details (override_by n got want) got.ty want.ty)
 
 -- the same, where the ancestor declares something
 abbrev pub owed_keys : List ℕ → MemberAnswer → Option MemberAnswer → List Key

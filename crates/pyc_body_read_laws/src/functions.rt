@@ -1,6 +1,7 @@
 //! What a function asks.
 
-ghost use Rattle.pyc_body_read_laws.specs.FunctionRows.{EndReads, FunctionReads, HeadReads, ParameterReads, ReturnReads};
+ghost use Rattle.pyc_body_read_laws.specs.FunctionRows.{EndReads, FunctionReads, HeadReads, ParameterReads};
+ghost use Rattle.pyc_body_read_laws.specs.FunctionRows.{ReturnReads};
 
 /// A parameter asks its annotation, and then what its default asks where the function stands, and whether the type of
 /// that is assignable to its own.

@@ -21,13 +21,14 @@ pub fn name_target_asks()
     ensures { NameTargetReads }
 {}
 
-/// A local asks nothing. A name that the body of a class binds asks what the class has under it; without a declared class
-/// nothing. Every other name asks as at the top level.
+/// A local asks nothing. A name that the body of a class binds asks what the class has under it; without a declared
+/// class nothing. Every other name asks as at the top level.
 pub fn body_name_asks()
     ensures { BodyNameReads }
 {}
 
-/// A name that is assigned to in a body asks in the same way; nothing where an import, a function or a class declares it.
+/// A name that is assigned to in a body asks in the same way; nothing where an import, a function or a class declares
+/// it.
 pub fn body_target_asks()
     ensures { BodyTargetReads }
 {}
