@@ -4,3 +4,4 @@ pub mod AnnotationLemmas
 pub mod ClassLemmas
 pub mod FunctionLemmas
 pub mod TargetLemmas
+pub mod FileLemmas

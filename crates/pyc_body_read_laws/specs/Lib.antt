@@ -2,3 +2,4 @@ pub mod AnnotationRows
 pub mod ClassRows
 pub mod FunctionRows
 pub mod TargetRows
+pub mod FileKeys

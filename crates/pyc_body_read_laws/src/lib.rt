@@ -4,5 +4,6 @@
 
 pub mod annotations;
 pub mod classes;
+pub mod files;
 pub mod functions;
 pub mod targets;
