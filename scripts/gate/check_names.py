@@ -4,7 +4,7 @@
     scripts/gate/check_names.py
 
 In `crates.txt` a comment of one word begins a room. Each folder of `crates/` is listed there once, in one room, and the rooms
-have no cycle: a crate names crates of its own room and of earlier ones, and none of the attic, which is the last room.
+have no cycle: a crate names crates of its own room and of earlier ones. The attic is the last room: no other names it.
 ARCHITECTURE.md has a heading for each room, in the same order, with a table of just its crates.
 
 In README.md and docs/*.md each link to a file of the repository has its target, and the heading that it may name. Where
@@ -141,7 +141,7 @@ def fault_of_crate(name, lines):
 
 def fault_of_use(room, other, order):
     """What is wrong where a crate of one room names one of another, by the order of the rooms, or None."""
-    if other == ATTIC:
+    if other == ATTIC and room != ATTIC:
         return "is of the attic"
     return None if order.index(other) <= order.index(room) else f"is of the later room {other}"
 

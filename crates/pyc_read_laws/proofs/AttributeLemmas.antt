@@ -71,7 +71,7 @@ class_object_found-asks answers m x n None = no_class_member-asks answers m x (i
 
 -- ---- items
 
-item_attribute-asks : (answers : Answers) (ty : Ty) (n : List ℕ) → asked answers (item_attribute ty n) ≡ item_attribute_keys answers ty n
+pub item_attribute-asks : (answers : Answers) (ty : Ty) (n : List ℕ) → asked answers (item_attribute ty n) ≡ item_attribute_keys answers ty n
 unfolding and_then instance_attribute class_object_attribute
 item_attribute-asks answers (instance (user m x)) n = ap (λ l. member_key (user m x) n ∷ l) (instance_found-asks answers m x n (member_at answers (user m x) n))
 item_attribute-asks answers (class_object (user m x)) n = ap (λ l. member_key (user m x) n ∷ l) (class_object_found-asks answers m x n (member_at answers (user m x) n))

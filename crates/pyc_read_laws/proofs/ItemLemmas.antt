@@ -77,7 +77,7 @@ item_by-asks answers at brackets got _ = refl
 
 -- ---- subscripts
 
-item_of-asks : (answers : Answers) (at : Position) (brackets : Index) (got ty : Ty) → asked answers (item_of at brackets got ty) ≡ item_subscript_keys answers brackets got ty
+pub item_of-asks : (answers : Answers) (at : Position) (brackets : Index) (got ty : Ty) → asked answers (item_of at brackets got ty) ≡ item_subscript_keys answers brackets got ty
 unfolding item_of
 item_of-asks answers at brackets got ty =
     let owner : Owner = result_of answers (subscript_owner ty) in

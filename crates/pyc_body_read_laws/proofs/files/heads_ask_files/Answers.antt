@@ -1,0 +1,17 @@
+use Rattle.pyc_body_read_laws.proofs.FileLemmas.{annotation_of_files, class_of_files, head_of_files, header_of_files, heir_of_files}
+use Rattle.pyc_body_read_laws.proofs.files.heads_ask_files.Goals as goal
+
+pub returns-clause-header : goal.returns-clause-header
+returns-clause-header c = header_of_files
+
+pub returns-clause-class : goal.returns-clause-class
+returns-clause-class c = class_of_files
+
+pub returns-clause-members : goal.returns-clause-members
+returns-clause-members c = heir_of_files
+
+pub returns-clause-annotation : goal.returns-clause-annotation
+returns-clause-annotation c = annotation_of_files
+
+pub returns-clause-function : goal.returns-clause-function
+returns-clause-function c = head_of_files

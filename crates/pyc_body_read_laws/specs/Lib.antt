@@ -1,0 +1,5 @@
+pub mod AnnotationRows
+pub mod ClassRows
+pub mod FunctionRows
+pub mod TargetRows
+pub mod FileKeys
