@@ -488,7 +488,10 @@ const EXPRESSIONS: &[(&str, &str)] = &[
     ("pass", ""),
     ("del i", ""),
     ("import gone", ""),
-    ("i += \"\"", ""),
+    (
+        "i += \"\"",
+        "operator: Unsupported operand types for + (\"int\" and \"str\");",
+    ),
     ("reveal_type(i)", "note: Revealed type is \"int\";"),
     (
         "reveal_type([1, \"a\"])",
