@@ -1,14 +1,13 @@
 -- Which keys ask files.
-use Rattle.std.proofs.Common.{◌≡◌, ℕ, Bool, true, false, not, ◌&&◌, ◌||◌, codes, is_none, is_some, if◌then◌else◌, length, List, [], ◌∷◌, ◌++◌, flat_map, Option, None, Some, refl, sym, subst}
+use Rattle.std.proofs.Common.{◌≡◌, ℕ, Bool, true, false, not, ◌&&◌, ◌||◌, codes, is_none, if◌then◌else◌, length, List, [], ◌∷◌, ◌++◌, flat_map, Option, None, Some, refl, sym, subst}
 use Rattle.pyc_annotations.specs.Annotations.{Subscripted, form_subscripted, class_subscripted, any_subscripted, value_subscripted, wrong_subscripted, takes}
 use Rattle.pyc_annotations.specs.declared.type_form.TypeForm.{TypeForm}
 use Rattle.pyc_annotations.specs.declared.type_form.TypeForm.TheVariants as type_form
-use Rattle.pyc_ast.specs.declared.expr.ArgumentKind.{ArgumentKind}
 use Rattle.pyc_ast.specs.declared.expr.ArgumentKind.TheVariants as argument_kind
 use Rattle.pyc_ast.specs.declared.stmt.Alias.{Alias}
 use Rattle.pyc_ast.specs.Exprs.{Argument, Expr, Index, argument}
 use Rattle.pyc_ast.specs.Modules.{Outcome, tree, fault}
-use Rattle.pyc_ast.specs.Statements.{ImportFrom, Parameter, StmtForm}
+use Rattle.pyc_ast.specs.Statements.{FunctionDefinition, ImportFrom, Parameter, StmtForm}
 use Rattle.pyc_ast.specs.Statements as plain
 use Rattle.pyc_bindings.specs.Bindings.{Binding, form_of}
 use Rattle.pyc_bindings.specs.Redefinitions.{declaration}
@@ -24,7 +23,7 @@ use Rattle.pyc_body_read_laws.specs.AnnotationRows as annotation
 use Rattle.pyc_body_read_laws.specs.AnnotationRows.{ArgumentKeys, ShapeKeys, callable_form_keys, callable_keys, class_object_keys, ellipsis_keys, form_keys, list_keys, other_keys, shape_keys, tuple_keys, type_list_keys, types_keys, annotation_keys, argument_keys, argument_list_keys, arguments_keys, attribute_module, attributes_keys, base_keys, bases_keys, dotted_keys, own_module, own_name_keys, subscripted_at, written_keys}
 use Rattle.pyc_body_read_laws.specs.ClassRows.{ancestor_keys, bound_keys, class_keys, classes_of_bases, declared_at, declared_keys, heir_keys, heir_of, name_keys, own_class, owed_keys, override_keys, pair_keys}
 use Rattle.pyc_body_read_laws.specs.FileKeys.{AnnotationAsksFiles, AsksFiles, AttributeAsksFiles, AttributeTargetAsksFiles, ClassAsksFiles, HeaderAsksFiles, HeadAsksFiles, HeirAsksFiles, IterationAsksFiles, NameTargetAsksFiles, ObligationAsksFiles, OfFiles, SubscriptAsksFiles, SubscriptTargetAsksFiles, is_of_files, is_source}
-use Rattle.pyc_body_read_laws.specs.FunctionRows.{default_keys, optional_annotation_keys, parameter_keys, parameters_keys, type_at}
+use Rattle.pyc_body_read_laws.specs.FunctionRows.{default_keys, head_keys, optional_annotation_keys, parameter_keys, parameters_keys, type_at}
 use Rattle.pyc_body_read_laws.specs.TargetRows.{is_defined, item_target_keys}
 use Rattle.pyc_builtins.specs.Members.{is_dunder}
 use Rattle.pyc_class.specs.declared.builtin_class.BuiltinClass.TheVariants as class
@@ -58,39 +57,39 @@ use Rattle.pyc_reading.specs.Owing.{Detail, written}
 use Rattle.pyc_reading.specs.Readings.{asked, result_of}
 use Rattle.pyc_statement_read_laws.proofs.HeaderLemmas.{header_asks}
 use Rattle.pyc_statement_read_laws.specs.ImportRows.{all_ring_keys, binding_keys, header_keys, home_of, import_keys, part_keys, presence_keys}
-use Rattle.pyc_type_exprs.specs.TypeExprs.{TypeExpr, none_written, name_written, union_written, subscript_written, wrong_written, TypeArgument, type_argument, ArgumentShape, ellipsis_shape, list_shape, other_shape, TypeExprs, no_type, another_type, TypeArguments, no_argument, another_argument, type_expr}
+use Rattle.pyc_type_exprs.specs.TypeExprs.{TypeExpr, none_written, name_written, union_written, subscript_written, wrong_written, type_argument, ArgumentShape, ellipsis_shape, list_shape, other_shape, TypeExprs, no_type, another_type, TypeArguments, no_argument, another_argument, type_expr}
 use Rattle.pyc_type_forms.specs.Types.{Ty, any, none, module_type, instance, class_object, list, dict, tuple, tuple_of, union, callable}
 use Rattle.pyc_type_forms.specs.Unions.{items_of, row_items}
 
 -- ---- lists of keys
 
-of-append : (ks ls : List Key) → OfFiles ks → OfFiles ls → OfFiles (ks ++ ls)
+pub of-append : (ks ls : List Key) → OfFiles ks → OfFiles ls → OfFiles (ks ++ ls)
 of-append [] ls first second = second
 of-append (k ∷ ks) ls (one, first) second = (one, of-append ks ls first second)
 
-of-each : {X : Type 0} (keys : X → List Key) (xs : List X) → ((x : X) → OfFiles (keys x)) → OfFiles (flat_map keys xs)
+pub of-each : {X : Type 0} (keys : X → List Key) (xs : List X) → ((x : X) → OfFiles (keys x)) → OfFiles (flat_map keys xs)
 of-each keys [] each = tt
 of-each keys (x ∷ xs) each = of-append (keys x) (flat_map keys xs) (each x) (of-each keys xs each)
 
 -- nothing of a fixed module
-of-unless : (b : Bool) (k : Key) → is_of_files k ≡ not b → OfFiles (if b then [] else k ∷ [])
+pub of-unless : (b : Bool) (k : Key) → is_of_files k ≡ not b → OfFiles (if b then [] else k ∷ [])
 of-unless true k same = tt
 of-unless false k same = (same, tt)
 
-of-unless_either : (a b : Bool) (k : Key) → is_of_files k ≡ not b → OfFiles (if a || b then [] else k ∷ [])
+pub of-unless_either : (a b : Bool) (k : Key) → is_of_files k ≡ not b → OfFiles (if a || b then [] else k ∷ [])
 of-unless_either true b k same = tt
 of-unless_either false b k same = of-unless b k same
 
 -- some keys or none
-of-else : (b : Bool) (ks : List Key) → OfFiles ks → OfFiles (if b then [] else ks)
+pub of-else : (b : Bool) (ks : List Key) → OfFiles ks → OfFiles (if b then [] else ks)
 of-else true ks all = tt
 of-else false ks all = all
 
-of-if : (b : Bool) (ks : List Key) → OfFiles ks → OfFiles (if b then ks else [])
+pub of-if : (b : Bool) (ks : List Key) → OfFiles ks → OfFiles (if b then ks else [])
 of-if true ks all = all
 of-if false ks all = tt
 
-of-sources : (classes : List Id) → OfFiles (source_keys classes)
+pub of-sources : (classes : List Id) → OfFiles (source_keys classes)
 of-sources [] = tt
 of-sources (builtin c ∷ classes) = of-sources classes
 of-sources (user m x ∷ classes) = (refl, of-sources classes)
@@ -104,7 +103,7 @@ of-presence : (home : Option (List (List ℕ))) (x : List ℕ) → OfFiles (pres
 of-presence (Some m) x = of-unless (is_fixed m) (key.has_name (record { home = m; name = x })) refl
 of-presence None x = tt
 
-of-import : (file : Interface) (form : StmtForm) → OfFiles (import_keys file form)
+pub of-import : (file : Interface) (form : StmtForm) → OfFiles (import_keys file form)
 of-import file (plain.import modules) = of-each _ modules (λ m. of-unless (is_fixed m.path) (key.has_module m.path) refl)
 of-import file (plain.import_from from) = of-each (λ (a : Alias). presence_keys (home_of file from) a.name) from.names (λ (a : Alias). of-presence (home_of file from) a.name)
 of-import file _ = tt
@@ -395,9 +394,12 @@ module _ (outside : Body) (defaults : (x : Expr) (want : Option Ty) → AsksFile
       (of-optional_annotation answers (interface_of outside.file) p.annotation) (of-default answers (type_at answers outside receiver p) p.default))
       (of-parameters answers any rest)
 
-pub head_of_files : HeadAsksFiles
-head_of_files outside head defaults answers =
+pub of-head : (outside : Body) (head : FunctionDefinition) → ((x : Expr) (want : Option Ty) → AsksFiles (infer_type (body_context outside no_locals) nothing_narrowed x want))
+    → (answers : Answers) → OfFiles (head_keys answers outside head)
+of-head outside head defaults answers =
     let receiver = receiver_of (class_around outside.kind) head.decorators in
-    subst OfFiles (sym (head_asks answers outside head))
-    (of-append (parameters_keys answers outside receiver head.parameters) (optional_annotation_keys answers (interface_of outside.file) head.returns)
-    (of-parameters outside defaults answers receiver head.parameters) (of-optional_annotation answers (interface_of outside.file) head.returns))
+    of-append (parameters_keys answers outside receiver head.parameters) (optional_annotation_keys answers (interface_of outside.file) head.returns)
+    (of-parameters outside defaults answers receiver head.parameters) (of-optional_annotation answers (interface_of outside.file) head.returns)
+
+pub head_of_files : HeadAsksFiles
+head_of_files outside head defaults answers = subst OfFiles (sym (head_asks answers outside head)) (of-head outside head defaults answers)

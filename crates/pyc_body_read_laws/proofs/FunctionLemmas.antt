@@ -118,7 +118,7 @@ end_asks answers at result false = refl
 
 -- ---- the whole
 
-again-asks : (answers : Answers) (again : List Redefinition) → asked answers (each redefinition_reading again) ≡ []
+pub again-asks : (answers : Answers) (again : List Redefinition) → asked answers (each redefinition_reading again) ≡ []
 unfolding and_then
 again-asks answers [] = refl
 again-asks answers (found ∷ rest) = again-asks answers rest

@@ -5,3 +5,4 @@ pub mod ClassLemmas
 pub mod FunctionLemmas
 pub mod TargetLemmas
 pub mod FileLemmas
+pub mod UnitLemmas
