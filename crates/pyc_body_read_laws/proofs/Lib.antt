@@ -6,3 +6,4 @@ pub mod FunctionLemmas
 pub mod TargetLemmas
 pub mod FileLemmas
 pub mod UnitLemmas
+pub mod OwedLemmas

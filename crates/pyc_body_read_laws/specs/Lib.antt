@@ -4,3 +4,4 @@ pub mod FunctionRows
 pub mod TargetRows
 pub mod FileKeys
 pub mod UnitKeys
+pub mod OwedRows

@@ -1,7 +1,8 @@
-//! What a function asks.
+//! What a function asks, and what it owes.
 
 ghost use Rattle.pyc_body_read_laws.specs.FunctionRows.{EndReads, FunctionReads, HeadReads, ParameterReads};
 ghost use Rattle.pyc_body_read_laws.specs.FunctionRows.{ReturnReads};
+ghost use Rattle.pyc_body_read_laws.specs.OwedRows.{BareReturnIsOwed, DefaultIsOwed, EndIsOwed, ReturnIsOwed};
 
 /// A parameter asks its annotation, and then what its default asks where the function stands, and whether the type of
 /// that is assignable to its own.
@@ -29,4 +30,13 @@ pub fn end_asks()
 /// nothing at its end.
 pub fn function_asks()
     ensures { FunctionReads }
+{}
+
+/// Each default is owed to the type of its parameter, what each `return` in a function gives to the type of the result,
+/// and None at an end to which a run comes, whether that holds or not.
+pub fn function_owes()
+    ensures default { DefaultIsOwed }
+    ensures value { ReturnIsOwed }
+    ensures bare { BareReturnIsOwed }
+    ensures end { EndIsOwed }
 {}
