@@ -26,7 +26,7 @@ from urllib.parse import unquote, urlsplit
 from lsp import hover, project
 from lsp.documents import Document, lines_of, units
 from lsp.protocol import Channel, Closed
-from lsp.session import REASONS, Ended, Message, Session
+from lsp.session import REASONS, Ended, Message, Session, add_words
 
 ERROR = 1
 SEVERITIES = {"error": ERROR, "warning": 2, "note": 3}
@@ -394,13 +394,11 @@ HANDLERS = {
 
 def main():
     words = argparse.ArgumentParser(description="A language server for dmypy, on standard input and output.")
-    words.add_argument("--program", default="dmypy", help="the program, dmypy if no other is given")
+    add_words(words)
     words.add_argument("--root", default="", help="the project's folder, else the editor says it")
     words.add_argument("--pause", type=float, default=0.1, help="the seconds without typing before a check, else 0.1")
-    for option in ("--ignore-missing-imports", "--check-untyped-defs"):
-        words.add_argument(option, dest="options", action="append_const", const=option, help="an option of the session")
     given = words.parse_args()
-    settings = Settings(given.program, tuple(given.options or ()), given.root, given.pause)
+    settings = Settings(given.program, tuple(given.options), given.root, given.pause)
     return Server(Channel(sys.stdin.fileno(), sys.stdout.buffer), settings).run()
 
 

@@ -19,7 +19,7 @@ from pathlib import Path
 sys.path.insert(0, str(Path(__file__).resolve().parents[1] / "editors"))
 from lsp.documents import LINE_END
 from lsp.project import stamps
-from lsp.session import REASONS, Session, program_at
+from lsp.session import REASONS, Session, add_words
 
 BYTE_ORDER_MARK = "\ufeff"
 IGNORE = re.compile(r"# *type: *ignore\[([^][#]*)\]")
@@ -79,12 +79,10 @@ def add_to(session, path, codes):
 
 def main():
     words = argparse.ArgumentParser(description="Adds `# type: ignore[CODE]` to each line with an error.")
-    words.add_argument("--program", default="dmypy", help="the program, dmypy if no other is given")
-    for option in ("--ignore-missing-imports", "--check-untyped-defs"):
-        words.add_argument(option, dest="options", action="append_const", const=option, help="an option of the check")
+    add_words(words)
     words.add_argument("files", nargs="*", metavar="FILE", help="the files, all of the current folder if there are none")
     given = words.parse_args()
-    session = Session(program_at(given.program), given.options or [], ".")
+    session = Session(given.program, given.options, ".")
     for path in given.files or stamps(Path(".")):
         reason = session.update(path)
         if reason:

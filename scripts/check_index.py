@@ -17,7 +17,7 @@ import tempfile
 from pathlib import Path
 
 sys.path.insert(0, str(Path(__file__).resolve().parents[1] / "editors"))
-from lsp.session import BAD_PATH, REASONS, is_file_path
+from lsp.session import BAD_PATH, REASONS, add_words, is_file_path
 
 
 def git(*words, **how):
@@ -42,9 +42,7 @@ def check(top, files, command):
 
 def main():
     words = argparse.ArgumentParser(description="Checks the Python files of git's index.")
-    words.add_argument("--program", default="dmypy", help="the program, dmypy if no other is given")
-    for option in ("--ignore-missing-imports", "--check-untyped-defs"):
-        words.add_argument(option, dest="options", action="append_const", const=option, help="an option of the check")
+    add_words(words)
     words.add_argument("left_out", nargs="*", metavar="LEFT_OUT", help="files and folders that are not checked")
     given = words.parse_args()
     program = shutil.which(given.program)
@@ -56,7 +54,7 @@ def main():
     taken = [file for file in files if is_file_path(file)]
     for file in [file for file in files if file not in taken]:
         print(f"dmypy: {ascii(file)} is skipped: {REASONS[BAD_PATH]}", file=sys.stderr)
-    return check(top, taken, [os.path.abspath(program), "check", *(given.options or ())]) if taken else 0
+    return check(top, taken, [os.path.abspath(program), "check", *given.options]) if taken else 0
 
 
 if __name__ == "__main__":

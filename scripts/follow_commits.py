@@ -16,7 +16,7 @@ import tempfile
 from pathlib import Path
 
 sys.path.insert(0, str(Path(__file__).resolve().parents[1] / "editors"))
-from lsp.session import Session, program_at
+from lsp.session import Session, add_words, program_at
 
 
 class Repository:
@@ -90,16 +90,14 @@ class Follower:
 
 def main():
     words = argparse.ArgumentParser(description="Holds one session over a series of commits.")
-    words.add_argument("--program", default="dmypy", help="the program, dmypy if no other is given")
-    for option in ("--ignore-missing-imports", "--check-untyped-defs"):
-        words.add_argument(option, dest="options", action="append_const", const=option, help="an option of the session")
+    add_words(words)
     words.add_argument("repository", help="the repository's folder")
     words.add_argument("commits", nargs="*", default=["HEAD"], help="words of git rev-list, HEAD if there are none")
     given = words.parse_args()
     repository = Repository(given.repository)
     differing = 0
     with tempfile.TemporaryDirectory() as folder:
-        follower = Follower(repository, program_at(given.program), given.options or [], folder)
+        follower = Follower(repository, program_at(given.program), given.options, folder)
         commits = repository.commits(given.commits)
         for commit in commits:
             sent = follower.follow(commit)

@@ -42,7 +42,7 @@ class Document:
         """Applies changes in order: of a range, or of the whole text where a change has no range."""
         text = self.text
         for change in changes:
-            begin, end = places(text, change["range"]) if "range" in change else (0, len(text))
+            begin, end = places(text, change["range"]) if change.get("range") else (0, len(text))
             text = text[:begin] + change["text"] + text[end:]
         self.is_saved = False
         self._set(version, text)

@@ -5,6 +5,7 @@ import shutil
 import subprocess
 from typing import NamedTuple
 
+OPTIONS = ("--ignore-missing-imports", "--check-untyped-defs")
 LONGEST_PATH = 255
 STATUSES = ("status 0", "status 1")
 BAD_PATH = "2 path"
@@ -76,6 +77,13 @@ def is_file_path(path):
         and parts[-1] != ".py"
         and path != "__init__.py"
     )
+
+
+def add_words(words):
+    """Adds the program and its options to a command line."""
+    words.add_argument("--program", default="dmypy", help="the program, dmypy if no other is given")
+    for option in OPTIONS:
+        words.add_argument(option, dest="options", action="append_const", const=option, default=[], help="its option")
 
 
 def program_at(program):

@@ -118,7 +118,7 @@ def edits(room, tally):
         tally.judge(client.told("shop.py") == [(3, None, 'Revealed type is "int"')], f"a range: {client.shown}")
         client.change("shop.py", 3, edit((2, 7), (2, 10), "str"), edit((0, 0), (0, 0), "\n"), edit((4, 0), (5, 0), ""))
         tally.judge(client.told("shop.py") == [(3, *WRONG[1:])], f"three ranges: {client.shown}")
-        client.change("shop.py", 4, {"text": 'a = "\U0001d54f\u00e4"; b: int = 1\r\nc: int = 2\r'})
+        client.change("shop.py", 4, {"range": None, "text": 'a = "\U0001d54f\u00e4"; b: int = 1\r\nc: int = 2\r'})
         tally.judge(client.told("shop.py") == [], f"a whole text: {client.shown}")
         client.change("shop.py", 5, edit((0, 20), (0, 21), '"\U0001f600"'), edit((1, 9), (2, 0), '""'))
         ends = [it["range"]["end"]["character"] for it in client.shown["shop.py"]]
@@ -332,6 +332,11 @@ def settings(room, tally):
             client.begin(options=options, root=not words)
             client.checked("inner/shop.py")
             tally.judge(list(client.shown) == ["inner/shop.py"], f"the root {words} {options}: {client.shown}")
+    (room.folder / "link").symlink_to(inner)
+    with Client(inner, "--program", room.program, "--root", room.folder / "link") as client:
+        client.begin()
+        client.open("shop.py", "x: int = ''\n", 2)
+        tally.judge([it[0] for it in client.told("shop.py")] == [0], f"a folder behind a link: {client.shown}")
     with Client(room.folder, "--program", "none", "--pause", "9") as client:
         client.begin(options={"program": str(room.program), "pause": 1})
         client.checked("shop.py")
