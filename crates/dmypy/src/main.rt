@@ -86,8 +86,8 @@ fn serve(rt: &HostRuntime, options: &Options) -> u8 {
     )
 }
 
-// Checks files of the disk, and gives the status. The report goes to standard output; where it cannot be written, standard
-// error says so.
+// Checks files of the disk, and gives the status. The report goes to standard output. Where it cannot be written,
+// standard error says so.
 fn check(rt: &HostRuntime, options: &Options, files: &[String]) -> u8 {
     let mut out = Counted::new(rt.stdout());
     let mut err = Counted::new(rt.stderr());
