@@ -30,6 +30,18 @@ def judge_checks(folder, tally):
     tally.judge(done.stdout == "" and "<FILE>..." in done.stderr and done.returncode == 2, f"check: {done}")
 
 
+def judge_words(folder, tally):
+    """A file whose name is not UTF-8 is refused for its path, and the others are checked."""
+    how = {"cwd": folder, "capture_output": True, "timeout": SECONDS, "check": False}
+    done = subprocess.run([PROGRAM, "check", b"caf\xe9.py", "good.py", b"\xff\xfe"], **how)
+    told = b"dmypy: caf\x1a.py: refused 2 path\ndmypy: \x1a\x1a: refused 2 path\n"
+    tally.judge((done.stdout, done.stderr, done.returncode) == (CLEAN.encode(), told, 2), f"names that are no text: {done}")
+    done = subprocess.run([PROGRAM, "check", "a" * 100_000, "good.py"], **how)
+    tally.judge((done.stdout, done.returncode) == (CLEAN.encode(), 2), f"a long word: {done}")
+    done = subprocess.run([PROGRAM, b"\xff"], **how)
+    tally.judge((done.stdout, done.returncode) == (b"", 2), f"a word that is no text and no command: {done}")
+
+
 def judge_updates(folder, tally):
     """A session over pipes in which a file changes and vanishes: the last bytes that were read stay."""
     (folder / "late.py").write_text('x: int = "a"\n')
@@ -64,11 +76,13 @@ def judge_updates(folder, tally):
 
 
 def judge_faults(folder, tally):
-    """A session whose input or output fails tells why on standard error."""
+    """A session whose input or output fails, and a check whose output fails, tell why on standard error."""
     how = {"cwd": folder, "stderr": subprocess.PIPE, "timeout": SECONDS, "check": False}
-    with open("/dev/full", "wb") as full:
-        done = subprocess.run([PROGRAM, "session"], input=b"status\n", stdout=full, **how)
-    tally.judge((done.stderr, done.returncode) == (b"dmypy: the output cannot be written\n", 2), f"a full output: {done}")
+    for words, sent in ((["session"], b"status\n"), (["check", "good.py"], b""), (["check", "bad.py"], b"")):
+        with open("/dev/full", "wb") as full:
+            done = subprocess.run([PROGRAM, *words], input=sent, stdout=full, **how)
+        is_right = (done.stderr, done.returncode) == (b"dmypy: the output cannot be written\n", 2)
+        tally.judge(is_right, f"{words} with a full output: {done}")
     folder_as_input = os.open(folder, os.O_RDONLY)
     try:
         done = subprocess.run([PROGRAM, "session"], stdin=folder_as_input, stdout=subprocess.PIPE, **how)
@@ -83,6 +97,7 @@ def main():
         folder = Path(name)
         make_files(folder)
         judge_checks(folder, tally)
+        judge_words(folder, tally)
         judge_updates(folder, tally)
         judge_faults(folder, tally)
     return tally.close()

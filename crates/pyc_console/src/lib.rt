@@ -8,5 +8,5 @@ mod sessions;
 
 pub use checking::check_files;
 pub use disk::{Disk, first_bytes};
-pub use pyc_daemon::{Counted, Options};
+pub use pyc_daemon::{Counted, Options, RunFault};
 pub use sessions::{session, session_status};
