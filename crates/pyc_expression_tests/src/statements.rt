@@ -497,7 +497,7 @@ const EXPRESSIONS: &[(&str, &str)] = &[
         "reveal_type([1, \"a\"])",
         "note: Revealed type is \"list[int | str]\";",
     ),
-    ("if i: gone", ""),
+    ("if i: gone", "name-defined: Name \"gone\" is not defined;"),
     (
         "x.x",
         "union-attr: Item \"None\" of \"C | None\" has no attribute \"x\";",
