@@ -1,0 +1,11 @@
+use Rattle.std.proofs.Common.{◌≡◌, ◌++◌, flat_map, map, drop}
+use Rattle.pyc_examiner.specs.CheckedView.{Checked}
+use Rattle.pyc_report.specs.Message.{message_in}
+use Rattle.pyc_reuse.specs.RowView.{checks_of}
+use Rattle.pyc_reuse.proofs.row.all_found.Given as goal
+
+-- the messages so far, with those of the checks that are left, are all
+abbrev pub invariant-loop-check : goal.invariant-loop-check
+invariant-loop-check l =
+    map message_in l.messages.items ++ flat_map (λ (check : Checked). check.messages) (checks_of (drop l.check-index l.checks))
+    ≡ flat_map (λ (check : Checked). check.messages) (checks_of l.checks)

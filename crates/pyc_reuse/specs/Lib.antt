@@ -1,0 +1,10 @@
+pub mod Examined
+pub mod Answering
+pub mod Past
+pub mod RowView
+pub mod PastView
+pub mod Places
+pub mod RecheckView
+pub mod Works
+pub mod Examination
+pub mod Telling

@@ -1,0 +1,17 @@
+//! A check after another: which files are as they were, which keys have another answer, which units are examined again,
+//! and what the check leaves for the next one.
+#![tactic(auto)]
+
+mod comparing;
+mod completing;
+mod examining;
+mod interfaces;
+mod last_check;
+mod places;
+mod recheck;
+mod row;
+mod telling;
+mod work;
+
+pub use completing::{Completed, check_again};
+pub use last_check::LastCheck;

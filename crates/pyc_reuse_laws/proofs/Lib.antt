@@ -1,0 +1,3 @@
+pub mod NamingLemmas
+pub mod WhereLemmas
+pub mod OnceLemmas

@@ -1,0 +1,4 @@
+//! Laws of which units a check examines.
+#![tactic(auto)]
+
+pub mod laws;
