@@ -24,18 +24,10 @@ pub fn unsilenced(
         (flat_map (λ check. check.messages) (map checked_of checks.now))) }
 {
     let mut messages = all_found(alloc, checks)?;
-    drop_ignored(file, &mut messages);
-    Ok(messages)
-}
-
-/// Takes the messages away that the ignore comments of a file silence. It takes no memory.
-pub fn drop_ignored(file: &SourceFile, messages: &mut Vec<Message>)
-    ensures { map message_in messages.new.items
-        ≡ without_ignored (source_in file.now).outcome (map message_in messages.old.items) }
-{
     if let Outcome::Tree(module) = file.outcome() {
-        drop_silenced(module, messages);
+        drop_silenced(module, &mut messages);
     }
+    Ok(messages)
 }
 
 /// The messages of checks, one after another.
@@ -50,8 +42,8 @@ fn all_found(alloc: Global, checks: &[Checked]) -> Result<Vec<Message>, AllocErr
     Ok(messages)
 }
 
-/// Adds messages once more. The only error is that memory runs out.
-pub fn push_copies(messages: &mut Vec<Message>, more: &[Message]) -> Result<(), AllocError>
+/// Adds messages once more.
+fn push_copies(messages: &mut Vec<Message>, more: &[Message]) -> Result<(), AllocError>
     ensures { OnOk result (map message_in messages.new.items
         ≡ map message_in messages.old.items ++ map message_in more.now) }
 {

@@ -6,9 +6,9 @@ use Rattle.std.specs.Global.{Global}
 use Rattle.std.specs.Io.KnownBytes.{Appends}
 use Rattle.pyc_iface.specs.declared.options.Options.{Options}
 use Rattle.pyc_session.specs.Entry.{Entry}
-use Rattle.pyc_session.specs.Event.{Event, FetchStep}
+use Rattle.pyc_session.specs.Event.{Event, FetchStep, Links}
 use Rattle.pyc_workspace.specs.Fresh.{fresh}
-use Rattle.pyc_daemon.specs.Counted.{IsSound}
+use Rattle.pyc_daemon.specs.Counted.{IsSound, FailsOnce}
 use Rattle.pyc_daemon.specs.declared.counted.Counted.{Counted}
 use Rattle.pyc_daemon.specs.Replies.{WritesPart}
 use Rattle.pyc_report.specs.Report.{Report}
@@ -20,8 +20,8 @@ use Rattle.pyc_session.specs.declared.refusal.Refusal.{Refusal}
 use Rattle.pyc_session.specs.declared.refusal.Refusal.TheVariants as refusal
 use Rattle.pyc_daemon.proofs.Going.{appends_none, appends_trans, links_push, part_before, part_after}
 use Rattle.pyc_daemon.proofs.Moving.{append_nil, sound_trans, write_fault}
-use Rattle.pyc_console.specs.CheckFiles.{at_out, at_err, Checks, ComesOfCheck, RefusedFile, UpdateProgress, WrotePart, before_others, exit_status, first_updates, is_any, memory_line, outputs, printed_report, program_line, refusal_line, refusal_lines, refused_file, report_status}
-use Rattle.pyc_console.specs.Updates.{BeginsUpdates, Prints, UpdatesFirst, UpdatesOne}
+use Rattle.pyc_console.specs.CheckFiles.{BreaksOff, at_out, at_err, Checks, ComesOfCheck, RefusedFile, UpdateProgress, WrotePart, before_others, err_text, exit_status, first_updates, is_any, memory_line, outputs, printed_report, program_line, refusal_line, refusal_lines, refused_file, report_status}
+use Rattle.pyc_console.specs.Updates.{BeginsUpdates, Prints, UpdatesFirst, UpdatesOne, ToldOne}
 
 or_none : (a : Bool) → (a || false) ≡ a
 or_none true = refl

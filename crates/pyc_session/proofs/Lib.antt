@@ -1,4 +1,3 @@
 pub mod CommandWords
-pub mod KeptFiles
 pub mod Refusals
 pub mod Turns

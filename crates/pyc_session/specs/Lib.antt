@@ -8,4 +8,3 @@ pub mod MemorySource
 pub mod Refusal
 pub mod Session
 pub mod State
-pub mod DaemonView

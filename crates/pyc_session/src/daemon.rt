@@ -9,9 +9,6 @@ ghost use Rattle.pyc_workspace.specs.Path.{is_file_path};
 ghost use Rattle.pyc_session.specs.Refusal.{early_refusal, late_refusal, keep_refusal, remove_refusal, kept_as};
 ghost use Rattle.pyc_session.specs.Refusal.{first_standing, presence};
 ghost use Rattle.pyc_report.specs.Report.{report_in};
-ghost use Rattle.pyc_reuse.specs.PastView.{past_in};
-ghost use Rattle.pyc_reuse.specs.Telling.{next_past};
-ghost use Rattle.pyc_session.specs.DaemonView.{past_in_state};
 ghost use Rattle.pyc_session.specs.Session.{after_check, keeping, dropping, updated, refusal_in};
 ghost use Rattle.pyc_session.specs.State.{State, start};
 ghost use Rattle.pyc_workspace.specs.Workspace.{has_file};
@@ -20,12 +17,10 @@ use crate::keep::Keep;
 use crate::refusal::Refusal;
 use crate::sources::{FetchFault, Sources};
 use crate::status::Status;
-use indexmap::IndexSet;
 use pyc_iface::Options;
 use pyc_names::ModuleName;
 use pyc_report::Report;
-use pyc_reuse::{Completed, LastCheck, check_again};
-use pyc_workspace::{File, Workspace, is_file_path};
+use pyc_workspace::{File, Workspace, fresh_report, is_file_path};
 use std::alloc::{AllocError, Global};
 use std::marker::Model;
 use std::str;
@@ -43,27 +38,17 @@ pub struct Daemon {
     alloc: Global,
     options: Options,
     present: Workspace,
-    /// The paths of the files that were put since the last completed check.
-    touched: IndexSet<String>,
-    /// What the last completed check left, if there was one.
-    last: Option<LastCheck>,
+    last: Workspace,
+    bodies: usize,
 }
 
 impl Model for Daemon {
-    ghost use Rattle.pyc_session.specs.DaemonView.{KeepsUp, past_of};
-    ghost use Rattle.pyc_session.specs.State.{State};
-
     ghost Value = { State };
 
     ghost view = { λ d.
-        record {
-          options = d.options;
-          present = d.present;
-          last = (past_of d.options d.last).files;
-          examined = (past_of d.options d.last).examined;
-        } };
+        record { options = d.options; present = d.present; last = d.last; examined = units_of d.last } };
 
-    ghost invariant = { λ d. KeepsUp d.options d.present d.touched d.last };
+    ghost invariant = { λ d. d.bodies ≡ length (units_of d.last) };
 }
 
 impl Daemon {
@@ -75,8 +60,8 @@ impl Daemon {
             alloc,
             options,
             present: Workspace::new(alloc),
-            touched: IndexSet::new(alloc),
-            last: None,
+            last: Workspace::new(alloc),
+            bodies: 0,
         }
     }
 
@@ -142,7 +127,6 @@ impl Daemon {
             return Err(why);
         }
         self.present.take(path);
-        self.touched.swap_remove(str::from_utf8(path).unwrap());
         Ok(())
     }
 
@@ -152,10 +136,12 @@ impl Daemon {
         ensures after { OnOk result (self.new ≡ after_check self.old) }
         ensures same { OnErr result (self.new ≡ self.old) }
     {
-        let completed = self.completed()?;
-        self.touched.clear();
-        self.last = Some(completed.last);
-        Ok(completed.report)
+        let report = fresh_report(self.alloc, self.options, self.present.files())?;
+        let last = self.present.share(self.alloc)?;
+        let bodies = self.present.units(self.alloc)?.len();
+        self.last = last;
+        self.bodies = bodies;
+        Ok(report)
     }
 
     /// How many files and units the last completed check saw, and how many units it examined. It takes no memory.
@@ -164,31 +150,10 @@ impl Daemon {
         ensures bodies { result.bodies ≡ length (units_of self.now.last) }
         ensures rechecked { result.rechecked ≡ length self.now.examined }
     {
-        match &self.last {
-            Some(last) => Status {
-                files: last.count_files(),
-                bodies: last.count_units(),
-                rechecked: last.count_examined(),
-            },
-            None => Status {
-                files: 0,
-                bodies: 0,
-                rechecked: 0,
-            },
-        }
-    }
-
-    /// A check of all files, after the last completed one if there was one.
-    fn completed(&self) -> Result<Completed, AllocError>
-        ensures fresh { IfOk result (λ done. report_in done.report ≡ fresh self.now.options self.now.present) }
-        ensures past { IfOk result (λ done. past_in done.last ≡ next_past (past_in_state self.now) self.now.present) }
-    {
-        match &self.last {
-            Some(last) => check_again(self.alloc, last, &self.present, &self.touched),
-            None => {
-                let last = LastCheck::of_nothing(self.alloc, self.options)?;
-                check_again(self.alloc, &last, &self.present, &self.touched)
-            }
+        Status {
+            files: self.last.len(),
+            bodies: self.bodies,
+            rechecked: self.bodies,
         }
     }
 
@@ -249,11 +214,7 @@ impl Daemon {
         ensures same { OnErr result (self.new ≡ self.old) }
     {
         let file = File::new(self.alloc, path, name, bytes)?;
-        let touched = String::from_str(self.alloc, path)?;
-        self.touched.reserve(1)?;
-        self.present.put(file)?;
-        self.touched.insert(touched)?;
-        Ok(())
+        self.present.put(file)
     }
 }
 

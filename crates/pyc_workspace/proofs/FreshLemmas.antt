@@ -56,23 +56,23 @@ unit_count-is (tree m) = omega arith
 unit_count-is (fault line text) = refl
 
 module _ (file : File) where
-  pub outcome-of : (source_of file).outcome ≡ read_of file.bytes
+  outcome-of : (source_of file).outcome ≡ read_of file.bytes
   outcome-of = outcome_is file.path file.bytes (source_of file) (read_of file.bytes) refl refl
 
-  pub path-of : (source_of file).path ≡ file.path
+  path-of : (source_of file).path ≡ file.path
   path-of = path_is file.path file.bytes (source_of file) (read_of file.bytes) refl refl
 
-  pub count-of : length (parts.file_units (source_of file)) ≡ unit_count (read_of file.bytes)
+  count-of : length (parts.file_units (source_of file)) ≡ unit_count (read_of file.bytes)
   count-of = length-numbered (source_of file) 0 (units.file_units (source_of file).outcome) ∙ unit_count-is (source_of file).outcome ∙ ap unit_count outcome-of
 
 -- ---- the report
 
 module _ (options : Options) (sources : List SourceFile) where
   -- what comes of units
-  abbrev pub checks : List parts.FileUnit → List Checked
+  abbrev checks : List parts.FileUnit → List Checked
   checks us = map (body.checked options sources) us
 
-  pub told_of_file : (file : File) → told_of file (checks (parts.file_units (source_of file))) ≡ checked options sources file
+  told_of_file : (file : File) → told_of file (checks (parts.file_units (source_of file))) ≡ checked options sources file
   unfolding unsilenced
   told_of_file file =
       let all = found_in_numbered options sources (source_of file) 0 (units.file_units (source_of file).outcome) in

@@ -57,8 +57,8 @@ pub fn report(alloc: Global, files: &[Rc<File>], checks: &[Checked]) -> Result<R
     reports::report(alloc, &found)
 }
 
-/// The files as names see them. The only error is that memory runs out.
-pub fn sources_of(alloc: Global, files: &[Rc<File>]) -> Result<Vec<Rc<SourceFile>>, AllocError>
+/// The files as names see them.
+fn sources_of(alloc: Global, files: &[Rc<File>]) -> Result<Vec<Rc<SourceFile>>, AllocError>
     ensures { IfOk result (λ sources. ∥ sources_in sources.items ≡ map source_of (files_in files.now) ∥₁) }
 {
     let mut sources = Vec::with_capacity(alloc, files.len())?;

@@ -1,9 +1,0 @@
-pub mod PlaceLemmas
-pub mod ListLemmas
-pub mod UnitLemmas
-pub mod RowLemmas
-pub mod WorkLemmas
-pub mod InterfaceLemmas
-pub mod CountLemmas
-pub mod FlagLemmas
-pub mod ResultLemmas

@@ -1,3 +1,0 @@
-pub mod NamingLemmas
-pub mod WhereLemmas
-pub mod OnceLemmas

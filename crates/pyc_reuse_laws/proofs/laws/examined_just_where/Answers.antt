@@ -1,5 +1,0 @@
-use Rattle.pyc_reuse_laws.proofs.WhereLemmas.{examined_just_where}
-use Rattle.pyc_reuse_laws.proofs.laws.examined_just_where.Goals as goal
-
-pub returns : goal.returns
-returns c = examined_just_where

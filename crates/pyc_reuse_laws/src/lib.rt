@@ -1,4 +1,0 @@
-//! Laws of which units a check examines.
-#![tactic(auto)]
-
-pub mod laws;
