@@ -6,13 +6,11 @@
 Ends with the line `commits: P passed, F failed`, and with status 0 or 1.
 """
 
-import argparse
 import subprocess
 import sys
 import tempfile
-from pathlib import Path
 
-from judging import PROGRAM, Tally
+from judging import Tally, program_given
 from small_repository import SmallRepository
 
 PRICES = "def price(net: float) -> float:\n    return net\n"
@@ -70,9 +68,7 @@ def judge_difference(room, tally):
 
 
 def main():
-    words = argparse.ArgumentParser(description="Follows the commits of a small repository.")
-    words.add_argument("--program", type=Path, default=PROGRAM, help="another program")
-    program = words.parse_args().program.resolve()
+    program = program_given("Follows the commits of a small repository.")
     tally = Tally("commits")
     with tempfile.TemporaryDirectory() as folder:
         room = SmallRepository(folder, program)

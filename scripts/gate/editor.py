@@ -6,16 +6,13 @@
 Ends with the line `editor: P passed, F failed`, and with status 0 or 1.
 """
 
-import argparse
 import os
 import signal
 import subprocess
 import sys
-import tempfile
 import time
-from pathlib import Path
 
-from judging import PROGRAM, SECONDS, Tally
+from judging import SECONDS, Tally, judge_in_rooms, program_given
 from language_client import Client, Silent, edit
 from small_repository import SmallRepository
 
@@ -372,16 +369,9 @@ TESTS = (protocol, messages, edits, two_documents, faults, disk, refusals, death
 
 
 def main():
-    words = argparse.ArgumentParser(description="Runs the language server on small projects.")
-    words.add_argument("--program", type=Path, default=PROGRAM, help="another program")
-    program = words.parse_args().program.resolve()
+    program = program_given("Runs the language server on small projects.")
     tally = Tally("editor")
-    for test in TESTS:
-        with tempfile.TemporaryDirectory() as folder:
-            try:
-                test(Room(folder, program), tally)
-            except (Silent, OSError, subprocess.SubprocessError) as why:
-                tally.judge(False, f"{test.__name__}: {why}")
+    judge_in_rooms(TESTS, Room, program, tally, (Silent, OSError, subprocess.SubprocessError))
     return tally.close()
 
 

@@ -10,7 +10,6 @@ matcher finds the parts of an error, and no note and no summary. Ends with the l
 status 0 or 1.
 """
 
-import argparse
 import json
 import re
 import subprocess
@@ -18,7 +17,7 @@ import sys
 import tempfile
 from pathlib import Path
 
-from judging import PROGRAM, SECONDS, Tally
+from judging import SECONDS, Tally, program_given
 from repository import ROOT
 
 CODES = ROOT / "docs" / "CODES.md"
@@ -114,9 +113,7 @@ def judge_matchers(tally):
 
 
 def main():
-    words = argparse.ArgumentParser(description="Runs the examples of the pages for users.")
-    words.add_argument("--program", type=Path, default=PROGRAM, help="another program")
-    program = words.parse_args().program.resolve()
+    program = program_given("Runs the examples of the pages for users.")
     tally = Tally("examples")
     for page in PAGES:
         judge_page(page, program, tally)

@@ -6,14 +6,11 @@
 Ends with the line `hooks: P passed, F failed`, and with status 0 or 1.
 """
 
-import argparse
 import os
 import subprocess
 import sys
-import tempfile
-from pathlib import Path
 
-from judging import PROGRAM, Tally
+from judging import Tally, judge_in_rooms, program_given
 from repository import ROOT
 from small_repository import SmallRepository
 
@@ -137,16 +134,9 @@ def listed(_, tally):
 
 
 def main():
-    words = argparse.ArgumentParser(description="Commits to small repositories with the commit hook.")
-    words.add_argument("--program", type=Path, default=PROGRAM, help="another program")
-    program = words.parse_args().program.resolve()
+    program = program_given("Commits to small repositories with the commit hook.")
     tally = Tally("hooks")
-    for test in (contents, names, left_out, listed):
-        with tempfile.TemporaryDirectory() as folder:
-            try:
-                test(Hooked(folder, program), tally)
-            except (OSError, subprocess.SubprocessError) as why:
-                tally.judge(False, f"{test.__name__}: {why}")
+    judge_in_rooms((contents, names, left_out, listed), Hooked, program, tally, (OSError, subprocess.SubprocessError))
     return tally.close()
 
 

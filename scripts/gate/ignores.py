@@ -6,13 +6,10 @@
 Ends with the line `ignores: P passed, F failed`, and with status 0 or 1.
 """
 
-import argparse
 import subprocess
 import sys
-import tempfile
-from pathlib import Path
 
-from judging import PROGRAM, Tally
+from judging import Tally, judge_in_rooms, program_given
 from small_repository import SmallRepository
 
 LISTED = """x: list[int] = [
@@ -86,16 +83,9 @@ def judge_projects(room, tally):
 
 
 def main():
-    words = argparse.ArgumentParser(description="Adds ignore comments to small projects.")
-    words.add_argument("--program", type=Path, default=PROGRAM, help="another program")
-    program = words.parse_args().program.resolve()
+    program = program_given("Adds ignore comments to small projects.")
     tally = Tally("ignores")
-    for test in (judge_texts, judge_projects):
-        with tempfile.TemporaryDirectory() as folder:
-            try:
-                test(SmallRepository(folder, program), tally)
-            except (OSError, subprocess.SubprocessError) as why:
-                tally.judge(False, f"{test.__name__}: {why}")
+    judge_in_rooms((judge_texts, judge_projects), SmallRepository, program, tally, (OSError, subprocess.SubprocessError))
     return tally.close()
 
 

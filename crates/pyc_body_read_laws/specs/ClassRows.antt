@@ -76,7 +76,7 @@ pair_keys n got want =
     ++ flat_map (λ (d : Detail). obligation_keys d.got d.want)
     (override_details (override_by n got want) got.ty want.ty)
 
--- the same, where the ancestor declares something
+-- what is owed to an ancestor under a name, where it declares something
 abbrev pub owed_keys : List ℕ → MemberAnswer → Option MemberAnswer → List Key
 owed_keys n got (Some want) = pair_keys n got (seen want)
 owed_keys n got None = []

@@ -103,7 +103,8 @@ BodyNameReads =
     (answers : Answers) (body : Body) (locals : Locals) (at : Position) (x : List ℕ)
     → asked answers (body_name body locals at x) ≡ body_name_keys body locals x
 
--- the same of a name as a target; nothing is asked of one that an import, a function or a class declares
+-- a name as a target in a body asks in this way, too; nothing is asked of one that an import, a function or a class
+-- declares
 abbrev pub owned_target_keys : Body → List ℕ → Option Binding → List Key
 owned_target_keys body x (Some found) =
     if is_definition found.form then [] else own_member_keys (class_around body.kind) x
