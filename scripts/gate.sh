@@ -156,6 +156,7 @@ prove
 run python3 "$tree/scripts/gate/readme.py"
 run python3 "$tree/scripts/gate/examples.py"
 run python3 "$tree/scripts/gate/rows.py"
+run python3 "$tree/scripts/gate/held_session.py"
 run python3 "$tree/scripts/gate/refused_growths.py"
 run python3 "$tree/scripts/gate/real_files.py"
 run python3 "$tree/scripts/gate/editor.py"

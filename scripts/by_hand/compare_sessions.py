@@ -2,7 +2,7 @@
 """Compares what `dmypy session` prints with what a reference implementation in Python prints, on many sessions.
 
     scripts/by_hand/compare_sessions.py [--program PROGRAM] [--seed SEED] [--stage STAGE] [--python FOLDER]
-        [--expressions | --statements] [--keep FOLDER] REFERENCE [COUNT]
+        [--expressions | --statements | --edits] [--keep FOLDER] REFERENCE [COUNT]
 
 REFERENCE is the folder that has the reference, a package `oracle` with the module `__main__`; STAGE is the one that it
 is run at. PROGRAM is `dmypy`, built; without it, `rt try` builds and runs it, without proofs. The sessions are:
@@ -15,7 +15,9 @@ is run at. PROGRAM is `dmypy`, built; without it, `rt try` builds and runs it, w
   classes, functions, variables of many types and some 30 statements a file, expressions and assignments, which is
   checked once;
 - with `--statements` only COUNT sessions of such files whose functions, methods, classes and blocks hold many statements
-  (statement_files.py), with options at random.
+  (statement_files.py), with options at random;
+- with `--edits` only COUNT sessions of such files that are edited and checked many times (edited_files.py), with options
+  at random.
 
 A session passes where all that is printed and the status are the same. Decorators in parentheses are not among the
 random lines: the reference reads them in another way. With `--keep` the sessions stay in that folder: `NAME` what is
@@ -36,6 +38,7 @@ import sysconfig
 import tempfile
 from pathlib import Path
 
+from edited_files import EditMaker
 from statement_files import StatementMaker
 from typed_files import TypedMaker
 
@@ -386,6 +389,12 @@ def checking_session(name, files, options):
     return Session(name, commands, options, len(files))
 
 
+def edits_session(name, maker):
+    """A session of edits."""
+    commands, files = maker.edits()
+    return Session(name, commands, maker.options(), files)
+
+
 # ---- what the reference prints
 
 
@@ -500,6 +509,7 @@ def main():
     parser.add_argument("--seed", type=int, default=1)
     parser.add_argument("--expressions", action="store_true", help="only sessions of files with many expressions")
     parser.add_argument("--statements", action="store_true", help="only sessions of files with many statements")
+    parser.add_argument("--edits", action="store_true", help="only sessions of files that are edited many times")
     parser.add_argument("--stage", type=int, default=STAGE, help=f"{STAGE} if none is given")
     parser.add_argument("--python", type=place, default=Path(sysconfig.get_path("stdlib")))
     parser.add_argument("--keep", type=place, help="the folder for the sessions; without it they go")
@@ -512,6 +522,9 @@ def main():
     elif words.statements:
         maker = StatementMaker(words.seed)
         sessions = [checking_session(f"statements_{it:05}", maker.files(), maker.options()) for it in range(words.count)]
+    elif words.edits:
+        maker = EditMaker(words.seed)
+        sessions = [edits_session(f"edits_{it:05}", maker) for it in range(words.count)]
     else:
         maker = Maker(words.seed)
         sessions = [*package_sessions(words.python), *(maker.session(number) for number in range(words.count))]

@@ -91,6 +91,27 @@ def judge_faults(folder, tally):
     tally.judge((done.stderr, done.returncode) == (b"dmypy: the input cannot be read\n", 2), f"a folder as input: {done}")
 
 
+def judge_closed(folder, tally):
+    """A check prints its report also where a file is refused and standard error takes nothing; where neither takes
+    anything, or the output alone, its status says so."""
+    how = {"cwd": folder, "stdin": subprocess.DEVNULL, "timeout": SECONDS, "check": False}
+    refused = [PROGRAM, "check", "gone.py", "good.py"]
+    closed = ["sh", "-c", 'exec "$@" 2>&-', "sh", *refused]
+    done = subprocess.run(closed, stdout=subprocess.PIPE, **how)
+    tally.judge((done.stdout, done.returncode) == (CLEAN.encode(), 2), f"a closed standard error: {done}")
+    with open("/dev/full", "wb") as full:
+        done = subprocess.run(refused, stdout=subprocess.PIPE, stderr=full, **how)
+        tally.judge((done.stdout, done.returncode) == (CLEAN.encode(), 2), f"a full standard error: {done}")
+        done = subprocess.run([PROGRAM, "check", "good.py"], stdout=subprocess.PIPE, stderr=full, **how)
+        tally.judge((done.stdout, done.returncode) == (CLEAN.encode(), 0), f"one with nothing to take: {done}")
+        done = subprocess.run(refused, stdout=full, stderr=full, **how)
+        tally.judge(done.returncode == 2, f"a full output and a full standard error: {done}")
+    told = b"dmypy: gone.py: refused 10 unreadable\ndmypy: the output cannot be written\n"
+    closed = ["sh", "-c", 'exec "$@" >&-', "sh", *refused]
+    done = subprocess.run(closed, stderr=subprocess.PIPE, **how)
+    tally.judge((done.stderr, done.returncode) == (told, 2), f"a closed output: {done}")
+
+
 def main():
     tally = Tally("files")
     with tempfile.TemporaryDirectory() as name:
@@ -100,6 +121,7 @@ def main():
         judge_words(folder, tally)
         judge_updates(folder, tally)
         judge_faults(folder, tally)
+        judge_closed(folder, tally)
     return tally.close()
 
 

@@ -1,17 +1,14 @@
 //! `dmypy`: a daemon that checks annotated Python files and answers commands on standard input.
 #![tactic(auto)]
 
-use pyc_command_line::{Job, read_words};
-use pyc_console::{Counted, Disk, Options, RunFault, check_files, session};
-use std::alloc::{AllocError, Global};
+use pyc_command_line::{Job, read_words, word_text};
+use pyc_console::{Counted, Disk, Options, check_files, check_status, session};
+use std::alloc::AllocError;
 use std::env::{Env, FillError};
 use std::process::ExitCode;
 
 // the least room for a word
 const WORD: usize = 256;
-
-// stands for what is no text in a word; no file may have it in its path
-const SUBSTITUTE: char = '\u{1a}';
 
 /// Reads the words of the command line and does what they ask for. Where they are no job, or memory runs out while they
 /// are read, nothing is written to standard output and the status is 2.
@@ -49,25 +46,12 @@ fn word_at(rt: &HostRuntime, place: usize) -> Result<Option<String>, AllocError>
     for _ in 0..usize::BITS {
         bytes.resize(room, 0u8)?;
         match rt.arg(place, bytes.as_mut_slice()) {
-            Ok(length) => return Ok(Some(text_of(rt.alloc(), &bytes[..length])?)),
+            Ok(length) => return Ok(Some(word_text(rt.alloc(), &bytes[..length])?)),
             Err(FillError::NotPresent) => return Ok(None),
             Err(FillError::TooLong) => room = room.saturating_add(room),
         }
     }
     Err(AllocError)
-}
-
-// The text of a word. A substitute character stands for each part that is not UTF-8, so that a file with such a name is
-// refused for its path, and the others are checked.
-fn text_of(alloc: Global, bytes: &[u8]) -> Result<String, AllocError> {
-    let mut text = String::new(alloc);
-    for chunk in bytes.utf8_chunks() {
-        text.push_str(chunk.valid())?;
-        if !chunk.invalid().is_empty() {
-            text.push(SUBSTITUTE)?;
-        }
-    }
-    Ok(text)
 }
 
 // Runs a session on standard input and output, and gives its status.
@@ -86,15 +70,10 @@ fn serve(rt: &HostRuntime, options: &Options) -> u8 {
     )
 }
 
-// Checks files of the disk, and gives the status. The report goes to standard output. Where it cannot be written,
-// standard error says so.
+// Checks files of the disk, and gives the status. The report goes to standard output.
 fn check(rt: &HostRuntime, options: &Options, files: &[String]) -> u8 {
     let mut out = Counted::new(rt.stdout());
     let mut err = Counted::new(rt.stderr());
     let mut sources = Disk::new(rt);
-    let status = check_files(rt.alloc(), &mut sources, &mut out, &mut err, options, files);
-    if out.faults() > 0 || out.zeros() > 0 {
-        let _ = eprintln!(rt; "dmypy: {}", RunFault::Write.text());
-    }
-    status
+    check_status(&check_files(rt.alloc(), &mut sources, &mut out, &mut err, options, files))
 }

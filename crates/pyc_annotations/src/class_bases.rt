@@ -12,7 +12,7 @@ use crate::meaning::{Meaning, Role};
 use crate::messages::{invalid_base, names_text};
 use pyc_ast::{Argument, ArgumentKind, Expr, Position, Text};
 use pyc_class::ClassId;
-use pyc_names::SourceFile;
+use pyc_names::Interface;
 use pyc_reading::Notes;
 use pyc_type_exprs::{dotted_names, innermost};
 use std::alloc::{AllocError, Global};
@@ -55,7 +55,7 @@ fn base_named<N: Notes>(
 fn named_base<N: Notes>(
     alloc: Global,
     notes: &mut N,
-    file: &SourceFile,
+    file: &Interface,
     at: Position,
     inside: Position,
     names: &[Text],
@@ -73,7 +73,7 @@ fn named_base<N: Notes>(
 fn read_base<N: Notes>(
     alloc: Global,
     notes: &mut N,
-    file: &SourceFile,
+    file: &Interface,
     e: &Expr,
 ) -> Result<Base, AllocError>
     ensures { Performs base_of (spec.base (interface_in file.now) (expr_of e.now)) (N.desk notes.old) result
@@ -88,7 +88,7 @@ fn read_base<N: Notes>(
 fn written_base<N: Notes>(
     alloc: Global,
     notes: &mut N,
-    file: &SourceFile,
+    file: &Interface,
     at: Position,
     inside: Position,
     names: Option<Vec<Text>>,
@@ -108,7 +108,7 @@ fn written_base<N: Notes>(
 fn argument_base<N: Notes>(
     alloc: Global,
     notes: &mut N,
-    file: &SourceFile,
+    file: &Interface,
     argument: &Argument,
 ) -> Result<Option<Base>, AllocError>
     ensures { Performs (option_map base_of)
@@ -145,7 +145,7 @@ fn push_base(base: Option<Base>, found: &mut Vec<Base>) -> Result<(), AllocError
 pub fn read_bases<N: Notes>(
     alloc: Global,
     notes: &mut N,
-    file: &SourceFile,
+    file: &Interface,
     arguments: &[Argument],
 ) -> Result<Vec<Base>, AllocError>
     ensures { Performs (λ found. map base_of found.items)

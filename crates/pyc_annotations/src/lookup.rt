@@ -13,7 +13,7 @@ use crate::meaning::{Meaning, Role, answer_meaning, builtin_meaning, fixed_meani
 use crate::messages::{no_attribute, not_defined};
 use pyc_ast::{Position, Text};
 use pyc_builtins::{BuiltinName, builtin_name, is_dunder};
-use pyc_names::{ModuleName, QualifiedName, SourceFile, fixed_module, fixed_name};
+use pyc_names::{Interface, ModuleName, QualifiedName, fixed_module, fixed_name};
 use pyc_reading::{Answer, Key, NameAnswer, NameKind, Notes};
 use std::alloc::{AllocError, Global};
 
@@ -122,7 +122,7 @@ fn no_builtin<N: Notes>(
 }
 
 /// Whether a file binds a name at its top level.
-fn binds(file: &SourceFile, name: &Text) -> bool
+fn binds(file: &Interface, name: &Text) -> bool
     ensures { result ≡ spec.binds (interface_in file.now) name.now }
 {
     file.declaration(name).is_some()
@@ -133,7 +133,7 @@ fn binds(file: &SourceFile, name: &Text) -> bool
 fn own_name<N: Notes>(
     alloc: Global,
     notes: &mut N,
-    file: &SourceFile,
+    file: &Interface,
     at: Position,
     name: &Text,
 ) -> Result<Meaning, AllocError>
@@ -293,7 +293,7 @@ pub(crate) fn dotted_meaning<N: Notes>(
     alloc: Global,
     notes: &mut N,
     role: Role,
-    file: &SourceFile,
+    file: &Interface,
     at: Position,
     names: &[Text],
 ) -> Result<Meaning, AllocError>

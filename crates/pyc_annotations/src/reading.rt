@@ -22,7 +22,7 @@ use crate::subscripted::{Subscripted, with_arguments};
 use crate::type_form::TypeForm;
 use pyc_ast::{Expr, Position};
 use pyc_class::ClassId;
-use pyc_names::{FixedName, SourceFile};
+use pyc_names::{FixedName, Interface};
 use pyc_reading::Notes;
 use pyc_type_exprs::{ArgumentShape, DottedName, TypeArgument, TypeExpr, type_expr};
 use pyc_type_forms::{Ty, instance_of};
@@ -66,7 +66,7 @@ fn of_class(alloc: Global, class: ClassId) -> Result<Annotation, AllocError>
 pub fn read_annotation<N: Notes>(
     alloc: Global,
     notes: &mut N,
-    file: &SourceFile,
+    file: &Interface,
     e: &Expr,
 ) -> Result<Annotation, AllocError>
     ensures { Performs annotation_in (spec.read_type (interface_in file.now) (type_expr_in (expr_of e.now)))
@@ -121,7 +121,7 @@ fn named<N: Notes>(
 fn read_name<N: Notes>(
     alloc: Global,
     notes: &mut N,
-    file: &SourceFile,
+    file: &Interface,
     at: Position,
     name: &DottedName,
 ) -> Result<Annotation, AllocError>
@@ -138,7 +138,7 @@ fn read_name<N: Notes>(
 fn read_type<N: Notes>(
     alloc: Global,
     notes: &mut N,
-    file: &SourceFile,
+    file: &Interface,
     written: &TypeExpr,
 ) -> Result<Annotation, AllocError>
     ensures { Performs annotation_in (spec.read_type (interface_in file.now) (type_expr_of written.now))
@@ -171,7 +171,7 @@ fn read_type<N: Notes>(
 fn read_subscript<N: Notes>(
     alloc: Global,
     notes: &mut N,
-    file: &SourceFile,
+    file: &Interface,
     written: &Subscript<'_>,
     is_nested: bool,
     arguments: &[TypeArgument],
@@ -193,7 +193,7 @@ fn read_subscript<N: Notes>(
 fn read_right<N: Notes>(
     alloc: Global,
     notes: &mut N,
-    file: &SourceFile,
+    file: &Interface,
     right: &TypeExpr,
     left: &Ty,
 ) -> Result<Annotation, AllocError>
@@ -213,7 +213,7 @@ fn read_right<N: Notes>(
 fn read_subscripted<N: Notes>(
     alloc: Global,
     notes: &mut N,
-    file: &SourceFile,
+    file: &Interface,
     written: &Subscript<'_>,
     arguments: &[TypeArgument],
     subscripted: Subscripted,
@@ -244,7 +244,7 @@ fn read_subscripted<N: Notes>(
 fn read_form<N: Notes>(
     alloc: Global,
     notes: &mut N,
-    file: &SourceFile,
+    file: &Interface,
     at: Position,
     form: TypeForm,
     arguments: &[TypeArgument],
@@ -268,7 +268,7 @@ fn read_form<N: Notes>(
 fn read_built<N: Notes>(
     alloc: Global,
     notes: &mut N,
-    file: &SourceFile,
+    file: &Interface,
     form: TypeForm,
     arguments: &[TypeArgument],
 ) -> Result<Annotation, AllocError>
@@ -287,7 +287,7 @@ fn read_built<N: Notes>(
 fn read_class_object<N: Notes>(
     alloc: Global,
     notes: &mut N,
-    file: &SourceFile,
+    file: &Interface,
     arguments: &[TypeArgument],
 ) -> Result<Annotation, AllocError>
     ensures { Performs annotation_in
@@ -307,7 +307,7 @@ fn read_class_object<N: Notes>(
 fn read_object<N: Notes>(
     alloc: Global,
     notes: &mut N,
-    file: &SourceFile,
+    file: &Interface,
     written: &TypeExpr,
 ) -> Result<Annotation, AllocError>
     ensures { Performs annotation_in
@@ -323,7 +323,7 @@ fn read_object<N: Notes>(
 fn read_tuple<N: Notes>(
     alloc: Global,
     notes: &mut N,
-    file: &SourceFile,
+    file: &Interface,
     arguments: &[TypeArgument],
 ) -> Result<Annotation, AllocError>
     ensures { Performs annotation_in
@@ -346,7 +346,7 @@ fn read_tuple<N: Notes>(
 fn read_any_length<N: Notes>(
     alloc: Global,
     notes: &mut N,
-    file: &SourceFile,
+    file: &Interface,
     written: &TypeExpr,
 ) -> Result<Annotation, AllocError>
     ensures { Performs annotation_in
@@ -363,7 +363,7 @@ fn read_any_length<N: Notes>(
 fn read_callable<N: Notes>(
     alloc: Global,
     notes: &mut N,
-    file: &SourceFile,
+    file: &Interface,
     at: Position,
     arguments: &[TypeArgument],
 ) -> Result<Annotation, AllocError>
@@ -392,7 +392,7 @@ fn read_callable<N: Notes>(
 fn read_any_callable<N: Notes>(
     alloc: Global,
     notes: &mut N,
-    file: &SourceFile,
+    file: &Interface,
     answer: &TypeExpr,
 ) -> Result<Annotation, AllocError>
     ensures { Performs annotation_in
@@ -410,7 +410,7 @@ fn read_any_callable<N: Notes>(
 fn read_plain_callable<N: Notes>(
     alloc: Global,
     notes: &mut N,
-    file: &SourceFile,
+    file: &Interface,
     answer: &TypeExpr,
     types: &[Ty],
 ) -> Result<Annotation, AllocError>
@@ -430,7 +430,7 @@ fn read_plain_callable<N: Notes>(
 fn argument_types<N: Notes>(
     alloc: Global,
     notes: &mut N,
-    file: &SourceFile,
+    file: &Interface,
     arguments: &[TypeArgument],
 ) -> Result<Vec<Ty>, AllocError>
     ensures { Performs (λ types. map ty_of types.items)
@@ -452,7 +452,7 @@ fn argument_types<N: Notes>(
 fn listed_types<N: Notes>(
     alloc: Global,
     notes: &mut N,
-    file: &SourceFile,
+    file: &Interface,
     listed: &[TypeExpr],
 ) -> Result<Vec<Ty>, AllocError>
     ensures { Performs (λ types. map ty_of types.items)

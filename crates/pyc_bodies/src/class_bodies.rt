@@ -126,7 +126,7 @@ fn declared_class(
     ensures { IfOk result (λ class. class ≡ spec.declared_class (source_in file.now) at name.now) }
 {
     if declares_class(file, at, name) {
-        Ok(Some(own_class(alloc, file, name)?))
+        Ok(Some(own_class(alloc, file.interface(), name)?))
     } else {
         Ok(None)
     }

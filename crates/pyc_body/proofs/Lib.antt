@@ -1,3 +1,4 @@
+pub mod CheckLemmas
 pub mod ListedLemmas
 pub mod OrderLemmas
 pub mod ReadLemmas

@@ -3,13 +3,16 @@ use Rattle.std.proofs.Common.{◌≡◌, Bool, true, false, ◌||◌, List, [], 
 use Rattle.std.specs.List.{list_any}
 use Rattle.std.proofs.lemmas.Bool.{false≢true}
 use Rattle.pyc_body.specs.FoundLaws.{AlikeAnswersFindAlike, AlikeInterfacesFindAlike, OneListAlone, ReadsAreTheList, UnitsHaveTheirReads}
-use Rattle.pyc_body.specs.FoundMessages.{reads}
+use Rattle.pyc_body.specs.FileUnits.{FileUnit}
+use Rattle.pyc_body.specs.FoundMessages.{checked_by, reads}
 use Rattle.pyc_units.specs.UnitReadings.{unit_reading}
 use Rattle.pyc_examiner.proofs.ReadListLemmas.{asked_are_the_list, one_list_alone}
-use Rattle.pyc_examiner.specs.CheckedView.{Checked}
-use Rattle.pyc_examiner.specs.KeyEquality.{keys_are}
+use Rattle.pyc_examiner.specs.CheckedView.{check_of}
+use Rattle.pyc_keys.specs.KeyEquality.{keys_are}
 use Rattle.pyc_found.specs.FoundOrder.{in_order}
 use Rattle.pyc_iface.specs.Answers.{answer_by, answer_of}
+use Rattle.pyc_iface.specs.declared.options.Options.{Options}
+use Rattle.pyc_names.specs.Interfaces.{Interface}
 use Rattle.pyc_reading.proofs.RunLemmas.{frame, runs_are_folds}
 use Rattle.pyc_reading.specs.Answers.{Answer}
 use Rattle.pyc_reading.specs.Desks.{Step, Desk, run, desk_after, with_key, with_keys}
@@ -21,15 +24,10 @@ use Rattle.pyc_reading.specs.Readings.{asked, told}
 
 module _ (r : Step (Unit {0})) (desk after : Desk) (answers : Key → Answer) (u : Unit {0}) (new : desk ≡ record { answers = answers; keys = []; messages = [] })
     (done : run r desk ≡ (u, after)) where
-  is_after : after ≡ desk_after r (record { answers = answers; keys = []; messages = [] })
+  pub is_after : after ≡ record { answers = answers; keys = with_keys [] (asked answers r); messages = told answers r }
   is_after =
       sym (ap (λ (found : Unit {0} × Desk). found.1) done) ∙ ap (λ (found : Unit {0} × Desk). found.1) (runs_are_folds r desk)
       ∙ ap (desk_after r) new
-
-  -- what comes of the reading: its keys, each once, and what it tells, in order
-  pub checked_there : (made : Checked) → made ≡ record { reads = after.keys; messages = in_order after.messages }
-      → made ≡ record { reads = with_keys [] (asked answers r); messages = in_order (told answers r) }
-  checked_there made is = is ∙ ap (λ (d : Desk). record { reads = d.keys; messages = in_order d.messages }) is_after
 
 -- ---- keys, each once
 
@@ -89,6 +87,13 @@ agree_everywhere answers others same (key ∷ keys) = one_more (same key) (agree
 pub alike_answers : AlikeAnswersFindAlike
 alike_answers options files others file unit same =
     units_have_their_reads options files others file unit (agree_everywhere (answer_of files) (answer_of others) same (reads options files file unit))
+
+-- what comes of a unit over interfaces that give the same answers
+pub over_alike : (options : Options) (interfaces others : List Interface) (unit : FileUnit) → ((key : Key) → answer_by interfaces key ≡ answer_by others key)
+    → checked_by options interfaces unit ≡ checked_by options others unit
+over_alike options interfaces others unit same =
+    ap (λ (answers : Key → Answer). check_of (with_keys [] (asked answers (unit_reading options unit.file unit.unit)))
+    (in_order (told answers (unit_reading options unit.file unit.unit)))) (λ t key. same key t)
 
 -- files with the same interfaces
 pub alike_interfaces : AlikeInterfacesFindAlike

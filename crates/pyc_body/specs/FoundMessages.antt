@@ -5,14 +5,15 @@
 use Rattle.std.specs.Prelude.{List, [], flat_map}
 use Rattle.pyc_ast.specs.Modules.{Outcome, tree, fault}
 use Rattle.pyc_body.specs.FileUnits.{FileUnit}
-use Rattle.pyc_examiner.specs.CheckedView.{Checked}
+use Rattle.pyc_examiner.specs.CheckedView.{Checked, check_of}
 use Rattle.pyc_found.specs.FoundOrder.{in_order}
 use Rattle.pyc_units.specs.UnitReadings.{unit_reading}
 use Rattle.pyc_units.specs.Units as units
-use Rattle.pyc_iface.specs.Answers.{answer_of}
+use Rattle.pyc_iface.specs.Answers.{answer_by, answer_of}
 use Rattle.pyc_iface.specs.declared.options.Options.{Options}
+use Rattle.pyc_names.specs.Interfaces.{Interface}
 use Rattle.pyc_names.specs.SourceFiles.{SourceFile}
-use Rattle.pyc_reading.specs.Desks.{with_keys}
+use Rattle.pyc_reading.specs.Desks.{Desk, with_keys}
 use Rattle.pyc_reading.specs.Keys.{Key}
 use Rattle.pyc_reading.specs.Readings.{asked, told}
 use Rattle.pyc_report.specs.Message.{Message}
@@ -32,10 +33,26 @@ found options files file unit = in_order (told_in options files file unit)
 abbrev pub reads : Options → List SourceFile → SourceFile → units.Unit → List Key
 reads options files file unit = with_keys [] (asked (answer_of files) (unit_reading options file unit))
 
--- what a check of it comes to
+-- the desk at which it was read, over the answers of files with these interfaces
+abbrev pub desk_by : Options → List Interface → FileUnit → Desk
+desk_by options interfaces unit =
+    let reading = unit_reading options unit.file unit.unit in
+    record {
+      answers = answer_by interfaces;
+      keys = with_keys [] (asked (answer_by interfaces) reading);
+      messages = told (answer_by interfaces) reading;
+    }
+
+-- what a check of it comes to, over these answers
+abbrev pub checked_by : Options → List Interface → FileUnit → Checked
+checked_by options interfaces unit =
+    let reading = unit_reading options unit.file unit.unit in
+    check_of (with_keys [] (asked (answer_by interfaces) reading)) (in_order (told (answer_by interfaces) reading))
+
+-- what it comes to over these files
 abbrev pub checked : Options → List SourceFile → FileUnit → Checked
 checked options files unit =
-    record { reads = reads options files unit.file unit.unit; messages = found options files unit.file unit.unit }
+    check_of (reads options files unit.file unit.unit) (found options files unit.file unit.unit)
 
 -- ---- the whole
 

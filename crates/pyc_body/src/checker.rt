@@ -1,19 +1,23 @@
 //! What is found in units of files, and what it depends on.
 
-ghost use Rattle.std.specs.Prelude.{◌≡◌, ◌++◌, ◌∷◌, [], map, IfOk, OnErr, OnOk};
+ghost use Rattle.std.specs.Prelude.{◌≡◌, ◌++◌, ◌∷◌, [], List, map, IfOk, OnErr, OnOk};
 ghost use Rattle.pyc_body.specs.CheckerView.{files_in, options_in};
 ghost use Rattle.pyc_body.specs.FileUnits as units;
 ghost use Rattle.pyc_body.specs.FileUnits.{id_of};
 ghost use Rattle.pyc_body.specs.FileUnitView.{file_unit_in};
 ghost use Rattle.pyc_body.specs.FoundMessages as spec;
-ghost use Rattle.pyc_examiner.specs.CheckedView.{checked_of};
+ghost use Rattle.pyc_examiner.specs.CheckedView.{checked_in};
+ghost use Rattle.pyc_examiner.specs.ExaminerView.{desk_of};
 ghost use Rattle.pyc_iface.specs.WorldView.{world_in};
+ghost use Rattle.pyc_keys.specs.KeyNumbers.{key_at};
+ghost use Rattle.pyc_keys.specs.Numbering.{Extends};
 ghost use Rattle.pyc_names.specs.SourceFileView.{source_in, sources_in};
 
 use crate::meter::Meter;
 use crate::numbering::{FileUnit, numbered_units};
 use pyc_examiner::{Checked, Examiner};
 use pyc_iface::{Options, World};
+use pyc_keys::Keys;
 use pyc_names::SourceFile;
 use pyc_units::UnitReader;
 use std::alloc::{AllocError, Global};
@@ -42,17 +46,26 @@ impl<'a> Checker<'a> {
 
     /// Checks a unit, which the meter then counts. What comes of it is what is found in the unit: in order, each line,
     /// code and text once, its remarks and the obligations that it owes and that do not hold; and its reads, the keys
-    /// that were asked for that, each once and in the order in which they were first asked. The only error is that
-    /// memory runs out; then the meter is as before.
-    pub fn check_unit(&self, meter: &mut Meter, unit: &FileUnit<'_>) -> Result<Checked, AllocError>
-        ensures checked { IfOk result (λ checked. checked_of checked
-            ≡ spec.checked (options_in self.now) (files_in self.now) (file_unit_in unit.now)) }
+    /// that were asked for that, by number, each once and in the order in which they were first asked. The only error
+    /// is that memory runs out; then the meter is as before, and each number stands for what it did.
+    pub fn check_unit(
+        &self,
+        meter: &mut Meter,
+        keys: &mut Keys,
+        unit: &FileUnit<'_>,
+    ) -> Result<Checked, AllocError>
+        ensures checked { IfOk result (λ checked. checked_in (key_at keys.new) checked
+            ≡ spec.checked_by (options_in self.now) (files_in self.now) (file_unit_in unit.now)) }
         ensures metered { OnOk result (meter.new ≡ meter.old ++ (id_of (file_unit_in unit.now) ∷ [])) }
+        ensures extends { Extends (key_at keys.old) (key_at keys.new) }
         ensures same_meter { OnErr result (meter.new ≡ meter.old) }
+        ensures same_keys { OnErr result (key_at keys.new ≡ key_at keys.old) }
     {
-        let checked = self.examined(unit)?;
+        let notes = self.read(unit)?;
         let counted = unit.metered()?;
-        meter.count(counted)?;
+        meter.units.reserve(1)?;
+        let checked = notes.into_checked(self.alloc, keys)?;
+        meter.units.push_reserved(counted);
         Ok(checked)
     }
 
@@ -61,44 +74,51 @@ impl<'a> Checker<'a> {
     pub fn check_files(
         &self,
         meter: &mut Meter,
+        keys: &mut Keys,
         files: &[Rc<SourceFile>],
     ) -> Result<Vec<Checked>, AllocError>
-        ensures checked { IfOk result (λ checks. map checked_of checks.items
-            ≡ map (spec.checked (options_in self.now) (files_in self.now)) (units.units_of (sources_in files.now))) }
+        ensures checked { IfOk result (λ checks. map (checked_in (key_at keys.new)) checks.items
+            ≡ map (spec.checked_by (options_in self.now) (files_in self.now)) (units.units_of (sources_in files.now))) }
         ensures metered { OnOk result (meter.new ≡ meter.old ++ map id_of (units.units_of (sources_in files.now))) }
+        ensures extends { Extends (key_at keys.old) (key_at keys.new) }
     {
         let mut checks = Vec::new(self.alloc);
         for file in files {
-            self.check_file(meter, file, &mut checks)?;
+            self.check_file(meter, keys, file, &mut checks)?;
         }
         Ok(checks)
     }
 
-    /// Checks the units of a file, and adds what comes of each.
+    /// Checks the units of a file, and adds what comes of each to what came of other units.
     fn check_file(
         &self,
         meter: &mut Meter,
+        keys: &mut Keys,
         file: &Rc<SourceFile>,
         checks: &mut Vec<Checked>,
     ) -> Result<(), AllocError>
-        ensures checked { OnOk result (map checked_of checks.new.items ≡ map checked_of checks.old.items
-            ++ map (spec.checked (options_in self.now) (files_in self.now))
-            (units.file_units (source_in file.now.value))) }
+        ensures checked { OnOk result ((before : List units.FileUnit)
+            → map (checked_in (key_at keys.old)) checks.old.items
+            ≡ map (spec.checked_by (options_in self.now) (files_in self.now)) before
+            → map (checked_in (key_at keys.new)) checks.new.items
+            ≡ map (spec.checked_by (options_in self.now) (files_in self.now))
+            (before ++ units.file_units (source_in file.now.value))) }
         ensures metered { OnOk result (meter.new
             ≡ meter.old ++ map id_of (units.file_units (source_in file.now.value))) }
+        ensures extends { Extends (key_at keys.old) (key_at keys.new) }
     {
         let units = numbered_units(self.alloc, file)?;
         for unit in &units {
-            let checked = self.check_unit(meter, unit)?;
+            let checked = self.check_unit(meter, keys, unit)?;
             checks.push(checked)?;
         }
         Ok(())
     }
 
-    /// What comes of examining a unit.
-    fn examined(&self, unit: &FileUnit<'_>) -> Result<Checked, AllocError>
-        ensures { IfOk result (λ checked. checked_of checked
-            ≡ spec.checked (options_in self.now) (files_in self.now) (file_unit_in unit.now)) }
+    /// The desk at which a unit was read.
+    fn read(&self, unit: &FileUnit<'_>) -> Result<Examiner<'a>, AllocError>
+        ensures { IfOk result (λ notes. desk_of notes
+            ≡ spec.desk_by (options_in self.now) (files_in self.now) (file_unit_in unit.now)) }
     {
         let mut notes = Examiner::new(self.alloc, self.world);
         let reader = UnitReader {
@@ -107,7 +127,6 @@ impl<'a> Checker<'a> {
             file: unit.file,
         };
         reader.read(&mut notes, unit.unit)?;
-        let checked = notes.into_checked(self.alloc)?;
-        Ok(checked)
+        Ok(notes)
     }
 }

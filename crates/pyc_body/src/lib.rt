@@ -12,4 +12,4 @@ pub use meter::Meter;
 pub use numbering::{FileUnit, numbered_units};
 pub use pyc_examiner::Checked;
 pub use pyc_units::{Unit, UnitId, count_units, file_units, unit_definitions};
-pub use silencing::unsilenced;
+pub use silencing::{drop_ignored, push_copies, unsilenced};

@@ -1,17 +1,16 @@
 //! Which units were checked.
 
-ghost use Rattle.std.specs.Prelude.{◌≡◌, ◌++◌, ◌∷◌, [], length, OnErr, OnOk};
-ghost use Rattle.pyc_body.specs.FileUnitView.{metered_in};
+ghost use Rattle.std.specs.Prelude.{◌≡◌, [], length};
 
 use pyc_names::SourceFile;
-use std::alloc::{AllocError, Global};
+use std::alloc::Global;
 use std::marker::Model;
 use std::rc::Rc;
 
 /// The units that were checked, in turn. Contracts see what names them: the path of the file of each, and its number.
 #[derive(Drop)]
 pub struct Meter {
-    units: Vec<MeteredUnit>,
+    pub(crate) units: Vec<MeteredUnit>,
 }
 
 /// A unit that was checked.
@@ -46,14 +45,5 @@ impl Meter {
         ensures { result ≡ length self.now }
     {
         self.units.len()
-    }
-
-    /// Counts a unit. Where memory is refused all is as before.
-    pub(crate) fn count(&mut self, unit: MeteredUnit) -> Result<(), AllocError>
-        ensures counted { OnOk result (self.new ≡ self.old ++ (metered_in unit ∷ [])) }
-        ensures same { OnErr result (self.new ≡ self.old) }
-    {
-        self.units.push(unit)?;
-        Ok(())
     }
 }

@@ -2,7 +2,7 @@
 
 ghost use Rattle.std.specs.Prelude.{◌≡◌, ◌++◌, flat_map, map, IfOk, OnOk};
 ghost use Rattle.pyc_body.specs.FoundMessages.{without_ignored};
-ghost use Rattle.pyc_examiner.specs.CheckedView.{checked_of};
+ghost use Rattle.pyc_examiner.specs.CheckedView.{messages_of};
 ghost use Rattle.pyc_names.specs.SourceFileView.{source_in};
 ghost use Rattle.pyc_report.specs.Message.{message_in};
 
@@ -21,19 +21,27 @@ pub fn unsilenced(
 ) -> Result<Vec<Message>, AllocError>
     ensures { IfOk result (λ messages. map message_in messages.items
         ≡ without_ignored (source_in file.now).outcome
-        (flat_map (λ check. check.messages) (map checked_of checks.now))) }
+        (flat_map messages_of checks.now)) }
 {
     let mut messages = all_found(alloc, checks)?;
-    if let Outcome::Tree(module) = file.outcome() {
-        drop_silenced(module, &mut messages);
-    }
+    drop_ignored(file, &mut messages);
     Ok(messages)
+}
+
+/// Takes the messages away that the ignore comments of a file silence. It takes no memory.
+pub fn drop_ignored(file: &SourceFile, messages: &mut Vec<Message>)
+    ensures { map message_in messages.new.items
+        ≡ without_ignored (source_in file.now).outcome (map message_in messages.old.items) }
+{
+    if let Outcome::Tree(module) = file.outcome() {
+        drop_silenced(module, messages);
+    }
 }
 
 /// The messages of checks, one after another.
 fn all_found(alloc: Global, checks: &[Checked]) -> Result<Vec<Message>, AllocError>
     ensures { IfOk result (λ messages. map message_in messages.items
-        ≡ flat_map (λ check. check.messages) (map checked_of checks.now)) }
+        ≡ flat_map messages_of checks.now) }
 {
     let mut messages = Vec::new(alloc);
     for check in checks {
@@ -42,8 +50,8 @@ fn all_found(alloc: Global, checks: &[Checked]) -> Result<Vec<Message>, AllocErr
     Ok(messages)
 }
 
-/// Adds messages once more.
-fn push_copies(messages: &mut Vec<Message>, more: &[Message]) -> Result<(), AllocError>
+/// Adds messages once more. The only error is that memory runs out.
+pub fn push_copies(messages: &mut Vec<Message>, more: &[Message]) -> Result<(), AllocError>
     ensures { OnOk result (map message_in messages.new.items
         ≡ map message_in messages.old.items ++ map message_in more.now) }
 {

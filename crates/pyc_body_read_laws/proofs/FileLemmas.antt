@@ -1,5 +1,5 @@
--- Which keys ask files.
-use Rattle.std.proofs.Common.{◌≡◌, ℕ, Bool, true, false, not, ◌&&◌, ◌||◌, codes, is_none, if◌then◌else◌, length, List, [], ◌∷◌, ◌++◌, flat_map, Option, None, Some, refl, sym, subst}
+-- Which keys heads, annotations and targets ask.
+use Rattle.std.proofs.Common.{◌≡◌, ℕ, Bool, true, false, not, ◌&&◌, ◌||◌, is_none, if◌then◌else◌, length, List, [], ◌∷◌, ◌++◌, flat_map, Option, None, Some, refl, sym, subst}
 use Rattle.pyc_annotations.specs.Annotations.{Subscripted, form_subscripted, class_subscripted, any_subscripted, value_subscripted, wrong_subscripted, takes}
 use Rattle.pyc_annotations.specs.declared.type_form.TypeForm.{TypeForm}
 use Rattle.pyc_annotations.specs.declared.type_form.TypeForm.TheVariants as type_form
@@ -17,21 +17,22 @@ use Rattle.pyc_bodies.specs.BodyNames.{body_context}
 use Rattle.pyc_bodies.specs.ClassBodies.{declares_class}
 use Rattle.pyc_body_read_laws.proofs.AnnotationLemmas.{annotation_asks}
 use Rattle.pyc_body_read_laws.proofs.ClassLemmas.{class_asks, heir_asks}
-use Rattle.pyc_body_read_laws.proofs.FunctionLemmas.{head_asks}
 use Rattle.pyc_body_read_laws.proofs.TargetLemmas.{attribute_target_asks, name_target_asks, subscript_target_asks}
 use Rattle.pyc_body_read_laws.specs.AnnotationRows as annotation
 use Rattle.pyc_body_read_laws.specs.AnnotationRows.{ArgumentKeys, ShapeKeys, callable_form_keys, callable_keys, class_object_keys, ellipsis_keys, form_keys, list_keys, other_keys, shape_keys, tuple_keys, type_list_keys, types_keys, annotation_keys, argument_keys, argument_list_keys, arguments_keys, attribute_module, attributes_keys, base_keys, bases_keys, dotted_keys, own_module, own_name_keys, subscripted_at, written_keys}
 use Rattle.pyc_body_read_laws.specs.ClassRows.{ancestor_keys, bound_keys, class_keys, classes_of_bases, declared_at, declared_keys, heir_keys, heir_of, name_keys, own_class, owed_keys, override_keys, pair_keys}
-use Rattle.pyc_body_read_laws.specs.FileKeys.{AnnotationAsksFiles, AsksFiles, AttributeAsksFiles, AttributeTargetAsksFiles, ClassAsksFiles, HeaderAsksFiles, HeadAsksFiles, HeirAsksFiles, IterationAsksFiles, NameTargetAsksFiles, ObligationAsksFiles, OfFiles, SubscriptAsksFiles, SubscriptTargetAsksFiles, is_of_files, is_source}
+use Rattle.pyc_body_read_laws.specs.FileKeys.{AnnotationAsksFiles, AttributeTargetAsksFiles, ClassAsksFiles, HeaderAsksFiles, HeirAsksFiles, NameTargetAsksFiles, SubscriptTargetAsksFiles}
 use Rattle.pyc_body_read_laws.specs.FunctionRows.{default_keys, head_keys, optional_annotation_keys, parameter_keys, parameters_keys, type_at}
 use Rattle.pyc_body_read_laws.specs.TargetRows.{is_defined, item_target_keys}
 use Rattle.pyc_builtins.specs.Members.{is_dunder}
 use Rattle.pyc_class.specs.declared.builtin_class.BuiltinClass.TheVariants as class
 use Rattle.pyc_class.specs.Class.{Id, builtin, user}
 use Rattle.pyc_expr.specs.Values.{infer_type}
+use Rattle.pyc_expression_ask_laws.proofs.StepLemmas.{of-append}
+use Rattle.pyc_expression_ask_laws.specs.FileKeys.{AsksFiles, OfFiles, is_of_files, is_source}
 use Rattle.pyc_functions.specs.Parameters.{receiver_of}
 use Rattle.pyc_items.specs.Chosen.{is_slice}
-use Rattle.pyc_items.specs.Owners.{Owner, builtin_owner, int_type, subscript_owner}
+use Rattle.pyc_items.specs.Owners.{int_type}
 use Rattle.pyc_locals.specs.Locals.{no_locals}
 use Rattle.pyc_members.specs.ClassBodies.{OwnMember, class_body, own_member}
 use Rattle.pyc_names.specs.Following.{is_import_from}
@@ -42,11 +43,8 @@ use Rattle.pyc_overrides.specs.Names.{bound_names, is_exempt}
 use Rattle.pyc_overrides.specs.Obligations.{override_by, override_details}
 use Rattle.pyc_overrides.specs.Overrides.{Heir}
 use Rattle.pyc_places.specs.States.{nothing_narrowed}
-use Rattle.pyc_read_laws.proofs.AttributeLemmas.{single_attribute_asks, union_attribute_asks}
-use Rattle.pyc_read_laws.proofs.ItemLemmas.{iteration_asks, subscript_asks}
-use Rattle.pyc_read_laws.proofs.ObligationLemmas.{obligation_asks}
 use Rattle.pyc_read_laws.specs.AttributeRows.{item_attribute_keys, module_attribute_keys}
-use Rattle.pyc_read_laws.specs.ItemRows.{builtin_index_keys, index_keys, item_subscript_keys, iteration_keys, sequence_index_keys, subscript_keys}
+use Rattle.pyc_read_laws.specs.ItemRows.{builtin_index_keys, sequence_index_keys}
 use Rattle.pyc_read_laws.specs.NameRows.{is_fixed}
 use Rattle.pyc_read_laws.specs.ObligationRows.{obligation_keys}
 use Rattle.pyc_read_laws.specs.Rows.{Answers, class_key, has_member, has_no_order, member_at, member_key, name_key, source_keys}
@@ -58,14 +56,10 @@ use Rattle.pyc_reading.specs.Readings.{asked, result_of}
 use Rattle.pyc_statement_read_laws.proofs.HeaderLemmas.{header_asks}
 use Rattle.pyc_statement_read_laws.specs.ImportRows.{all_ring_keys, binding_keys, header_keys, home_of, import_keys, part_keys, presence_keys}
 use Rattle.pyc_type_exprs.specs.TypeExprs.{TypeExpr, none_written, name_written, union_written, subscript_written, wrong_written, type_argument, ArgumentShape, ellipsis_shape, list_shape, other_shape, TypeExprs, no_type, another_type, TypeArguments, no_argument, another_argument, type_expr}
-use Rattle.pyc_type_forms.specs.Types.{Ty, any, none, module_type, instance, class_object, list, dict, tuple, tuple_of, union, callable}
-use Rattle.pyc_type_forms.specs.Unions.{items_of, row_items}
+use Rattle.pyc_type_forms.specs.Types.{Ty, any, module_type, instance, class_object, list, dict}
+use Rattle.pyc_type_forms.specs.Unions.{items_of}
 
 -- ---- lists of keys
-
-pub of-append : (ks ls : List Key) → OfFiles ks → OfFiles ls → OfFiles (ks ++ ls)
-of-append [] ls first second = second
-of-append (k ∷ ks) ls (one, first) second = (one, of-append ks ls first second)
 
 pub of-each : {X : Type 0} (keys : X → List Key) (xs : List X) → ((x : X) → OfFiles (keys x)) → OfFiles (flat_map keys xs)
 of-each keys [] each = tt
@@ -205,11 +199,7 @@ of-heir answers file name body None = tt
 pub heir_of_files : HeirAsksFiles
 heir_of_files file name body order answers = subst OfFiles (sym (heir_asks answers file name body order)) (of-heir answers file name body order)
 
--- ---- rules
-
-pub obligation_of_files : ObligationAsksFiles
-obligation_of_files o answers =
-    subst OfFiles (sym (obligation_asks answers o)) (of-append (obligation_keys o.got o.want) _ (of-sources (written o.got ++ written o.want)) (of-details o.details))
+-- ---- attributes, and what is owed of an index
 
 of-item_attribute : (answers : Answers) (n : List ℕ) (ty : Ty) → OfFiles (item_attribute_keys answers ty n)
 of-item_attribute answers n (instance (user m x)) =
@@ -218,29 +208,6 @@ of-item_attribute answers n (class_object (user m x)) = (refl, of-else (has_memb
 of-item_attribute answers n (module_type m) = of-module_attribute m n
 of-item_attribute answers n _ = tt
 
-pub attribute_of_files : AttributeAsksFiles
-attribute_of_files at (union items) n answers =
-    subst OfFiles (sym (union_attribute_asks answers at items n)) (of-each (λ item. item_attribute_keys answers item n) (row_items items) (of-item_attribute answers n))
-attribute_of_files at any n answers = subst OfFiles (sym (single_attribute_asks answers at any n refl)) (of-item_attribute answers n any)
-attribute_of_files at none n answers = subst OfFiles (sym (single_attribute_asks answers at none n refl)) (of-item_attribute answers n none)
-attribute_of_files at (module_type m) n answers = subst OfFiles (sym (single_attribute_asks answers at (module_type m) n refl)) (of-item_attribute answers n (module_type m))
-attribute_of_files at (instance c) n answers = subst OfFiles (sym (single_attribute_asks answers at (instance c) n refl)) (of-item_attribute answers n (instance c))
-attribute_of_files at (class_object c) n answers = subst OfFiles (sym (single_attribute_asks answers at (class_object c) n refl)) (of-item_attribute answers n (class_object c))
-attribute_of_files at (list x) n answers = subst OfFiles (sym (single_attribute_asks answers at (list x) n refl)) (of-item_attribute answers n (list x))
-attribute_of_files at (dict k v) n answers = subst OfFiles (sym (single_attribute_asks answers at (dict k v) n refl)) (of-item_attribute answers n (dict k v))
-attribute_of_files at (tuple xs) n answers = subst OfFiles (sym (single_attribute_asks answers at (tuple xs) n refl)) (of-item_attribute answers n (tuple xs))
-attribute_of_files at (tuple_of x) n answers = subst OfFiles (sym (single_attribute_asks answers at (tuple_of x) n refl)) (of-item_attribute answers n (tuple_of x))
-attribute_of_files at (callable ps r) n answers = subst OfFiles (sym (single_attribute_asks answers at (callable ps r) n refl)) (of-item_attribute answers n (callable ps r))
-
-of-iteration : (answers : Answers) (ty : Ty) → OfFiles (iteration_keys answers ty)
-of-iteration answers (instance (user m x)) =
-    (refl, of-else (has_no_order answers (user m x)) _ (refl, of-else (has_member answers (user m x) (codes "__iter__")) _ (refl, tt)))
-of-iteration answers _ = tt
-
-pub iteration_of_files : IterationAsksFiles
-iteration_of_files at ty answers = subst OfFiles (sym (iteration_asks answers at ty)) (of-each (λ item. iteration_keys answers item) (items_of ty) (of-iteration answers))
-
--- what is owed of an index
 of-sequence : (brackets : Index) (got : Ty) → OfFiles (sequence_index_keys brackets got)
 of-sequence brackets got = of-else (is_slice brackets) (obligation_keys got int_type) (of-sources (written got ++ written int_type))
 
@@ -250,20 +217,6 @@ of-builtin_index brackets got (instance (builtin class.Bytes)) = of-sequence bra
 of-builtin_index brackets got (list item) = of-sequence brackets got
 of-builtin_index brackets got (dict key value) = of-sources (written got ++ written key)
 of-builtin_index brackets got _ = tt
-
-of-index : (brackets : Index) (got : Ty) (owner : Owner) → OfFiles (index_keys brackets got owner)
-of-index brackets got (builtin_owner ty) = of-builtin_index brackets got ty
-of-index brackets got _ = tt
-
-of-subscript : (answers : Answers) (ty : Ty) → OfFiles (subscript_keys answers ty)
-of-subscript answers (instance (user m x)) = (refl, of-else (has_no_order answers (user m x)) _ (refl, tt))
-of-subscript answers _ = tt
-
-pub subscript_of_files : SubscriptAsksFiles
-subscript_of_files at brackets got ty answers =
-    subst OfFiles (sym (subscript_asks answers at brackets got ty))
-    (of-each (λ item. item_subscript_keys answers brackets got item) (items_of ty)
-    (λ item. of-append (subscript_keys answers item) _ (of-subscript answers item) (of-index brackets got (result_of answers (subscript_owner item)))))
 
 -- ---- targets
 
@@ -400,6 +353,3 @@ of-head outside head defaults answers =
     let receiver = receiver_of (class_around outside.kind) head.decorators in
     of-append (parameters_keys answers outside receiver head.parameters) (optional_annotation_keys answers (interface_of outside.file) head.returns)
     (of-parameters outside defaults answers receiver head.parameters) (of-optional_annotation answers (interface_of outside.file) head.returns)
-
-pub head_of_files : HeadAsksFiles
-head_of_files outside head defaults answers = subst OfFiles (sym (head_asks answers outside head)) (of-head outside head defaults answers)

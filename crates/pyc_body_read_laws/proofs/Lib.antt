@@ -5,5 +5,5 @@ pub mod ClassLemmas
 pub mod FunctionLemmas
 pub mod TargetLemmas
 pub mod FileLemmas
-pub mod UnitLemmas
+pub mod BodyLemmas
 pub mod OwedLemmas

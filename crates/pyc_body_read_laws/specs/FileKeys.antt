@@ -1,32 +1,24 @@
--- Which keys ask files: no reading asks a builtin class, a member of one, a fixed module or a name of one (Python
--- reference 3.13, "The import system"; the library reference, "Built-in Types" and `typing`), since no file can change
--- what is answered to these.
-use Rattle.std.specs.Prelude.{◌≡◌, ℕ, Bool, true, false, not, List, [], ◌∷◌, Option}
-use Rattle.pyc_ast.specs.declared.position.Position.{Position}
-use Rattle.pyc_ast.specs.Exprs.{Expr, Index}
-use Rattle.pyc_ast.specs.Statements.{ClassDefinition, FunctionDefinition, Stmts}
-use Rattle.pyc_attributes.specs.AttributeValues.{type_attribute}
-use Rattle.pyc_bodies.specs.Bodies.{Body}
-use Rattle.pyc_bodies.specs.BodyNames.{body_context}
-use Rattle.pyc_class.specs.Class.{Id, builtin, user}
-use Rattle.pyc_functions.specs.Functions.{head_read}
+-- Which keys the parts of units ask: files alone, whatever is answered (Python reference 3.13, "Class definitions",
+-- "Function definitions", "Assignment statements", "The import system").
+use Rattle.std.specs.Prelude.{◌≡◌, ℕ, Bool, true, List, Option, None, Some}
 use Rattle.pyc_annotations.specs.Annotations.{read_type}
-use Rattle.pyc_expr.specs.Values.{infer_type}
+use Rattle.pyc_ast.specs.declared.position.Position.{Position}
+use Rattle.pyc_ast.specs.Exprs.{Index}
+use Rattle.pyc_ast.specs.Statements.{ClassDefinition, FunctionDefinition, StmtForm, Stmts}
+use Rattle.pyc_bodies.specs.Bodies.{Body, class_around}
+use Rattle.pyc_bodies.specs.BodyNames.{body_name}
+use Rattle.pyc_bodies.specs.BodyTargets.{name_met}
+use Rattle.pyc_class.specs.Class.{Id}
+use Rattle.pyc_expression_ask_laws.specs.FileKeys.{AsksFiles, is_source}
+use Rattle.pyc_functions.specs.Functions.{head_read}
 use Rattle.pyc_iface.specs.declared.options.Options.{Options}
-use Rattle.pyc_items.specs.Iteration.{iterated}
-use Rattle.pyc_items.specs.Subscripts.{subscript}
-use Rattle.pyc_locals.specs.Locals.{no_locals}
+use Rattle.pyc_imports.specs.ImportReadings.{import_reading}
+use Rattle.pyc_local_imports.specs.LocalImports.{class_import_read, local_import_read}
+use Rattle.pyc_locals.specs.Locals.{Locals}
+use Rattle.pyc_locals.specs.Points.{Point}
 use Rattle.pyc_names.specs.Interfaces.{Interface}
 use Rattle.pyc_names.specs.SourceFiles.{SourceFile}
 use Rattle.pyc_obligations.specs.Values.{Value}
-use Rattle.pyc_places.specs.States.{nothing_narrowed}
-use Rattle.pyc_read_laws.specs.NameRows.{is_fixed}
-use Rattle.pyc_read_laws.specs.Rows.{Answers}
-use Rattle.pyc_reading.specs.Desks.{Step, owed}
-use Rattle.pyc_reading.specs.Keys.{Key}
-use Rattle.pyc_reading.specs.Keys as key
-use Rattle.pyc_reading.specs.Owing.{Obligation}
-use Rattle.pyc_reading.specs.Readings.{asked}
 use Rattle.pyc_targets.specs.AttributeTargets.{attribute_want}
 use Rattle.pyc_targets.specs.ItemTargets.{item_target}
 use Rattle.pyc_targets.specs.NameTargets.{declared_type}
@@ -35,31 +27,12 @@ use Rattle.pyc_type_forms.specs.Types.{Ty}
 use Rattle.pyc_units.specs.DefinitionReadings.{class_reading, heir_reading}
 use Rattle.pyc_units.specs.Header.{header_reading}
 
--- ---- keys
+-- whether the class around a body, if there is one, is of a source; what class statements declare is
+abbrev pub is_source_around : Option Id → Bool
+is_source_around (Some c) = is_source c
+is_source_around None = true
 
--- whether a class is one of a source
-abbrev pub is_source : Id → Bool
-is_source (builtin c) = false
-is_source (user m x) = true
-
--- whether a key asks a file: not one of a fixed module or of a name of it, nor of a builtin class or a member of it
-abbrev pub is_of_files : Key → Bool
-is_of_files (key.has_module m) = not (is_fixed m)
-is_of_files (key.has_name q) = not (is_fixed q.home)
-is_of_files (key.name q) = not (is_fixed q.home)
-is_of_files (key.class c) = is_source c
-is_of_files (key.member n) = is_source n.class
-
--- each of some keys asks a file
-abbrev pub OfFiles : List Key → Type 0
-OfFiles [] = Unit {0}
-OfFiles (k ∷ rest) = (is_of_files k ≡ true) × OfFiles rest
-
--- whatever is answered, a reading asks files alone
-abbrev pub AsksFiles : {A : Type 0} → Step A → Type 0
-AsksFiles r = (answers : Answers) → OfFiles (asked answers r)
-
--- ---- units
+-- ---- heads
 
 -- the header of a file asks files alone
 abbrev pub HeaderAsksFiles : Type 0
@@ -79,26 +52,11 @@ HeirAsksFiles =
 abbrev pub AnnotationAsksFiles : Type 0
 AnnotationAsksFiles = (file : Interface) (written : TypeExpr) → AsksFiles (read_type file written)
 
--- so does the head of a function, where the defaults of its parameters do
+-- so does the head of a function
 abbrev pub HeadAsksFiles : Type 0
 HeadAsksFiles =
     (outside : Body) (head : FunctionDefinition)
-    → ((x : Expr) (want : Option Ty) → AsksFiles (infer_type (body_context outside no_locals) nothing_narrowed x want))
-    → AsksFiles (head_read outside head)
-
--- ---- rules
-
-abbrev pub ObligationAsksFiles : Type 0
-ObligationAsksFiles = (o : Obligation) → AsksFiles (owed o)
-
-abbrev pub AttributeAsksFiles : Type 0
-AttributeAsksFiles = (at : Position) (ty : Ty) (n : List ℕ) → AsksFiles (type_attribute at ty n)
-
-abbrev pub SubscriptAsksFiles : Type 0
-SubscriptAsksFiles = (at : Position) (brackets : Index) (got ty : Ty) → AsksFiles (subscript at brackets got ty)
-
-abbrev pub IterationAsksFiles : Type 0
-IterationAsksFiles = (at : Position) (ty : Ty) → AsksFiles (iterated at ty)
+    → is_source_around (class_around outside.kind) ≡ true → AsksFiles (head_read outside head)
 
 -- ---- targets
 
@@ -112,3 +70,32 @@ AttributeTargetAsksFiles =
 
 abbrev pub NameTargetAsksFiles : Type 0
 NameTargetAsksFiles = (file : SourceFile) (x : List ℕ) → AsksFiles (declared_type file x)
+
+-- ---- in bodies
+
+-- imports ask files alone, wherever they stand
+abbrev pub ImportAsksFiles : Type 0
+ImportAsksFiles =
+    (options : Options) (file : Interface) (at : Position) (form : StmtForm)
+    → AsksFiles (import_reading options file at form)
+
+abbrev pub ClassImportAsksFiles : Type 0
+ClassImportAsksFiles =
+    (options : Options) (file : Interface) (at : Position) (form : StmtForm) (p : Point)
+    → AsksFiles (class_import_read options file at form p)
+
+abbrev pub LocalImportAsksFiles : Type 0
+LocalImportAsksFiles =
+    (options : Options) (file : Interface) (at : Position) (form : StmtForm) (p : Point)
+    → AsksFiles (local_import_read options file at form p)
+
+-- so do names, where they are read and where they are assigned to
+abbrev pub BodyNameAsksFiles : Type 0
+BodyNameAsksFiles =
+    (body : Body) (locals : Locals) (at : Position) (x : List ℕ)
+    → is_source_around (class_around body.kind) ≡ true → AsksFiles (body_name body locals at x)
+
+abbrev pub BodyTargetAsksFiles : Type 0
+BodyTargetAsksFiles =
+    (body : Body) (p : Point) (x : List ℕ)
+    → is_source_around (class_around body.kind) ≡ true → AsksFiles (name_met body p x)

@@ -3,5 +3,4 @@ pub mod ClassRows
 pub mod FunctionRows
 pub mod TargetRows
 pub mod FileKeys
-pub mod UnitKeys
 pub mod OwedRows

@@ -1,6 +1,6 @@
 //! Files, with whether they have the same interface.
 
-use crate::sources::file_of;
+use crate::sources::interface_of;
 use pyc_interfaces::same_interface;
 use std::alloc::{AllocError, Global};
 use std::test::Fail;
@@ -11,8 +11,8 @@ fn is_same(
     file: (&str, &str),
     other: (&str, &str),
 ) -> Result<(bool, bool), AllocError> {
-    let file = file_of(alloc, file.0, file.1)?;
-    let other = file_of(alloc, other.0, other.1)?;
+    let file = interface_of(alloc, file.0, file.1)?;
+    let other = interface_of(alloc, other.0, other.1)?;
     Ok((same_interface(&file, &other), same_interface(&other, &file)))
 }
 

@@ -1,5 +1,5 @@
 //! Tests of classes and files: what class statements bind, what classes have under names, and their orders; when files
-//! have one interface, and when answers are one; in a crate of their own.
+//! have one interface, when answers are one, keys by number, and answers by number; in a crate of their own.
 #![tactic(auto)]
 
 #[cfg(test)]
@@ -12,6 +12,10 @@ mod class_body;
 mod declared_classes;
 #[cfg(test)]
 mod interfaces;
+#[cfg(test)]
+mod keys;
+#[cfg(test)]
+mod known_answers;
 #[cfg(test)]
 mod members;
 #[cfg(test)]

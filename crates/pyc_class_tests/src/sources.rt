@@ -4,7 +4,7 @@ use pyc_ast::{Module, Outcome, Text};
 use pyc_class::{ClassId, UnknownOrder};
 use pyc_iface::{Answer, Key, MemberAnswer, World};
 use pyc_lower::read;
-use pyc_names::{ModuleName, SourceFile};
+use pyc_names::{Interface, ModuleName, SourceFile};
 use pyc_types::{BuiltinName, builtin_name, show};
 use std::alloc::{AllocError, Global};
 use std::rc::Rc;
@@ -18,29 +18,33 @@ pub(crate) fn module_of(alloc: Global, source: &str) -> Result<Module, Fail> {
     }
 }
 
-/// A file of this path and source, shared.
-pub(crate) fn file_of(
+/// The interface of a file of this path and source, shared.
+pub(crate) fn interface_of(
     alloc: Global,
     path: &str,
     source: &str,
-) -> Result<Rc<SourceFile>, AllocError> {
+) -> Result<Rc<Interface>, AllocError> {
     let name = ModuleName::of_path(alloc, path)?;
     let outcome = read(alloc, source.as_bytes())?;
-    Ok(Rc::new(alloc, SourceFile::new(alloc, path, name, outcome)?)?)
+    let file = SourceFile::new(alloc, path, name, outcome)?;
+    file.shared_interface().clone()
 }
 
-/// Files, each of its path and source.
-fn files_of(alloc: Global, sources: &[(&str, &str)]) -> Result<Vec<Rc<SourceFile>>, AllocError> {
-    let mut files = Vec::new(alloc);
+/// The interfaces of files, each of its path and source.
+fn interfaces_of(
+    alloc: Global,
+    sources: &[(&str, &str)],
+) -> Result<Vec<Rc<Interface>>, AllocError> {
+    let mut interfaces = Vec::new(alloc);
     for (path, source) in sources {
-        files.push(file_of(alloc, path, source)?)?;
+        interfaces.push(interface_of(alloc, path, source)?)?;
     }
-    Ok(files)
+    Ok(interfaces)
 }
 
 /// The world of files, each of its path and source.
 pub(crate) fn world_of(alloc: Global, sources: &[(&str, &str)]) -> Result<World, AllocError> {
-    World::build(alloc, &files_of(alloc, sources)?)
+    World::build(alloc, &interfaces_of(alloc, sources)?)
 }
 
 /// The one part of the name of a module.

@@ -1,31 +1,33 @@
 -- A check of files, update by update.
-use Rattle.std.proofs.Common.{◌≡◌, ℕ, Bool, true, false, List, [], ◌∷◌, ◌++◌, Option, None, Some, is_some, option_map, option_and_then, refl, sym, ap, subst, ◌∙◌, append_assoc, ◌||◌, codes, if◌then◌else◌, drop, drop-cons, length, map, string_bytes, get_or, suc, ◌+◌, ◌<◌, ◌≤◌, String, arith}
-use Rattle.std.specs.Prelude.{Result, Ok, Err}
-use Rattle.std.proofs.lemmas.List.{drop_all}
+use Rattle.std.proofs.Common.{◌≡◌, ℕ, Bool, true, false, List, [], ◌∷◌, ◌++◌, Option, None, Some, is_some, option_map, option_and_then, refl, sym, ap, subst, ◌∙◌, append_assoc, ◌||◌, true≢false, take, length, map, string_bytes, get_or, ◌+◌, ◌<◌, ◌≤◌, String, arith, codes, if◌then◌else◌, ◌==◌, ◌&&◌, not}
+use Rattle.std.specs.Prelude.{Result, Ok, Err, IfOk, OnOk, OnErr}
+use Rattle.std.specs.List.{concat}
+use Rattle.std.proofs.lemmas.Bool.{eqb-true}
+use Rattle.std.proofs.lemmas.List.{map-append, take_all, take_more}
 use Rattle.std.specs.Global.{Global}
 use Rattle.std.specs.Io.KnownBytes.{Appends}
 use Rattle.pyc_iface.specs.declared.options.Options.{Options}
 use Rattle.pyc_session.specs.Entry.{Entry}
-use Rattle.pyc_session.specs.Event.{Event, FetchStep, Links}
-use Rattle.pyc_workspace.specs.Fresh.{fresh}
-use Rattle.pyc_daemon.specs.Counted.{IsSound, FailsOnce}
+use Rattle.pyc_session.specs.Event.{Event, FetchStep}
+use Rattle.pyc_workspace.specs.Fresh.{fresh, checked, source_of}
+use Rattle.pyc_workspace.specs.Workspace.{File}
+use Rattle.pyc_daemon.specs.Counted.{IsSound, FailsOnce, at_fault, at_empty, faults_of, zeros_of}
 use Rattle.pyc_daemon.specs.declared.counted.Counted.{Counted}
 use Rattle.pyc_daemon.specs.Replies.{WritesPart}
-use Rattle.pyc_report.specs.Report.{Report}
-use Rattle.pyc_session.specs.Refusal.{refusal_text}
+use Rattle.pyc_report.specs.Report.{Report, error_lines, printed_lines, report_of, summary}
+use Rattle.pyc_session.specs.declared.ending.RunFault.{RunFault}
 use Rattle.pyc_session.specs.Session.{Outcome, updated, refusal_in}
 use Rattle.pyc_session.specs.State.{State, start}
-use Rattle.pyc_session.specs.declared.ending.RunFault.{RunFault}
 use Rattle.pyc_session.specs.declared.refusal.Refusal.{Refusal}
-use Rattle.pyc_session.specs.declared.refusal.Refusal.TheVariants as refusal
 use Rattle.pyc_daemon.proofs.Going.{appends_none, appends_trans, links_push, part_before, part_after}
-use Rattle.pyc_daemon.proofs.Moving.{append_nil, sound_trans, write_fault}
-use Rattle.pyc_console.specs.CheckFiles.{BreaksOff, at_out, at_err, Checks, ComesOfCheck, RefusedFile, UpdateProgress, WrotePart, before_others, err_text, exit_status, first_updates, is_any, memory_line, outputs, printed_report, program_line, refusal_line, refusal_lines, refused_file, report_status}
-use Rattle.pyc_console.specs.Updates.{BeginsUpdates, Prints, UpdatesFirst, UpdatesOne, ToldOne}
+use Rattle.pyc_daemon.proofs.Moving.{append_nil, sound_none, sound_trans, write_fault}
+use Rattle.pyc_console.specs.declared.checking.CheckFault.{CheckFault}
+use Rattle.pyc_console.specs.declared.checking.CheckFault.TheVariants as check_fault
+use Rattle.pyc_console.specs.CheckFiles.{Checks, Outside, Prints, RefusedFile, UpdatedFiles, before_others, end_line, is_any, outside, refusal_lines, refused_file, report_status, updated_files}
+use Rattle.pyc_console.specs.Lines.{Writes, program_line, refusal_line}
+use Rattle.pyc_console.specs.Updates.{UpdatesAll, UpdatesOne, WritesOn, more, none, has_failed}
 
-or_none : (a : Bool) → (a || false) ≡ a
-or_none true = refl
-or_none false = refl
+-- ---- refused files
 
 files_nil : (files : List RefusedFile) → files ++ [] ≡ files
 files_nil [] = refl
@@ -50,265 +52,255 @@ any_file path (Some why) = refl
 
 -- ---- one more update
 
-module _ (event : Event) (path : List ℕ) (left : List (List ℕ)) (o : Outcome) (u : UpdateProgress) where
+module _ (event : Event) (path : List ℕ) (o : Outcome) (u : UpdatedFiles) where
   -- what updates that are known to come so far come to with this one
-  abbrev With : UpdateProgress → Option UpdateProgress
-  With v = Some (record { refused = v.refused ++ refused_file path o.refusal; state = o.state; left = left })
+  abbrev With : UpdatedFiles → Option UpdatedFiles
+  With v = Some (record { refused = v.refused ++ refused_file path o.refusal; state = o.state })
 
-  more_by_progress : (first : List ℕ) (told : Option Refusal) (known : Option UpdateProgress) (later : Option UpdateProgress)
-      → ((v : UpdateProgress) → known ≡ Some v → v.left ≡ path ∷ left → updated v.state path event ≡ Some o → later ≡ With v)
-      → option_map (before_others first told) known ≡ Some u → u.left ≡ path ∷ left → updated u.state path event ≡ Some o
+  more_by_progress : (first : List ℕ) (told : Option Refusal) (known : Option UpdatedFiles) (later : Option UpdatedFiles)
+      → ((v : UpdatedFiles) → known ≡ Some v → updated v.state path event ≡ Some o → later ≡ With v)
+      → option_map (before_others first told) known ≡ Some u → updated u.state path event ≡ Some o
       → option_map (before_others first told) later ≡ With u
-  more_by_progress first told None later steps e next is = cc
-  more_by_progress first told (Some v) later steps e next is =
+  more_by_progress first told None later steps e is = cc
+  more_by_progress first told (Some v) later steps e is =
       let same : before_others first told v ≡ u = cc in
-      let from : later ≡ With v = steps v refl (ap (λ (x : UpdateProgress). x.left) same ∙ next) (ap (λ (x : UpdateProgress). updated x.state path event) same ∙ is) in
-      rw (from, ← same) (ap (λ fs. Some (record { refused = fs; state = o.state; left = left })) (files_assoc (refused_file first told) v.refused (refused_file path o.refusal)))
+      let from : later ≡ With v = steps v refl (ap (λ (x : UpdatedFiles). updated x.state path event) same ∙ is) in
+      rw (from, ← same) (ap (λ fs. Some (record { refused = fs; state = o.state })) (files_assoc (refused_file first told) v.refused (refused_file path o.refusal)))
 
   more_by_outcome : (first : List ℕ) (paths : List (List ℕ)) (events : List Event) (known : Option Outcome)
-      → ((s : State) (v : UpdateProgress) → first_updates s paths events ≡ Some v → v.left ≡ path ∷ left → updated v.state path event ≡ Some o → first_updates s paths (events ++ event ∷ []) ≡ With v)
-      → option_and_then (λ outcome. option_map (before_others first outcome.refusal) (first_updates outcome.state paths events)) known ≡ Some u
-      → u.left ≡ path ∷ left → updated u.state path event ≡ Some o
-      → option_and_then (λ outcome. option_map (before_others first outcome.refusal) (first_updates outcome.state paths (events ++ event ∷ []))) known ≡ With u
-  more_by_outcome first paths events None steps e next is = cc
-  more_by_outcome first paths events (Some outcome) steps e next is =
-      more_by_progress first outcome.refusal (first_updates outcome.state paths events) (first_updates outcome.state paths (events ++ event ∷ [])) (steps outcome.state) e next is
+      → ((s : State) (v : UpdatedFiles) → updated_files s paths events ≡ Some v → updated v.state path event ≡ Some o
+      → updated_files s (paths ++ path ∷ []) (events ++ event ∷ []) ≡ With v)
+      → option_and_then (λ outcome. option_map (before_others first outcome.refusal) (updated_files outcome.state paths events)) known ≡ Some u
+      → updated u.state path event ≡ Some o
+      → option_and_then (λ outcome. option_map (before_others first outcome.refusal) (updated_files outcome.state (paths ++ path ∷ []) (events ++ event ∷ []))) known ≡ With u
+  more_by_outcome first paths events None steps e is = cc
+  more_by_outcome first paths events (Some outcome) steps e is =
+      more_by_progress first outcome.refusal (updated_files outcome.state paths events) (updated_files outcome.state (paths ++ path ∷ []) (events ++ event ∷ [])) (steps outcome.state) e is
 
-one_update : (s : State) (path : List ℕ) (left : List (List ℕ)) (event : Event) (o : Outcome) → updated s path event ≡ Some o
-    → first_updates s (path ∷ left) (event ∷ []) ≡ Some (record { refused = refused_file path o.refusal; state = o.state; left = left })
-one_update s path left event o is = rw (is, files_nil (refused_file path o.refusal)) refl
+one_update : (s : State) (path : List ℕ) (event : Event) (o : Outcome) → updated s path event ≡ Some o
+    → updated_files s (path ∷ []) (event ∷ []) ≡ Some (record { refused = refused_file path o.refusal; state = o.state })
+one_update s path event o is = rw (is, files_nil (refused_file path o.refusal)) refl
 
-one_more : (s : State) (paths : List (List ℕ)) (events : List Event) (event : Event) (path : List ℕ) (left : List (List ℕ)) (o : Outcome) (u : UpdateProgress)
-    → first_updates s paths events ≡ Some u → u.left ≡ path ∷ left → updated u.state path event ≡ Some o
-    → first_updates s paths (events ++ event ∷ []) ≡ Some (record { refused = u.refused ++ refused_file path o.refusal; state = o.state; left = left })
-one_more s paths [] event path left o u e next is =
-    let same : record { refused = []; state = s; left = paths } ≡ u = cc in
-    let paths_are : paths ≡ path ∷ left = ap (λ (x : UpdateProgress). x.left) same ∙ next in
-    let from : updated s path event ≡ Some o = ap (λ (x : UpdateProgress). updated x.state path event) same ∙ is in
-    rw (← same, paths_are) (one_update s path left event o from)
-one_more s [] (first ∷ events) event path left o u e next is = cc
-one_more s (other ∷ paths) (first ∷ events) event path left o u e next is =
-    more_by_outcome event path left o u other paths events (updated s other first) (λ t v known later from. one_more t paths events event path left o v known later from) e next is
+one_more : (s : State) (paths : List (List ℕ)) (events : List Event) (event : Event) (path : List ℕ) (o : Outcome) (u : UpdatedFiles)
+    → updated_files s paths events ≡ Some u → updated u.state path event ≡ Some o
+    → updated_files s (paths ++ path ∷ []) (events ++ event ∷ []) ≡ Some (record { refused = u.refused ++ refused_file path o.refusal; state = o.state })
+one_more s [] [] event path o u e is =
+    let same : record { refused = []; state = s } ≡ u = cc in
+    let from : updated s path event ≡ Some o = ap (λ (x : UpdatedFiles). updated x.state path event) same ∙ is in
+    rw (← same) (one_update s path event o from)
+one_more s [] (first ∷ events) event path o u e is = cc
+one_more s (other ∷ paths) [] event path o u e is = cc
+one_more s (other ∷ paths) (first ∷ events) event path o u e is =
+    more_by_outcome event path o u other paths events (updated s other first) (λ t v known from. one_more t paths events event path o v known from) e is
+
+-- ---- one text more
+
+-- where a write failed that was the first, one has failed
+failed_once : {W : Type 0} (first writer : Counted W) → faults_of first ≡ 0 → zeros_of first ≡ 0 → FailsOnce first writer → faults_of writer ≡ 0 → zeros_of writer ≡ 0 → ⊥
+failed_once first writer faults zeros (at_fault f z) none_failed none_empty = cc
+failed_once first writer faults zeros (at_empty f z) none_failed none_empty = cc
+
+never_failed : {W : Type 0} (first writer : Counted W) → faults_of first ≡ 0 → zeros_of first ≡ 0 → IsSound first writer → has_failed writer ≡ false
+never_failed first writer faults zeros sound = rw (sound.faults, sound.zeros, faults, zeros) refl
+
+none_after : (xs ys : List ℕ) → (xs ≡ [] → ⊥) → xs ++ ys ≡ [] → ⊥
+none_after [] ys some e = some refl
+none_after (x ∷ xs) ys some e = cc
+
+none_before : (xs ys : List ℕ) → (ys ≡ [] → ⊥) → xs ++ ys ≡ [] → ⊥
+none_before [] ys some e = some e
+none_before (x ∷ xs) ys some e = cc
+
+-- more after a text that was written
+more_after : {W : Type 0} (first writer writer' : Counted W) (told told' told'' : Option (List ℕ)) (text later : List ℕ) (failed : Bool)
+    → Writes false first writer told told' text → Writes failed writer writer' told' told'' later → Writes failed first writer' told told'' (text ++ later)
+more_after first writer writer' told told' told'' text later false w m = (sound_trans first writer writer' w.0 m.0, appends_trans told told' told'' text later w.1 m.1)
+more_after first writer writer' told told' told'' text later true w m = record {
+  fails = write_fault first writer writer' w.0 m.fails;
+  part = part_after told told' told'' text later w.1 m.part;
+  some = none_before text later m.some;
+}
+
+-- what is written of two texts, where the second is written unless the first was not
+pub writes_on : {W : Type 0} (first writer writer' : Counted W) (told told' told'' : Option (List ℕ)) (text later : List ℕ) (failed : Bool)
+    → faults_of first ≡ 0 → zeros_of first ≡ 0 → Writes failed first writer told told' text → WritesOn writer writer' told' told'' later
+    → (failed' : Bool) × Writes failed' first writer' told told'' (text ++ later)
+writes_on first writer writer' told told' told'' text later false faults zeros w (more f z failed m) =
+    (failed, more_after first writer writer' told told' told'' text later failed w m)
+writes_on first writer writer' told told' told'' text later false faults zeros w (none has same_writer same_told) =
+    absurd (true≢false (sym has ∙ never_failed first writer faults zeros w.0))
+writes_on first writer writer' told told' told'' text later true faults zeros w (more f z failed m) =
+    absurd (failed_once first writer faults zeros w.fails f z)
+writes_on first writer writer' told told' told'' text later true faults zeros w (none has same_writer same_told) = (
+  true,
+  record {
+    fails = subst (λ x. FailsOnce first x) (sym same_writer) w.fails;
+    part = subst (λ x. WritesPart told x (text ++ later)) (sym same_told) (part_before told told' text later w.part);
+    some = none_after text later w.some;
+  },
+)
+
+both_true : (a b : Bool) → not (a && b) ≡ false → (a ≡ true) × (b ≡ true)
+both_true true true e = (refl, refl)
+both_true true false e = cc
+both_true false b e = cc
+
+-- no text, where nothing is done
+nothing_by : {W : Type 0} (writer : Counted W) (told : Option (List ℕ)) (has : Bool) → has_failed writer ≡ has → WritesOn writer writer told told []
+nothing_by writer told true is = none is refl refl
+nothing_by writer told false is =
+    let zeros = both_true (faults_of writer == 0) (zeros_of writer == 0) is in
+    more (eqb-true _ _ zeros.0) (eqb-true _ _ zeros.1) false (sound_none writer, appends_none told)
+
+pub writes_nothing : {W : Type 0} (writer : Counted W) (told : Option (List ℕ)) → WritesOn writer writer told told []
+writes_nothing writer told = nothing_by writer told (has_failed writer) refl
+
+-- a program's line is not empty
+pub some_line : (text : List ℕ) → program_line text ≡ [] → ⊥
+some_line text e = cc
+
+-- what was written of a text, as `write_parts` and `write_bytes` tell it
+pub writes_by : {W T : Type 0} (writer writer' : Counted W) (told told' : Option (List ℕ)) (text : List ℕ) (answer : Result T RunFault)
+    → OnOk answer (Appends told told' text) → OnErr answer (WritesPart told told' text) → OnOk answer (IsSound writer writer') → OnErr answer (FailsOnce writer writer') → (text ≡ [] → ⊥)
+    → (failed : Bool) × Writes failed writer writer' told told' text
+writes_by writer writer' told told' text (Ok x) whole part sound fails some = (false, (sound, whole))
+writes_by writer writer' told told' text (Err why) whole part sound fails some = (true, record { fails = fails; part = part; some = some })
+
+pub writes_more : {W T : Type 0} (writer writer' : Counted W) (told told' : Option (List ℕ)) (text : List ℕ) (answer : Result T RunFault)
+    → faults_of writer ≡ 0 → zeros_of writer ≡ 0
+    → OnOk answer (Appends told told' text) → OnErr answer (WritesPart told told' text) → OnOk answer (IsSound writer writer') → OnErr answer (FailsOnce writer writer') → (text ≡ [] → ⊥)
+    → WritesOn writer writer' told told' text
+writes_more writer writer' told told' text answer faults zeros whole part sound fails some =
+    let w = writes_by writer writer' told told' text answer whole part sound fails some in more faults zeros w.0 w.1
+
+-- the line on a refused file, from its texts
+pub refusal_told : {W : Type 0} (writer writer' : Counted W) (told told' : Option (List ℕ)) (path text : List ℕ)
+    → WritesOn writer writer' told told' (codes "dmypy: " ++ (path ++ (codes ": " ++ (text ++ [])))) → WritesOn writer writer' told told' (program_line (path ++ (codes ": " ++ text)))
+refusal_told writer writer' told told' path text w = subst (λ zs. WritesOn writer writer' told told' (codes "dmypy: " ++ (path ++ (codes ": " ++ zs)))) (append_nil text) w
+
+-- ---- reports
+
+summary_some : (none : Bool) (a b : List ℕ) → (if none then codes "Success: no issues found in " ++ a else codes "Found " ++ b) ≡ [] → ⊥
+summary_some true a b e = cc
+summary_some false a b e = cc
+
+-- the text of a report is not empty
+pub report_some : (options : Options) (files : List File) → (fresh options files).text ≡ [] → ⊥
+unfolding fresh report_of summary
+report_some options files =
+    let founds = map (checked options (map source_of files)) files in
+    none_before (concat (printed_lines founds)) _ (summary_some (length (error_lines founds) == 0) _ _)
+
+-- the report is printed in part
+pub prints_part : {O : Type 0} (out out' : Counted O) (printed printed' : Option (List ℕ)) (options : Options) (files : List File) (report : Report) (refused : Bool) → report ≡ fresh options files
+    → FailsOnce out out' → WritesPart printed printed' report.text → Prints (Err check_fault.Write) (fresh options files) refused out out' printed printed'
+prints_part out out' printed printed' options files report refused same fails part = record {
+  fails = fails;
+  part = subst (λ (r : Report). WritesPart printed printed' r.text) same part;
+  some = report_some options files;
+}
 
 -- ---- updates
 
 -- no file is updated yet
-pub updates_none : {S : Type 0} (step : S → List ℕ → Entry → S → Type 0) (source : S) (err : Option (List ℕ)) (s : State) (paths : List (List ℕ))
-    → UpdatesFirst step source source err err s s paths paths false
-updates_none step source err s paths = record { events = []; files = []; links = refl; appends = appends_none err; reaches = refl; any = refl }
+pub updates_none : {S E : Type 0} (step : S → List ℕ → Entry → S → Type 0) (source : S) (err : Counted E) (told : Option (List ℕ)) (s : State)
+    → (failed : Bool) × UpdatesAll step source source err err told told s s [] false failed
+updates_none step source err told s = (false, record { events = []; files = []; reaches = refl; links = refl; tells = (sound_none err, appends_none told); is = refl })
 
 -- one more is
-pub updates_on : {S : Type 0} (step : S → List ℕ → Entry → S → Type 0) (source source' source'' : S) (err err' err'' : Option (List ℕ)) (s s' s'' : State) (paths left left' : List (List ℕ)) (path : List ℕ) (refused more_refused : Bool) (event : Event)
-    → UpdatesFirst step source source' err err' s s' paths left refused → left ≡ path ∷ left' → FetchStep step source' event.fetched source''
-    → UpdatesOne err' err'' path s' s'' event (Ok more_refused)
-    → UpdatesFirst step source source'' err err'' s s'' paths left' (refused || more_refused)
-updates_on step source source' source'' err err' err'' s s' s'' paths left left' path refused more_refused event u next fetched one =
+pub updates_on : {S E : Type 0} (step : S → List ℕ → Entry → S → Type 0) (source source' source'' : S) (err err' err'' : Counted E) (told told' told'' : Option (List ℕ)) (s s' s'' : State) (paths : List (List ℕ)) (path : List ℕ) (refused more_refused : Bool) (event : Event)
+    → faults_of err ≡ 0 → zeros_of err ≡ 0
+    → (failed : Bool) × UpdatesAll step source source' err err' told told' s s' paths refused failed
+    → FetchStep step source' event.fetched source'' → UpdatesOne err' err'' told' told'' path s' s'' event more_refused
+    → (failed : Bool) × UpdatesAll step source source'' err err'' told told'' s s'' (paths ++ path ∷ []) (refused || more_refused) failed
+updates_on step source source' source'' err err' err'' told told' told'' s s' s'' paths path refused more_refused event faults zeros (failed, u) fetched one =
     let files = refused_file path one.refusal in
-    record {
-      events = u.events ++ event ∷ [];
-      files = u.files ++ files;
-      links = links_push step source source' source'' u.events u.links event fetched;
-      appends = subst (λ zs. Appends err err'' zs) (sym (lines_append u.files files)) (appends_trans err err' err'' (refusal_lines u.files) (refusal_lines files) u.appends one.wrote.1);
-      reaches = one_more s paths u.events event path left' (record { refusal = one.refusal; state = s'' }) (record { refused = u.files; state = s'; left = left }) u.reaches next one.reaches;
-      any = rw (u.any, one.wrote.0) (sym (any_append u.files files ∙ ap (λ b. is_any u.files || b) (any_file path one.refusal)));
-    }
+    let w = writes_on err err' err'' told told' told'' (refusal_lines u.files) (refusal_lines files) failed faults zeros u.tells one.tells in (
+      w.0,
+      record {
+        events = u.events ++ event ∷ [];
+        files = u.files ++ files;
+        reaches = one_more s paths u.events event path (record { refusal = one.refusal; state = s'' }) (record { refused = u.files; state = s' }) u.reaches one.reaches;
+        links = links_push step source source' source'' u.events u.links event fetched;
+        tells = subst (λ zs. Writes w.0 err err'' told told'' zs) (sym (lines_append u.files files)) w.1;
+        is = rw (u.is, one.is) (sym (any_append u.files files ∙ ap (λ b. is_any u.files || b) (any_file path one.refusal)));
+      },
+    )
 
--- the paths that are left, from the next one on
-pub left_next : (files : List (String Global)) (i : ℕ) (file : String Global) → i < length files → file ≡ get_or files i file
-    → map string_bytes (drop i files) ≡ string_bytes file ∷ map string_bytes (drop (i + 1) files)
-left_next files i file within is =
-    let more : i + 1 ≡ suc i = omega arith in
-    ap (λ fs. map string_bytes fs) (drop-cons files i file within) ∙ rw (more, sym is) refl
+-- the paths of the first files and of the next one
+pub paths_next : (files : List (String Global)) (i : ℕ) (file : String Global) → i < length files → file ≡ get_or files i file
+    → map string_bytes (take i files) ++ string_bytes file ∷ [] ≡ map string_bytes (take (i + 1) files)
+paths_next files i file within is =
+    sym (ap (λ fs. map string_bytes fs) (take_more files i file within ∙ ap (λ x. take i files ++ x ∷ []) (sym is)) ∙ map-append string_bytes (take i files) (file ∷ []))
 
--- none is left
-pub left_none : (files : List (String Global)) (i : ℕ) → length files ≤ i → map string_bytes (drop i files) ≡ []
-left_none files i past = ap (λ fs. map string_bytes fs) (drop_all i files past)
+-- they are all
+pub paths_all : (files : List (String Global)) (i : ℕ) → length files ≤ i → map string_bytes (take i files) ≡ map string_bytes files
+paths_all files i past = ap (λ fs. map string_bytes fs) (take_all i files past)
 
--- the line on a file is written in part
-pub updates_part : {S : Type 0} (step : S → List ℕ → Entry → S → Type 0) (source source' source'' : S) (err err' err'' : Option (List ℕ)) (s s' s'' : State) (paths left left' : List (List ℕ)) (path : List ℕ) (refused : Bool) (event : Event) (fault : RunFault)
-    → UpdatesFirst step source source' err err' s s' paths left refused → left ≡ path ∷ left' → FetchStep step source' event.fetched source''
-    → UpdatesOne err' err'' path s' s'' event (Err fault)
-    → BeginsUpdates step source source'' err err'' s paths
-updates_part step source source' source'' err err' err'' s s' s'' paths left left' path refused event fault u next fetched one =
-    let files = refused_file path one.refusal in
-    record {
-      events = u.events ++ event ∷ [];
-      reached = record { refused = u.files ++ files; state = s''; left = left' };
-      told = refusal_lines u.files ++ one.wrote.written;
-      links = links_push step source source' source'' u.events u.links event fetched;
-      appends = appends_trans err err' err'' (refusal_lines u.files) one.wrote.written u.appends one.wrote.appends;
-      reaches = one_more s paths u.events event path left' (record { refusal = one.refusal; state = s'' }) (record { refused = u.files; state = s'; left = left }) u.reaches next one.reaches;
-      begins = (one.wrote.later, lines_append u.files files ∙ ap (λ zs. refusal_lines u.files ++ zs) one.wrote.seam ∙ sym (append_assoc (refusal_lines u.files) one.wrote.written one.wrote.later));
-    }
-
-begins_part : (left : List (List ℕ)) (reached : UpdateProgress) (wanting : Bool) (told : List ℕ) → (later : List ℕ) × (refusal_lines reached.refused ≡ told ++ later) → (wanting ≡ true)
-    → WrotePart left reached wanting [] told
-begins_part [] reached wanting told begins is = (
-  (printed_report (fresh reached.state.options reached.state.present) wanting, refl),
-  (begins.0 ++ memory_line wanting, ap (λ zs. zs ++ memory_line wanting) begins.1 ∙ append_assoc told begins.0 (memory_line wanting)),
-)
-begins_part (path ∷ paths) reached wanting told begins is = (refl, begins)
-
--- the updates broke off
-pub checks_broken : {S : Type 0} (step : S → List ℕ → Entry → S → Type 0) (options : Options) (source source' : S) (out err err' : Option (List ℕ)) (paths : List (List ℕ)) (fault : RunFault)
-    → BeginsUpdates step source source' err err' (start options) paths → Checks step options (outputs source out err) (outputs source' out err') paths (Err fault)
-checks_broken step options source source' out err err' paths fault b = record {
-  events = b.events;
-  reached = b.reached;
-  wanting = true;
-  written = [];
-  told = b.told;
-  reaches = b.reaches;
-  links = b.links;
-  appends_out = appends_none out;
-  appends_err = b.appends;
-  wrote = begins_part b.reached.left b.reached true b.told b.begins refl;
-}
-
--- all files are updated, and then the report is printed or not
-pub checks_printed : {S : Type 0} (step : S → List ℕ → Entry → S → Type 0) (options : Options) (source source' : S) (out out' err err' err'' : Option (List ℕ)) (s' : State) (paths : List (List ℕ)) (refused : Bool) (result : Result ℕ RunFault)
-    → UpdatesFirst step source source' err err' (start options) s' paths [] refused → Prints out out' err' err'' (fresh s'.options s'.present) refused result
-    → Checks step options (outputs source out err) (outputs source' out' err'') paths result
-checks_printed step options source source' out out' err err' err'' s' paths refused (Ok status) u p = record {
-  events = u.events;
-  reached = record { refused = u.files; state = s'; left = [] };
-  wanting = p.wanting;
-  written = p.written;
-  told = refusal_lines u.files ++ p.told;
-  reaches = u.reaches;
-  links = u.links;
-  appends_out = p.appends_out;
-  appends_err = appends_trans err err' err'' (refusal_lines u.files) p.told u.appends p.appends_err;
-  wrote = (
-    refl,
-    p.wrote.0,
-    ap (λ zs. refusal_lines u.files ++ zs) p.wrote.1,
-    p.wrote.2 ∙ ap (λ t. report_status (fresh s'.options s'.present) t p.wanting) u.any,
-  );
-}
-checks_printed step options source source' out out' err err' err'' s' paths refused (Err fault) u p = record {
-  events = u.events;
-  reached = record { refused = u.files; state = s'; left = [] };
-  wanting = p.wanting;
-  written = p.written;
-  told = refusal_lines u.files ++ p.told;
-  reaches = u.reaches;
-  links = u.links;
-  appends_out = p.appends_out;
-  appends_err = appends_trans err err' err'' (refusal_lines u.files) p.told u.appends p.appends_err;
-  wrote = (
-    p.wrote.0,
-    (p.wrote.1.0, ap (λ zs. refusal_lines u.files ++ zs) p.wrote.1.1 ∙ sym (append_assoc (refusal_lines u.files) p.told p.wrote.1.0)),
-  );
-}
-
--- the parts of a line on a refused file
-pub told_seam : (path text : List ℕ) → (codes "dmypy: " ++ (path ++ (codes ": " ++ []))) ++ text ≡ program_line (path ++ (codes ": " ++ text))
-told_seam path text = append_assoc (codes "dmypy: ") (path ++ (codes ": " ++ [])) text ∙ ap (λ zs. codes "dmypy: " ++ zs) (append_assoc path (codes ": ") text)
-
--- its first half in part
-pub told_first : (err err' : Option (List ℕ)) (path : List ℕ) (why : Refusal) → WritesPart err err' (codes "dmypy: " ++ (path ++ (codes ": " ++ [])))
-    → WritesPart err err' (refusal_line path why)
-told_first err err' path why p =
-    subst (λ zs. WritesPart err err' zs) (told_seam path (refusal_text why)) (part_before err err' (codes "dmypy: " ++ (path ++ (codes ": " ++ []))) (refusal_text why) p)
-
--- its second half in part
-pub told_second : (err err' err'' : Option (List ℕ)) (path : List ℕ) (why : Refusal) → Appends err err' (codes "dmypy: " ++ (path ++ (codes ": " ++ [])))
-    → WritesPart err' err'' (refusal_text why) → WritesPart err err'' (refusal_line path why)
-told_second err err' err'' path why a p =
-    subst (λ zs. WritesPart err err'' zs) (told_seam path (refusal_text why)) (part_after err err' err'' (codes "dmypy: " ++ (path ++ (codes ": " ++ []))) (refusal_text why) a p)
-
--- the file is accepted
-pub one_done : (err : Option (List ℕ)) (path : List ℕ) (s s' : State) (event : Event) → updated s path event ≡ Some (record { refusal = None; state = s' }) → UpdatesOne err err path s s' event (Ok false)
-one_done err path s s' event e = record { refusal = None; reaches = e; wrote = (refl, appends_none err) }
-
--- it is refused, and told
-pub one_refused : (err err' : Option (List ℕ)) (path : List ℕ) (s s' : State) (event : Event) (why : Refusal) → updated s path event ≡ Some (record { refusal = Some why; state = s' })
-    → Appends err err' (refusal_line path why) → UpdatesOne err err' path s s' event (Ok true)
-one_refused err err' path s s' event why e a = record {
-  refusal = Some why;
-  reaches = e;
-  wrote = (refl, subst (λ zs. Appends err err' zs) (sym (append_nil (refusal_line path why))) a);
-}
-
--- it is refused, and told in part
-pub one_part : (err err' : Option (List ℕ)) (path : List ℕ) (s s' : State) (event : Event) (why : Refusal) (fault : RunFault) → updated s path event ≡ Some (record { refusal = Some why; state = s' })
-    → WritesPart err err' (refusal_line path why) → UpdatesOne err err' path s s' event (Err fault)
-one_part err err' path s s' event why fault e p = record {
-  refusal = Some why;
-  reaches = e;
-  wrote = subst (λ zs. WritesPart err err' zs) (sym (append_nil (refusal_line path why))) p;
-}
+-- ---- one update
 
 -- how a call refused
 pub told_result : (s' : State) (answer answer' : Result (Unit {0}) Refusal) (o : Option Outcome) → o ≡ Some (record { refusal = refusal_in answer; state = s' }) → answer ≡ answer'
     → o ≡ Some (record { refusal = refusal_in answer'; state = s' })
 told_result s' answer answer' o e same = e ∙ ap (λ r. Some (record { refusal = refusal_in r; state = s' })) same
 
--- want of memory is told in part
-pub prints_want_part : (out err err' : Option (List ℕ)) (report : Report) (is_one_refused : Bool) (fault : RunFault) (text : List ℕ) → text ≡ refusal_text refusal.Memory
-    → WritesPart err err' (codes "dmypy: " ++ (text ++ [])) → Prints out out err err' report is_one_refused (Err fault)
-prints_want_part out err err' report is_one_refused fault text e p = record {
-  wanting = true;
-  written = [];
-  told = p.written;
-  appends_out = appends_none out;
-  appends_err = p.appends;
-  wrote = (([], refl), (p.later, ap (λ zs. program_line zs) (sym e ∙ sym (append_nil text)) ∙ p.seam));
+-- the file is accepted
+pub one_accepted : {E : Type 0} (err : Counted E) (told : Option (List ℕ)) (path : List ℕ) (s s' : State) (event : Event) → updated s path event ≡ Some (record { refusal = None; state = s' })
+    → UpdatesOne err err told told path s s' event false
+one_accepted err told path s s' event e = record { refusal = None; reaches = e; tells = writes_nothing err told; is = refl }
+
+-- it is refused
+pub one_refused : {E : Type 0} (err err' : Counted E) (told told' : Option (List ℕ)) (path : List ℕ) (s s' : State) (event : Event) (why : Refusal) → updated s path event ≡ Some (record { refusal = Some why; state = s' })
+    → WritesOn err err' told told' (refusal_line path why) → UpdatesOne err err' told told' path s s' event true
+one_refused err err' told told' path s s' event why e w = record {
+  refusal = Some why;
+  reaches = e;
+  tells = subst (λ zs. WritesOn err err' told told' zs) (sym (append_nil (refusal_line path why))) w;
+  is = refl;
 }
 
--- want of memory is told
-pub prints_want : (out err err' : Option (List ℕ)) (report : Report) (is_one_refused : Bool) (text : List ℕ) → text ≡ refusal_text refusal.Memory
-    → Appends err err' (codes "dmypy: " ++ (text ++ [])) → Prints out out err err' report is_one_refused (Ok 2)
-prints_want out err err' report is_one_refused text e a = record {
-  wanting = true;
-  written = [];
-  told = codes "dmypy: " ++ (text ++ []);
-  appends_out = appends_none out;
-  appends_err = a;
-  wrote = (refl, ap (λ zs. program_line zs) (append_nil text ∙ e), elim is_one_refused as (λ t. 2 ≡ report_status report t true) [ true ↦ refl | false ↦ refl ]);
-}
+-- ---- the whole check
 
--- the report is printed in part
-pub prints_part : (out out' err : Option (List ℕ)) (report printed : Report) (is_one_refused : Bool) (fault : RunFault) → printed ≡ report
-    → WritesPart out out' printed.text → Prints out out' err err report is_one_refused (Err fault)
-prints_part out out' err report printed is_one_refused fault e p = record {
-  wanting = false;
-  written = p.written;
-  told = [];
-  appends_out = p.appends;
-  appends_err = appends_none err;
-  wrote = ((p.later, ap (λ (r : Report). r.text) (sym e) ∙ p.seam), ([], refl));
-}
+pub checks : {S O E : Type 0} (step : S → List ℕ → Entry → S → Type 0) (options : Options) (source source' : S) (out out' : Counted O) (err err' err'' : Counted E) (printed printed' told told' told'' : Option (List ℕ)) (s' : State) (paths : List (List ℕ)) (refused : Bool) (result : Result ℕ CheckFault)
+    → faults_of err ≡ 0 → zeros_of err ≡ 0
+    → (failed : Bool) × UpdatesAll step source source' err err' told told' (start options) s' paths refused failed
+    → Prints result (fresh s'.options s'.present) refused out out' printed printed' → WritesOn err' err'' told' told'' (end_line result)
+    → (failed : Bool) × Checks step options (outside source out err printed told) (outside source' out' err'' printed' told'') paths result failed
+checks step options source source' out out' err err' err'' printed printed' told told' told'' s' paths refused result faults zeros (failed, u) p end =
+    let w = writes_on err err' err'' told told' told'' (refusal_lines u.files) (end_line result) failed faults zeros u.tells end in (
+      w.0,
+      record {
+        events = u.events;
+        reached = record { refused = u.files; state = s' };
+        reaches = u.reaches;
+        links = u.links;
+        prints = subst (λ t. Prints result (fresh s'.options s'.present) t out out' printed printed') u.is p;
+        tells = w.1;
+      },
+    )
 
--- the report is printed
-pub prints_all : (out out' err : Option (List ℕ)) (report printed : Report) (is_one_refused : Bool) (status : ℕ) → printed ≡ report → Appends out out' printed.text
-    → status ≡ (if is_one_refused then 2 else if printed.clean then 0 else 1) → Prints out out' err err report is_one_refused (Ok status)
-prints_all out out' err report printed is_one_refused status same a e = record {
-  wanting = false;
-  written = printed.text;
-  told = [];
-  appends_out = a;
-  appends_err = appends_none err;
-  wrote = (
-    ap (λ (r : Report). r.text) same,
-    refl,
-    e ∙ ap (λ (r : Report). if is_one_refused then 2 else if r.clean then 0 else 1) same
-        ∙ ap (λ t. if t then 2 else if report.clean then 0 else 1) (sym (or_none is_one_refused)),
-  );
-}
+-- where no write to the error output failed, what is told is whole
+pub checks_whole : {S O E : Type 0} (step : S → List ℕ → Entry → S → Type 0) (options : Options) (before after : Outside S O E) (paths : List (List ℕ)) (result : Result ℕ CheckFault)
+    → faults_of before.err ≡ 0 → zeros_of before.err ≡ 0 → (failed : Bool) × Checks step options before after paths result failed
+    → IsSound before.err after.err → Checks step options before after paths result false
+checks_whole step options before after paths result faults zeros (false, c) sound = c
+checks_whole step options before after paths result faults zeros (true, c) sound =
+    absurd (failed_once before.err after.err faults zeros c.tells.fails (sound.faults ∙ faults) (sound.zeros ∙ zeros))
 
--- ---- counts
+-- nothing is told of a check whose status is 0 or 1
+nothing_told : (report : Report) (files : List RefusedFile) (status : ℕ) → status ≡ report_status report (is_any files) → status < 2 → files ≡ []
+nothing_told report [] status e low = refl
+nothing_told report (file ∷ files) status e low = absurd (omega (arith, e, low))
 
 -- a check whose status is 0 or 1 met no fault
-pub sound_below : {O E : Type 0} (answer : Result ℕ RunFault) (out out' : Counted O) (err err' : Counted E) (status : ℕ) → ComesOfCheck answer out out' err err' → status ≡ exit_status answer → status < 2
-    → IsSound out out' × IsSound err err'
-sound_below (Ok n) out out' err err' status e is low = e
-sound_below (Err fault) out out' err err' status e is low = absurd (omega (arith, is, low))
+sound_below : {S O E : Type 0} (step : S → List ℕ → Entry → S → Type 0) (options : Options) (before after : Outside S O E) (paths : List (List ℕ)) (status : ℕ) (failed : Bool)
+    → Checks step options before after paths (Ok status) failed → status < 2 → IsSound before.out after.out × IsSound before.err after.err
+sound_below step options before after paths status false c low = (c.prints.1.0, c.tells.0)
+sound_below step options before after paths status true c low =
+    let no_file = nothing_told (fresh c.reached.state.options c.reached.state.present) c.reached.refused status c.prints.0 low in
+    absurd (c.tells.some (ap (λ files. refusal_lines files ++ []) no_file))
 
--- what the printing after updates did to the counts
-pub counts_after : {O E : Type 0} (answer : Result ℕ RunFault) (out out' : Counted O) (err err' err'' : Counted E) → IsSound err err' → ComesOfCheck answer out out' err' err''
-    → ComesOfCheck answer out out' err err''
-counts_after (Ok n) out out' err err' err'' sound e = (e.0, sound_trans err err' err'' sound e.1)
-counts_after (Err fault) out out' err err' err'' sound (at_out fails later) = at_out fails (sound_trans err err' err'' sound later)
-counts_after (Err fault) out out' err err' err'' sound (at_err keeps fails) = at_err keeps (write_fault err err' err'' sound fails)
+pub sound_after : {S O E : Type 0} (step : S → List ℕ → Entry → S → Type 0) (options : Options) (before after : Outside S O E) (paths : List (List ℕ)) (result : Result ℕ CheckFault)
+    → (failed : Bool) × Checks step options before after paths result failed → IfOk result (λ status. status < 2 → IsSound before.out after.out × IsSound before.err after.err)
+sound_after step options before after paths (Ok status) (failed, c) = λ low. sound_below step options before after paths status failed c low
+sound_after step options before after paths (Err fault) c = tt

@@ -1,20 +1,21 @@
--- What a check of files prints, and the status that it ends with.
-use Rattle.std.specs.Prelude.{◌≡◌, ℕ, Bool, true, false, ◌||◌, if◌then◌else◌, List, [], ◌∷◌, ◌++◌, codes}
+-- What a check of files prints, what it tells on standard error, and the status that it ends with.
+use Rattle.std.specs.Prelude.{◌≡◌, ℕ, Bool, true, false, if◌then◌else◌, List, [], ◌∷◌, ◌++◌}
 use Rattle.std.specs.Prelude.{Option, None, Some, option_map, option_and_then, Result, Ok, Err}
-use Rattle.std.specs.Io.KnownBytes.{Appends}
-use Rattle.pyc_daemon.specs.Counted.{IsSound, FailsOnce}
 use Rattle.pyc_daemon.specs.declared.counted.Counted.{Counted}
-use Rattle.pyc_session.specs.declared.ending.RunFault.{RunFault}
-use Rattle.pyc_session.specs.declared.refusal.Refusal.{Refusal}
-use Rattle.pyc_session.specs.declared.refusal.Refusal.TheVariants as refusal
 use Rattle.pyc_iface.specs.declared.options.Options.{Options}
+use Rattle.pyc_report.specs.Report.{Report}
 use Rattle.pyc_session.specs.Entry.{Entry}
 use Rattle.pyc_session.specs.Event.{Event, Links}
-use Rattle.pyc_workspace.specs.Fresh.{fresh}
 use Rattle.pyc_session.specs.Refusal.{refusal_text}
-use Rattle.pyc_report.specs.Report.{Report}
 use Rattle.pyc_session.specs.Session.{updated}
 use Rattle.pyc_session.specs.State.{State, start}
+use Rattle.pyc_session.specs.declared.ending.RunFault.TheVariants as run_fault
+use Rattle.pyc_session.specs.declared.refusal.Refusal.{Refusal}
+use Rattle.pyc_session.specs.declared.refusal.Refusal.TheVariants as refusal
+use Rattle.pyc_workspace.specs.Fresh.{fresh}
+use Rattle.pyc_console.specs.declared.checking.CheckFault.{CheckFault}
+use Rattle.pyc_console.specs.declared.checking.CheckFault.TheVariants as check_fault
+use Rattle.pyc_console.specs.Lines.{Writes, fault_line, program_line, refusal_line}
 
 -- a file that is refused, and why
 pub record RefusedFile : Type 0 where
@@ -26,32 +27,24 @@ abbrev pub refused_file : List ℕ → Option Refusal → List RefusedFile
 refused_file path None = []
 refused_file path (Some why) = record { path = path; refusal = why } ∷ []
 
--- what updates of files came to: the files that are refused, in order, the state after them, and the files left
-pub record UpdateProgress : Type 0 where
+-- what updates of files came to: the files that are refused, in order, and the state after them
+pub record UpdatedFiles : Type 0 where
   pub refused : List RefusedFile
   pub state : State
-  pub left : List (List ℕ)
 
 -- a file that is refused, if it is, comes before those after it
-abbrev pub before_others : List ℕ → Option Refusal → UpdateProgress → UpdateProgress
+abbrev pub before_others : List ℕ → Option Refusal → UpdatedFiles → UpdatedFiles
 before_others path told later = record later { refused = refused_file path told ++ later.refused }
 
--- the updates of the first of these files, one for each event; absent where an event does not fit its update, or where
--- one is left over
-abbrev pub first_updates : State → List (List ℕ) → List Event → Option UpdateProgress
-first_updates s paths [] = Some (record { refused = []; state = s; left = paths })
-first_updates s [] (event ∷ events) = None
-first_updates s (path ∷ paths) (event ∷ events) = option_and_then
-    (λ outcome. option_map (before_others path outcome.refusal) (first_updates outcome.state paths events))
+-- the updates of these files, one for each event; absent where an event does not fit its update, or where there are not
+-- as many events as files
+abbrev pub updated_files : State → List (List ℕ) → List Event → Option UpdatedFiles
+updated_files s [] [] = Some (record { refused = []; state = s })
+updated_files s [] (event ∷ events) = None
+updated_files s (path ∷ paths) [] = None
+updated_files s (path ∷ paths) (event ∷ events) = option_and_then
+    (λ outcome. option_map (before_others path outcome.refusal) (updated_files outcome.state paths events))
     (updated s path event)
-
--- a line of the program about something
-abbrev pub program_line : List ℕ → List ℕ
-program_line text = codes "dmypy: " ++ text
-
--- the line on a file that is refused, `dmypy: FILE: refused K NAME`
-abbrev pub refusal_line : List ℕ → Refusal → List ℕ
-refusal_line path why = program_line (path ++ (codes ": " ++ refusal_text why))
 
 -- the lines on the files that are refused
 abbrev pub refusal_lines : List RefusedFile → List ℕ
@@ -63,86 +56,65 @@ abbrev pub is_any : List RefusedFile → Bool
 is_any [] = false
 is_any (file ∷ files) = true
 
--- what is printed of a report: its text, or nothing where the check wants memory
-abbrev pub printed_report : Report → Bool → List ℕ
-printed_report report wanting = if wanting then [] else report.text
+-- the report on the files that are accepted
+abbrev pub accepted_report : UpdatedFiles → Report
+accepted_report done = fresh done.state.options done.state.present
 
--- the line on a check that wants memory, else nothing
-abbrev pub memory_line : Bool → List ℕ
-memory_line wanting = if wanting then program_line (refusal_text refusal.Memory) else []
+-- the status of a report that was printed: 2 where a file is refused, else 0 where it is clean, and 1 where it is not
+abbrev pub report_status : Report → Bool → ℕ
+report_status report refused = if refused then 2 else if report.clean then 0 else 1
 
--- 2 where a file is refused or the check wants memory, else 0 where the report is clean, and 1 where it is not
-abbrev pub report_status : Report → Bool → Bool → ℕ
-report_status report refused wanting = if refused || wanting then 2 else if report.clean then 0 else 1
+-- the line on why a report was not printed, or in part alone
+abbrev pub check_fault_line : CheckFault → List ℕ
+check_fault_line check_fault.Memory = program_line (refusal_text refusal.Memory)
+check_fault_line check_fault.Write = fault_line run_fault.Write
 
--- what goes to the output: the report on the files that are accepted
-abbrev pub out_text : UpdateProgress → Bool → List ℕ
-out_text done wanting = printed_report (fresh done.state.options done.state.present) wanting
+-- that line, if the check met a fault
+abbrev pub end_line : Result ℕ CheckFault → List ℕ
+end_line (Ok status) = []
+end_line (Err fault) = check_fault_line fault
 
--- what goes to the error output: the lines on the files that are refused, and the one on want of memory
-abbrev pub err_text : UpdateProgress → Bool → List ℕ
-err_text done wanting = refusal_lines done.refused ++ memory_line wanting
+-- what goes to the error output: the lines on the files that are refused, and the one on the report
+abbrev pub err_text : UpdatedFiles → Result ℕ CheckFault → List ℕ
+err_text done answer = refusal_lines done.refused ++ end_line answer
 
--- the status
-abbrev pub check_status : UpdateProgress → Bool → ℕ
-check_status done wanting = report_status (fresh done.state.options done.state.present) (is_any done.refused) wanting
+-- What was done to the output, whose known bytes are `printed`, for a report: it was written whole, and the status is
+-- its; or nothing was done; or it was written in part.
+abbrev pub Prints : {O : Type 0} → Result ℕ CheckFault → Report → Bool → Counted O → Counted O → Option (List ℕ)
+    → Option (List ℕ) → Type 0
+Prints (Ok status) report refused out out' printed printed' =
+    (status ≡ report_status report refused) × Writes false out out' printed printed' report.text
+Prints (Err check_fault.Memory) report refused out out' printed printed' = (out' ≡ out) × (printed' ≡ printed)
+Prints (Err check_fault.Write) report refused out out' printed printed' =
+    Writes true out out' printed printed' report.text
 
--- a text begins with these bytes
-abbrev pub BeginsWith : List ℕ → List ℕ → Type 0
-BeginsWith text written = (later : List ℕ) × (text ≡ written ++ later)
-
--- a check that was not broken off updated all files, wrote both texts whole, and has their status
-abbrev pub WroteAll : UpdateProgress → Bool → List ℕ → List ℕ → ℕ → Type 0
-WroteAll done wanting written told status =
-    (done.left ≡ []) × (written ≡ out_text done wanting) × (told ≡ err_text done wanting)
-    × (status ≡ check_status done wanting)
-
--- one that a write broke off wrote what both texts begin with; where files are left, no report was begun
-abbrev pub WrotePart : List (List ℕ) → UpdateProgress → Bool → List ℕ → List ℕ → Type 0
-WrotePart [] done wanting written told =
-    BeginsWith (out_text done wanting) written × BeginsWith (err_text done wanting) told
-WrotePart (path ∷ paths) done wanting written told = (written ≡ []) × BeginsWith (refusal_lines done.refused) told
-
--- what was written by a check that answered so: its status, or the fault of a write
-abbrev pub Wrote : Result ℕ RunFault → UpdateProgress → Bool → List ℕ → List ℕ → Type 0
-Wrote (Ok status) done wanting written told = WroteAll done wanting written told status
-Wrote (Err fault) done wanting written told = WrotePart done.left done wanting written told
-
--- what a check meets outside: the source, and the known bytes of the output and of the error output
-pub record Outputs (S : Type 0) : Type 0 where
+-- what a check meets outside: the source, the output, the error output, and the known bytes of these two
+pub record Outside (S O E : Type 0) : Type 0 where
   pub source : S
-  pub out : Option (List ℕ)
-  pub err : Option (List ℕ)
+  pub out : Counted O
+  pub err : Counted E
+  pub printed : Option (List ℕ)
+  pub told : Option (List ℕ)
 
-abbrev pub outputs : {S : Type 0} → S → Option (List ℕ) → Option (List ℕ) → Outputs S
-outputs source out err = record { source = source; out = out; err = err }
+abbrev pub outside :
+    {S O E : Type 0} → S → Counted O → Counted E → Option (List ℕ) → Option (List ℕ) → Outside S O E
+outside source out err printed told =
+    record { source = source; out = out; err = err; printed = printed; told = told }
 
--- A check of files, by what a fetch does to a source (`step`): `events` is what the updates met, one event a file,
--- `wanting` whether the check wanted memory, and `written` and `told` were written.
-pub record Checks {S : Type 0} (step : S → List ℕ → Entry → S → Type 0) (options : Options) (before after : Outputs S)
-    (paths : List (List ℕ)) (result : Result ℕ RunFault) : Type 0 where
+-- A check of files, by what a fetch does to a source (`step`): `events` is what the updates met, one event a file. All
+-- files are updated and the report is printed, also where a write to the error output failed (`failed`).
+pub record Checks {S O E : Type 0} (step : S → List ℕ → Entry → S → Type 0) (options : Options)
+    (before after : Outside S O E) (paths : List (List ℕ)) (result : Result ℕ CheckFault) (failed : Bool)
+    : Type 0 where
   pub events : List Event
-  pub reached : UpdateProgress
-  pub wanting : Bool
-  pub written : List ℕ
-  pub told : List ℕ
-  pub reaches : first_updates (start options) paths events ≡ Some reached
+  pub reached : UpdatedFiles
+  pub reaches : updated_files (start options) paths events ≡ Some reached
   pub links : Links step before.source events after.source
-  pub appends_out : Appends before.out after.out written
-  pub appends_err : Appends before.err after.err told
-  pub wrote : Wrote result reached wanting written told
+  pub prints :
+      Prints result (accepted_report reached) (is_any reached.refused) before.out after.out before.printed after.printed
+  pub tells : Writes failed before.err after.err before.told after.told (err_text reached result)
 
--- just one write failed
-pub data BreaksOff {O E : Type 0} (out out' : Counted O) (err err' : Counted E) : Type 0 where
-  at_out : FailsOnce out out' → IsSound err err' → BreaksOff out out' err err'
-  at_err : IsSound out out' → FailsOnce err err' → BreaksOff out out' err err'
-
--- what a check that answered so did to the counts of its writers: no write failed, or the last one did
-abbrev pub ComesOfCheck : {O E : Type 0} → Result ℕ RunFault → Counted O → Counted O → Counted E → Counted E → Type 0
-ComesOfCheck (Ok status) out out' err err' = IsSound out out' × IsSound err err'
-ComesOfCheck (Err fault) out out' err err' = BreaksOff out out' err err'
-
--- the status that the program ends with: 2 also after the fault of a write
-abbrev pub exit_status : Result ℕ RunFault → ℕ
+-- the status that the program ends with: 2 also where the report was not printed, or in part alone
+abbrev pub exit_status : Result ℕ CheckFault → ℕ
 exit_status (Ok status) = status
 exit_status (Err fault) = 2

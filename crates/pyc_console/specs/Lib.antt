@@ -1,3 +1,4 @@
 pub mod CheckFiles
+pub mod Lines
 pub mod Status
 pub mod Updates

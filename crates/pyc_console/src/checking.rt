@@ -1,25 +1,32 @@
 //! One check of the files that the command line names.
 
-ghost use Rattle.std.specs.Prelude.{◌≡◌, ◌<◌, [], ℕ, Result, Ok, map, string_bytes, if◌then◌else◌, IfOk, IfErr};
-ghost use Rattle.std.specs.Prelude.{OnErr, OnOk};
-ghost use Rattle.std.specs.Io.KnownBytes.{Appends};
-ghost use Rattle.pyc_daemon.specs.Counted.{inner_of, faults_of, zeros_of, IsSound, FailsOnce};
-ghost use Rattle.pyc_daemon.specs.Counted.{GivesRoom};
+ghost use Rattle.std.specs.Prelude.{◌≡◌, ◌<◌, ◌++◌, [], Bool, false, codes, map, string_bytes, IfOk};
+ghost use Rattle.std.specs.Prelude.{if◌then◌else◌};
+ghost use Rattle.pyc_daemon.specs.Counted.{inner_of, faults_of, zeros_of, IsSound, GivesRoom};
+ghost use Rattle.pyc_daemon.specs.Replies.{joined};
 ghost use Rattle.pyc_session.specs.Event.{Event, FetchStep};
 ghost use Rattle.pyc_workspace.specs.Fresh.{fresh};
-ghost use Rattle.pyc_daemon.specs.Replies.{WritesPart};
-ghost use Rattle.pyc_session.specs.declared.ending.RunFault.{RunFault};
-ghost use Rattle.pyc_console.specs.CheckFiles.{Checks, ComesOfCheck, exit_status, outputs, refusal_line};
-ghost use Rattle.pyc_console.specs.Updates.{BeginsUpdates, Prints, UpdatesFirst, UpdatesOne};
+ghost use Rattle.pyc_console.specs.CheckFiles.{Checks, Prints, check_fault_line, end_line, exit_status, outside};
+ghost use Rattle.pyc_console.specs.Lines.{program_line};
+ghost use Rattle.pyc_console.specs.Updates.{UpdatesAll, UpdatesOne, WritesOn, has_failed};
 
 use pyc_daemon::{Counted, Daemon, Options, Refusal, RunFault, Sources, write_bytes, write_parts};
 use std::alloc::Global;
 use std::io::Write;
 
-/// Checks the files of these paths, whose bytes the source hands over, and prints the report to `out`. Each file that
-/// is refused is told on a line of `err`, and so is want of memory for the check. The status is 0 where all files are
-/// accepted and have no error, 1 where all are accepted and have one, else 2. A write that fails or takes no byte ends
-/// the check.
+/// Why a check of files did not print its report whole.
+#[derive(Clone, Copy, Debug, PartialEq, Eq)]
+pub enum CheckFault {
+    /// The check wants memory. Nothing was printed.
+    Memory,
+    /// A write to the output failed, or took no byte.
+    Write,
+}
+
+/// Checks the files of these paths, whose bytes the source hands over, prints the report to `out`, and answers the
+/// status: 0 where all files are accepted and have no error, 1 where all are accepted and have one, else 2. Each file
+/// that is refused is told on a line of `err`, and so is a fault. Where a write to `err` fails, nothing more is written
+/// there, and the check goes on.
 pub fn check_files<S: Sources, O: Write, E: Write>(
     alloc: Global,
     sources: &mut S,
@@ -27,54 +34,37 @@ pub fn check_files<S: Sources, O: Write, E: Write>(
     err: &mut Counted<E>,
     options: &Options,
     files: &[String],
-) -> u8
-    requires unwritten { (faults_of out.old ≡ 0) × (zeros_of out.old ≡ 0) }
+) -> Result<u8, CheckFault>
     requires untold { (faults_of err.old ≡ 0) × (zeros_of err.old ≡ 0) }
-    // Where no write failed, all is written, and the status is that of the report and the refusals.
-    ensures whole { IsSound out.old out.new → IsSound err.old err.new
-        → Checks S.step options.now
-        (outputs sources.old (O.contents (inner_of out.old)) (E.contents (inner_of err.old)))
-        (outputs sources.new (O.contents (inner_of out.new)) (E.contents (inner_of err.new)))
-        (map string_bytes files.now) (Ok result) }
-    // In any case what is written begins what is to be written, and where that is not all of it, just one write failed,
-    // and nothing was written after it.
-    ensures checks { (answer : Result ℕ RunFault)
-        × Checks S.step options.now
-        (outputs sources.old (O.contents (inner_of out.old)) (E.contents (inner_of err.old)))
-        (outputs sources.new (O.contents (inner_of out.new)) (E.contents (inner_of err.new)))
-        (map string_bytes files.now) answer
-        × (result ≡ exit_status answer)
-        × ComesOfCheck answer out.old out.new err.old err.new }
-    ensures sound { result < 2 → IsSound out.old out.new × IsSound err.old err.new }
+    // All files are updated and the report is printed; what is told on `err` is whole, or begins what is to be told.
+    ensures checks { (failed : Bool) × Checks S.step options.now
+        (outside sources.old out.old err.old (O.contents (inner_of out.old)) (E.contents (inner_of err.old)))
+        (outside sources.new out.new err.new (O.contents (inner_of out.new)) (E.contents (inner_of err.new)))
+        (map string_bytes files.now) result failed }
+    // It is whole where no write to `err` failed.
+    ensures whole { IsSound err.old err.new → Checks S.step options.now
+        (outside sources.old out.old err.old (O.contents (inner_of out.old)) (E.contents (inner_of err.old)))
+        (outside sources.new out.new err.new (O.contents (inner_of out.new)) (E.contents (inner_of err.new)))
+        (map string_bytes files.now) result false }
+    ensures sound { IfOk result (λ status. status < 2 → IsSound out.old out.new × IsSound err.old err.new) }
     // No write was without a byte, however it ended.
     ensures buffers { GivesRoom out.old out.new × GivesRoom err.old err.new }
 {
-    match check_and_tell(alloc, sources, out, err, options, files) {
-        Ok(status) => status,
-        Err(_) => 2,
-    }
+    let mut daemon = Daemon::new(alloc, *options);
+    let refused = update_all(&mut daemon, sources, err, files);
+    let answer = print_report(&mut daemon, out, refused);
+    tell_end(err, &answer);
+    answer
 }
 
-// Checks the files, and answers the status, or the fault of a write that ends the check.
-fn check_and_tell<S: Sources, O: Write, E: Write>(
-    alloc: Global,
-    sources: &mut S,
-    out: &mut Counted<O>,
-    err: &mut Counted<E>,
-    options: &Options,
-    files: &[String],
-) -> Result<u8, RunFault>
-    ensures checks { Checks S.step options.now
-        (outputs sources.old (O.contents (inner_of out.old)) (E.contents (inner_of err.old)))
-        (outputs sources.new (O.contents (inner_of out.new)) (E.contents (inner_of err.new)))
-        (map string_bytes files.now) result }
-    ensures fault { IfErr result (λ e. e ≡ RunFault.Write) }
-    ensures counts { ComesOfCheck result out.old out.new err.old err.new }
-    ensures buffers { GivesRoom out.old out.new × GivesRoom err.old err.new }
+/// The status of the program after a check of files.
+pub fn check_status(answer: &Result<u8, CheckFault>) -> u8
+    ensures { result ≡ exit_status answer.now }
 {
-    let mut daemon = Daemon::new(alloc, *options);
-    let refused = update_all(&mut daemon, sources, err, files)?;
-    print_report(&mut daemon, out, err, refused)
+    match answer {
+        Ok(status) => *status,
+        Err(_) => 2,
+    }
 }
 
 // Updates the files in order, and answers whether one was refused.
@@ -83,24 +73,18 @@ fn update_all<S: Sources, E: Write>(
     sources: &mut S,
     err: &mut Counted<E>,
     files: &[String],
-) -> Result<bool, RunFault>
-    ensures ok { IfOk result
-        (λ refused. UpdatesFirst S.step sources.old sources.new (E.contents (inner_of err.old))
-        (E.contents (inner_of err.new))
-        daemon.old daemon.new (map string_bytes files.now) [] refused) }
-    ensures part { OnErr result
-        (BeginsUpdates S.step sources.old sources.new (E.contents (inner_of err.old)) (E.contents (inner_of err.new))
-        daemon.old (map string_bytes files.now)) }
-    ensures sound { OnOk result (IsSound err.old err.new) }
-    ensures fault { IfErr result (λ e. e ≡ RunFault.Write) }
-    ensures cause { OnErr result (FailsOnce err.old err.new) }
+) -> bool
+    requires untold { (faults_of err.old ≡ 0) × (zeros_of err.old ≡ 0) }
+    ensures updates { (failed : Bool) × UpdatesAll S.step sources.old sources.new err.old err.new
+        (E.contents (inner_of err.old)) (E.contents (inner_of err.new)) daemon.old daemon.new
+        (map string_bytes files.now) result failed }
     ensures buffers { GivesRoom err.old err.new }
 {
     let mut refused = false;
     for file in files {
-        refused |= update_one(daemon, sources, err, file)?;
+        refused |= update_one(daemon, sources, err, file);
     }
-    Ok(refused)
+    refused
 }
 
 // Updates a file, and answers whether it was refused.
@@ -109,59 +93,47 @@ fn update_one<S: Sources, E: Write>(
     sources: &mut S,
     err: &mut Counted<E>,
     file: &str,
-) -> Result<bool, RunFault>
+) -> bool
     ensures update { (event : Event) × FetchStep S.step sources.old event.fetched sources.new
-        × UpdatesOne (E.contents (inner_of err.old)) (E.contents (inner_of err.new)) file.now daemon.old daemon.new
-        event result }
-    ensures sound { OnOk result (IsSound err.old err.new) }
-    ensures fault { IfErr result (λ e. e ≡ RunFault.Write) }
-    ensures cause { OnErr result (FailsOnce err.old err.new) }
+        × UpdatesOne err.old err.new (E.contents (inner_of err.old)) (E.contents (inner_of err.new)) file.now
+        daemon.old daemon.new event result }
     ensures buffers { GivesRoom err.old err.new }
 {
     match daemon.update(sources, file.as_bytes()) {
-        Ok(()) => Ok(false),
+        Ok(()) => false,
         Err(why) => {
-            tell_refusal(err, file, why)?;
-            Ok(true)
+            tell_refusal(err, file, why.text());
+            true
         }
     }
 }
 
-// Writes the line on a file that is refused.
-fn tell_refusal<E: Write>(err: &mut Counted<E>, file: &str, why: Refusal) -> Result<(), RunFault>
-    ensures ok { OnOk result
-        (Appends (E.contents (inner_of err.old)) (E.contents (inner_of err.new)) (refusal_line file.now why)) }
-    ensures part { OnErr result
-        (WritesPart (E.contents (inner_of err.old)) (E.contents (inner_of err.new)) (refusal_line file.now why)) }
-    ensures sound { OnOk result (IsSound err.old err.new) }
-    ensures fault { IfErr result (λ e. e ≡ RunFault.Write) }
-    ensures cause { OnErr result (FailsOnce err.old err.new) }
+// Writes the line on a file that is refused, from its path and the text of the refusal.
+fn tell_refusal<'a, E: Write>(err: &mut Counted<E>, file: &'a str, text: &'a str)
+    ensures tells { WritesOn err.old err.new (E.contents (inner_of err.old)) (E.contents (inner_of err.new))
+        (program_line (file.now ++ (codes ": " ++ text.now))) }
     ensures buffers { GivesRoom err.old err.new }
 {
-    write_parts(err, &["dmypy: ", file, ": "])?;
-    write_bytes(err, why.text().as_bytes())
+    tell(err, &["dmypy: ", file, ": ", text]);
 }
 
-// Checks the files that were accepted, and answers the status.
-fn print_report<O: Write, E: Write>(
+// Writes the report on the files that were accepted, and answers the status.
+fn print_report<O: Write>(
     daemon: &mut Daemon,
     out: &mut Counted<O>,
-    err: &mut Counted<E>,
     refused: bool,
-) -> Result<u8, RunFault>
-    ensures checks { Prints (O.contents (inner_of out.old)) (O.contents (inner_of out.new))
-        (E.contents (inner_of err.old)) (E.contents (inner_of err.new)) (fresh daemon.old.options daemon.old.present)
-        refused result }
-    ensures fault { IfErr result (λ e. e ≡ RunFault.Write) }
-    ensures counts { ComesOfCheck result out.old out.new err.old err.new }
-    ensures buffers { GivesRoom out.old out.new × GivesRoom err.old err.new }
+) -> Result<u8, CheckFault>
+    ensures prints { Prints result (fresh daemon.old.options daemon.old.present) refused out.old out.new
+        (O.contents (inner_of out.old)) (O.contents (inner_of out.new)) }
+    ensures buffers { GivesRoom out.old out.new }
 {
     let Ok(report) = daemon.check() else {
-        write_parts(err, &["dmypy: ", Refusal::Memory.text()])?;
-        return Ok(2);
+        return Err(CheckFault::Memory);
     };
-    write_bytes(out, report.text.as_bytes())?;
-    Ok(report_status(refused, report.clean))
+    match write_bytes(out, report.text.as_bytes()) {
+        Ok(()) => Ok(report_status(refused, report.clean)),
+        Err(_) => Err(CheckFault::Write),
+    }
 }
 
 // The status of a check that printed its report.
@@ -174,5 +146,40 @@ fn report_status(refused: bool, clean: bool) -> u8
         0
     } else {
         1
+    }
+}
+
+// Writes the line on why the report was not printed, or in part alone.
+fn tell_end<E: Write>(err: &mut Counted<E>, answer: &Result<u8, CheckFault>)
+    ensures tells { WritesOn err.old err.new (E.contents (inner_of err.old)) (E.contents (inner_of err.new))
+        (end_line answer.now) }
+    ensures buffers { GivesRoom err.old err.new }
+{
+    if let Err(fault) = answer {
+        tell_fault(err, *fault);
+    }
+}
+
+// Writes the line on a fault of a check.
+fn tell_fault<E: Write>(err: &mut Counted<E>, fault: CheckFault)
+    ensures tells { WritesOn err.old err.new (E.contents (inner_of err.old)) (E.contents (inner_of err.new))
+        (check_fault_line fault) }
+    ensures buffers { GivesRoom err.old err.new }
+{
+    match fault {
+        CheckFault::Memory => tell(err, &["dmypy: ", Refusal::Memory.text()]),
+        CheckFault::Write => tell(err, &["dmypy: ", RunFault::Write.text(), "\n"]),
+    }
+}
+
+// Writes texts, unless a write has failed before.
+fn tell<E: Write>(err: &mut Counted<E>, parts: &[&str])
+    requires some { joined parts.now ≡ [] → ⊥ }
+    ensures tells { WritesOn err.old err.new (E.contents (inner_of err.old)) (E.contents (inner_of err.new))
+        (joined parts.now) }
+    ensures buffers { GivesRoom err.old err.new }
+{
+    if err.faults() == 0 && err.zeros() == 0 {
+        let _ = write_parts(err, parts);
     }
 }

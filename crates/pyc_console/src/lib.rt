@@ -6,7 +6,7 @@ mod checking;
 mod disk;
 mod sessions;
 
-pub use checking::check_files;
+pub use checking::{CheckFault, check_files, check_status};
 pub use disk::{Disk, first_bytes};
 pub use pyc_daemon::{Counted, Options, RunFault};
 pub use sessions::{session, session_status};

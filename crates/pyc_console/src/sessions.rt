@@ -1,12 +1,13 @@
 //! One session, its status and what is told of its end.
 
-ghost use Rattle.std.specs.Prelude.{◌≡◌, Result};
+ghost use Rattle.std.specs.Prelude.{◌≡◌, Bool, Result};
 ghost use Rattle.pyc_daemon.specs.Counted.{inner_of, calls_of, faults_of, zeros_of, IsSound};
 ghost use Rattle.pyc_daemon.specs.Counted.{GivesRoom};
 ghost use Rattle.pyc_daemon.specs.Runs.{Runs, ComesOfRun, streams};
 ghost use Rattle.pyc_session.specs.declared.ending.End.{End};
 ghost use Rattle.pyc_session.specs.declared.ending.RunFault.{RunFault};
-ghost use Rattle.pyc_console.specs.Status.{TellsLine, ending_line, status_of};
+ghost use Rattle.pyc_console.specs.Lines.{Writes};
+ghost use Rattle.pyc_console.specs.Status.{ending_line, status_of};
 
 use pyc_daemon::{Counted, End, Options, RunFault, Sources, run, write_parts};
 use std::alloc::Global;
@@ -32,17 +33,26 @@ pub fn session<R: Read, W: Write, E: Write, S: Sources>(
         (streams sources.new (R.remaining (inner_of reader.new)) (W.contents (inner_of writer.new))) answer
         × ComesOfRun answer reader.old reader.new writer.old writer.new options.now.turns
         × (result ≡ status_of answer)
-        × TellsLine err.old err.new (E.contents (inner_of err.old)) (E.contents (inner_of err.new))
-        (ending_line answer) }
+        × (failed : Bool) × Writes failed err.old err.new (E.contents (inner_of err.old))
+        (E.contents (inner_of err.new)) (ending_line answer) }
     ensures sound { result ≡ 0 → IsSound reader.old reader.new × IsSound writer.old writer.new }
     // No read was without room and no write without a byte, however it ended.
     ensures buffers { GivesRoom reader.old reader.new × GivesRoom writer.old writer.new × GivesRoom err.old err.new }
 {
     let answer = run(alloc, reader, writer, sources, options);
-    if let Err(why) = &answer {
+    tell_ending(err, &answer);
+    session_status(&answer)
+}
+
+// Writes the line on why a session stopped in the middle, if it did.
+fn tell_ending<E: Write>(err: &mut Counted<E>, answer: &Result<End, RunFault>)
+    ensures tells { (failed : Bool) × Writes failed err.old err.new (E.contents (inner_of err.old))
+        (E.contents (inner_of err.new)) (ending_line answer.now) }
+    ensures buffers { GivesRoom err.old err.new }
+{
+    if let Err(why) = answer {
         let _ = write_parts(err, &["dmypy: ", why.text(), "\n"]);
     }
-    session_status(&answer)
 }
 
 /// The status of the program after a session.

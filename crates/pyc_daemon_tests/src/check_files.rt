@@ -1,8 +1,10 @@
 //! What a check of files writes, and its status.
 
-use pyc_console::{Counted, Options, check_files};
+use crate::fakes::{NEVER, Sink, Stop};
+use pyc_console::{CheckFault, Counted, Options, check_files, check_status};
 use pyc_daemon::MemorySource;
 use std::alloc::{AllocError, Global};
+use std::io::Write;
 use std::test::Fail;
 
 const OPTIONS: Options = Options {
@@ -20,13 +22,13 @@ fn source(alloc: Global) -> Result<MemorySource, AllocError> {
     Ok(MemorySource::new(files))
 }
 
-// The status of a check of the files whose names this line has.
-fn status(
+// What a check answers of the files whose names this line has.
+fn answer<O: Write + Drop, E: Write + Drop>(
     alloc: Global,
     line: &str,
-    out: &mut Vec<u8>,
-    err: &mut Vec<u8>,
-) -> Result<u8, AllocError> {
+    out: O,
+    err: E,
+) -> Result<Result<u8, CheckFault>, AllocError> {
     let mut files = Vec::new(alloc);
     for file in line.split_ascii_whitespace() {
         files.push(String::from_str(alloc, file)?)?;
@@ -68,40 +70,67 @@ fn texts_and_statuses(rt: HostRuntime) -> Result<(), Fail> {
     for (line, printed, told, expected) in TEXTS {
         let mut out = Vec::new(rt.alloc());
         let mut err = Vec::new(rt.alloc());
-        let status = status(rt.alloc(), line, &mut out, &mut err)?;
-        assert_eq!(rt; status, *expected, "at {line}");
+        let answer = answer(rt.alloc(), line, &mut out, &mut err)?;
+        assert_eq!(rt; answer, Ok(*expected), "at {line}");
         assert_eq!(rt; out.as_slice(), printed.as_bytes(), "at {line}");
         assert_eq!(rt; err.as_slice(), told.as_bytes(), "at {line}");
     }
     Ok(())
 }
 
-// The status of a check of a file where nothing can be written.
-fn status_without_room(alloc: Global, file: &str) -> Result<u8, AllocError> {
-    let mut files = Vec::new(alloc);
-    files.push(String::from_str(alloc, file)?)?;
-    let mut sources = source(alloc)?;
-    let mut full: [u8; 0] = [];
-    let mut full_err: [u8; 0] = [];
-    let mut out = Counted::new(&mut full[..]);
-    let mut err = Counted::new(&mut full_err[..]);
-    Ok(check_files(
-        alloc,
-        &mut sources,
-        &mut out,
-        &mut err,
-        &OPTIONS,
-        files.as_slice(),
-    ))
-}
+const FULL: &str = "dmypy: the output cannot be written\n";
 
-// A file of the source, and one that is not there.
-const FILES: &[&str] = &["a.py", "b.py"];
+// Names of files, with how many bytes the output and the error output take, what is printed, what is told, and the
+// answer.
+const FAULTS: &[(&str, usize, usize, &str, &str, Result<u8, CheckFault>)] = &[
+    ("a.py", 0, NEVER, "", FULL, Err(CheckFault::Write)),
+    ("a.py", 5, NEVER, "a.py:", FULL, Err(CheckFault::Write)),
+    ("a.py", 5, 7, "a.py:", "dmypy: ", Err(CheckFault::Write)),
+    ("b.py", 0, 0, "", "", Err(CheckFault::Write)),
+    ("b.py a.py", NEVER, 0, ERROR, "", Ok(2)),
+    ("b.py a.py b.py", NEVER, 9, ERROR, "dmypy: b.", Ok(2)),
+    (
+        "b.py a.py",
+        5,
+        9,
+        "a.py:",
+        "dmypy: b.",
+        Err(CheckFault::Write),
+    ),
+    ("b.py a.py", 0, 35, "", UNREADABLE, Err(CheckFault::Write)),
+];
 
 #[test]
 fn failing_writes(rt: HostRuntime) -> Result<(), Fail> {
-    for file in FILES {
-        assert_eq!(rt; status_without_room(rt.alloc(), file)?, 2, "at {file}");
+    for (line, room, err_room, printed, told, expected) in FAULTS {
+        for stop in [Stop::Fault, Stop::Zero] {
+            let mut kept = Vec::new(rt.alloc());
+            let mut err_kept = Vec::new(rt.alloc());
+            let out = Sink {
+                room: *room,
+                stop,
+                ..Sink::new(&mut kept)
+            };
+            let err = Sink {
+                room: *err_room,
+                stop,
+                ..Sink::new(&mut err_kept)
+            };
+            let answer = answer(rt.alloc(), line, out, err)?;
+            assert_eq!(rt; answer, *expected, "at {line}");
+            assert_eq!(rt; kept.as_slice(), printed.as_bytes(), "at {line}");
+            assert_eq!(rt; err_kept.as_slice(), told.as_bytes(), "at {line}");
+        }
     }
+    Ok(())
+}
+
+#[test]
+fn statuses_of_checks(rt: HostRuntime) -> Result<(), Fail> {
+    for status in 0..3 {
+        assert_eq!(rt; check_status(&Ok(status)), status);
+    }
+    assert_eq!(rt; check_status(&Err(CheckFault::Memory)), 2);
+    assert_eq!(rt; check_status(&Err(CheckFault::Write)), 2);
     Ok(())
 }

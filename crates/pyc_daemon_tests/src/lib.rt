@@ -18,9 +18,13 @@ mod memory_source;
 #[cfg(test)]
 mod replies;
 #[cfg(test)]
+mod reuse;
+#[cfg(test)]
 mod session;
 #[cfg(test)]
 mod sources;
+#[cfg(test)]
+mod verdicts;
 #[cfg(test)]
 mod words;
 #[cfg(test)]

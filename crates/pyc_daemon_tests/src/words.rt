@@ -1,6 +1,6 @@
 //! Command lines, and what their words ask for.
 
-use pyc_command_line::{Job, Options, TURNS, Usage, read_words};
+use pyc_command_line::{Job, Options, TURNS, Usage, read_words, word_text};
 use std::alloc::{AllocError, Global};
 use std::test::Fail;
 
@@ -113,6 +113,25 @@ const NO_JOBS: &[(&str, &str)] = &[
 fn words_that_are_no_job(rt: HostRuntime) -> Result<(), Fail> {
     for (line, part) in NO_JOBS {
         assert!(rt; is_refused(rt.alloc(), line, part)?, "at {line}");
+    }
+    Ok(())
+}
+
+// Bytes of words, with their texts.
+const TEXTS: &[(&[u8], &str)] = &[
+    (b"", ""),
+    (b"check", "check"),
+    (b"caf\xc3\xa9.py", "caf\u{e9}.py"),
+    (b"caf\xe9.py", "caf\u{1a}.py"),
+    (b"\xff\xfe", "\u{1a}\u{1a}"),
+    (b"\xe2\x82", "\u{1a}"),
+    (b"\xe2\x82a\xed\xa0\x80", "\u{1a}a\u{1a}\u{1a}\u{1a}"),
+];
+
+#[test]
+fn words_that_are_no_text(rt: HostRuntime) -> Result<(), Fail> {
+    for (bytes, expected) in TEXTS {
+        assert_eq!(rt; word_text(rt.alloc(), bytes)?.as_str(), *expected);
     }
     Ok(())
 }

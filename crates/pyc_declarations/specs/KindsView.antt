@@ -8,12 +8,12 @@ use Rattle.pyc_declarations.specs.declared.kinds.Kinds.{Kinds}
 use Rattle.pyc_declarations.specs.Kinds.{Found, declared_in, answered}
 use Rattle.pyc_names.specs.Interfaces.{Interface}
 use Rattle.pyc_names.specs.InterfaceView.{interface_in}
-use Rattle.pyc_names.specs.TableView.{table_interfaces}
+use Rattle.pyc_names.specs.TableView.{table_in}
 use Rattle.pyc_reading.specs.AnswerView.{name_answer_of}
 
 -- the interfaces of the files whose kinds these are
 abbrev pub kinds_in : Kinds → List Interface
-kinds_in kinds = table_interfaces kinds.table.now
+kinds_in kinds = table_in kinds.table.now
 
 -- the interfaces of the files whose declarations these are
 abbrev pub declarations_in : Declarations → List Interface

@@ -12,7 +12,7 @@ ghost use Rattle.pyc_type_exprs.specs.TypeExprView.{type_expr_of};
 use crate::kinds::Kinds;
 use pyc_ast::{Expr, Text};
 use pyc_builtins::is_dunder;
-use pyc_names::{ModuleName, QualifiedName, Referent, SourceFile, fixed_module};
+use pyc_names::{Interface, ModuleName, QualifiedName, Referent, fixed_module};
 use pyc_reading::NameKind;
 use pyc_type_exprs::{TypeExpr, type_expr};
 use std::alloc::{AllocError, Global};
@@ -26,7 +26,7 @@ impl Kinds<'_> {
     pub(crate) fn is_alias(
         &self,
         alloc: Global,
-        file: &SourceFile,
+        file: &Interface,
         annotation: &Expr,
     ) -> Result<bool, AllocError>
         ensures { IfOk result (λ found. found
@@ -40,7 +40,7 @@ impl Kinds<'_> {
     fn is_alias_type(
         &self,
         alloc: Global,
-        file: &SourceFile,
+        file: &Interface,
         written: &TypeExpr,
     ) -> Result<bool, AllocError>
         ensures { IfOk result (λ found. found
@@ -59,7 +59,7 @@ impl Kinds<'_> {
     fn dotted_referent(
         &self,
         alloc: Global,
-        file: &SourceFile,
+        file: &Interface,
         names: &[Text],
     ) -> Result<Referent, AllocError>
         ensures { IfOk result (λ found. referent_of found
@@ -78,7 +78,7 @@ impl Kinds<'_> {
     fn own_referent(
         &self,
         alloc: Global,
-        file: &SourceFile,
+        file: &Interface,
         name: &Text,
     ) -> Result<Referent, AllocError>
         ensures { IfOk result (λ found. referent_of found

@@ -18,7 +18,7 @@ use pyc_annotations::{Base, read_bases};
 use pyc_ast::{Argument, Text};
 use pyc_classes::{ClassEntry, WrittenBase};
 use pyc_members::{ClassBody, DeclaredClass};
-use pyc_names::SourceFile;
+use pyc_names::Interface;
 use std::alloc::{AllocError, Global};
 use std::rc::Rc;
 
@@ -39,7 +39,7 @@ impl Declarations<'_> {
     fn push_classes(
         &self,
         alloc: Global,
-        file: &SourceFile,
+        file: &Interface,
         classes: &[Rc<DeclaredClass>],
         entries: &mut Vec<ClassEntry>,
     ) -> Result<(), AllocError>
@@ -58,7 +58,7 @@ impl Declarations<'_> {
     fn class_entry(
         &self,
         alloc: Global,
-        file: &SourceFile,
+        file: &Interface,
         class: &DeclaredClass,
     ) -> Result<ClassEntry, AllocError>
         ensures { IfOk result (λ entry. entry_in entry
@@ -79,7 +79,7 @@ impl Declarations<'_> {
     fn written_bases(
         &self,
         alloc: Global,
-        file: &SourceFile,
+        file: &Interface,
         arguments: &[Argument],
     ) -> Result<Vec<WrittenBase>, AllocError>
         ensures { IfOk result (λ bases. bases.items

@@ -8,7 +8,7 @@ ghost use Rattle.pyc_bindings.specs.BindingView.{binding_form_of};
 ghost use Rattle.pyc_declarations.specs.Declarations as spec;
 ghost use Rattle.pyc_names.specs.FollowingView.{qualified_of};
 ghost use Rattle.pyc_names.specs.InterfaceView.{interface_in, interfaces_in};
-ghost use Rattle.pyc_names.specs.TableView.{table_interfaces};
+ghost use Rattle.pyc_names.specs.TableView.{table_in};
 ghost use Rattle.pyc_reading.specs.AnswerView.{answer_in, name_answer_of};
 ghost use Rattle.pyc_reading.specs.KeyView.{key_of};
 ghost use Rattle.pyc_type_forms.specs.TypeView.{ty_of};
@@ -20,7 +20,7 @@ use crate::recorder::Recorder;
 use pyc_annotations::{Annotation, read_annotation};
 use pyc_ast::{Expr, FunctionDefinition};
 use pyc_bindings::BindingForm;
-use pyc_names::{QualifiedName, SourceFile, Table};
+use pyc_names::{Interface, QualifiedName, Table};
 use pyc_reading::{Answer, Key, NameAnswer, NameKind};
 use pyc_signatures::read_function;
 use pyc_types::Ty;
@@ -55,15 +55,15 @@ impl<'a> Declarations<'a> {
 
     /// What is declared under the names of the files of a table. It takes no memory.
     pub fn new(table: &'a Table) -> Declarations<'a>
-        ensures { declarations_in result ≡ table_interfaces table.now }
+        ensures { declarations_in result ≡ table_in table.now }
     {
         Declarations {
             kinds: Kinds { table },
         }
     }
 
-    /// The files.
-    pub fn files(&self) -> &'a [Rc<SourceFile>]
+    /// The interfaces of the files.
+    pub fn files(&self) -> &'a [Rc<Interface>]
         ensures { interfaces_in result.now ≡ declarations_in self.now }
     {
         self.kinds.table.files()
@@ -84,7 +84,7 @@ impl<'a> Declarations<'a> {
     fn form_answer(
         &self,
         alloc: Global,
-        file: &SourceFile,
+        file: &Interface,
         form: &BindingForm,
     ) -> Result<NameAnswer, AllocError>
         ensures { IfOk result (λ found. name_answer_of found
@@ -111,7 +111,7 @@ impl<'a> Declarations<'a> {
     pub fn annotated_type(
         &self,
         alloc: Global,
-        file: &SourceFile,
+        file: &Interface,
         annotation: &Expr,
     ) -> Result<Ty, AllocError>
         ensures { IfOk result (λ ty. ty_of ty
@@ -128,7 +128,7 @@ impl<'a> Declarations<'a> {
     pub fn declared_function(
         &self,
         alloc: Global,
-        file: &SourceFile,
+        file: &Interface,
         receiver: Ty,
         head: &FunctionDefinition,
     ) -> Result<Ty, AllocError>

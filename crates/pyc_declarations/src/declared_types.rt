@@ -7,12 +7,12 @@ ghost use Rattle.pyc_names.specs.InterfaceView.{interface_in};
 ghost use Rattle.pyc_type_forms.specs.TypeView.{ty_of};
 
 use pyc_ast::{Constant, Expr, Form, Text};
-use pyc_names::SourceFile;
+use pyc_names::Interface;
 use pyc_types::{Builtin, BuiltinClass, ClassId, Ty};
 
 /// The type that an annotation means at the top level of a file, if it is understood: `None`, or a builtin class by its
 /// own name, which nothing there binds. It takes no memory.
-pub fn annotation_builtin(file: &SourceFile, annotation: &Expr) -> Option<Builtin>
+pub fn annotation_builtin(file: &Interface, annotation: &Expr) -> Option<Builtin>
     ensures { result ≡ spec.annotation_builtin (interface_in file.now).bindings (expr_of annotation.now) }
 {
     match &annotation.form {
@@ -23,7 +23,7 @@ pub fn annotation_builtin(file: &SourceFile, annotation: &Expr) -> Option<Builti
 }
 
 /// The builtin class that a name means at the top level of a file.
-fn unbound_builtin(file: &SourceFile, name: &Text) -> Option<Builtin>
+fn unbound_builtin(file: &Interface, name: &Text) -> Option<Builtin>
     ensures { result ≡ spec.unbound_builtin (interface_in file.now).bindings name.now }
 {
     match file.declaration(name) {

@@ -20,7 +20,7 @@ use pyc_ast::{ClassDefinition, Text};
 use pyc_bindings::{Binding, BindingForm, is_decorated};
 use pyc_class::{ClassId, UnknownOrder};
 use pyc_names::{
-    FixedName, ModuleName, QualifiedName, Referent, SourceFile, Table, fixed_module, fixed_name,
+    FixedName, Interface, ModuleName, QualifiedName, Referent, Table, fixed_module, fixed_name,
 };
 use pyc_reading::{Answer, ClassOrder, Key, NameAnswer, NameKind};
 use pyc_types::Ty;
@@ -37,7 +37,7 @@ pub(crate) struct Kinds<'a> {
 #[derive(Drop)]
 pub(crate) enum Found<'a> {
     /// A declaration of this form in a file.
-    Declared(&'a SourceFile, &'a BindingForm),
+    Declared(&'a Interface, &'a BindingForm),
     /// Something that no file declares.
     Answered(NameAnswer),
 }
@@ -125,7 +125,7 @@ impl<'a> Kinds<'a> {
     pub(crate) fn form_kind(
         &self,
         alloc: Global,
-        file: &SourceFile,
+        file: &Interface,
         form: &BindingForm,
     ) -> Result<NameAnswer, AllocError>
         ensures { IfOk result (λ found. name_answer_of found
@@ -166,7 +166,7 @@ fn module_answer(alloc: Global, name: ModuleName) -> Result<NameAnswer, AllocErr
 }
 
 /// The kind of a name that leads to none.
-fn absent_name(file: Option<&SourceFile>, name: &Text) -> NameKind
+fn absent_name(file: Option<&Interface>, name: &Text) -> NameKind
     ensures { kind_of result ≡ spec.absent_name (option_map (λ file. interface_in file.now) file.entry) name.now }
 {
     match file {
@@ -192,7 +192,7 @@ fn fixed_found<'a>(found: Option<FixedName>) -> Found<'a>
 }
 
 /// What a file declares under a name.
-fn found_in_file<'a>(q: &QualifiedName, file: Option<&'a SourceFile>) -> Found<'a>
+fn found_in_file<'a>(q: &QualifiedName, file: Option<&'a Interface>) -> Found<'a>
     ensures { found_in result
         ≡ spec.found_in_file (qualified_of q.now) (option_map (λ file. interface_in file.now) file.entry) }
 {
@@ -203,7 +203,7 @@ fn found_in_file<'a>(q: &QualifiedName, file: Option<&'a SourceFile>) -> Found<'
 }
 
 /// What a binding declares in a file.
-fn found_binding<'a>(file: &'a SourceFile, found: Option<&'a Binding>) -> Found<'a>
+fn found_binding<'a>(file: &'a Interface, found: Option<&'a Binding>) -> Found<'a>
     ensures { found_in result
         ≡ spec.found_binding (interface_in file.now) (option_map (λ b. binding_of b.now) found.entry) }
 {
@@ -222,7 +222,7 @@ fn found_binding<'a>(file: &'a SourceFile, found: Option<&'a Binding>) -> Found<
 /// A class of a file.
 fn class_kind(
     alloc: Global,
-    file: &SourceFile,
+    file: &Interface,
     head: &ClassDefinition,
 ) -> Result<NameAnswer, AllocError>
     ensures { IfOk result (λ found. name_answer_of found ≡ spec.class_kind (interface_in file.now).name head.now.name) }
@@ -246,7 +246,7 @@ pub(crate) fn unknown_order(alloc: Global) -> ClassOrder
 }
 
 /// The class of this name of a file. The only error is that memory runs out.
-pub fn own_class(alloc: Global, file: &SourceFile, name: &Text) -> Result<ClassId, AllocError>
+pub fn own_class(alloc: Global, file: &Interface, name: &Text) -> Result<ClassId, AllocError>
     ensures { IfOk result (λ class. class ≡ user (interface_in file.now).name name.now) }
 {
     let home = copied(alloc, file.name().parts())?;

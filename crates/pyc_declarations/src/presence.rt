@@ -8,7 +8,7 @@ ghost use Rattle.pyc_names.specs.InterfaceView.{interface_in};
 
 use crate::kinds::Kinds;
 use pyc_bindings::Binding;
-use pyc_names::{ModuleName, QualifiedName, SourceFile, fixed_module, joined};
+use pyc_names::{Interface, ModuleName, QualifiedName, fixed_module, joined};
 use pyc_reading::Presence;
 use std::alloc::{AllocError, Global};
 use std::slice;
@@ -55,7 +55,7 @@ impl Kinds<'_> {
         &self,
         alloc: Global,
         q: &QualifiedName,
-        file: Option<&SourceFile>,
+        file: Option<&Interface>,
     ) -> Result<Presence, AllocError>
         ensures { IfOk result (λ found. found ≡ spec.name_in_file (kinds_in self.now) (qualified_of q.now)
             (option_map (λ file. interface_in file.now) file.entry)) }
@@ -71,7 +71,7 @@ impl Kinds<'_> {
         &self,
         alloc: Global,
         q: &QualifiedName,
-        file: &SourceFile,
+        file: &Interface,
     ) -> Result<Presence, AllocError>
         ensures { IfOk result (λ found. found ≡ spec.name_in_source (kinds_in self.now) (qualified_of q.now)
             (interface_in file.now) (interface_in file.now).has_fault) }
@@ -118,7 +118,7 @@ impl Kinds<'_> {
 }
 
 /// Whether a module with this file is there.
-fn file_presence(file: Option<&SourceFile>) -> Presence
+fn file_presence(file: Option<&Interface>) -> Presence
     ensures { result ≡ spec.file_presence (option_map (λ file. interface_in file.now) file.entry) }
 {
     match file {

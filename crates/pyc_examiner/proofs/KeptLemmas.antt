@@ -8,7 +8,7 @@ use Rattle.std.specs.declared.alloc.AllocError.{AllocError}
 use Rattle.indexmap.specs.IndexMap.{insert_entry}
 use Rattle.pyc_examiner.proofs.AnswerSets.{one_proof}
 use Rattle.pyc_examiner.specs.KeptAnswers.{AreAnswers}
-use Rattle.pyc_examiner.specs.KeyEquality.{is_asked, keys_are}
+use Rattle.pyc_keys.specs.KeyEquality.{is_asked, keys_are}
 use Rattle.pyc_reading.specs.AnswerView.{answer_in}
 use Rattle.pyc_reading.specs.Answers.{Answer}
 use Rattle.pyc_reading.specs.Desks.{Desk, Performs, asking, with_key}

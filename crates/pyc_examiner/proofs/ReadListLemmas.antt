@@ -2,7 +2,7 @@
 use Rattle.std.proofs.Common.{◌≡◌, Bool, true, false, cond, ◌||◌, List, [], ◌∷◌, ◌++◌, Option, Some, None, is_some, unwrap_or, refl, sym, ◌∙◌, ap, subst, append-nil, append_assoc}
 use Rattle.std.specs.List.{list_any}
 use Rattle.std.proofs.lemmas.Bool.{false≢true}
-use Rattle.pyc_examiner.specs.KeyEquality.{is_asked, is_asked_equiv, keys_are}
+use Rattle.pyc_keys.specs.KeyEquality.{is_asked, is_asked_equiv, keys_are}
 use Rattle.pyc_examiner.specs.ReadLists.{AskedAreTheList, OneListAlone, Coming, IsListFrom, after_telling, answered, by_known, first_lacking, known_answer, lacks, over, tells, unless_lacking, with_answer}
 use Rattle.pyc_reading.proofs.OwingLemmas.{same_row}
 use Rattle.pyc_reading.specs.Answers.{Answer, member_is}

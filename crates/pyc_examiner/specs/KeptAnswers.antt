@@ -1,7 +1,7 @@
 -- Keys with their answers.
 use Rattle.std.specs.Prelude.{◌≡◌, List, Some}
 use Rattle.std.specs.Map.{lookup}
-use Rattle.pyc_examiner.specs.KeyEquality.{is_asked}
+use Rattle.pyc_keys.specs.KeyEquality.{is_asked}
 use Rattle.pyc_reading.specs.AnswerView.{answer_in}
 use Rattle.pyc_reading.specs.Answers.{Answer}
 use Rattle.pyc_reading.specs.Keys.{Key}

@@ -1,5 +1,3 @@
-pub mod KeyEquality
-pub mod KeyHash
 pub mod KeptAnswers
 pub mod ExaminerView
 pub mod CheckedView

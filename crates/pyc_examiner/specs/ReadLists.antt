@@ -2,7 +2,7 @@
 -- is lacking over the answers to those before it.
 use Rattle.std.specs.Prelude.{◌≡◌, List, [], ◌∷◌, ◌++◌, map, Option, Some, None, is_some, unwrap_or, if◌then◌else◌}
 use Rattle.std.specs.Map.{lookup}
-use Rattle.pyc_examiner.specs.KeyEquality.{is_asked}
+use Rattle.pyc_keys.specs.KeyEquality.{is_asked}
 use Rattle.pyc_reading.specs.Answers.{Answer, member_is}
 use Rattle.pyc_reading.specs.Desks.{Step, with_keys}
 use Rattle.pyc_reading.specs.Keys.{Key}

@@ -47,7 +47,7 @@ impl AskedKey {
 
 impl PartialEq for AskedKey {
     ghost use Rattle.std.specs.Cmp.{partial_equiv_from_equiv};
-    ghost use Rattle.pyc_examiner.specs.KeyEquality.{is_asked, is_asked_equiv};
+    ghost use Rattle.pyc_keys.specs.KeyEquality.{is_asked, is_asked_equiv};
 
     ghost eq = { is_asked };
 
@@ -67,13 +67,13 @@ impl PartialEq for AskedKey {
 }
 
 impl Eq for AskedKey {
-    ghost use Rattle.pyc_examiner.specs.KeyEquality.{is_asked_equiv};
+    ghost use Rattle.pyc_keys.specs.KeyEquality.{is_asked_equiv};
 
     ghost laws = { is_asked_equiv };
 }
 
 impl Hash for AskedKey {
-    ghost use Rattle.pyc_examiner.specs.KeyHash.{key_input, same_key_fed};
+    ghost use Rattle.pyc_keys.specs.KeyHash.{key_input, same_key_fed};
 
     ghost hash_input = { key_input };
 

@@ -7,48 +7,53 @@ ghost use Rattle.pyc_report.specs.Message.{message_in};
 
 use crate::asked_key::AskedKey;
 use indexmap::IndexMap;
+use pyc_keys::{KeyId, ReadSet};
 use pyc_reading::{Answer, Key};
 use pyc_report::Message;
 use std::alloc::{AllocError, Global};
 
-/// What came of examining a part of a file: its reads, which are the keys that were asked, each once and in the order
-/// in which they were first asked, and what was found, which are the messages that were told, in order.
+/// What came of examining a part of a file: its reads, which are the keys that were asked, by their numbers, each once
+/// and in the order in which they were first asked, and what was found, which are the messages that were told, in
+/// order.
 #[derive(Drop)]
 pub struct Checked {
-    reads: Vec<Key>,
+    reads: Vec<KeyId>,
     messages: Vec<Message>,
 }
 
 impl Checked {
-    ghost use Rattle.pyc_examiner.specs.CheckedView.{checked_of};
+    ghost use Rattle.pyc_examiner.specs.CheckedView.{messages_of, numbers_in};
 
     /// These reads and messages. It takes no memory.
-    pub(crate) fn new(reads: Vec<Key>, messages: Vec<Message>) -> Checked
-        ensures { checked_of result
-            ≡ record { reads = map key_of reads.items; messages = map message_in messages.items } }
+    pub(crate) fn new(reads: Vec<KeyId>, messages: Vec<Message>) -> Checked
+        ensures reads { numbers_in result ≡ reads.items }
+        ensures messages { messages_of result ≡ map message_in messages.items }
     {
         Checked { reads, messages }
     }
 
-    /// The keys that were asked.
-    pub fn reads(&self) -> &[Key]
-        ensures { map key_of result.now ≡ (checked_of self.now).reads }
-    {
-        &self.reads
-    }
-
     /// What was found.
     pub fn messages(&self) -> &[Message]
-        ensures { map message_in result.now ≡ (checked_of self.now).messages }
+        ensures { map message_in result.now ≡ messages_of self.now }
     {
         &self.messages
     }
 
     /// What was found, by itself.
     pub fn into_messages(self) -> Vec<Message>
-        ensures { map message_in result.items ≡ (checked_of self).messages }
+        ensures { map message_in result.items ≡ messages_of self }
     {
         self.messages
+    }
+}
+
+impl ReadSet for Checked {
+    ghost use Rattle.pyc_examiner.specs.CheckedView.{numbers_in};
+
+    ghost numbers = { numbers_in };
+
+    fn reads(&self) -> &[KeyId] {
+        self.reads.as_slice()
     }
 }
 

@@ -1,9 +1,11 @@
 //! The examiner of files.
 
-ghost use Rattle.std.specs.Prelude.{◌≡◌, [], map, IfOk, is_ok};
+ghost use Rattle.std.specs.Prelude.{◌≡◌, [], map, IfOk, OnErr, is_ok};
 ghost use Rattle.pyc_examiner.specs.KeptAnswers.{AreAnswers};
-ghost use Rattle.pyc_iface.specs.Answers.{answer_of};
+ghost use Rattle.pyc_iface.specs.Answers.{answer_by};
 ghost use Rattle.pyc_iface.specs.WorldView.{world_in};
+ghost use Rattle.pyc_keys.specs.KeyNumbers.{key_at};
+ghost use Rattle.pyc_keys.specs.Numbering.{AreOf, Extends};
 ghost use Rattle.pyc_report.specs.Message.{message_in};
 
 use crate::asked_key::AskedKey;
@@ -14,6 +16,7 @@ use indexmap::IndexMap;
 use pyc_class::{ClassId, Lin, Lins};
 use pyc_found::in_order;
 use pyc_iface::World;
+use pyc_keys::Keys;
 use pyc_obligations::Judge;
 use pyc_reading::{Answer, Key, Notes};
 use pyc_report::Message;
@@ -26,17 +29,17 @@ pub struct Examiner<'a> {
     world: &'a World,
     answers: IndexMap<AskedKey, Answer>,
     messages: Vec<Message>,
-    ghost answers_are: { ∥ AreAnswers (answer_of (world_in world.now)) answers.entries ∥₁ },
+    ghost answers_are: { ∥ AreAnswers (answer_by (world_in world.now)) answers.entries ∥₁ },
 }
 
 impl<'a> Examiner<'a> {
-    ghost use Rattle.pyc_examiner.specs.CheckedView.{checked_of};
+    ghost use Rattle.pyc_examiner.specs.CheckedView.{messages_of, numbers_in};
     ghost use Rattle.pyc_examiner.specs.ExaminerView.{desk_of};
     ghost use Rattle.pyc_found.specs.FoundOrder.{in_order};
 
     /// An examiner over a world, at which nothing was asked or told. It takes no memory.
     pub fn new(alloc: Global, world: &'a World) -> Examiner<'a>
-        ensures { desk_of result ≡ record { answers = answer_of (world_in world.now); keys = []; messages = [] } }
+        ensures { desk_of result ≡ record { answers = answer_by (world_in world.now); keys = []; messages = [] } }
     {
         Examiner {
             world,
@@ -52,14 +55,18 @@ impl<'a> Examiner<'a> {
         self.messages
     }
 
-    /// What was asked, and what was told in order, each line, code and text once. The only error is that memory runs
-    /// out.
-    pub fn into_checked(self, alloc: Global) -> Result<Checked, AllocError>
-        ensures { IfOk result (λ checked. checked_of checked
-            ≡ record { reads = (desk_of self.entry).keys; messages = in_order (desk_of self.entry).messages }) }
+    /// What was asked, by number, and what was told in order, each line, code and text once. The only error is that
+    /// memory runs out; then each number stands for what it did before.
+    pub fn into_checked(self, alloc: Global, keys: &mut Keys) -> Result<Checked, AllocError>
+        ensures reads { IfOk result
+            (λ checked. AreOf (key_at keys.new) (numbers_in checked) (desk_of self.entry).keys) }
+        ensures messages { IfOk result (λ checked. messages_of checked ≡ in_order (desk_of self.entry).messages) }
+        ensures extends { Extends (key_at keys.old) (key_at keys.new) }
+        ensures same { OnErr result (key_at keys.new ≡ key_at keys.old) }
     {
-        let reads = listed(alloc, self.answers)?;
+        let asked = listed(alloc, self.answers)?;
         let messages = in_order(alloc, self.messages)?;
+        let reads = keys.intern_all(alloc, &asked)?;
         Ok(Checked::new(reads, messages))
     }
 }

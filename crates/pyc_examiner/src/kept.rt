@@ -3,7 +3,7 @@
 ghost use Rattle.std.specs.Prelude.{◌≡◌, OnOk, OnErr};
 ghost use Rattle.indexmap.specs.IndexMap.{insert_entry};
 ghost use Rattle.pyc_examiner.specs.KeptAnswers.{AreAnswers};
-ghost use Rattle.pyc_examiner.specs.KeyEquality.{is_asked};
+ghost use Rattle.pyc_keys.specs.KeyEquality.{is_asked};
 ghost use Rattle.pyc_reading.specs.Answers.{Answer as PlainAnswer};
 ghost use Rattle.pyc_reading.specs.AnswerView.{answer_in};
 ghost use Rattle.pyc_reading.specs.Keys.{Key as PlainKey};

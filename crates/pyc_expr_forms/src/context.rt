@@ -50,7 +50,7 @@ impl<N: Judge> Context<N> for Scope<'_> {
 
     #[tactic(auto, using(pyc_obligations::proofs::Steps::performing))]
     fn annotated(&self, alloc: Global, notes: &mut N, annotation: &Expr) -> Result<Ty, AllocError> {
-        let found = read_annotation(alloc, notes, self.file, annotation)?;
+        let found = read_annotation(alloc, notes, self.file.interface(), annotation)?;
         Ok(found.ty)
     }
 }

@@ -7,7 +7,7 @@ use pyc_examiner::Examiner;
 use pyc_iface::{Options, World};
 use pyc_locals::{Locals, Point};
 use pyc_lower::read as read_source;
-use pyc_names::{ModuleName, SourceFile};
+use pyc_names::{Interface, ModuleName, SourceFile};
 use pyc_places::State;
 use pyc_report::Message;
 use pyc_simple_statements::BodyParts;
@@ -215,6 +215,18 @@ fn told_of(alloc: Global, world: &World, file: &SourceFile) -> Result<String, Fa
     }
 }
 
+/// The interfaces of files, which they share.
+fn interfaces_of(
+    alloc: Global,
+    files: &[Rc<SourceFile>],
+) -> Result<Vec<Rc<Interface>>, AllocError> {
+    let mut interfaces = Vec::new(alloc);
+    for file in files {
+        interfaces.push(file.shared_interface().clone()?)?;
+    }
+    Ok(interfaces)
+}
+
 /// What is told of the last statement of the first of the files of a world.
 fn told_of_first(alloc: Global, world: &World, files: &[Rc<SourceFile>]) -> Result<String, Fail> {
     match files.first() {
@@ -226,6 +238,6 @@ fn told_of_first(alloc: Global, world: &World, files: &[Rc<SourceFile>]) -> Resu
 /// What is told of a statement in a file.
 pub(crate) fn all_told(alloc: Global, setting: &Setting, statement: &str) -> Result<String, Fail> {
     let files = files_of(alloc, setting, statement)?;
-    let world = World::build(alloc, &files)?;
+    let world = World::build(alloc, &interfaces_of(alloc, &files)?)?;
     told_of_first(alloc, &world, &files)
 }

@@ -11,7 +11,8 @@ ghost use Rattle.pyc_expr.specs.Values.{infer_type};
 ghost use Rattle.pyc_functions.specs.Parameters as spec;
 ghost use Rattle.pyc_functions.specs.Views.{owed_default_in, parameter_type_in};
 ghost use Rattle.pyc_locals.specs.Locals.{no_locals};
-ghost use Rattle.pyc_names.specs.InterfaceView.{interface_in};
+ghost use Rattle.pyc_names.specs.Interfaces.{interface_of};
+ghost use Rattle.pyc_names.specs.SourceFileView.{source_in};
 ghost use Rattle.pyc_places.specs.States.{nothing_narrowed};
 ghost use Rattle.pyc_reading.specs.Desks.{Performs};
 ghost use Rattle.pyc_signatures.specs.Signatures as signatures;
@@ -100,7 +101,7 @@ impl FunctionReader<'_> {
         parameter: &Parameter,
     ) -> Result<Ty, AllocError>
         ensures { Performs ty_of
-            (signatures.annotated_or (interface_in self.now.outside.file.now) (ty_of other)
+            (signatures.annotated_or (interface_of (source_in self.now.outside.file.now)) (ty_of other)
             (boxed_expr_of parameter.now.annotation))
             (N.desk notes.old) result (N.desk notes.new) }
     {
@@ -117,7 +118,7 @@ impl FunctionReader<'_> {
         returns: Option<&Expr>,
     ) -> Result<Ty, AllocError>
         ensures { Performs ty_of
-            (signatures.annotated_or (interface_in self.now.outside.file.now) any
+            (signatures.annotated_or (interface_of (source_in self.now.outside.file.now)) any
             (option_map (λ e. expr_of e.now) returns.entry))
             (N.desk notes.old) result (N.desk notes.new) }
     {
@@ -131,10 +132,11 @@ impl FunctionReader<'_> {
     #[tactic(auto, using(pyc_obligations::proofs::Steps::performing))]
     fn read_annotated<N: Judge>(&self, notes: &mut N, annotation: &Expr) -> Result<Ty, AllocError>
         ensures { Performs ty_of
-            (signatures.annotated_or (interface_in self.now.outside.file.now) any (Some (expr_of annotation.now)))
+            (signatures.annotated_or (interface_of (source_in self.now.outside.file.now)) any
+            (Some (expr_of annotation.now)))
             (N.desk notes.old) result (N.desk notes.new) }
     {
-        let found = read_annotation(self.alloc, notes, self.outside.file, annotation)?;
+        let found = read_annotation(self.alloc, notes, self.outside.file.interface(), annotation)?;
         Ok(found.ty)
     }
 

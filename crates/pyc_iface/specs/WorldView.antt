@@ -1,19 +1,14 @@
--- The files of a world as plain ones.
+-- The interfaces of the files of a world, as plain ones.
 use Rattle.std.specs.Prelude.{List}
 use Rattle.pyc_iface.specs.declared.world.World.{World}
 use Rattle.pyc_iface.specs.declared.world.WorldAnswers.{WorldAnswers}
 use Rattle.pyc_names.specs.Interfaces.{Interface}
-use Rattle.pyc_names.specs.SourceFiles.{SourceFile}
-use Rattle.pyc_names.specs.TableView.{table_in, table_interfaces}
+use Rattle.pyc_names.specs.TableView.{table_in}
 
--- the files of a world
-abbrev pub world_in : World → List SourceFile
+-- the interfaces of the files of a world
+abbrev pub world_in : World → List Interface
 world_in world = table_in world.table
 
--- their interfaces
-abbrev pub world_interfaces : World → List Interface
-world_interfaces world = table_interfaces world.table
-
--- the files of the world whose answers these are
-abbrev pub answers_in : WorldAnswers → List SourceFile
+-- those of the world whose answers these are
+abbrev pub answers_in : WorldAnswers → List Interface
 answers_in answers = world_in answers.world.now

@@ -3,7 +3,7 @@
 ghost use Rattle.std.specs.Prelude.{◌≡◌, map, IfOk, option_map};
 ghost use Rattle.pyc_iface.specs.DeclaredView.{declared_at};
 ghost use Rattle.pyc_iface.specs.Members as spec;
-ghost use Rattle.pyc_iface.specs.WorldView.{world_interfaces};
+ghost use Rattle.pyc_iface.specs.WorldView.{world_in};
 ghost use Rattle.pyc_members.specs.DeclaredClassView.{declared_class_in, declared_class_of};
 ghost use Rattle.pyc_names.specs.InterfaceView.{interface_in};
 ghost use Rattle.pyc_reading.specs.AnswerView.{member_answer_of};
@@ -12,7 +12,7 @@ ghost use Rattle.pyc_type_forms.specs.TypeView.{ty_of};
 use crate::world::World;
 use pyc_class::ClassId;
 use pyc_members::{ClassBody, DeclaredClass};
-use pyc_names::SourceFile;
+use pyc_names::Interface;
 use pyc_reading::{MemberAnswer, MemberKind};
 use pyc_types::Ty;
 use std::alloc::{AllocError, Global};
@@ -22,20 +22,20 @@ use std::rc::Rc;
 #[derive(Clone, Copy, Drop)]
 pub(crate) struct Declared<'a> {
     pub(crate) id: &'a ClassId,
-    pub(crate) file: &'a SourceFile,
+    pub(crate) file: &'a Interface,
     pub(crate) body: &'a ClassBody,
 }
 
 impl World {
     /// The class of a source, where its module's file declares it.
     pub(crate) fn declared<'a>(&'a self, class: &'a ClassId) -> Option<Declared<'a>>
-        ensures { option_map declared_at result ≡ spec.declared_of (world_interfaces self.now) class.now }
+        ensures { option_map declared_at result ≡ spec.declared_of (world_in self.now) class.now }
     {
         class_in_file(class, self.table.file(class.module()))
     }
 }
 
-fn class_in_file<'a>(id: &'a ClassId, file: Option<&'a SourceFile>) -> Option<Declared<'a>>
+fn class_in_file<'a>(id: &'a ClassId, file: Option<&'a Interface>) -> Option<Declared<'a>>
     ensures { option_map declared_at result
         ≡ spec.class_in_file id.now (option_map (λ file. interface_in file.now) file.entry) }
 {
@@ -47,7 +47,7 @@ fn class_in_file<'a>(id: &'a ClassId, file: Option<&'a SourceFile>) -> Option<De
 
 fn declared_class<'a>(
     id: &'a ClassId,
-    file: &'a SourceFile,
+    file: &'a Interface,
     found: Option<&'a DeclaredClass>,
 ) -> Option<Declared<'a>>
     ensures { option_map declared_at result

@@ -7,7 +7,7 @@ ghost use Rattle.pyc_ast.specs.StatementView.{function_of, parameter_of};
 ghost use Rattle.pyc_bindings.specs.BindingView.{binding_of, binding_form_of};
 ghost use Rattle.pyc_iface.specs.DeclaredView.{declared_at};
 ghost use Rattle.pyc_iface.specs.Members as spec;
-ghost use Rattle.pyc_iface.specs.WorldView.{world_interfaces};
+ghost use Rattle.pyc_iface.specs.WorldView.{world_in};
 ghost use Rattle.pyc_members.specs.AttributeView.{attribute_of, attribute_form_of};
 ghost use Rattle.pyc_members.specs.ClassBodyView.{own_member_of};
 ghost use Rattle.pyc_names.specs.InterfaceView.{interface_in};
@@ -20,7 +20,7 @@ use pyc_ast::{Expr, Form, FunctionDefinition, Parameter, ParameterKind, Text};
 use pyc_bindings::{Binding, BindingForm, has_setter, is_decorated};
 use pyc_declarations::initialiser_type;
 use pyc_members::{AttributeForm, MethodKind, OwnMember, SelfAttribute, method_kind};
-use pyc_names::SourceFile;
+use pyc_names::Interface;
 use pyc_reading::{MemberAnswer, MemberKind};
 use pyc_types::Ty;
 use std::alloc::{AllocError, Global};
@@ -35,7 +35,7 @@ impl World {
         found: OwnMember<'_>,
     ) -> Result<MemberAnswer, AllocError>
         ensures { IfOk result (λ found'. member_answer_of found'
-            ≡ spec.own_answer (world_interfaces self.now) (declared_at c.entry) name.now (own_member_of found.entry)) }
+            ≡ spec.own_answer (world_in self.now) (declared_at c.entry) name.now (own_member_of found.entry)) }
     {
         match found {
             OwnMember::Bound(binding) => self.bound_member(alloc, c, name, binding),
@@ -53,7 +53,7 @@ impl World {
         binding: &Binding,
     ) -> Result<MemberAnswer, AllocError>
         ensures { IfOk result (λ found. member_answer_of found
-            ≡ spec.bound_member (world_interfaces self.now) (declared_at c.entry) name.now (binding_of binding.now)) }
+            ≡ spec.bound_member (world_in self.now) (declared_at c.entry) name.now (binding_of binding.now)) }
     {
         if is_decorated(&binding.form) {
             variable(c, Ty::Any)
@@ -71,7 +71,7 @@ impl World {
         form: &BindingForm,
     ) -> Result<MemberAnswer, AllocError>
         ensures { IfOk result (λ found. member_answer_of found
-            ≡ spec.form_member (world_interfaces self.now) (declared_at c.entry) name.now (binding_form_of form.now)) }
+            ≡ spec.form_member (world_in self.now) (declared_at c.entry) name.now (binding_form_of form.now)) }
     {
         match form {
             BindingForm::Function(head) => {
@@ -99,7 +99,7 @@ impl World {
         kind: MethodKind,
     ) -> Result<MemberAnswer, AllocError>
         ensures { IfOk result (λ found. member_answer_of found
-            ≡ spec.method_member (world_interfaces self.now) (declared_at c.entry) name.now (function_of head.now)
+            ≡ spec.method_member (world_in self.now) (declared_at c.entry) name.now (function_of head.now)
             kind) }
     {
         match kind {
@@ -135,7 +135,7 @@ impl World {
         head: &FunctionDefinition,
     ) -> Result<Ty, AllocError>
         ensures { IfOk result (λ ty. ty_of ty
-            ≡ spec.property_type (world_interfaces self.now) (declared_at c.entry) (function_of head.now)) }
+            ≡ spec.property_type (world_in self.now) (declared_at c.entry) (function_of head.now)) }
     {
         if has_setter(&head.decorators) {
             return Ok(Ty::Any);
@@ -152,7 +152,7 @@ impl World {
         head: &FunctionDefinition,
     ) -> Result<Ty, AllocError>
         ensures { IfOk result (λ ty. ty_of ty
-            ≡ spec.method_type (world_interfaces self.now) (declared_at c.entry) (function_of head.now)) }
+            ≡ spec.method_type (world_in self.now) (declared_at c.entry) (function_of head.now)) }
     {
         let receiver = Ty::Instance(c.id.clone()?);
         self.declarations()
@@ -167,7 +167,7 @@ impl World {
         found: &SelfAttribute,
     ) -> Result<MemberAnswer, AllocError>
         ensures { IfOk result (λ member. member_answer_of member
-            ≡ spec.attribute_member (world_interfaces self.now) (declared_at c.entry) (attribute_of found.now)) }
+            ≡ spec.attribute_member (world_in self.now) (declared_at c.entry) (attribute_of found.now)) }
     {
         let ty = self.attribute_type(alloc, c.file, &found.method, &found.form)?;
         variable(c, ty)
@@ -177,12 +177,12 @@ impl World {
     fn attribute_type(
         &self,
         alloc: Global,
-        file: &SourceFile,
+        file: &Interface,
         head: &FunctionDefinition,
         form: &AttributeForm,
     ) -> Result<Ty, AllocError>
         ensures { IfOk result (λ ty. ty_of ty
-            ≡ spec.attribute_type (world_interfaces self.now) (interface_in file.now) (function_of head.now)
+            ≡ spec.attribute_type (world_in self.now) (interface_in file.now) (function_of head.now)
             (attribute_form_of form.now)) }
     {
         match form {
@@ -201,12 +201,12 @@ impl World {
     fn value_type(
         &self,
         alloc: Global,
-        file: &SourceFile,
+        file: &Interface,
         params: &[Parameter],
         value: &Expr,
     ) -> Result<Ty, AllocError>
         ensures { IfOk result (λ ty. ty_of ty
-            ≡ spec.value_type (world_interfaces self.now) (interface_in file.now) (map parameter_of params.now)
+            ≡ spec.value_type (world_in self.now) (interface_in file.now) (map parameter_of params.now)
             (expr_of value.now)) }
     {
         match name_written(value) {
@@ -219,11 +219,11 @@ impl World {
     fn parameter_type(
         &self,
         alloc: Global,
-        file: &SourceFile,
+        file: &Interface,
         found: Option<&Parameter>,
     ) -> Result<Ty, AllocError>
         ensures { IfOk result (λ ty. ty_of ty
-            ≡ spec.parameter_type (world_interfaces self.now) (interface_in file.now)
+            ≡ spec.parameter_type (world_in self.now) (interface_in file.now)
             (option_map (λ p. parameter_of p.now) found.entry)) }
     {
         let Some(parameter) = found else {

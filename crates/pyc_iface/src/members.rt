@@ -1,10 +1,10 @@
 //! What classes have under names, of their own or from their ancestors.
 
 ghost use Rattle.std.specs.Prelude.{◌≡◌, IfOk, option_map};
-ghost use Rattle.pyc_iface.specs.Answers.{class_orders};
+ghost use Rattle.pyc_iface.specs.Answers.{orders_by};
 ghost use Rattle.pyc_iface.specs.DeclaredView.{declared_at};
 ghost use Rattle.pyc_iface.specs.Members as spec;
-ghost use Rattle.pyc_iface.specs.WorldView.{world_in, world_interfaces};
+ghost use Rattle.pyc_iface.specs.WorldView.{world_in};
 ghost use Rattle.pyc_reading.specs.AnswerView.{member_answer_of};
 ghost use Rattle.pyc_reading.specs.KeyView.{member_of as member_name_of};
 ghost use Rattle.pyc_type_forms.specs.TypeView.{ty_of};
@@ -26,7 +26,7 @@ impl World {
         q: &MemberName,
     ) -> Result<Option<MemberAnswer>, AllocError>
         ensures { IfOk result (λ found. option_map member_answer_of found
-            ≡ spec.member_answer (world_interfaces self.now) (class_orders (world_in self.now))
+            ≡ spec.member_answer (world_in self.now) (orders_by (world_in self.now))
             (member_name_of q.now)) }
     {
         let lin = self.classes.lin(&q.class);
@@ -44,7 +44,7 @@ impl World {
         name: &Text,
     ) -> Result<Option<MemberAnswer>, AllocError>
         ensures { IfOk result (λ found. option_map member_answer_of found
-            ≡ spec.first_declared (world_interfaces self.now) classes.now name.now) }
+            ≡ spec.first_declared (world_in self.now) classes.now name.now) }
     {
         for class in classes {
             if let Some(found) = self.declared_in(alloc, class, name)? {
@@ -62,7 +62,7 @@ impl World {
         name: &Text,
     ) -> Result<Option<MemberAnswer>, AllocError>
         ensures { IfOk result (λ found. option_map member_answer_of found
-            ≡ spec.declared_in (world_interfaces self.now) class.now name.now) }
+            ≡ spec.declared_in (world_in self.now) class.now name.now) }
     {
         match class.as_builtin() {
             Some(builtin) => builtin_member(alloc, builtin, name),
@@ -77,7 +77,7 @@ impl World {
         name: &Text,
     ) -> Result<Option<MemberAnswer>, AllocError>
         ensures { IfOk result (λ member. option_map member_answer_of member
-            ≡ spec.declared_in_user (world_interfaces self.now) name.now (option_map declared_at found.entry)) }
+            ≡ spec.declared_in_user (world_in self.now) name.now (option_map declared_at found.entry)) }
     {
         let Some(c) = found else {
             return Ok(None);
@@ -96,7 +96,7 @@ impl World {
         name: &Text,
     ) -> Result<Option<MemberAnswer>, AllocError>
         ensures { IfOk result (λ found. option_map member_answer_of found
-            ≡ spec.first_assigned (world_interfaces self.now) classes.now name.now) }
+            ≡ spec.first_assigned (world_in self.now) classes.now name.now) }
     {
         for class in classes {
             if let Some(found) = self.assigned_in(alloc, class, name)? {
@@ -114,7 +114,7 @@ impl World {
         name: &Text,
     ) -> Result<Option<MemberAnswer>, AllocError>
         ensures { IfOk result (λ found. option_map member_answer_of found
-            ≡ spec.assigned_in (world_interfaces self.now) class.now name.now) }
+            ≡ spec.assigned_in (world_in self.now) class.now name.now) }
     {
         match class.as_builtin() {
             Some(_) => Ok(None),
@@ -129,7 +129,7 @@ impl World {
         name: &Text,
     ) -> Result<Option<MemberAnswer>, AllocError>
         ensures { IfOk result (λ member. option_map member_answer_of member
-            ≡ spec.assigned_in_user (world_interfaces self.now) name.now (option_map declared_at found.entry)) }
+            ≡ spec.assigned_in_user (world_in self.now) name.now (option_map declared_at found.entry)) }
     {
         let Some(c) = found else {
             return Ok(None);

@@ -1,31 +1,31 @@
-//! The files of a workspace as they answer keys.
+//! The interfaces of the files of a workspace as they answer keys.
 
 ghost use Rattle.std.specs.Prelude.{◌≡◌, IfOk};
 ghost use Rattle.pyc_class.specs.Class.{Id};
 ghost use Rattle.pyc_classes.specs.OrderView.{orders_in};
 ghost use Rattle.pyc_iface.specs.Answers as spec;
-ghost use Rattle.pyc_iface.specs.Answers.{class_orders, orders_by};
+ghost use Rattle.pyc_iface.specs.Answers.{orders_by};
 ghost use Rattle.pyc_declarations.specs.KindsView.{declarations_in};
-ghost use Rattle.pyc_names.specs.SourceFileView.{sources_in};
-ghost use Rattle.pyc_names.specs.TableView.{table_in, table_interfaces};
+ghost use Rattle.pyc_names.specs.InterfaceView.{interfaces_in};
+ghost use Rattle.pyc_names.specs.TableView.{table_in};
 ghost use Rattle.pyc_reading.specs.AnswerView.{answer_in, class_order_of};
 ghost use Rattle.pyc_reading.specs.KeyView.{key_of};
 
 use pyc_class::{ClassId, Lin, Lins};
 use pyc_classes::ClassTable;
 use pyc_declarations::{Answers, Declarations};
-use pyc_names::{SourceFile, Table};
+use pyc_names::{Interface, Table};
 use pyc_reading::{Answer, ClassOrder, Key};
 use std::alloc::{AllocError, Global};
 use std::rc::Rc;
 
-/// The files of a workspace as they answer keys: the order of each class is made once, and each other answer is looked
-/// up anew.
+/// The interfaces of the files of a workspace as they answer keys: the order of each class is made once, and each other
+/// answer is looked up anew.
 #[derive(Drop)]
 pub struct World {
     pub(crate) table: Table,
     pub(crate) classes: ClassTable,
-    ghost classes_are: { (c : Id) → orders_in classes c ≡ class_orders (table_in table) c },
+    ghost classes_are: { (c : Id) → orders_in classes c ≡ orders_by (table_in table) c },
 }
 
 /// The answers of a world.
@@ -35,10 +35,10 @@ pub struct WorldAnswers<'a> {
 }
 
 impl Answers for WorldAnswers<'_> {
-    ghost use Rattle.pyc_iface.specs.Answers.{answer_of};
+    ghost use Rattle.pyc_iface.specs.Answers.{answer_by};
     ghost use Rattle.pyc_iface.specs.WorldView.{answers_in};
 
-    ghost answers = { λ answers. answer_of (answers_in answers) };
+    ghost answers = { λ answers. answer_by (answers_in answers) };
 
     fn answer(&self, alloc: Global, key: &Key) -> Result<Answer, AllocError> {
         self.world.ask(alloc, key)
@@ -48,7 +48,7 @@ impl Answers for WorldAnswers<'_> {
 impl Lins for World {
     ghost use Rattle.pyc_iface.specs.WorldView.{world_in};
 
-    ghost orders = { λ world. class_orders (world_in world) };
+    ghost orders = { λ world. orders_by (world_in world) };
 
     fn lin(&self, class: &ClassId) -> Lin<'_> {
         self.classes.lin(class)
@@ -56,20 +56,20 @@ impl Lins for World {
 }
 
 impl World {
-    ghost use Rattle.pyc_iface.specs.WorldView.{answers_in, world_in, world_interfaces};
+    ghost use Rattle.pyc_iface.specs.WorldView.{answers_in, world_in};
 
-    /// The world of these files, which it shares. The only error is that memory runs out.
-    pub fn build(alloc: Global, files: &[Rc<SourceFile>]) -> Result<World, AllocError>
-        ensures { IfOk result (λ world. world_in world ≡ sources_in files.now) }
+    /// The world of files with these interfaces, which it shares. The only error is that memory runs out.
+    pub fn build(alloc: Global, files: &[Rc<Interface>]) -> Result<World, AllocError>
+        ensures { IfOk result (λ world. world_in world ≡ interfaces_in files.now) }
     {
         let table = Table::build(alloc, files)?;
         let classes = class_table(alloc, &table)?;
         Ok(World { table, classes })
     }
 
-    /// The files of the world, in their order.
-    pub fn files(&self) -> &[Rc<SourceFile>]
-        ensures { sources_in result.now ≡ world_in self.now }
+    /// The interfaces of the files of the world, in their order.
+    pub fn files(&self) -> &[Rc<Interface>]
+        ensures { interfaces_in result.now ≡ world_in self.now }
     {
         self.table.files()
     }
@@ -83,7 +83,7 @@ impl World {
 
     /// The answer to a key. The only error is that memory runs out.
     pub fn ask(&self, alloc: Global, key: &Key) -> Result<Answer, AllocError>
-        ensures { IfOk result (λ answer. answer_in answer ≡ spec.answer_of (world_in self.now) (key_of key.now)) }
+        ensures { IfOk result (λ answer. answer_in answer ≡ spec.answer_by (world_in self.now) (key_of key.now)) }
     {
         match key {
             Key::Class(class) => Ok(Answer::Order(self.class_order(alloc, class)?)),
@@ -94,14 +94,14 @@ impl World {
 
     /// What is declared in the files.
     pub(crate) fn declarations(&self) -> Declarations<'_>
-        ensures { declarations_in result ≡ world_interfaces self.now }
+        ensures { declarations_in result ≡ world_in self.now }
     {
         Declarations::new(&self.table)
     }
 
     /// The order of a class.
     fn class_order(&self, alloc: Global, class: &ClassId) -> Result<ClassOrder, AllocError>
-        ensures { IfOk result (λ order. class_order_of order ≡ class_orders (world_in self.now) class.now) }
+        ensures { IfOk result (λ order. class_order_of order ≡ orders_by (world_in self.now) class.now) }
     {
         let lin = self.classes.lin(class);
         Ok(ClassOrder {
@@ -115,7 +115,7 @@ impl World {
 /// The classes that the files of a table declare, with their orders.
 #[tactic(auto, unfolding(crate::specs::Answers::orders_by))]
 fn class_table(alloc: Global, table: &Table) -> Result<ClassTable, AllocError>
-    ensures { IfOk result (λ classes. (c : Id) → orders_in classes c ≡ orders_by (table_interfaces table.now) c) }
+    ensures { IfOk result (λ classes. (c : Id) → orders_in classes c ≡ orders_by (table_in table.now) c) }
 {
     let entries = Declarations::new(table).class_entries(alloc)?;
     ClassTable::build(alloc, entries)

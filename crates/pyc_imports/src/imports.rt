@@ -11,7 +11,7 @@ use crate::asking::asked_presence;
 use crate::texts::{missing_text, no_attribute_text, written_module};
 use pyc_ast::{Alias, ImportFrom, ImportedModule, Position, StmtForm, Text};
 use pyc_iface::Options;
-use pyc_names::{ModuleName, QualifiedName, SourceFile, fixed_module, joined, named_module};
+use pyc_names::{Interface, ModuleName, QualifiedName, fixed_module, joined, named_module};
 use pyc_reading::{Key, Notes, Presence, tell_error};
 use pyc_report::Code;
 use std::alloc::{AllocError, Global};
@@ -32,7 +32,7 @@ impl ImportReader {
     pub fn read_import<N: Notes>(
         self,
         notes: &mut N,
-        file: &SourceFile,
+        file: &Interface,
         form: &StmtForm,
     ) -> Result<(), AllocError>
         ensures { Performs (λ u. u)
@@ -128,7 +128,7 @@ impl ImportReader {
     fn read_aliases<N: Notes>(
         self,
         notes: &mut N,
-        file: &SourceFile,
+        file: &Interface,
         from: &ImportFrom,
     ) -> Result<(), AllocError>
         ensures { Performs (λ u. u)
@@ -146,7 +146,7 @@ impl ImportReader {
     pub fn read_imported<N: Notes>(
         self,
         notes: &mut N,
-        file: &SourceFile,
+        file: &Interface,
         from: &ImportFrom,
         alias: &Alias,
     ) -> Result<(), AllocError>

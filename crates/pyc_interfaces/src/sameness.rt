@@ -1,41 +1,40 @@
-//! When two files have the same interface.
+//! When two interfaces are the same.
 
 ghost use Rattle.std.specs.Prelude.{◌≡◌, IsTrue};
 ghost use Rattle.std.specs.Cmp.Lexicographic.{pointwise};
-ghost use Rattle.pyc_iface.specs.Answers.{answer_of};
+ghost use Rattle.pyc_iface.specs.Answers.{answer_by};
 ghost use Rattle.pyc_interfaces.specs.BareInterfaces.{bare_interface};
 ghost use Rattle.pyc_interfaces.specs.SameInterfaces as spec;
 ghost use Rattle.pyc_names.specs.InterfaceView.{interface_in, interfaces_in};
-ghost use Rattle.pyc_names.specs.SourceFileView.{sources_in};
 ghost use Rattle.pyc_reading.specs.Keys.{Key};
 
 use crate::same_bindings::same_bindings;
 use crate::same_classes::same_classes;
-use pyc_names::SourceFile;
+use pyc_names::Interface;
 use std::rc::Rc;
 
-/// Whether two files have the same interface but for positions. It says no where an annotation, a base or a decorator
+/// Whether two interfaces are the same but for positions. It says no where an annotation, a base or a decorator
 /// has a form that these seldom have. It takes no memory.
-pub fn same_interface(a: &SourceFile, b: &SourceFile) -> bool
+pub fn same_interface(a: &Interface, b: &Interface) -> bool
     ensures value { result ≡ spec.same_interface (interface_in a.now) (interface_in b.now) }
     ensures alike { IsTrue result → bare_interface (interface_in a.now) ≡ bare_interface (interface_in b.now) }
 {
     is_same(a, b)
 }
 
-/// Whether files have the same interfaces but for positions, one by one. Where they have, both give the same answer to
-/// each key. It takes no memory.
-pub fn same_interfaces(files: &[Rc<SourceFile>], others: &[Rc<SourceFile>]) -> bool
+/// Whether interfaces are the same but for positions, one by one. Where they are, files with these and files with those
+/// give the same answer to each key. It takes no memory.
+pub fn same_interfaces(files: &[Rc<Interface>], others: &[Rc<Interface>]) -> bool
     ensures value { result ≡ pointwise spec.same_interface (interfaces_in files.now) (interfaces_in others.now) }
     ensures answers { IsTrue result
-        → (key : Key) → answer_of (sources_in files.now) key ≡ answer_of (sources_in others.now) key }
+        → (key : Key) → answer_by (interfaces_in files.now) key ≡ answer_by (interfaces_in others.now) key }
 {
     are_same(files, others)
 }
 
-/// Whether two files have the same interface.
+/// Whether two interfaces are the same.
 #[tactic(auto, unfolding(crate::specs::SameInterfaces::same_interface))]
-fn is_same(a: &SourceFile, b: &SourceFile) -> bool
+fn is_same(a: &Interface, b: &Interface) -> bool
     ensures { result ≡ spec.same_interface (interface_in a.now) (interface_in b.now) }
 {
     a.name() == b.name()
@@ -45,8 +44,8 @@ fn is_same(a: &SourceFile, b: &SourceFile) -> bool
         && same_classes(a.classes(), b.classes())
 }
 
-/// Whether files have the same interfaces, one by one.
-fn are_same(files: &[Rc<SourceFile>], others: &[Rc<SourceFile>]) -> bool
+/// Whether interfaces are the same, one by one.
+fn are_same(files: &[Rc<Interface>], others: &[Rc<Interface>]) -> bool
     ensures { result ≡ pointwise spec.same_interface (interfaces_in files.now) (interfaces_in others.now) }
 {
     if files.len() != others.len() {

@@ -13,7 +13,7 @@ use crate::binding::{alias_name, bind_module, bind_module_import};
 use pyc_ast::{Alias, ImportFrom, ImportedModule, StmtForm, Text};
 use pyc_imports::ImportReader;
 use pyc_locals::{LocalType, Point};
-use pyc_names::{ModuleName, QualifiedName, SourceFile, fixed_module, named_module};
+use pyc_names::{Interface, ModuleName, QualifiedName, fixed_module, named_module};
 use pyc_obligations::asked_name;
 use pyc_reading::Notes;
 use pyc_type_forms::Ty;
@@ -27,7 +27,7 @@ pub struct LocalImportReader<'a> {
     /// Reports the modules and names that are not there.
     pub imports: ImportReader,
     /// The file of the body.
-    pub file: &'a SourceFile,
+    pub file: &'a Interface,
 }
 
 impl LocalImportReader<'_> {

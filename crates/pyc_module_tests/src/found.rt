@@ -3,6 +3,7 @@
 use crate::sources::file_of;
 use pyc_body::{Checked, Checker, Meter, unsilenced};
 use pyc_iface::{Options, World};
+use pyc_keys::Keys;
 use pyc_names::SourceFile;
 use pyc_report::Message;
 use std::alloc::Global;
@@ -49,10 +50,11 @@ fn write_checks(checks: &[Checked], shown: &mut String) -> Result<(), Fail> {
 
 /// The lines of what is told of a file that is the only one there is, or what is found in its units.
 fn shown_alone(alloc: Global, file: &Rc<SourceFile>, is_told: bool) -> Result<String, Fail> {
-    let world = World::build(alloc, slice::from_ref(file))?;
+    let world = World::build(alloc, slice::from_ref(file.shared_interface()))?;
     let mut meter = Meter::new(alloc);
+    let mut keys = Keys::new(alloc);
     let checker = Checker::new(alloc, OPTIONS, &world);
-    let checks = checker.check_files(&mut meter, slice::from_ref(file))?;
+    let checks = checker.check_files(&mut meter, &mut keys, slice::from_ref(file))?;
     let mut shown = String::new(alloc);
     if is_told {
         write_lines(&unsilenced(alloc, file, &checks)?, &mut shown)?;

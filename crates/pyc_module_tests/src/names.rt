@@ -1,6 +1,6 @@
 //! Files, with what the names of their modules stand for.
 
-use crate::sources::{dotted, file_of, files_of, module_of, name_of};
+use crate::sources::{dotted, file_of, interfaces_of, module_of, name_of};
 use pyc_ast::Outcome;
 use pyc_names::{ModuleName, QualifiedName, Referent, SourceFile, Table, joined};
 use std::alloc::{AllocError, Global};
@@ -21,7 +21,7 @@ fn word(found: &Referent) -> &str {
 
 /// The table of these files.
 fn table_of(alloc: Global, sources: &[(&str, &str)]) -> Result<Table, AllocError> {
-    Table::build(alloc, &files_of(alloc, sources)?)
+    Table::build(alloc, &interfaces_of(alloc, sources)?)
 }
 
 /// Writes the word for what a name stands for in a table, and whether it is on a ring there.
@@ -151,27 +151,35 @@ fn names_are_followed(rt: HostRuntime) -> Result<(), Fail> {
     Ok(())
 }
 
-/// A file in a folder, one of a package, and one beside them.
-const FILES: &[(&str, &str)] = &[("p/q/r.py", ""), ("pkg/__init__.py", ""), ("b.py", "")];
+/// A file in a folder, one of a package, and one beside them, each of which binds a name of its own.
+const FILES: &[(&str, &str)] = &[
+    ("p/q/r.py", "in_folder = 1\n"),
+    ("pkg/__init__.py", "in_package = 1\n"),
+    ("b.py", "beside = 1\n"),
+];
 
-/// Whether a module is there in a table, and the path of its file.
+/// Whether a module is there in a table, and the first name that its file binds.
 fn there<'a>(alloc: Global, table: &'a Table, name: &str) -> Result<(bool, &'a str), AllocError> {
     let parts = dotted(alloc, name)?;
-    let path = match table.file(&parts) {
-        Some(file) => file.path(),
+    let bindings = match table.file(&parts) {
+        Some(file) => file.bindings(),
+        None => &[],
+    };
+    let bound = match bindings.first() {
+        Some(binding) => binding.name.as_str(),
         None => "",
     };
-    Ok((table.has_module(&parts), path))
+    Ok((table.has_module(&parts), bound))
 }
 
-/// Modules, whether they are there, and the paths of their files.
+/// Modules, whether they are there, and the names that their files bind.
 const THERE: &[(&str, (bool, &str))] = &[
     ("", (true, "")),
     ("p", (true, "")),
-    ("p.q.r", (true, "p/q/r.py")),
+    ("p.q.r", (true, "in_folder")),
     ("p.q.r.s", (false, "")),
-    ("pkg", (true, "pkg/__init__.py")),
-    ("b", (true, "b.py")),
+    ("pkg", (true, "in_package")),
+    ("b", (true, "beside")),
     ("typing", (true, "")),
     ("gone", (false, "")),
 ];
@@ -189,7 +197,11 @@ fn modules_and_their_files(rt: HostRuntime) -> Result<(), Fail> {
 /// Whether a file is that of a package, whether it has a tree, and how many bindings it has.
 fn marks(file: &SourceFile) -> (bool, bool, usize) {
     let has_tree = matches!(file.outcome(), Outcome::Tree(_));
-    (file.is_package(), has_tree, file.bindings().len())
+    (
+        file.interface().is_package(),
+        has_tree,
+        file.bindings().len(),
+    )
 }
 
 /// Whether a file of this path and source tells its path, this name of its module, and these marks.

@@ -23,18 +23,16 @@ fn message(
     })
 }
 
-/// What was found in a file: messages, each of its line, its column, its kind and its text. The only error is that
-/// memory runs out.
-fn found<'a>(
+/// Messages, each of its line, its column, its kind and its text. The only error is that memory runs out.
+fn messages(
     alloc: Global,
-    path: &'a str,
     rows: &[(usize, usize, MessageKind, &str)],
-) -> Result<Found<'a>, AllocError> {
+) -> Result<Vec<Message>, AllocError> {
     let mut messages = Vec::new(alloc);
     for (line, column, kind, text) in rows {
         messages.push(message(alloc, *line, *column, *kind, text)?)?;
     }
-    Ok(Found { path, messages })
+    Ok(messages)
 }
 
 /// The error of a file with one.
@@ -47,7 +45,11 @@ const ONE_ERROR: &[(usize, usize, MessageKind, &str)] = &[(
 
 #[test]
 fn one_error_in_one_file(rt: HostRuntime) -> Result<(), Fail> {
-    let found = found(rt.alloc(), "a.py", ONE_ERROR)?;
+    let messages = messages(rt.alloc(), ONE_ERROR)?;
+    let found = Found {
+        path: "a.py",
+        messages: &messages,
+    };
     let report = report(rt.alloc(), &[found])?;
     assert_eq!(rt;
         report.text.as_str(),

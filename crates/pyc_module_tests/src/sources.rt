@@ -2,7 +2,7 @@
 
 use pyc_ast::{Module, Outcome, Text};
 use pyc_lower::read;
-use pyc_names::{ModuleName, QualifiedName, SourceFile, joined};
+use pyc_names::{Interface, ModuleName, QualifiedName, SourceFile, joined};
 use std::alloc::{AllocError, Global};
 use std::rc::Rc;
 use std::test::Fail;
@@ -21,16 +21,17 @@ pub(crate) fn file_of(alloc: Global, path: &str, source: &[u8]) -> Result<Source
     SourceFile::new(alloc, path, name, read(alloc, source)?)
 }
 
-/// Files, each of its path and source, shared.
-pub(crate) fn files_of(
+/// The interfaces of files, each of its path and source.
+pub(crate) fn interfaces_of(
     alloc: Global,
     sources: &[(&str, &str)],
-) -> Result<Vec<Rc<SourceFile>>, AllocError> {
-    let mut files = Vec::new(alloc);
+) -> Result<Vec<Rc<Interface>>, AllocError> {
+    let mut interfaces = Vec::new(alloc);
     for (path, source) in sources {
-        files.push(Rc::new(alloc, file_of(alloc, path, source.as_bytes())?)?)?;
+        let file = file_of(alloc, path, source.as_bytes())?;
+        interfaces.push(file.shared_interface().clone()?)?;
     }
-    Ok(files)
+    Ok(interfaces)
 }
 
 /// The parts of a dotted name.

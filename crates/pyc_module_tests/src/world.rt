@@ -1,6 +1,6 @@
 //! Keys, with what the files of a workspace answer; the types of annotations and of literals.
 
-use crate::sources::{file_of, files_of, module_of, name_of};
+use crate::sources::{file_of, interfaces_of, module_of, name_of};
 use pyc_ast::{Outcome, Stmt, StmtForm};
 use pyc_iface::{
     Answer, Key, NameAnswer, NameKind, Presence, World, annotation_builtin, literal_type,
@@ -12,7 +12,7 @@ use std::test::Fail;
 
 /// What the world of these files answers to a key.
 fn answer(alloc: Global, sources: &[(&str, &str)], key: &Key) -> Result<Answer, AllocError> {
-    let world = World::build(alloc, &files_of(alloc, sources)?)?;
+    let world = World::build(alloc, &interfaces_of(alloc, sources)?)?;
     world.ask(alloc, key)
 }
 
@@ -97,8 +97,8 @@ fn modules_and_names_are_asked_for(rt: HostRuntime) -> Result<(), Fail> {
 
 #[test]
 fn worlds_have_their_files(rt: HostRuntime) -> Result<(), Fail> {
-    let files = files_of(rt.alloc(), FILES)?;
-    assert_eq!(rt; World::build(rt.alloc(), &files)?.files().len(), 5);
+    let interfaces = interfaces_of(rt.alloc(), FILES)?;
+    assert_eq!(rt; World::build(rt.alloc(), &interfaces)?.files().len(), 5);
     Ok(())
 }
 
@@ -225,7 +225,10 @@ fn types_at(file: &SourceFile, statement: &Stmt) -> (Option<Builtin>, Option<Bui
         Some(value) => literal_type(value),
         None => None,
     };
-    (annotation_builtin(file, &found.annotation), value)
+    (
+        annotation_builtin(file.interface(), &found.annotation),
+        value,
+    )
 }
 
 /// The same of the first statement of a file.

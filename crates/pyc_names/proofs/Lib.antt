@@ -4,3 +4,4 @@ pub mod RingLemmas
 pub mod ReturnLemmas
 pub mod PlaceLemmas
 pub mod OuterLemmas
+pub mod FileLemmas

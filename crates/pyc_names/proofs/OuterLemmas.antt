@@ -8,7 +8,7 @@ use Rattle.std.specs.declared.rc.Rc.{Rc}
 use Rattle.std.specs.List.{list_any}
 use Rattle.std.specs.Prelude.{nat_lt, nat_eq}
 use Rattle.indexmap.specs.IndexSet.{insert_key}
-use Rattle.pyc_names.specs.declared.source_file.SourceFile.{SourceFile as SourceFileOf}
+use Rattle.pyc_names.specs.declared.interface.Interface.{Interface as InterfaceOf}
 use Rattle.pyc_names.specs.ModuleName.{same_module}
 use Rattle.pyc_names.specs.Presence.{is_within}
 use Rattle.pyc_names.proofs.RingLemmas.{same_module-is}
@@ -123,15 +123,15 @@ prefixes_all m parts count before new all is = is ∙ ap (λ n. before || (is_wi
 
 -- ---- a file more
 
-interfaces-append : (files more : List (Rc SourceFileOf Global)) → interfaces_in (files ++ more) ≡ interfaces_in files ++ interfaces_in more
+interfaces-append : (files more : List (Rc InterfaceOf Global)) → interfaces_in (files ++ more) ≡ interfaces_in files ++ interfaces_in more
 interfaces-append [] more = refl
 interfaces-append (file ∷ files) more = ap (λ l. interface_in file.value ∷ l) (interfaces-append files more)
 
-pub file_more : (m : List (List ℕ)) (files : List (Rc SourceFileOf Global)) (i : ℕ) (file : Rc SourceFileOf Global) (parts : List (List ℕ)) (old new : Bool) → i < length files → file ≡ get_or files i file
+pub file_more : (m : List (List ℕ)) (files : List (Rc InterfaceOf Global)) (i : ℕ) (file : Rc InterfaceOf Global) (parts : List (List ℕ)) (old new : Bool) → i < length files → file ≡ get_or files i file
     → parts ≡ (interface_in file.value).name → old ≡ list_any (is_within m) (map (λ (f : Interface). f.name) (interfaces_in (take i files))) → new ≡ (old || is_within m parts)
     → new ≡ list_any (is_within m) (map (λ (f : Interface). f.name) (interfaces_in (take (i + 1) files)))
 file_more m files i file parts old new within is named before put =
-    let name : Rc SourceFileOf Global → List (List ℕ) = λ f. (interface_in f.value).name in
+    let name : Rc InterfaceOf Global → List (List ℕ) = λ f. (interface_in f.value).name in
     let later : take (i + 1) files ≡ take i files ++ file ∷ [] = take_more files i file within ∙ ap (λ x. take i files ++ x ∷ []) (sym is) in
     let whole : map (λ (f : Interface). f.name) (interfaces_in (take (i + 1) files)) ≡ map (λ (f : Interface). f.name) (interfaces_in (take i files)) ++ name file ∷ [] =
     ap (λ fs. map (λ (f : Interface). f.name) (interfaces_in fs)) later ∙ ap (map (λ (f : Interface). f.name)) (interfaces-append (take i files) (file ∷ []))

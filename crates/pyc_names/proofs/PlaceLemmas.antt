@@ -7,7 +7,7 @@ use Rattle.std.specs.List.{position_from}
 use Rattle.std.specs.Map.{lookup}
 use Rattle.indexmap.specs.IndexMap.{insert_entry}
 use Rattle.pyc_bindings.proofs.PlaceLemmas.{chosen, found_at, place_within}
-use Rattle.pyc_names.specs.declared.source_file.SourceFile.{SourceFile as SourceFileOf}
+use Rattle.pyc_names.specs.declared.interface.Interface.{Interface as InterfaceOf}
 use Rattle.pyc_names.specs.ModuleName.{same_module}
 use Rattle.pyc_names.specs.Interfaces.{Interface, file_of}
 use Rattle.pyc_names.specs.InterfaceView.{interface_in, interfaces_in}
@@ -38,7 +38,7 @@ module _ {K V : Type 0} (eq : K → K → Bool) (test : K → Bool) (alike : (x 
   lookup-insert (e ∷ es) = either e es (eq k e.0) refl (lookup-insert es)
 
 -- the index of the file that each module is, one file more
-pub place_more : (m : List (List ℕ)) (files : List (Rc SourceFileOf Global)) (left : ℕ) (file : Rc SourceFileOf Global) (old new : List (Vec (List ℕ) Global × ℕ)) (key : Vec (List ℕ) Global)
+pub place_more : (m : List (List ℕ)) (files : List (Rc InterfaceOf Global)) (left : ℕ) (file : Rc InterfaceOf Global) (old new : List (Vec (List ℕ) Global × ℕ)) (key : Vec (List ℕ) Global)
     → 0 < left → left ≤ length files → file ≡ get_or files (left - 1) file → key.items ≡ (interface_in file.value).name
     → new ≡ insert_entry (λ x y. same_module x.items y.items) old key (left - 1)
     → lookup (λ parts. same_module m parts.items) old ≡ position_from (λ f. same_module m f.name) left (interfaces_in (drop left files))
@@ -56,17 +56,17 @@ place_more m files left file old new key some within is named put before =
     ∙ ap (cond (t (interface_in file.value)) (Some (left - 1))) (before ∙ ap (λ n. position_from t n (interfaces_in (drop left files))) (sym onward))
     ∙ ap (λ l. position_from t (left - 1) (interfaces_in l)) (sym first)
 
-length-interfaces : (files : List (Rc SourceFileOf Global)) → length (interfaces_in files) ≡ length files
+length-interfaces : (files : List (Rc InterfaceOf Global)) → length (interfaces_in files) ≡ length files
 length-interfaces [] = refl
 length-interfaces (f ∷ files) = ap suc (length-interfaces files)
 
 -- the source of a file is the source at its place
-pub source_at : (files : List (Rc SourceFileOf Global)) (i : ℕ) (file : Rc SourceFileOf Global) → i < length files → file ≡ get_or files i file → Some (interface_in file.value) ≡ slice_get (interfaces_in files) i
+pub source_at : (files : List (Rc InterfaceOf Global)) (i : ℕ) (file : Rc InterfaceOf Global) → i < length files → file ≡ get_or files i file → Some (interface_in file.value) ≡ slice_get (interfaces_in files) i
 source_at [] i file within is = absurd (omega arith)
-source_at (f ∷ files) zero file within is = ap (λ (x : Rc SourceFileOf Global). Some (interface_in x.value)) is
+source_at (f ∷ files) zero file within is = ap (λ (x : Rc InterfaceOf Global). Some (interface_in x.value)) is
 source_at (f ∷ files) (suc i) file within is = let below : i < length files = omega arith in source_at files i file below is
 
-module _ (files : List (Rc SourceFileOf Global)) (m : List (List ℕ)) where
+module _ (files : List (Rc InterfaceOf Global)) (m : List (List ℕ)) where
   -- the place of a module is within the files
   pub module_within : (i : ℕ) → position_from (λ (f : Interface). same_module m f.name) 0 (interfaces_in files) ≡ Some i → i < length files
   module_within i h =

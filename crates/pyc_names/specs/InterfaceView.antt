@@ -2,14 +2,22 @@
 use Rattle.std.specs.Prelude.{List, map}
 use Rattle.std.specs.declared.alloc.Global.{Global}
 use Rattle.std.specs.declared.rc.Rc.{Rc}
-use Rattle.pyc_names.specs.declared.source_file.SourceFile.{SourceFile as SourceFileOf}
-use Rattle.pyc_names.specs.Interfaces.{Interface, interface_of}
-use Rattle.pyc_names.specs.SourceFileView.{source_in, sources_in}
+use Rattle.pyc_bindings.specs.BindingView.{binding_of}
+use Rattle.pyc_members.specs.DeclaredClassView.{declared_class_in}
+use Rattle.pyc_names.specs.declared.interface.Interface.{Interface as InterfaceOf}
+use Rattle.pyc_names.specs.Interfaces.{Interface}
 
--- the interface of a file of the code
-abbrev pub interface_in : SourceFileOf → Interface
-interface_in file = interface_of (source_in file)
+-- the plain interface that one of the code is
+abbrev pub interface_in : InterfaceOf → Interface
+interface_in file =
+    record {
+      name = file.name;
+      is_package = file.is_package;
+      has_fault = file.has_fault;
+      bindings = map binding_of file.bindings.items;
+      classes = map declared_class_in file.classes.items;
+    }
 
--- the interfaces of shared files
-abbrev pub interfaces_in : List (Rc SourceFileOf Global) → List Interface
-interfaces_in files = map interface_of (sources_in files)
+-- the plain interfaces that shared ones are
+abbrev pub interfaces_in : List (Rc InterfaceOf Global) → List Interface
+interfaces_in files = map (λ file. interface_in file.value) files

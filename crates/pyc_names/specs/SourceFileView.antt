@@ -14,12 +14,12 @@ abbrev pub source_in : SourceFileOf → SourceFile
 source_in file =
     record {
       path = string_bytes file.path;
-      name = file.name;
-      is_package = file.is_package;
+      name = file.interface.value.name;
+      is_package = file.interface.value.is_package;
       outcome = outcome_of file.outcome;
-      bindings = map binding_of file.top.bindings.items;
-      again = map redefinition_of file.top.again.items;
-      classes = map declared_class_in file.classes.items;
+      bindings = map binding_of file.interface.value.bindings.items;
+      again = map redefinition_of file.again.items;
+      classes = map declared_class_in file.interface.value.classes.items;
     }
 
 -- the plain files that shared ones are

@@ -3,6 +3,7 @@
 
 mod fixed;
 mod imports;
+mod interface;
 pub mod laws;
 mod module_name;
 mod outer_modules;
@@ -13,6 +14,7 @@ mod table;
 
 pub use fixed::{FixedModule, FixedName, fixed_module, fixed_name};
 pub use imports::{joined, named_module};
+pub use interface::Interface;
 pub use module_name::ModuleName;
 pub use presence::is_there;
 pub use qualified_name::{QualifiedName, Referent};

@@ -8,7 +8,7 @@ ghost use Rattle.pyc_names.specs.Presence.{is_within};
 ghost use Rattle.pyc_names.specs.InterfaceView.{interfaces_in};
 
 use crate::imports::joined;
-use crate::source_file::SourceFile;
+use crate::interface::Interface;
 use indexmap::IndexSet;
 use pyc_ast::Text;
 use std::alloc::{AllocError, Global};
@@ -17,7 +17,7 @@ use std::rc::Rc;
 /// The modules that files name or lie under, by their parts. The only error is that memory runs out.
 pub(crate) fn outer_modules(
     alloc: Global,
-    files: &[Rc<SourceFile>],
+    files: &[Rc<Interface>],
 ) -> Result<IndexSet<Vec<Text>>, AllocError>
     ensures { IfOk result (λ outer. (m : List (List ℕ)) → contains_by (λ parts. same_module m parts.items) outer
         ≡ list_any (is_within m) (map (λ file. file.name) (interfaces_in files.now))) }

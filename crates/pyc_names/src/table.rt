@@ -1,4 +1,4 @@
-//! The files of a workspace, and what the names of their modules stand for.
+//! The interfaces of the files of a workspace, and what the names of their modules stand for.
 
 ghost use Rattle.std.specs.Prelude.{◌≡◌, ℕ, List, suc, ◌+◌, ◌^◌, ◌<◌, map, count_by, IfOk, option_map};
 ghost use Rattle.std.specs.List.{list_any, position_from};
@@ -13,14 +13,13 @@ ghost use Rattle.pyc_names.specs.InterfaceView.{interface_in, interfaces_in};
 ghost use Rattle.pyc_names.specs.ModuleName.{same_module};
 ghost use Rattle.indexmap.specs.IndexMap.{get_by};
 ghost use Rattle.indexmap.specs.IndexSet.{contains_by};
-ghost use Rattle.pyc_names.specs.SourceFileView.{sources_in};
 
 use crate::fixed::{FixedName, fixed_module, fixed_name};
 use crate::imports::{joined, named_module};
+use crate::interface::Interface;
 use crate::module_name::ModuleName;
 use crate::outer_modules::outer_modules;
 use crate::qualified_name::{QualifiedName, Referent, Step};
-use crate::source_file::SourceFile;
 use indexmap::{IndexMap, IndexSet};
 use pyc_ast::Text;
 use pyc_bindings::{Binding, BindingForm};
@@ -28,10 +27,10 @@ use std::alloc::{AllocError, Global};
 use std::rc::Rc;
 use std::slice;
 
-/// The files of a workspace, shared, and what the names of their modules stand for.
+/// The interfaces of the files of a workspace, shared, and what the names of their modules stand for.
 #[derive(Drop)]
 pub struct Table {
-    files: Vec<Rc<SourceFile>>,
+    files: Vec<Rc<Interface>>,
     /// The index of the file that each module is.
     places: IndexMap<Vec<Text>, usize>,
     /// The modules that the files name or lie under.
@@ -46,11 +45,11 @@ pub struct Table {
 }
 
 impl Table {
-    ghost use Rattle.pyc_names.specs.TableView.{table_in, table_interfaces};
+    ghost use Rattle.pyc_names.specs.TableView.{table_in};
 
-    /// The table of these files, which it shares. The only error is that memory runs out.
-    pub fn build(alloc: Global, files: &[Rc<SourceFile>]) -> Result<Table, AllocError>
-        ensures { IfOk result (λ table. table_in table ≡ sources_in files.now) }
+    /// The table of files with these interfaces, which it shares. The only error is that memory runs out.
+    pub fn build(alloc: Global, files: &[Rc<Interface>]) -> Result<Table, AllocError>
+        ensures { IfOk result (λ table. table_in table ≡ interfaces_in files.now) }
     {
         let mut shared = Vec::with_capacity(alloc, files.len())?;
         for file in files {
@@ -64,9 +63,9 @@ impl Table {
         })
     }
 
-    /// The files, in their order.
-    pub fn files(&self) -> &[Rc<SourceFile>]
-        ensures { sources_in result.now ≡ table_in self.now }
+    /// The interfaces of the files, in their order.
+    pub fn files(&self) -> &[Rc<Interface>]
+        ensures { interfaces_in result.now ≡ table_in self.now }
     {
         &self.files
     }
@@ -74,14 +73,14 @@ impl Table {
     /// Whether the module with these parts is there: the root, a fixed one, or one that a file names or lies under. It
     /// takes no memory.
     pub fn has_module(&self, parts: &[Text]) -> bool
-        ensures { result ≡ spec.has_module (table_interfaces self.now) parts.now }
+        ensures { result ≡ spec.has_module (table_in self.now) parts.now }
     {
         parts.is_empty() || fixed_module(parts).is_some() || self.outer.contains(parts)
     }
 
-    /// The file that is the module with these parts. It takes no memory.
-    pub fn file(&self, parts: &[Text]) -> Option<&SourceFile>
-        ensures { option_map (λ file. interface_in file.now) result ≡ file_of (table_interfaces self.now) parts.now }
+    /// The interface of the file that is the module with these parts. It takes no memory.
+    pub fn file(&self, parts: &[Text]) -> Option<&Interface>
+        ensures { option_map (λ file. interface_in file.now) result ≡ file_of (table_in self.now) parts.now }
     {
         match self.places.get(parts) {
             Some(place) => Some(&self.files[*place]),
@@ -93,7 +92,7 @@ impl Table {
     #[tactic(auto, unfolding(crate::specs::Following::follow))]
     pub fn follow(&self, alloc: Global, q: &QualifiedName) -> Result<Referent, AllocError>
         ensures { IfOk result (λ found. referent_of found
-            ≡ spec.follow (table_interfaces self.now) (qualified_of q.now)) }
+            ≡ spec.follow (table_in self.now) (qualified_of q.now)) }
     {
         let mut at = q.clone()?;
         for turn in 0..self.steps {
@@ -108,7 +107,7 @@ impl Table {
     /// Whether a name is on a ring: following it comes back to it. The only error is that memory runs out.
     #[tactic(auto, unfolding(crate::specs::Following::on_ring))]
     pub fn is_on_ring(&self, alloc: Global, q: &QualifiedName) -> Result<bool, AllocError>
-        ensures { IfOk result (λ found. found ≡ spec.on_ring (table_interfaces self.now) (qualified_of q.now)) }
+        ensures { IfOk result (λ found. found ≡ spec.on_ring (table_in self.now) (qualified_of q.now)) }
     {
         let mut at = q.clone()?;
         for turn in 1..self.steps {
@@ -126,7 +125,7 @@ impl Table {
     /// The step from a name.
     #[tactic(auto, unfolding(crate::specs::Following::step))]
     fn step(&self, alloc: Global, q: &QualifiedName) -> Result<Step, AllocError>
-        ensures { IfOk result (λ found. step_of found ≡ spec.step (table_interfaces self.now) (qualified_of q.now)) }
+        ensures { IfOk result (λ found. step_of found ≡ spec.step (table_in self.now) (qualified_of q.now)) }
     {
         if !self.has_module(q.home.parts()) {
             return Ok(Step::Ends(Referent::NoModule));
@@ -137,7 +136,7 @@ impl Table {
     /// The step from a name of a module that is there.
     fn module_step(&self, alloc: Global, q: &QualifiedName) -> Result<Step, AllocError>
         ensures { IfOk result (λ found. step_of found
-            ≡ spec.module_step (table_interfaces self.now) (qualified_of q.now) (fixed_module_of q.now.home)) }
+            ≡ spec.module_step (table_in self.now) (qualified_of q.now) (fixed_module_of q.now.home)) }
     {
         match fixed_module(q.home.parts()) {
             Some(fixed) => Ok(Step::Ends(fixed_referent(q, fixed_name(fixed, q.name.as_str()))?)),
@@ -148,8 +147,8 @@ impl Table {
     /// The step from a name of a module that is no fixed one.
     fn file_step(&self, alloc: Global, q: &QualifiedName) -> Result<Step, AllocError>
         ensures { IfOk result (λ found. step_of found
-            ≡ spec.file_step (table_interfaces self.now) (qualified_of q.now)
-            (file_of (table_interfaces self.now) q.now.home)) }
+            ≡ spec.file_step (table_in self.now) (qualified_of q.now)
+            (file_of (table_in self.now) q.now.home)) }
     {
         match self.file(q.home.parts()) {
             Some(file) => self.source_step(alloc, q, file),
@@ -162,10 +161,10 @@ impl Table {
         &self,
         alloc: Global,
         q: &QualifiedName,
-        file: &SourceFile,
+        file: &Interface,
     ) -> Result<Step, AllocError>
         ensures { IfOk result (λ found. step_of found
-            ≡ spec.source_step (table_interfaces self.now) (qualified_of q.now) (interface_in file.now)
+            ≡ spec.source_step (table_in self.now) (qualified_of q.now) (interface_in file.now)
             (interface_in file.now).has_fault) }
     {
         if file.has_fault() {
@@ -179,11 +178,11 @@ impl Table {
         &self,
         alloc: Global,
         q: &QualifiedName,
-        file: &SourceFile,
+        file: &Interface,
         found: Option<&Binding>,
     ) -> Result<Step, AllocError>
         ensures { IfOk result (λ step. step_of step
-            ≡ spec.binding_step (table_interfaces self.now) (qualified_of q.now) (interface_in file.now)
+            ≡ spec.binding_step (table_in self.now) (qualified_of q.now) (interface_in file.now)
             (option_map (λ b. binding_of b.now) found.entry)) }
     {
         match found {
@@ -197,11 +196,11 @@ impl Table {
         &self,
         alloc: Global,
         q: &QualifiedName,
-        file: &SourceFile,
+        file: &Interface,
         form: &BindingForm,
     ) -> Result<Step, AllocError>
         ensures { IfOk result (λ found. step_of found
-            ≡ spec.form_step (table_interfaces self.now) (qualified_of q.now) (interface_in file.now)
+            ≡ spec.form_step (table_in self.now) (qualified_of q.now) (interface_in file.now)
             (binding_form_of form.now)) }
     {
         match form {
@@ -234,7 +233,7 @@ impl Table {
         name: &Text,
     ) -> Result<Step, AllocError>
         ensures { IfOk result (λ found. step_of found
-            ≡ spec.import_step (table_interfaces self.now) (qualified_of q.now) home name.now) }
+            ≡ spec.import_step (table_in self.now) (qualified_of q.now) home name.now) }
     {
         match home {
             Some(home) => self.step_to(
@@ -257,7 +256,7 @@ impl Table {
         next: QualifiedName,
     ) -> Result<Step, AllocError>
         ensures { IfOk result (λ found. step_of found
-            ≡ spec.step_to (table_interfaces self.now) (qualified_of q.now) (qualified_of next)) }
+            ≡ spec.step_to (table_in self.now) (qualified_of q.now) (qualified_of next)) }
     {
         if next.is_same(q) {
             let under = joined(alloc, q.home.parts(), slice::from_ref(&q.name))?;
@@ -271,7 +270,7 @@ impl Table {
     /// What a name that its module does not bind stands for.
     fn unbound_referent(&self, alloc: Global, q: &QualifiedName) -> Result<Referent, AllocError>
         ensures { IfOk result (λ found. referent_of found
-            ≡ spec.unbound_referent (table_interfaces self.now) (qualified_of q.now)) }
+            ≡ spec.unbound_referent (table_in self.now) (qualified_of q.now)) }
     {
         let under = joined(alloc, q.home.parts(), slice::from_ref(&q.name))?;
         if self.has_module(under.parts()) {
@@ -284,7 +283,7 @@ impl Table {
     /// The module with these parts, if it is there.
     fn module_referent(&self, alloc: Global, parts: &[Text]) -> Result<Referent, AllocError>
         ensures { IfOk result (λ found. referent_of found
-            ≡ spec.module_referent (table_interfaces self.now) parts.now) }
+            ≡ spec.module_referent (table_in self.now) parts.now) }
     {
         if self.has_module(parts) {
             Ok(Referent::Module(joined(alloc, &[], parts)?))
@@ -307,7 +306,7 @@ fn fixed_referent(q: &QualifiedName, found: Option<FixedName>) -> Result<Referen
 /// The index of the file that each module is, which is the first that names it.
 fn places_of(
     alloc: Global,
-    files: &[Rc<SourceFile>],
+    files: &[Rc<Interface>],
 ) -> Result<IndexMap<Vec<Text>, usize>, AllocError>
     ensures { IfOk result (λ places. (m : List (List ℕ)) → get_by (λ parts. same_module m parts.items) places
         ≡ position_from (λ file. same_module m file.name) 0 (interfaces_in files.now)) }
@@ -323,7 +322,7 @@ fn places_of(
 }
 
 /// How many from-imports stand at the top level of files.
-fn count_imports(files: &[Rc<SourceFile>]) -> u128
+fn count_imports(files: &[Rc<Interface>]) -> u128
     ensures counted { result ≡ spec.import_count (interfaces_in files.now) }
     ensures fits { result + 1 < 2 ^ 128 }
 {

@@ -43,7 +43,7 @@ pub fn read_overrides<N: Judge>(
         (spec.overrides_read (source_in file.now) name.now (stmts (map stmt_of statements.now)) order.now)
         (N.desk notes.old) result (N.desk notes.new) }
 {
-    let class = own_class(alloc, file, name)?;
+    let class = own_class(alloc, file.interface(), name)?;
     read_class(alloc, notes, &class, statements, order)
 }
 

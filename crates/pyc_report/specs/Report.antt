@@ -135,7 +135,7 @@ located_in message =
 
 -- what was found in a file, as plain values
 abbrev pub found_in : DeclaredFound → Found
-found_in found = record { path = found.path.now; messages = map message_in found.messages.items }
+found_in found = record { path = found.path.now; messages = map message_in found.messages.now }
 
 -- the report as plain values
 abbrev pub report_in : DeclaredReport → Report

@@ -64,7 +64,7 @@ fn push_messages<'a>(
     ensures { OnOk result (map located_in messages.new.items
         ≡ map located_in messages.old.items ++ located_messages (found_in found.now)) }
 {
-    for message in &found.messages {
+    for message in found.messages {
         messages.push(message_at(found.path, message))?;
     }
     Ok(())

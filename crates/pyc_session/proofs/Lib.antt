@@ -1,3 +1,4 @@
 pub mod CommandWords
+pub mod KeptFiles
 pub mod Refusals
 pub mod Turns

@@ -137,7 +137,7 @@ pub update_bad : (s : State) (path : List ℕ) → is_file_path path ≡ false
 unfolding updated
 update_bad s path e = rw e refl
 
-same_bytes : (xs : List ℕ) → bytes_eq xs xs ≡ true
+pub same_bytes : (xs : List ℕ) → bytes_eq xs xs ≡ true
 same_bytes [] = refl
 same_bytes (x ∷ xs) = let h : (x == x) ≡ true = grind (arith, nat_tests) in rw (h, same_bytes xs) refl
 

@@ -8,3 +8,4 @@ pub mod MemorySource
 pub mod Refusal
 pub mod Session
 pub mod State
+pub mod DaemonView

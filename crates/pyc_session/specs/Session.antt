@@ -17,6 +17,7 @@ use Rattle.pyc_session.specs.Refusal.{refusal_text, keep_refusal, kept_as, remov
 use Rattle.pyc_session.specs.declared.keep.Keep.{Keep}
 use Rattle.pyc_session.specs.declared.keep.Keep.TheVariants as keep
 use Rattle.pyc_report.specs.Report.{Report}
+use Rattle.pyc_reuse.specs.Examined.{examined}
 use Rattle.pyc_workspace.specs.Path.{is_file_path}
 use Rattle.pyc_session.specs.State.{State, start}
 use Rattle.pyc_workspace.specs.Workspace.{File, with_file, without_file}
@@ -79,9 +80,10 @@ updated s path event =
     if is_file_path path then fetched_at event.fetched path (handed_over s path event.wants_memory)
     else unfetched event.fetched (record { refusal = Some refusal.Path; state = s })
 
--- the state after a completed check
+-- the state after a completed check: it examined the units of new and changed files, and those of whose reads then some
+-- key has another answer now
 abbrev pub after_check : State → State
-after_check s = record s { last = s.present; examined = units_of s.present }
+after_check s = record s { last = s.present; examined = examined s.options s.last s.present }
 
 -- ---- replies
 

@@ -9,6 +9,9 @@ ghost use Rattle.pyc_workspace.specs.Path.{is_file_path};
 ghost use Rattle.pyc_session.specs.Refusal.{early_refusal, late_refusal, keep_refusal, remove_refusal, kept_as};
 ghost use Rattle.pyc_session.specs.Refusal.{first_standing, presence};
 ghost use Rattle.pyc_report.specs.Report.{report_in};
+ghost use Rattle.pyc_reuse.specs.Exact.{IsExact};
+ghost use Rattle.pyc_reuse.specs.PastView.{past_in};
+ghost use Rattle.pyc_session.specs.DaemonView.{past_of};
 ghost use Rattle.pyc_session.specs.Session.{after_check, keeping, dropping, updated, refusal_in};
 ghost use Rattle.pyc_session.specs.State.{State, start};
 ghost use Rattle.pyc_workspace.specs.Workspace.{has_file};
@@ -17,10 +20,12 @@ use crate::keep::Keep;
 use crate::refusal::Refusal;
 use crate::sources::{FetchFault, Sources};
 use crate::status::Status;
+use indexmap::IndexSet;
 use pyc_iface::Options;
 use pyc_names::ModuleName;
 use pyc_report::Report;
-use pyc_workspace::{File, Workspace, fresh_report, is_file_path};
+use pyc_reuse::{LastCheck, check_again};
+use pyc_workspace::{File, Workspace, is_file_path};
 use std::alloc::{AllocError, Global};
 use std::marker::Model;
 use std::str;
@@ -38,17 +43,27 @@ pub struct Daemon {
     alloc: Global,
     options: Options,
     present: Workspace,
-    last: Workspace,
-    bodies: usize,
+    /// The paths of the files that were put since the last completed check.
+    touched: IndexSet<String>,
+    /// What the last completed check left, if there was one.
+    last: Option<LastCheck>,
 }
 
 impl Model for Daemon {
+    ghost use Rattle.pyc_session.specs.DaemonView.{KeepsUp, past_of};
+    ghost use Rattle.pyc_session.specs.State.{State};
+
     ghost Value = { State };
 
     ghost view = { λ d.
-        record { options = d.options; present = d.present; last = d.last; examined = units_of d.last } };
+        record {
+          options = d.options;
+          present = d.present;
+          last = (past_of d.options d.last).files;
+          examined = (past_of d.options d.last).examined;
+        } };
 
-    ghost invariant = { λ d. d.bodies ≡ length (units_of d.last) };
+    ghost invariant = { λ d. KeepsUp d.options d.present d.touched d.last };
 }
 
 impl Daemon {
@@ -60,8 +75,8 @@ impl Daemon {
             alloc,
             options,
             present: Workspace::new(alloc),
-            last: Workspace::new(alloc),
-            bodies: 0,
+            touched: IndexSet::new(alloc),
+            last: None,
         }
     }
 
@@ -127,6 +142,7 @@ impl Daemon {
             return Err(why);
         }
         self.present.take(path);
+        self.touched.swap_remove(str::from_utf8(path).unwrap());
         Ok(())
     }
 
@@ -134,13 +150,12 @@ impl Daemon {
     pub fn check(&mut self) -> Result<Report, AllocError>
         ensures fresh { IfOk result (λ report. report_in report ≡ fresh self.old.options self.old.present) }
         ensures after { OnOk result (self.new ≡ after_check self.old) }
+        ensures exact { IfOk result (λ report. IsExact self.old.options self.old.last self.old.present
+            (report_in report) self.new.examined) }
         ensures same { OnErr result (self.new ≡ self.old) }
     {
-        let report = fresh_report(self.alloc, self.options, self.present.files())?;
-        let last = self.present.share(self.alloc)?;
-        let bodies = self.present.units(self.alloc)?.len();
-        self.last = last;
-        self.bodies = bodies;
+        let report = self.completed()?;
+        self.touched.clear();
         Ok(report)
     }
 
@@ -150,11 +165,32 @@ impl Daemon {
         ensures bodies { result.bodies ≡ length (units_of self.now.last) }
         ensures rechecked { result.rechecked ≡ length self.now.examined }
     {
-        Status {
-            files: self.last.len(),
-            bodies: self.bodies,
-            rechecked: self.bodies,
+        match &self.last {
+            Some(last) => Status {
+                files: last.count_files(),
+                bodies: last.count_units(),
+                rechecked: last.count_examined(),
+            },
+            None => Status {
+                files: 0,
+                bodies: 0,
+                rechecked: 0,
+            },
         }
+    }
+
+    /// A check of all files, after the last completed one if there was one. Where memory is refused all is as before.
+    fn completed(&mut self) -> Result<Report, AllocError>
+        ensures fresh { IfOk result (λ report. report_in report ≡ fresh self.old.options self.old.present) }
+        ensures after { OnOk result (self.new ≡ after_check self.old) }
+        ensures exact { IfOk result (λ report. IsExact self.old.options self.old.last self.old.present
+            (report_in report) self.new.examined) }
+        ensures same { OnErr result (self.new ≡ self.old) }
+    {
+        let last = last_or_nothing(self.alloc, self.options, self.last.take())?;
+        let (next, report) = check_again(self.alloc, last, &self.present, &self.touched);
+        self.last = Some(next);
+        report
     }
 
     /// How bytes that a source hands over are kept.
@@ -214,7 +250,26 @@ impl Daemon {
         ensures same { OnErr result (self.new ≡ self.old) }
     {
         let file = File::new(self.alloc, path, name, bytes)?;
-        self.present.put(file)
+        let touched = String::from_str(self.alloc, path)?;
+        self.touched.reserve(1)?;
+        self.present.put(file)?;
+        self.touched.insert(touched)?;
+        Ok(())
+    }
+}
+
+/// What the last completed check left; nothing, where there was none.
+fn last_or_nothing(
+    alloc: Global,
+    options: Options,
+    last: Option<LastCheck>,
+) -> Result<LastCheck, AllocError>
+    ensures past { IfOk result (λ found. past_in found ≡ past_of options last) }
+    ensures none { OnErr result (last ≡ None) }
+{
+    match last {
+        Some(last) => Ok(last),
+        None => LastCheck::of_nothing(alloc, options),
     }
 }
 

@@ -11,7 +11,7 @@ ghost use Rattle.pyc_type_forms.specs.TypeView.{kind_of, param_of, ty_of};
 
 use pyc_annotations::read_annotation;
 use pyc_ast::{Expr, FunctionDefinition, Parameter, ParameterKind, Text};
-use pyc_names::SourceFile;
+use pyc_names::Interface;
 use pyc_reading::Notes;
 use pyc_type_forms::{Param, ParamKind, Params, Signature, Ty};
 use std::alloc::{AllocError, Global};
@@ -24,7 +24,7 @@ use std::rc::Rc;
 pub fn read_function<N: Notes>(
     alloc: Global,
     notes: &mut N,
-    file: &SourceFile,
+    file: &Interface,
     receiver: Ty,
     head: &FunctionDefinition,
 ) -> Result<Ty, AllocError>
@@ -41,7 +41,7 @@ pub fn read_function<N: Notes>(
 fn read_parameters<N: Notes>(
     alloc: Global,
     notes: &mut N,
-    file: &SourceFile,
+    file: &Interface,
     receiver: Ty,
     parameters: &[Parameter],
 ) -> Result<Vec<Param>, AllocError>
@@ -74,7 +74,7 @@ fn one_param(alloc: Global, param: Param) -> Result<Vec<Param>, AllocError>
 fn read_more<N: Notes>(
     alloc: Global,
     notes: &mut N,
-    file: &SourceFile,
+    file: &Interface,
     found: Vec<Param>,
     parameters: &[Parameter],
 ) -> Result<Vec<Param>, AllocError>
@@ -94,7 +94,7 @@ fn read_more<N: Notes>(
 fn read_later_parameter<N: Notes>(
     alloc: Global,
     notes: &mut N,
-    file: &SourceFile,
+    file: &Interface,
     parameter: &Parameter,
 ) -> Result<Param, AllocError>
     ensures { Performs param_of (spec.parameter_reading (interface_in file.now) any (parameter_of parameter.now))
@@ -108,7 +108,7 @@ fn read_later_parameter<N: Notes>(
 fn read_parameter<N: Notes>(
     alloc: Global,
     notes: &mut N,
-    file: &SourceFile,
+    file: &Interface,
     receiver: Ty,
     parameter: &Parameter,
 ) -> Result<Param, AllocError>
@@ -124,7 +124,7 @@ fn read_parameter<N: Notes>(
 fn read_parameter_type<N: Notes>(
     alloc: Global,
     notes: &mut N,
-    file: &SourceFile,
+    file: &Interface,
     receiver: Ty,
     parameter: &Parameter,
 ) -> Result<Ty, AllocError>
@@ -153,7 +153,7 @@ fn first_type(receiver: Ty, kind: ParameterKind) -> Ty
 fn read_result<N: Notes>(
     alloc: Global,
     notes: &mut N,
-    file: &SourceFile,
+    file: &Interface,
     returns: Option<&Expr>,
 ) -> Result<Ty, AllocError>
     ensures { Performs ty_of
@@ -171,7 +171,7 @@ fn read_result<N: Notes>(
 fn read_annotated<N: Notes>(
     alloc: Global,
     notes: &mut N,
-    file: &SourceFile,
+    file: &Interface,
     annotation: &Expr,
 ) -> Result<Ty, AllocError>
     ensures { Performs ty_of (spec.annotated_or (interface_in file.now) any (Some (expr_of annotation.now)))

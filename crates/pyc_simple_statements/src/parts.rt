@@ -6,7 +6,8 @@ ghost use Rattle.pyc_ast.specs.StatementView.{annotated_of, stmt_form_of};
 ghost use Rattle.pyc_bodies.specs.BodyTargets.{body_reads, declares};
 ghost use Rattle.pyc_bodies.specs.Views.{body_in};
 ghost use Rattle.pyc_locals.specs.Views.{point_in};
-ghost use Rattle.pyc_names.specs.SourceFileView.{source_in};
+ghost use Rattle.pyc_names.specs.Interfaces.{interface_of};
+ghost use Rattle.pyc_names.specs.InterfaceView.{interface_in};
 ghost use Rattle.pyc_reading.specs.Desks.{Performs};
 ghost use Rattle.pyc_simple_statements.specs.BodyParts as spec;
 
@@ -165,7 +166,7 @@ impl StatementReader<'_> {
     fn imports(&self, at: Position) -> LocalImportReader<'_>
         ensures options { result.imports.options ≡ (body_in self.now.body.now).options }
         ensures at { result.imports.at ≡ at }
-        ensures file { source_in result.file.now ≡ (body_in self.now.body.now).file }
+        ensures file { interface_in result.file.now ≡ interface_of (body_in self.now.body.now).file }
     {
         let imports = ImportReader {
             alloc: self.alloc,
@@ -174,7 +175,7 @@ impl StatementReader<'_> {
         };
         LocalImportReader {
             imports,
-            file: self.body.file,
+            file: self.body.file.interface(),
         }
     }
 

@@ -55,7 +55,7 @@ pub(crate) fn read_class<N: Notes>(
     ensures { Performs (option_map (λ v. v.items)) (spec.class_reading (source_in file.now) at (class_of head.now))
         (N.desk notes.old) result (N.desk notes.new) }
 {
-    let bases = read_bases(alloc, notes, file, &head.arguments)?;
+    let bases = read_bases(alloc, notes, file.interface(), &head.arguments)?;
     if declares_class(file, at, &head.name) {
         read_declared(alloc, notes, file, at, &head.name, &bases)
     } else {
@@ -78,7 +78,7 @@ fn read_declared<N: Notes>(
         (N.desk notes.old) result (N.desk notes.new) }
 {
     read_base_orders(alloc, notes, bases)?;
-    let class = own_class(alloc, file, name)?;
+    let class = own_class(alloc, file.interface(), name)?;
     let answer = notes.ask(alloc, Key::Class(class))?;
     let order = read_order(alloc, notes, at, name, answer)?;
     Ok(order)

@@ -105,7 +105,7 @@ fn read_part<N: Notes>(
                 options,
                 at: place.at,
             };
-            reader.read_import(notes, file, &statement.form)
+            reader.read_import(notes, file.interface(), &statement.form)
         }
         _ => Ok(()),
     }

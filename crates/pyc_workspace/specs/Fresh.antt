@@ -5,6 +5,7 @@ use Rattle.pyc_body.specs.FoundMessages as body
 use Rattle.pyc_body.specs.FoundMessages.{unsilenced, without_ignored}
 use Rattle.pyc_examiner.specs.CheckedView.{Checked}
 use Rattle.pyc_units.specs.declared.unit.UnitId.{UnitId}
+use Rattle.pyc_report.specs.Message.{Message}
 use Rattle.pyc_report.specs.Report.{Report, Found, report_of}
 use Rattle.pyc_units.specs.Units.{unit_count}
 use Rattle.pyc_iface.specs.declared.options.Options.{Options}
@@ -16,33 +17,34 @@ use Rattle.pyc_workspace.specs.Workspace.{File, Unit}
 abbrev pub source_of : File → SourceFile
 source_of file = source_file file.path (read_of file.bytes)
 
+-- which of these files count for one another, as names see them: all of them
+abbrev pub sources_of : List File → List SourceFile
+sources_of files = map source_of files
+
 -- what is told of a file that stands among these
 abbrev pub checked : Options → List SourceFile → File → Found
 checked options files file = record { path = file.path; messages = unsilenced options files (source_of file) }
 
 -- the report of a check of these files from scratch
 unfoldable pub fresh : Options → List File → Report
-fresh options files = report_of (map (checked options (map source_of files)) files)
+fresh options files = report_of (map (checked options (sources_of files)) files)
 
--- what is told of a file, of whose units these are checks
-abbrev pub told_of : File → List Checked → Found
-told_of file checks =
-    record {
-      path = file.path;
-      messages = without_ignored (read_of file.bytes) (flat_map (λ check. check.messages) checks);
-    }
+-- what is told of a file, in whose units this was found
+abbrev pub told_of : File → List (List Message) → Found
+told_of file found =
+    record { path = file.path; messages = without_ignored (read_of file.bytes) (flat_map (λ messages. messages) found) }
 
--- what is told of files, of which these are checks, one for each of their units, in the order of the units
-abbrev pub told_by : List File → List Checked → List Found
-told_by [] checks = []
-told_by (file ∷ files) checks =
+-- what is told of files, from what was found in each of their units, in the order of the units
+abbrev pub told_by : List File → List (List Message) → List Found
+told_by [] found = []
+told_by (file ∷ files) found =
     let count = unit_count (read_of file.bytes) in
-    told_of file (take count checks) ∷ told_by files (drop count checks)
+    told_of file (take count found) ∷ told_by files (drop count found)
 
 -- what comes of the units of these files, checked over one another
 abbrev pub checks_of : Options → List File → List Checked
 checks_of options files =
-    let sources = map source_of files in
+    let sources = sources_of files in
     map (body.checked options sources) (parts.units_of sources)
 
 -- so many units of the file of a path, the first with this number

@@ -3,3 +3,4 @@ pub mod Fresh
 pub mod Path
 pub mod Workspace
 pub mod ModuleCounts
+pub mod ToldView

@@ -29,7 +29,7 @@ impl File {
     ghost use Rattle.pyc_workspace.specs.Files.{file_in};
     ghost use Rattle.pyc_workspace.specs.Fresh.{source_of};
     ghost use Rattle.pyc_body.specs.FoundMessages.{without_ignored};
-    ghost use Rattle.pyc_examiner.specs.CheckedView.{checked_of};
+    ghost use Rattle.pyc_examiner.specs.CheckedView.{messages_of};
     ghost use Rattle.pyc_report.specs.Message.{message_in};
 
     /// A file of this path, the module that it names, and of these bytes. The only error is that memory runs out.
@@ -97,7 +97,7 @@ impl File {
     ) -> Result<Vec<Message>, AllocError>
         ensures { IfOk result (λ messages. map message_in messages.items
             ≡ without_ignored (read_of (file_in self.now).bytes)
-            (flat_map (λ check. check.messages) (map checked_of checks.now))) }
+            (flat_map messages_of checks.now)) }
     {
         let found = unsilenced(alloc, &self.source, checks)?;
         Ok(found)

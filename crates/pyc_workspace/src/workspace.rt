@@ -1,6 +1,6 @@
 //! The files of a session, in order.
 
-ghost use Rattle.std.specs.Prelude.{◌≡◌, ◌++◌, [], List, length, map, IfOk, IfErr, OnOk, OnErr};
+ghost use Rattle.std.specs.Prelude.{◌≡◌, ◌++◌, [], false, List, None, length, map, IfOk, IfErr, IfSome, OnOk, OnErr};
 ghost use Rattle.std.specs.Cmp.Lexicographic.{slice_cmp};
 ghost use Rattle.std.specs.Ordering.{nat_cmp};
 ghost use Rattle.pyc_workspace.specs.Files.{file_in, files_in};
@@ -59,6 +59,17 @@ impl Workspace {
         ensures { result ≡ has_file self.now path.now }
     {
         place_of(&self.files, path).is_ok()
+    }
+
+    /// Where the file of this path stands, if there is one.
+    pub fn place(&self, path: &[u8]) -> Option<usize>
+        ensures found { IfSome result (IsPlaceOf self.now path.now) }
+        ensures absent { result ≡ None → has_file self.now path.now ≡ false }
+    {
+        match place_of(&self.files, path) {
+            Ok(place) => Some(place),
+            Err(_) => None,
+        }
     }
 
     /// Whether a file names this module.

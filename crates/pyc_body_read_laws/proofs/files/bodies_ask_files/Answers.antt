@@ -1,4 +1,4 @@
-use Rattle.pyc_body_read_laws.proofs.UnitLemmas.{body_name_of_files, body_target_of_files, class_import_of_files, import_of_files, local_import_of_files}
+use Rattle.pyc_body_read_laws.proofs.BodyLemmas.{body_name_of_files, body_target_of_files, class_import_of_files, import_of_files, local_import_of_files}
 use Rattle.pyc_body_read_laws.proofs.files.bodies_ask_files.Goals as goal
 
 pub returns-clause-import : goal.returns-clause-import

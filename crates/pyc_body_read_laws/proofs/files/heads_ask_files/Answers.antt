@@ -1,4 +1,5 @@
-use Rattle.pyc_body_read_laws.proofs.FileLemmas.{annotation_of_files, class_of_files, head_of_files, header_of_files, heir_of_files}
+use Rattle.pyc_body_read_laws.proofs.BodyLemmas.{head_of_files}
+use Rattle.pyc_body_read_laws.proofs.FileLemmas.{annotation_of_files, class_of_files, header_of_files, heir_of_files}
 use Rattle.pyc_body_read_laws.proofs.files.heads_ask_files.Goals as goal
 
 pub returns-clause-header : goal.returns-clause-header

@@ -8,7 +8,7 @@ use Rattle.pyc_report.proofs.reporting.has_error.Goals as goal
 
 pub returns : goal.returns
 returns c =
-    let messages = c.args.found.now.messages.items in
+    let messages = c.args.found.now.messages.now in
     let at_path = located c.args.found.now.path.now in
     any_from_yields_List (λ message. is_error (at_path (message_in message))) _ _ _ c.any.ensures.ran (YieldsList-from_slice messages cc) (λ x b q k. search (rules, tests))
     ∙ list_any-map message_in (λ message. is_error (at_path message)) messages

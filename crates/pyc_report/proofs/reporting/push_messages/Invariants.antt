@@ -6,4 +6,4 @@ use Rattle.pyc_report.proofs.reporting.push_messages.Given as goal
 abbrev pub invariant-loop-message : goal.invariant-loop-message
 invariant-loop-message l =
     map located_in l.messages.items
-    ≡ map located_in l.initial.messages.items ++ map (located l.found.path.now) (map message_in (take l.message-index l.found.messages.items))
+    ≡ map located_in l.initial.messages.items ++ map (located l.found.path.now) (map message_in (take l.message-index l.found.messages.now))

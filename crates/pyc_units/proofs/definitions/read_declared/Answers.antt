@@ -4,6 +4,7 @@ use Rattle.std.proofs.lemmas.Grind.{common_steps}
 use Rattle.pyc_annotations.specs.Views.{base_of}
 use Rattle.pyc_units.specs.DefinitionReadings.{base_reading, order_reading}
 use Rattle.pyc_class.specs.Class.{Id, user}
+use Rattle.pyc_names.specs.Interfaces.{Interface}
 use Rattle.pyc_names.specs.SourceFileView.{source_in}
 use Rattle.pyc_reading.proofs.RunLemmas.{after, grown_trans}
 use Rattle.pyc_reading.specs.Desks.{run, asking}
@@ -18,7 +19,8 @@ returns g c =
     let key = class (user file.name name) in
     let start = g.N.Notes.desk c.args.notes.now in
     let middle = g.N.Notes.desk c.read_base_orders.new.notes in
-    let asked = sym (ap (λ (found : Id). run (asking (class found)) middle) c.in_ok-class.ensures) ∙ c.in_ok-answer.ensures.done in
+    let own = c.in_ok-class.ensures ∙ ap (λ (f : Interface). user f.name name) c.interface.ensures in
+    let asked = sym (ap (λ (found : Id). run (asking (class found)) middle) own) ∙ c.in_ok-answer.ensures.done in
     record {
       done =
           after (each base_reading (map base_of c.args.bases.now)) (λ u. and_then (asking key) (order_reading c.args.at name)) start _ _ _ _ c.in_ok-read_base_orders.ensures.done

@@ -1,14 +1,19 @@
-use Rattle.std.proofs.Common.{◌≡◌, ◌++◌, map, drop}
+use Rattle.std.proofs.Common.{◌≡◌, ◌++◌, List, map, take}
 use Rattle.pyc_body.specs.CheckerView.{files_in, options_in}
-use Rattle.pyc_body.specs.FileUnits.{id_of}
+use Rattle.pyc_body.specs.FileUnits.{FileUnit, id_of}
 use Rattle.pyc_body.specs.FileUnitView.{file_unit_in}
-use Rattle.pyc_body.specs.FoundMessages.{checked}
-use Rattle.pyc_examiner.specs.CheckedView.{checked_of}
+use Rattle.pyc_body.specs.FoundMessages.{checked_by}
+use Rattle.pyc_examiner.specs.CheckedView.{checked_in}
+use Rattle.pyc_keys.specs.KeyNumbers.{key_at}
+use Rattle.pyc_keys.specs.Numbering.{Extends}
 use Rattle.pyc_body.proofs.checker.Checker.check_file.Given as goal
 
--- what came so far, with what comes of the units that are left, is all
+-- what came so far is what comes of the units before and of those so far, which the meter counts
 abbrev pub invariant-loop-unit : goal.invariant-loop-unit
-invariant-loop-unit l =
-    (map checked_of l.checks.items ++ map (checked (options_in l.self) (files_in l.self)) (map file_unit_in (drop l.unit-index l.unit-items))
-    ≡ map checked_of l.initial.checks.items ++ map (checked (options_in l.self) (files_in l.self)) (map file_unit_in l.unit-items))
-    × (l.meter ++ map id_of (map file_unit_in (drop l.unit-index l.unit-items)) ≡ l.initial.meter ++ map id_of (map file_unit_in l.unit-items))
+invariant-loop-unit l = record {
+  checked : (before : List FileUnit)
+      → map (checked_in (key_at l.fn.keys)) l.fn.checks.items ≡ map (checked_by (options_in l.self) (files_in l.self)) before
+      → map (checked_in (key_at l.keys)) l.checks.items ≡ map (checked_by (options_in l.self) (files_in l.self)) (before ++ map file_unit_in (take l.unit-index l.unit-items));
+  metered : l.meter ≡ l.fn.meter ++ map id_of (map file_unit_in (take l.unit-index l.unit-items));
+  extends : Extends (key_at l.fn.keys) (key_at l.keys);
+}

@@ -1,14 +1,18 @@
-use Rattle.std.proofs.Common.{◌≡◌, ◌++◌, map, drop}
+use Rattle.std.proofs.Common.{◌≡◌, ◌++◌, map, take}
 use Rattle.pyc_body.specs.CheckerView.{files_in, options_in}
 use Rattle.pyc_body.specs.FileUnits.{id_of, units_of}
-use Rattle.pyc_body.specs.FoundMessages.{checked}
-use Rattle.pyc_examiner.specs.CheckedView.{checked_of}
+use Rattle.pyc_body.specs.FoundMessages.{checked_by}
+use Rattle.pyc_examiner.specs.CheckedView.{checked_in}
+use Rattle.pyc_keys.specs.KeyNumbers.{key_at}
+use Rattle.pyc_keys.specs.Numbering.{Extends}
 use Rattle.pyc_names.specs.SourceFileView.{sources_in}
 use Rattle.pyc_body.proofs.checker.Checker.check_files.Given as goal
 
--- what came so far, with what comes of the files that are left, is all
+-- what came so far is what comes of the units of the files so far, which the meter counts
 abbrev pub invariant-loop-file : goal.invariant-loop-file
-invariant-loop-file l =
-    (map checked_of l.checks.items ++ map (checked (options_in l.self) (files_in l.self)) (units_of (sources_in (drop l.file-index l.files)))
-    ≡ map (checked (options_in l.self) (files_in l.self)) (units_of (sources_in l.files)))
-    × (l.meter ++ map id_of (units_of (sources_in (drop l.file-index l.files))) ≡ l.initial.meter ++ map id_of (units_of (sources_in l.files)))
+invariant-loop-file l = record {
+  checked : map (checked_in (key_at l.keys)) l.checks.items
+      ≡ map (checked_by (options_in l.self) (files_in l.self)) (units_of (sources_in (take l.file-index l.files)));
+  metered : l.meter ≡ l.fn.meter ++ map id_of (units_of (sources_in (take l.file-index l.files)));
+  extends : Extends (key_at l.fn.keys) (key_at l.keys);
+}

@@ -1,20 +1,12 @@
-use Rattle.pyc_names.specs.SourceFiles.{source_file}
-use Rattle.std.proofs.lemmas.Grind.{common_steps}
-use Rattle.std.proofs.Common.{arith, rules}
+use Rattle.pyc_ast.specs.Modules.{outcome_of}
+use Rattle.pyc_names.proofs.FileLemmas.{fault_made, file_made}
 use Rattle.pyc_names.proofs.source_file.SourceFile.new.Goals as goal
 
+pub invariant_of-result : goal.invariant_of-result
+invariant_of-result c =
+    record { fault_is = fault_made c.args.path.now (outcome_of c.args.outcome) c.in_ok-interface.interface c.in_ok-interface.ensures _ c.in_ok-new.ensures.ok }
+
 pub returns : goal.returns
-unfolding source_file
-returns c = first_of (grind (arith, common_steps), search rules)
-
-pub returns-in_err-classes : goal.returns-in_err-classes
-unfolding source_file
-returns-in_err-classes c = first_of (grind (arith, common_steps), search rules)
-
-pub returns-in_err-from_str : goal.returns-in_err-from_str
-unfolding source_file
-returns-in_err-from_str c = first_of (grind (arith, common_steps), search rules)
-
-pub returns-in_err-top : goal.returns-in_err-top
-unfolding source_file
-returns-in_err-top c = first_of (grind (arith, common_steps), search rules)
+returns c =
+    file_made c.args.path.now (outcome_of c.args.outcome) c.in_ok-interface.interface c.in_ok-interface.ensures _ c.in_ok-new.field-0.value _
+    c.in_ok-from_str.ensures.ok c.in_ok-new.ensures.ok c.in_ok-again.ensures

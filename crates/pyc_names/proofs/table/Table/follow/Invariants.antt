@@ -1,10 +1,10 @@
 use Rattle.std.proofs.Common.{◌≡◌, ◌-◌}
 use Rattle.pyc_names.specs.Following.{walk}
 use Rattle.pyc_names.specs.FollowingView.{qualified_of}
-use Rattle.pyc_names.specs.TableView.{table_interfaces}
+use Rattle.pyc_names.specs.TableView.{table_in}
 use Rattle.pyc_names.proofs.table.Table.follow.Given as goal
 
 -- what is left of the walk comes to what the whole comes to
 abbrev pub invariant-loop-turn : goal.invariant-loop-turn
 invariant-loop-turn l =
-    walk (l.self.steps - l.turn) (table_interfaces l.self) (qualified_of l.at) ≡ walk l.self.steps (table_interfaces l.self) (qualified_of l.q)
+    walk (l.self.steps - l.turn) (table_in l.self) (qualified_of l.at) ≡ walk l.self.steps (table_in l.self) (qualified_of l.q)

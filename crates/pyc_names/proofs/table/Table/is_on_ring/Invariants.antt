@@ -1,11 +1,11 @@
 use Rattle.std.proofs.Common.{◌≡◌, ◌-◌}
 use Rattle.pyc_names.specs.Following.{leads_to}
 use Rattle.pyc_names.specs.FollowingView.{qualified_of}
-use Rattle.pyc_names.specs.TableView.{table_interfaces}
+use Rattle.pyc_names.specs.TableView.{table_in}
 use Rattle.pyc_names.proofs.table.Table.is_on_ring.Given as goal
 
 -- what is left of the steps leads back where the whole does
 abbrev pub invariant-loop-turn : goal.invariant-loop-turn
 invariant-loop-turn l =
-    leads_to (l.self.steps - l.turn) (table_interfaces l.self) (qualified_of l.q) (qualified_of l.at)
-    ≡ leads_to (l.self.steps - 1) (table_interfaces l.self) (qualified_of l.q) (qualified_of l.q)
+    leads_to (l.self.steps - l.turn) (table_in l.self) (qualified_of l.q) (qualified_of l.at)
+    ≡ leads_to (l.self.steps - 1) (table_in l.self) (qualified_of l.q) (qualified_of l.q)

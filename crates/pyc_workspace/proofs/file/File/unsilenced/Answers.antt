@@ -1,6 +1,6 @@
-use Rattle.std.proofs.Common.{List, map, flat_map, ap, ◌∙◌}
+use Rattle.std.proofs.Common.{List, flat_map, ap, ◌∙◌}
 use Rattle.pyc_body.specs.FoundMessages.{without_ignored}
-use Rattle.pyc_examiner.specs.CheckedView.{Checked, checked_of}
+use Rattle.pyc_examiner.specs.CheckedView.{messages_of}
 use Rattle.pyc_names.specs.SourceFileView.{source_in}
 use Rattle.pyc_report.specs.Message.{Message}
 use Rattle.pyc_workspace.proofs.FreshLemmas.{messages_from}
@@ -8,5 +8,5 @@ use Rattle.pyc_workspace.proofs.file.File.unsilenced.Goals as goal
 
 pub returns : goal.returns
 returns c =
-    let found : List Message = flat_map (λ (check : Checked). check.messages) (map checked_of c.args.checks.now) in
+    let found : List Message = flat_map messages_of c.args.checks.now in
     messages_from _ _ _ _ _ (c.in_ok-found.ensures ∙ ap (λ f. without_ignored (source_in f).outcome found) c.deref.ensures) c.args.self.now.source_is

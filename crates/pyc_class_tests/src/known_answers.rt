@@ -1,0 +1,169 @@
+//! Known answers by the numbers of their keys.
+
+use crate::keys::keys_of;
+use crate::sources::world_of;
+use pyc_keys::{KeyId, Keys};
+use pyc_known_answers::KnownAnswers;
+use pyc_same_answers::is_same;
+use std::alloc::{AllocError, Global};
+use std::rc::Rc;
+use std::test::Fail;
+
+/// Answers of the world in which `m` has this source. None is known yet.
+fn answers_of(alloc: Global, source: &str) -> Result<KnownAnswers, AllocError> {
+    let world = world_of(alloc, &[("m.py", source)])?;
+    Ok(KnownAnswers::new(alloc, Rc::new(alloc, world)?))
+}
+
+/// How many of these numbers have the answer that the world gives to their keys.
+fn right(
+    alloc: Global,
+    answers: &mut KnownAnswers,
+    keys: &Keys,
+    ids: &[KeyId],
+) -> Result<usize, AllocError> {
+    let mut count = 0;
+    for id in ids {
+        let known = answers.ask(keys, *id)?;
+        if is_same(&known, &answers.world().ask(alloc, keys.key(*id))?) {
+            count += 1;
+        }
+    }
+    Ok(count)
+}
+
+/// Which of these numbers have the same answers in two worlds.
+fn same(
+    alloc: Global,
+    first: &mut KnownAnswers,
+    second: &mut KnownAnswers,
+    keys: &Keys,
+    ids: &[KeyId],
+) -> Result<Vec<bool>, AllocError> {
+    let mut told = Vec::new(alloc);
+    for id in ids {
+        told.push(first.is_same_at(second, keys, *id)?)?;
+    }
+    Ok(told)
+}
+
+const SOURCE: &str = "class C:\n    C: int\nclass D(C): ...\n";
+
+/// Each number has the answer to its key, which is shared from the first asking on.
+#[test]
+fn answers_are_known(rt: HostRuntime) -> Result<(), Fail> {
+    let alloc = rt.alloc();
+    let mut keys = Keys::new(alloc);
+    let ids = keys.intern_all(alloc, &keys_of(alloc, "m.py", "C")?)?;
+    let mut answers = answers_of(alloc, SOURCE)?;
+    let last = answers.ask(&keys, ids[4])?;
+    assert!(rt; right(alloc, &mut answers, &keys, &ids)? == 5);
+    assert!(rt; Rc::ptr_eq(&last, &answers.ask(&keys, ids[4])?));
+    let more = keys.intern_all(alloc, &keys_of(alloc, "m.py", "D")?)?;
+    assert!(rt; right(alloc, &mut answers, &keys, &more)? == 5);
+    assert!(rt; right(alloc, &mut answers, &keys, &ids)? == 5);
+    Ok(())
+}
+
+/// An answer that was formed elsewhere is kept and shared like any other.
+#[test]
+fn answers_formed_elsewhere_are_kept(rt: HostRuntime) -> Result<(), Fail> {
+    let alloc = rt.alloc();
+    let mut keys = Keys::new(alloc);
+    let ids = keys.intern_all(alloc, &keys_of(alloc, "m.py", "C")?)?;
+    let mut answers = answers_of(alloc, SOURCE)?;
+    assert!(rt; answers.find(ids[3]).is_none());
+    let formed = answers.world().ask(alloc, keys.key(ids[3]))?;
+    let formed = Rc::new(alloc, formed)?;
+    answers.keep(ids[3], formed.clone()?)?;
+    assert!(rt; answers.find(ids[2]).is_none());
+    assert!(rt;
+        answers
+            .find(ids[3])
+            .is_some_and(|known| Rc::ptr_eq(known, &formed))
+    );
+    assert!(rt; Rc::ptr_eq(&formed, &answers.ask(&keys, ids[3])?));
+    assert!(rt; right(alloc, &mut answers, &keys, &ids)? == 5);
+    Ok(())
+}
+
+/// Another world has answers of its own, some of them the same.
+#[test]
+fn other_worlds_have_other_answers(rt: HostRuntime) -> Result<(), Fail> {
+    let alloc = rt.alloc();
+    let mut keys = Keys::new(alloc);
+    let ids = keys.intern_all(alloc, &keys_of(alloc, "m.py", "C")?)?;
+    let mut first = answers_of(alloc, SOURCE)?;
+    let mut second = answers_of(alloc, "class C(int):\n    C: str\n")?;
+    let known = first.ask(&keys, ids[3])?;
+    for _ in 0..2 {
+        assert_eq!(rt;
+            same(alloc, &mut first, &mut second, &keys, &ids)?.as_slice(),
+            [true, true, true, false, false].as_slice()
+        );
+    }
+    assert!(rt; Rc::ptr_eq(&known, &first.ask(&keys, ids[3])?));
+    assert!(rt; right(alloc, &mut first, &keys, &ids)? == 5);
+    assert!(rt; right(alloc, &mut second, &keys, &ids)? == 5);
+    Ok(())
+}
+
+/// A number that is given anew has the answer to its new key.
+#[test]
+fn forgotten_answers_are_formed_anew(rt: HostRuntime) -> Result<(), Fail> {
+    let alloc = rt.alloc();
+    let mut keys = Keys::new(alloc);
+    let mut ids = keys.intern_all(alloc, &keys_of(alloc, "m.py", "C")?)?;
+    let mut answers = answers_of(alloc, SOURCE)?;
+    assert!(rt; right(alloc, &mut answers, &keys, &ids)? == 5);
+    keys.forget(ids[3]);
+    answers.forget(ids[3]);
+    let id = keys.intern(&keys_of(alloc, "m.py", "D")?[3])?;
+    assert!(rt; id == ids[3]);
+    assert!(rt; right(alloc, &mut answers, &keys, &ids)? == 5);
+    keys.forget(id);
+    answers.forget(id);
+    let _ = ids.pop();
+    answers.forget(id);
+    assert!(rt; right(alloc, &mut answers, &keys, &ids[..3])? == 3);
+    Ok(())
+}
+
+/// Where numbers are let go, their answers go with them, and no others.
+#[test]
+fn answers_go_with_their_numbers(rt: HostRuntime) -> Result<(), Fail> {
+    let alloc = rt.alloc();
+    let mut keys = Keys::new(alloc);
+    let ids = keys.intern_all(alloc, &keys_of(alloc, "m.py", "C")?)?;
+    let mut answers = answers_of(alloc, SOURCE)?;
+    assert!(rt; right(alloc, &mut answers, &keys, &ids)? == 5);
+    let kept = answers.ask(&keys, ids[1])?;
+    let mut read = Vec::new(alloc);
+    read.push(ids[1])?;
+    keys.keep_only(&[read]);
+    answers.keep_held(&keys);
+    assert!(rt; Rc::ptr_eq(&kept, &answers.ask(&keys, ids[1])?));
+    let more = keys.intern_all(alloc, &keys_of(alloc, "m.py", "D")?)?;
+    assert!(rt; keys.bound() == 6);
+    assert!(rt; right(alloc, &mut answers, &keys, &more)? == 5);
+    assert!(rt; right(alloc, &mut answers, &keys, &ids[1..2])? == 1);
+    Ok(())
+}
+
+/// Where a growth is refused, what was known is known. By itself no growth is refused: `rt try --test` with
+/// `--fail-alloc` refuses each in turn.
+#[test]
+fn refused_growths_leave_answers(rt: HostRuntime) -> Result<(), Fail> {
+    let alloc = rt.alloc();
+    let mut keys = Keys::new(alloc);
+    let ids = keys.intern_all(alloc, &keys_of(alloc, "m.py", "C")?)?;
+    let mut answers = answers_of(alloc, SOURCE)?;
+    let first = answers.ask(&keys, ids[0])?;
+    for id in &ids {
+        if answers.ask(&keys, *id).is_err() {
+            assert!(rt; Rc::ptr_eq(&first, &answers.ask(&keys, ids[0])?));
+        }
+    }
+    assert!(rt; right(alloc, &mut answers, &keys, &ids)? == 5);
+    Ok(())
+}

@@ -1,0 +1,13 @@
+pub mod KeyLemmas
+pub mod StepLemmas
+pub mod ObligationLemmas
+pub mod ScopeLemmas
+pub mod AttributeLemmas
+pub mod ItemLemmas
+pub mod OperatorLemmas
+pub mod ArgumentLemmas
+pub mod CallLemmas
+pub mod DisplayLemmas
+pub mod NarrowingLemmas
+pub mod FormLemmas
+pub mod ExpressionLemmas

@@ -1,0 +1,3 @@
+pub mod FileKeys
+pub mod RuleKeys
+pub mod ExpressionKeys

@@ -1,0 +1,4 @@
+pub mod NumberingLemmas
+pub mod TableLemmas
+pub mod MarkLemmas
+pub mod NameLemmas

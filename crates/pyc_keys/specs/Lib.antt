@@ -1,0 +1,11 @@
+pub mod KeyEquality
+pub mod KeyHash
+pub mod KnownKeyView
+pub mod Marks
+pub mod Numbering
+pub mod KeyNumbers
+pub mod Inverse
+pub mod KeyTableView
+pub mod KeysInside
+pub mod NameNumbers
+pub mod NamesInside

@@ -1,0 +1,123 @@
+-- Known answers are those of their keys.
+use Rattle.std.proofs.Common.{◌≡◌, ℕ, ◌==◌, Bool, true, false, true≢false, List, Option, None, Some, is_some, option_map, Result, Ok, Err, IfOk, OnErr, MatchResult, subst, if◌then◌else◌, refl, sym, ap, ◌∙◌}
+use Rattle.std.proofs.lemmas.Bool.{eqb-true}
+use Rattle.std.proofs.Math.Logic.{∥∥₁_elim}
+use mathlib.Core.HLevel.{Discrete, hedberg}
+use Rattle.pyc_iface.specs.Answers.{answer_by}
+use Rattle.pyc_keys.proofs.NumberingLemmas.{none_some, same_some}
+use Rattle.pyc_keys.specs.Marks.{is_in}
+use Rattle.pyc_keys.specs.Numbering.{Numbering, Extends, only, with_item}
+use Rattle.pyc_known_answers.specs.KnownAnswers.{AreKnownOf, answers_at}
+use Rattle.pyc_known_answers.specs.KnownAnswersLaws.{StayWithMoreKeys, StayWithFewerKeys, StayWithoutOne}
+use Rattle.pyc_names.specs.Interfaces.{Interface}
+use Rattle.pyc_reading.specs.Answers.{Answer}
+use Rattle.pyc_reading.specs.Keys.{Key}
+use Rattle.pyc_same_answers.proofs.EqualityLemmas.{answers_decide}
+use Rattle.pyc_same_answers.specs.SameAnswers.{same_answer}
+
+-- ---- two proofs that answers are one are the same
+
+answer_discrete : Discrete (Option Answer)
+answer_discrete None None = yes refl
+answer_discrete None (Some y) = no (λ e. none_some e)
+answer_discrete (Some x) None = no (λ e. none_some (sym e))
+answer_discrete (Some x) (Some y) = by (same_answer x y) refl
+  where
+    by : (b : Bool) → same_answer x y ≡ b → Dec (Some x ≡ Some y)
+    by true e = yes (ap (λ a. Some a) ((answers_decide x y).0 e))
+    by false e = no (λ same. true≢false (sym ((answers_decide x y).1 (same_some same)) ∙ e))
+
+one_proof : (a b : Option Answer) → IsProp (a ≡ b)
+one_proof a b = hedberg answer_discrete a b
+
+module _ (interfaces : List Interface) where
+  -- ---- known answers
+
+  -- the known answer of a number
+  pub known_answer : (keys : Numbering Key) (known : Numbering Answer) (i : ℕ) (x : Answer) → AreKnownOf interfaces keys known
+      → known i ≡ Some x → answers_at interfaces keys i ≡ Some x
+  known_answer keys known i x are h = ∥∥₁_elim are (one_proof _ _) (λ all. all i x h)
+
+  -- one more
+  pub one_more_known : (keys : Numbering Key) (known new : Numbering Answer) (i : ℕ) (x : Answer) → AreKnownOf interfaces keys known
+      → answers_at interfaces keys i ≡ Some x → new ≡ with_item known i x → AreKnownOf interfaces keys new
+  one_more_known keys known new i x are own more =
+      ∥∥₁_elim are squash₁ (λ all. ∣ (λ j y h. by all j y (i == j) refl (sym (ap (λ g. g j) more) ∙ h)) ∣₁)
+    where
+      by : Extends known (answers_at interfaces keys) → (j : ℕ) (y : Answer) (b : Bool) → (i == j) ≡ b
+          → (if b then Some x else known j) ≡ Some y → answers_at interfaces keys j ≡ Some y
+      by all j y true e h = ap (answers_at interfaces keys) (sym (eqb-true i j e)) ∙ own ∙ h
+      by all j y false e h = all j y h
+
+  -- the known answer to a key
+  pub known_to : (keys : Numbering Key) (known : Numbering Answer) (i : ℕ) (x : Answer) (key : Key) → AreKnownOf interfaces keys known
+      → keys i ≡ Some key → known i ≡ Some x → x ≡ answer_by interfaces key
+  known_to keys known i x key are held h =
+      same_some (sym (known_answer keys known i x are h) ∙ ap (option_map (answer_by interfaces)) held)
+
+  -- one more, which was formed elsewhere
+  pub one_more_kept : (keys : Numbering Key) (known new : Numbering Answer) (i : ℕ) (x : Answer) (key : Key) → AreKnownOf interfaces keys known
+      → keys i ≡ Some key → x ≡ answer_by interfaces key → new ≡ with_item known i x → AreKnownOf interfaces keys new
+  one_more_kept keys known new i x key are held is more =
+      one_more_known keys known new i x are (ap (option_map (answer_by interfaces)) held ∙ ap (λ a. Some a) (sym is)) more
+
+  -- what comes of forming the answer of a number
+  pub formed : {R E : Type 0} (f : R → Answer) (keys : Numbering Key) (known new : Numbering Answer) (i : ℕ) (r : Result R E)
+      → AreKnownOf interfaces keys known → IfOk r (λ x. answers_at interfaces keys i ≡ Some (f x))
+      → IfOk r (λ x. new ≡ with_item known i (f x)) → OnErr r (new ≡ known) → AreKnownOf interfaces keys new
+  formed f keys known new i (Ok x) are own more same = one_more_known keys known new i (f x) are own more
+  formed f keys known new i (Err e) are own more same = subst (AreKnownOf interfaces keys) (sym same) are
+
+-- an answer that is handed out once more
+pub handed_out : {R V E : Type 0} (value : R → V) (f : V → Answer) (own : Option Answer) (v : V) (r : Result R E) (N : E → Type 0)
+    → MatchResult r (λ copy. value copy ≡ v) N → own ≡ Some (f v) → IfOk r (λ copy. own ≡ Some (f (value copy)))
+handed_out value f own v (Ok copy) N same is = is ∙ ap (λ w. Some (f w)) (sym same)
+handed_out value f own v (Err e) N same is = tt
+
+-- the answer to the key of a number
+pub answer_to : {R E : Type 0} (f : R → Answer) (interfaces : List Interface) (held : Option Key) (r : Result R E)
+    → IfOk r (λ x. option_map (answer_by interfaces) held ≡ Some (f x)) → (key : Key) → held ≡ Some key → IfOk r (λ x. f x ≡ answer_by interfaces key)
+answer_to f interfaces held (Ok x) own key is = same_some (sym own ∙ ap (option_map (answer_by interfaces)) is)
+answer_to f interfaces held (Err e) own key is = tt
+
+-- the same answers of the same world
+pub over_same : (interfaces others : List Interface) (keys : Numbering Key) (known new : Numbering Answer) → others ≡ interfaces
+    → new ≡ known → AreKnownOf interfaces keys known → AreKnownOf others keys new
+over_same interfaces others keys known new world same are =
+    subst (λ w. AreKnownOf w keys new) (sym world) (subst (AreKnownOf interfaces keys) (sym same) are)
+
+-- ---- laws
+
+module _ {A B : Type 0} (g : A → B) where
+  more_held : (o n : Option A) (x : B) → ((a : A) → o ≡ Some a → n ≡ Some a) → option_map g o ≡ Some x → option_map g n ≡ Some x
+  more_held None n x m h = absurd (none_some h)
+  more_held (Some a) n x m h = ap (option_map g) (m a refl) ∙ h
+
+  fewer_held : (o n : Option A) (k : Option B) (x : B) → ((a : A) → n ≡ Some a → o ≡ Some a) → (k ≡ Some x → option_map g o ≡ Some x)
+      → (if is_some n then k else None) ≡ Some x → option_map g n ≡ Some x
+  fewer_held o None k x m all h = absurd (none_some h)
+  fewer_held o (Some a) k x m all h = ap (option_map g) (sym (m a refl)) ∙ all h
+
+pub stay_with_more_keys : StayWithMoreKeys
+stay_with_more_keys interfaces old new known more are =
+    ∥∥₁_elim are squash₁ (λ all. ∣ (λ i x h. more_held (answer_by interfaces) (old i) (new i) x (more i) (all i x h)) ∣₁)
+
+pub stay_with_fewer_keys : StayWithFewerKeys
+stay_with_fewer_keys interfaces old new known fewer are =
+    ∥∥₁_elim are squash₁ (λ all. ∣ (λ i x h. fewer_held (answer_by interfaces) (old i) (new i) (known i) x (fewer i) (all i x) h) ∣₁)
+
+-- some of the keys that are held
+pub only_extends : {A : Type 0} (numbers : List ℕ) (held : Numbering A) → Extends (only numbers held) held
+only_extends {A} numbers held i a h = by (is_in numbers i) h
+  where
+    by : (b : Bool) → (if b then held i else None) ≡ Some a → held i ≡ Some a
+    by true h = h
+    by false h = absurd (none_some h)
+
+pub stay_without_one : StayWithoutOne
+stay_without_one interfaces keys known i are = ∥∥₁_elim are squash₁ (λ all. ∣ (λ j x h. by all j x (i == j) h) ∣₁)
+  where
+    by : Extends known (answers_at interfaces keys) → (j : ℕ) (x : Answer) (b : Bool) → (if b then None else known j) ≡ Some x
+        → option_map (answer_by interfaces) (if b then None else keys j) ≡ Some x
+    by all j x true h = absurd (none_some h)
+    by all j x false h = all j x h

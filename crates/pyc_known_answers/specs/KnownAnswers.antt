@@ -1,0 +1,19 @@
+-- Answers by the numbers of their keys.
+use Rattle.std.specs.Prelude.{List, None, is_some, if◌then◌else◌, option_map}
+use Rattle.pyc_iface.specs.Answers.{answer_by}
+use Rattle.pyc_keys.specs.Numbering.{Numbering, Extends}
+use Rattle.pyc_names.specs.Interfaces.{Interface}
+use Rattle.pyc_reading.specs.Answers.{Answer}
+use Rattle.pyc_reading.specs.Keys.{Key}
+
+-- the answer to the key of each number that is held, where files have these interfaces
+abbrev pub answers_at : List Interface → Numbering Key → Numbering Answer
+answers_at interfaces keys i = option_map (answer_by interfaces) (keys i)
+
+-- each known answer is the one to the key that its number stands for
+abbrev pub AreKnownOf : List Interface → Numbering Key → Numbering Answer → Type 0
+AreKnownOf interfaces keys known = ∥ Extends known (answers_at interfaces keys) ∥₁
+
+-- what numbers stand for, so far as they are held elsewhere too
+abbrev pub where_held : {A B : Type 0} → Numbering A → Numbering B → Numbering B
+where_held held known i = if is_some (held i) then known i else None

@@ -1,0 +1,3 @@
+pub mod KnownAnswers
+pub mod KnownAnswersView
+pub mod KnownAnswersLaws

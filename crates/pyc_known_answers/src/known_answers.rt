@@ -1,0 +1,194 @@
+//! The answers of a world by number.
+
+ghost use Rattle.std.specs.Prelude.{◌≡◌, ◌<◌, Some, None, true, is_some, length, if◌then◌else◌};
+ghost use Rattle.std.specs.Prelude.{IfSome, IfNone, IfOk, OnOk, OnErr};
+ghost use Rattle.pyc_iface.specs.Answers.{answer_by};
+ghost use Rattle.pyc_iface.specs.WorldView.{world_in};
+ghost use Rattle.pyc_keys.specs.KeyNumbers.{key_at};
+ghost use Rattle.pyc_keys.specs.Numbering.{with_item, without, Extends, Numbering};
+ghost use Rattle.pyc_known_answers.specs.KnownAnswers.{answers_at, where_held};
+ghost use Rattle.pyc_reading.specs.AnswerView.{answer_in};
+ghost use Rattle.pyc_reading.specs.Keys.{Key as PlainKey};
+ghost use Rattle.pyc_same_answers.specs.SameAnswers.{same_answer};
+
+use pyc_iface::World;
+use pyc_keys::{KeyId, Keys};
+use pyc_reading::Answer;
+use pyc_same_answers::is_same;
+use std::alloc::{AllocError, Global};
+use std::rc::Rc;
+
+/// Answers of a world by the numbers of their keys: each is formed when it is first asked, and shared from then on.
+/// The keys stand elsewhere. Contracts say that the answers are over them: each known answer is the one to the key that
+/// its number stands for. They stay so where more keys are held. Where a number is let go, its answer is to be
+/// forgotten.
+#[derive(Drop)]
+pub struct KnownAnswers {
+    alloc: Global,
+    world: Rc<World>,
+    known: Vec<Option<Rc<Answer>>>,
+}
+
+impl KnownAnswers {
+    ghost use Rattle.pyc_known_answers.specs.KnownAnswersView.{interfaces_of, known_at, IsOver};
+
+    /// No answers of a world. It takes no memory.
+    pub fn new(alloc: Global, world: Rc<World>) -> KnownAnswers
+        ensures world { interfaces_of result ≡ world_in world.value }
+        ensures over { (keys : Numbering PlainKey) → IsOver keys result }
+    {
+        KnownAnswers {
+            alloc,
+            world,
+            known: Vec::new(alloc),
+        }
+    }
+
+    /// The world whose answers these are.
+    pub fn world(&self) -> &Rc<World>
+        ensures { world_in result.now.value ≡ interfaces_of self.now }
+    {
+        &self.world
+    }
+
+    /// The answer of a number, if it is known. It is the one to the number's key. It takes no memory.
+    pub fn find(&self, id: KeyId) -> Option<&Rc<Answer>>
+        ensures known { IfSome result (λ answer. known_at self.now id ≡ Some (answer_in answer.now.value)) }
+        ensures none { IfNone result (known_at self.now id ≡ None) }
+        ensures answer { (keys : Numbering PlainKey) (key : PlainKey) → IsOver keys self.now → keys id ≡ Some key
+            → IfSome result (λ answer. answer_in answer.now.value ≡ answer_by (interfaces_of self.now) key) }
+    {
+        match self.known.get(id.number()) {
+            Some(Some(answer)) => Some(answer),
+            _ => None,
+        }
+    }
+
+    /// The answer to the key of a number that is held. It is formed, unless it is known. The only error is that memory
+    /// runs out; then the same answers are known as before.
+    pub fn ask(&mut self, keys: &Keys, id: KeyId) -> Result<Rc<Answer>, AllocError>
+        requires held { is_some (key_at keys.now id) ≡ true }
+        requires over { IsOver (key_at keys.now) self.old }
+        ensures answer { (key : PlainKey) → key_at keys.now id ≡ Some key
+            → IfOk result (λ answer. answer_in answer.value ≡ answer_by (interfaces_of self.old) key) }
+        ensures kept { IfOk result (λ answer. known_at self.new
+            ≡ with_item (known_at self.old) id (answer_in answer.value)) }
+        ensures over { IsOver (key_at keys.now) self.new }
+        ensures world { interfaces_of self.new ≡ interfaces_of self.old }
+        ensures same { OnErr result (known_at self.new ≡ known_at self.old) }
+    {
+        match self.find(id) {
+            Some(answer) => answer.clone(),
+            None => self.form(keys, id),
+        }
+    }
+
+    /// Whether this world and another give one answer to the key of a number that is held. Each forms its answer,
+    /// unless it knows it. The only error is that memory runs out.
+    pub fn is_same_at(
+        &mut self,
+        other: &mut KnownAnswers,
+        keys: &Keys,
+        id: KeyId,
+    ) -> Result<bool, AllocError>
+        requires held { is_some (key_at keys.now id) ≡ true }
+        requires over { IsOver (key_at keys.now) self.old }
+        requires other_over { IsOver (key_at keys.now) other.old }
+        ensures value { (key : PlainKey) → key_at keys.now id ≡ Some key → IfOk result (λ same. same
+            ≡ same_answer (answer_by (interfaces_of self.old) key) (answer_by (interfaces_of other.old) key)) }
+        ensures over { IsOver (key_at keys.now) self.new }
+        ensures other_over { IsOver (key_at keys.now) other.new }
+        ensures world { interfaces_of self.new ≡ interfaces_of self.old }
+        ensures other_world { interfaces_of other.new ≡ interfaces_of other.old }
+    {
+        let own = self.ask(keys, id)?;
+        let found = other.ask(keys, id)?;
+        Ok(is_same(&own, &found))
+    }
+
+    /// Keeps the answer of a number, which was formed elsewhere. The only error is that memory runs out; then the same
+    /// answers are known as before.
+    pub fn keep(&mut self, id: KeyId, answer: Rc<Answer>) -> Result<(), AllocError>
+        ensures kept { OnOk result (known_at self.new ≡ with_item (known_at self.old) id (answer_in answer.value)) }
+        ensures over { (keys : Numbering PlainKey) (key : PlainKey) → IsOver keys self.old → keys id ≡ Some key
+            → answer_in answer.value ≡ answer_by (interfaces_of self.old) key → IsOver keys self.new }
+        ensures world { interfaces_of self.new ≡ interfaces_of self.old }
+        ensures same { OnErr result (known_at self.new ≡ known_at self.old) }
+    {
+        let number = id.number();
+        self.cover(number)?;
+        self.known[number] = Some(answer);
+        Ok(())
+    }
+
+    /// Forgets the answer of a number. It takes no memory.
+    pub fn forget(&mut self, id: KeyId)
+        ensures known { known_at self.new ≡ without (known_at self.old) id }
+        ensures over { (keys : Numbering PlainKey) → IsOver keys self.old → IsOver (without keys id) self.new }
+        ensures world { interfaces_of self.new ≡ interfaces_of self.old }
+    {
+        self.release(id.number());
+    }
+
+    /// Forgets the answers of all numbers that are not held. It takes no memory.
+    pub fn keep_held(&mut self, keys: &Keys)
+        ensures known { known_at self.new ≡ where_held (key_at keys.now) (known_at self.old) }
+        ensures over { (before : Numbering PlainKey) → Extends (key_at keys.now) before → IsOver before self.old
+            → IsOver (key_at keys.now) self.new }
+        ensures world { interfaces_of self.new ≡ interfaces_of self.old }
+    {
+        for number in 0..self.known.len() {
+            self.release_unless(keys.holds(number), number);
+        }
+    }
+
+    /// Forms the answer to the key of a number that is held.
+    fn form(&mut self, keys: &Keys, id: KeyId) -> Result<Rc<Answer>, AllocError>
+        requires held { is_some (key_at keys.now id) ≡ true }
+        ensures answer { IfOk result (λ answer. answers_at (interfaces_of self.old) (key_at keys.now) id
+            ≡ Some (answer_in answer.value)) }
+        ensures kept { IfOk result (λ answer. known_at self.new
+            ≡ with_item (known_at self.old) id (answer_in answer.value)) }
+        ensures world { interfaces_of self.new ≡ interfaces_of self.old }
+        ensures same { OnErr result (known_at self.new ≡ known_at self.old) }
+    {
+        let answer = self.world.ask(self.alloc, keys.key(id))?;
+        let shared = Rc::new(self.alloc, answer)?;
+        let kept = shared.clone()?;
+        self.keep(id, kept)?;
+        Ok(shared)
+    }
+
+    /// Gives each number up to `number` a place for its answer.
+    fn cover(&mut self, number: usize) -> Result<(), AllocError>
+        ensures covered { OnOk result (number < length self.new.known.items) }
+        ensures world { interfaces_of self.new ≡ interfaces_of self.old }
+        ensures same { known_at self.new ≡ known_at self.old }
+    {
+        while self.known.len() <= number {
+            self.known.push(None)?;
+        }
+        Ok(())
+    }
+
+    /// Forgets the answer of a number, unless the number is held.
+    fn release_unless(&mut self, is_held: bool, number: usize)
+        ensures known { known_at self.new
+            ≡ (if is_held then known_at self.old else without (known_at self.old) number) }
+        ensures world { interfaces_of self.new ≡ interfaces_of self.old }
+    {
+        if !is_held {
+            self.release(number);
+        }
+    }
+
+    /// Forgets the answer of a number.
+    fn release(&mut self, number: usize)
+        ensures known { known_at self.new ≡ without (known_at self.old) number }
+        ensures world { interfaces_of self.new ≡ interfaces_of self.old }
+    {
+        if number < self.known.len() {
+            self.known[number] = None;
+        }
+    }
+}

@@ -1,0 +1,16 @@
+pub mod PlaceLemmas
+pub mod ListLemmas
+pub mod UnitLemmas
+pub mod RowLemmas
+pub mod WorkLemmas
+pub mod InterfaceLemmas
+pub mod CountLemmas
+pub mod FlagLemmas
+pub mod ResultLemmas
+pub mod ChangedLemmas
+pub mod NamingLemmas
+pub mod WhereLemmas
+pub mod OnceLemmas
+pub mod ExactLemmas
+pub mod FileLemmas
+pub mod HoldLemmas

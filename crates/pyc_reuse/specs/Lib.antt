@@ -1,0 +1,14 @@
+pub mod Examined
+pub mod Answering
+pub mod Past
+pub mod SharedChecks
+pub mod RowView
+pub mod Holding
+pub mod PastView
+pub mod Places
+pub mod RecheckView
+pub mod Works
+pub mod Examination
+pub mod Telling
+pub mod ExaminedLaws
+pub mod Exact

@@ -1,0 +1,23 @@
+-- What the last completed check left, as plain values.
+use Rattle.std.specs.Prelude.{ℕ, List}
+use Rattle.pyc_keys.specs.KeyNumbers.{key_at}
+use Rattle.pyc_keys.specs.Numbering.{Numbering}
+use Rattle.pyc_reading.specs.Keys.{Key}
+use Rattle.pyc_reuse.specs.declared.kept.Kept.{Kept}
+use Rattle.pyc_reuse.specs.declared.last_check.LastCheck.{LastCheck}
+use Rattle.pyc_reuse.specs.Past.{Past}
+use Rattle.pyc_reuse.specs.RowView.{reads_in}
+
+abbrev pub past_kept : Kept → Past
+past_kept kept = record { options = kept.options; files = kept.files; examined = kept.meter }
+
+abbrev pub past_in : LastCheck → Past
+past_in last = past_kept last.kept
+
+-- the keys that it holds, by number
+abbrev pub keys_in : LastCheck → Numbering Key
+keys_in last = key_at last.keys
+
+-- the numbers of the keys that the rows that it keeps have read
+abbrev pub reads_kept : LastCheck → List ℕ
+reads_kept last = reads_in last.kept.rows.items

@@ -1,0 +1,77 @@
+//! The world of the files that are present: the last one, where no interface is another one.
+
+ghost use Rattle.std.specs.Prelude.{◌≡◌, ◌<◌, IsTrue, length, map, IfOk};
+ghost use Rattle.pyc_iface.specs.WorldView.{world_in};
+ghost use Rattle.pyc_reuse.specs.Answering.{AnswerAlike, AnswerAs};
+ghost use Rattle.pyc_reuse.specs.Places.{bare_of, file_at, place_in};
+ghost use Rattle.pyc_reuse.specs.RecheckView.{last_in, present_in};
+
+use crate::recheck::Recheck;
+use pyc_iface::World;
+use pyc_interfaces::same_interface;
+use pyc_workspace::interfaces_of;
+use std::alloc::AllocError;
+use std::rc::Rc;
+
+/// The world of the files that are present, and whether it is known to answer as the last one.
+#[derive(Drop)]
+pub(crate) struct NextWorld {
+    pub(crate) world: Rc<World>,
+    pub(crate) is_alike: bool,
+}
+
+impl Recheck<'_> {
+    /// The world of the files that are present, where these stood at the last check.
+    pub(crate) fn next_world(&self, places: &[Option<usize>]) -> Result<NextWorld, AllocError>
+        requires { places.now ≡ map (place_in (last_in self.now)) (present_in self.now) }
+        ensures answers { IfOk result (λ next. AnswerAs (world_in next.world.value) (present_in self.now)) }
+        ensures alike { IfOk result (λ next. IsTrue next.is_alike
+            → AnswerAlike (last_in self.now) (present_in self.now)) }
+    {
+        if self.has_old_interfaces(places) {
+            return Ok(NextWorld {
+                world: self.last.world.clone()?,
+                is_alike: true,
+            });
+        }
+        let interfaces = interfaces_of(self.alloc, self.present)?;
+        let world = World::build(self.alloc, &interfaces)?;
+        Ok(NextWorld {
+            world: Rc::new(self.alloc, world)?,
+            is_alike: false,
+        })
+    }
+
+    /// Whether the files that are present have the interfaces of those of the last check, one by one.
+    fn has_old_interfaces(&self, places: &[Option<usize>]) -> bool
+        requires { places.now ≡ map (place_in (last_in self.now)) (present_in self.now) }
+        ensures { IsTrue result → ∥ map bare_of (last_in self.now) ≡ map bare_of (present_in self.now) ∥₁ }
+    {
+        if self.present.len() != self.last.files.len() {
+            return false;
+        }
+        for index in 0..self.present.len() {
+            if !self.has_old_interface(index, places[index]) {
+                return false;
+            }
+        }
+        true
+    }
+
+    /// Whether a file has the interface of the one that stood at its place at the last check.
+    fn has_old_interface(&self, index: usize, place: Option<usize>) -> bool
+        requires last { index < length (last_in self.now) }
+        requires present { index < length (present_in self.now) }
+        requires place { place ≡ place_in (last_in self.now) (file_at (present_in self.now) index) }
+        ensures { IsTrue result
+            → ∥ bare_of (file_at (last_in self.now) index) ≡ bare_of (file_at (present_in self.now) index) ∥₁ }
+    {
+        match place {
+            Some(place) if place == index => true,
+            _ => same_interface(
+                self.last.files.files()[index].source().interface(),
+                self.present[index].source().interface(),
+            ),
+        }
+    }
+}

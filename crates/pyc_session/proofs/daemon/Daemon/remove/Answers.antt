@@ -1,0 +1,21 @@
+use Rattle.std.proofs.Common.{false, sym, ◌∙◌}
+use Rattle.std.proofs.lemmas.Map.Text.{hash_set_updates_text}
+use Rattle.pyc_session.specs.DaemonView.{past_of}
+use Rattle.pyc_session.proofs.KeptFiles.{kept-take}
+use Rattle.pyc_session.proofs.Refusals.{removed_path_is_text}
+use Rattle.pyc_workspace.proofs.Texts.{IsOk-utf8}
+use Rattle.pyc_session.proofs.daemon.Daemon.remove.Goals as goal
+
+pub unwrap-requires : goal.unwrap-requires
+unwrap-requires c =
+    IsOk-utf8 c.args.path.now c.from_utf8.result _ _ c.from_utf8.ensures.cases (λ e h. h.0) (removed_path_is_text c.self.inside.present c.args.path.now (sym c.remove_refusal.ensures ∙ c.in_default.is))
+
+pub invariant_of-self : goal.invariant_of-self
+invariant_of-self c =
+    let before = c.self.inside in
+    let text = (rw c.unwrap.ensures at c.from_utf8.ensures.cases).0 in
+    let touched = hash_set_updates_text c.args.path.now before.touched c.swap_remove.new.self false (rw text at c.swap_remove.ensures.updates) in
+    record {
+      options_are = c.self.invariant.options_are;
+      kept = rw c.take.ensures.after (kept-take (past_of before.options before.last).files before.present before.touched c.swap_remove.new.self c.args.path.now touched c.self.invariant.kept);
+    }

@@ -1,0 +1,4 @@
+pub mod AssignmentLemmas
+pub mod BlockLemmas
+pub mod SimpleLemmas
+pub mod UnitLemmas
