@@ -11,6 +11,7 @@ use Rattle.pyc_bodies.specs.BodyNames.{body_name}
 use Rattle.pyc_bodies.specs.BodyTargets.{body_reads}
 use Rattle.pyc_items.specs.Subscripts.{subscript}
 use Rattle.pyc_locals.specs.Points.{Point}
+use Rattle.pyc_obligations.specs.Values.{Value}
 use Rattle.pyc_places.specs.Places.{Place}
 use Rattle.pyc_places.specs.States.{State, narrowed_type}
 use Rattle.pyc_places.specs.TargetPlaces.{target_place}
@@ -24,6 +25,17 @@ abbrev pub known_at : State → Option Place → Option Ty
 known_at s (Some place) = narrowed_type s place
 known_at s None = None
 
+-- by the type to which a place is narrowed, if it is
+abbrev pub unless_known : Option Ty → Step Ty → Step Ty
+unless_known (Some ty) found = Done ty
+unless_known None found = found
+
+-- the type of the attribute of a value that was read
+unfoldable pub found_type : Position → List ℕ → Value → Step Ty
+found_type at n owner = do
+  found ← attribute at owner n
+  Done found.ty
+
 module _ (body : Body) where
   -- the type of the name at a position
   unfoldable pub name_type : Point → Position → List ℕ → Step Ty
@@ -31,12 +43,11 @@ module _ (body : Body) where
     found ← body_name body p.locals at x
     Done found.ty
 
-  -- the type of an attribute of a value
-  unfoldable pub attribute_type : Point → Position → Expr → List ℕ → Step Ty
-  attribute_type p at x n = do
+  -- the type of an attribute of an expression: its owner is read also where the attribute is narrowed
+  unfoldable pub attribute_type : Option Ty → Point → Position → Expr → List ℕ → Step Ty
+  attribute_type known p at x n = do
     owner ← (body_reads body).value p x None
-    found ← attribute at owner n
-    Done found.ty
+    unless_known known (found_type at n owner)
 
   -- the type of an item of a value
   unfoldable pub item_type : Point → Position → Expr → Index → Step Ty
@@ -45,20 +56,15 @@ module _ (body : Body) where
     got ← (body_reads body).index p brackets
     subscript at brackets got ty
 
-  -- the type of a target that begins at a position within its parentheses, by its form; a tuple or a list of targets
-  -- is never asked
-  abbrev pub form_type : Point → Position → TargetForm → Step Ty
-  form_type p at (name x) = name_type p at x
-  form_type p at (to.attribute x n) = attribute_type p at x n
-  form_type p at (to.subscript x brackets) = item_type p at x brackets
-  form_type p at (unpacking elements) = Done any
+  -- the type of a target that begins at a position within its parentheses, by its form, where it is narrowed to some
+  -- type or to none; an item is no place, and a tuple or a list of targets is never asked
+  abbrev pub form_type : Option Ty → Point → Position → TargetForm → Step Ty
+  form_type known p at (name x) = unless_known known (name_type p at x)
+  form_type known p at (to.attribute x n) = attribute_type known p at x n
+  form_type known p at (to.subscript x brackets) = item_type p at x brackets
+  form_type known p at (unpacking elements) = Done any
 
-  -- a narrowed place has the type to which it is narrowed, and nothing is asked for it
-  abbrev pub type_unless_known : Option Ty → Point → Position → TargetForm → Step Ty
-  type_unless_known (Some ty) p at form = Done ty
-  type_unless_known None p at form = form_type p at form
-
-  -- the type of a target at a point
+  -- the type of a target at a point, as an expression has it
   abbrev pub target_type : Point → Target → Step Ty
   target_type p (target at inside form) =
-      type_unless_known (known_at p.state (target_place (target at inside form))) p inside form
+      form_type (known_at p.state (target_place (target at inside form))) p inside form

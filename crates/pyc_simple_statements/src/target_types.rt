@@ -5,6 +5,7 @@ ghost use Rattle.pyc_ast.specs.ExprView.{expr_of, index_of};
 ghost use Rattle.pyc_ast.specs.TargetView.{target_form_of, target_of};
 ghost use Rattle.pyc_bodies.specs.Views.{body_in};
 ghost use Rattle.pyc_locals.specs.Views.{point_in};
+ghost use Rattle.pyc_obligations.specs.ValueView.{value_of};
 ghost use Rattle.pyc_places.specs.StateView.{state_of};
 ghost use Rattle.pyc_places.specs.TargetPlaces as places;
 ghost use Rattle.pyc_reading.specs.Desks.{Performs};
@@ -18,13 +19,13 @@ use pyc_attributes::attribute;
 use pyc_expr::Context;
 use pyc_items::subscript;
 use pyc_locals::Point;
-use pyc_obligations::Judge;
+use pyc_obligations::{Judge, Value};
 use pyc_places::{State, target_place};
 use pyc_type_forms::Ty;
 use std::alloc::{AllocError, Global};
 
 impl StatementReader<'_> {
-    /// The type of a target: a narrowed place has the type to which it is narrowed.
+    /// The type of a target, as an expression has it: a narrowed place has the type to which it is narrowed.
     pub(crate) fn target_type<N: Judge>(
         &self,
         notes: &mut N,
@@ -35,31 +36,35 @@ impl StatementReader<'_> {
             (spec.target_type (body_in self.now.body.now) (point_in point.now) (target_of target.now))
             (N.desk notes.old) result (N.desk notes.new) }
     {
-        match known_type(self.alloc, &point.state, target)? {
-            Some(ty) => Ok(ty),
-            None => self.form_type(notes, target.inside, &target.form, point),
-        }
+        let known = known_type(self.alloc, &point.state, target)?;
+        self.form_type(notes, known, target, point)
     }
 
-    /// The type of a target that begins at `at` within its parentheses, by its form.
+    /// The type of a target by its form, where it is narrowed to `known`, if to any type.
+    #[tactic(auto, using(pyc_obligations::proofs::Steps::performing), unfolding(crate::specs::TargetTypes::attribute_type))]
     fn form_type<N: Judge>(
         &self,
         notes: &mut N,
-        at: Position,
-        form: &TargetForm,
+        known: Option<Ty>,
+        target: &Target,
         point: &Point,
     ) -> Result<Ty, AllocError>
         ensures { Performs ty_of
-            (spec.form_type (body_in self.now.body.now) (point_in point.now) at (target_form_of form.now))
-            (N.desk notes.old) result (N.desk notes.new) }
+            (spec.form_type (body_in self.now.body.now) (option_map ty_of known) (point_in point.now)
+            target.now.inside (target_form_of target.now.form)) (N.desk notes.old) result (N.desk notes.new) }
     {
-        match form {
-            TargetForm::Name(name) => self.name_type(notes, at, name, point),
+        match &target.form {
+            TargetForm::Name(name) => match known {
+                Some(ty) => Ok(ty),
+                None => self.name_type(notes, target.inside, name, point),
+            },
             TargetForm::Attribute { value, name } => {
-                self.attribute_type(notes, at, value, name, point)
+                let owner = self.body.value(self.alloc, notes, point, value, None)?;
+                let ty = self.type_unless_known(notes, known, target.inside, &owner, name)?;
+                Ok(ty)
             }
             TargetForm::Subscript { value, index } => {
-                self.item_type(notes, at, value, index, point)
+                self.item_type(notes, target.inside, value, index, point)
             }
             TargetForm::Unpacking(_) => Ok(Ty::Any),
         }
@@ -82,22 +87,38 @@ impl StatementReader<'_> {
         Ok(found.ty)
     }
 
-    /// The type of an attribute of a value.
-    #[tactic(auto, using(pyc_obligations::proofs::Steps::performing), unfolding(crate::specs::TargetTypes::attribute_type))]
-    fn attribute_type<N: Judge>(
+    /// The type of the attribute of a value that was read, which is narrowed to `known`, if to any type.
+    fn type_unless_known<N: Judge>(
+        &self,
+        notes: &mut N,
+        known: Option<Ty>,
+        at: Position,
+        owner: &Value,
+        name: &Text,
+    ) -> Result<Ty, AllocError>
+        ensures { Performs ty_of
+            (spec.unless_known (option_map ty_of known) (spec.found_type at name.now (value_of owner.now)))
+            (N.desk notes.old) result (N.desk notes.new) }
+    {
+        match known {
+            Some(ty) => Ok(ty),
+            None => self.found_type(notes, at, owner, name),
+        }
+    }
+
+    /// The type of the attribute of a value that was read.
+    #[tactic(auto, using(pyc_obligations::proofs::Steps::performing), unfolding(crate::specs::TargetTypes::found_type))]
+    fn found_type<N: Judge>(
         &self,
         notes: &mut N,
         at: Position,
-        value: &Expr,
+        owner: &Value,
         name: &Text,
-        point: &Point,
     ) -> Result<Ty, AllocError>
         ensures { Performs ty_of
-            (spec.attribute_type (body_in self.now.body.now) (point_in point.now) at (expr_of value.now) name.now)
-            (N.desk notes.old) result (N.desk notes.new) }
+            (spec.found_type at name.now (value_of owner.now)) (N.desk notes.old) result (N.desk notes.new) }
     {
-        let owner = self.body.value(self.alloc, notes, point, value, None)?;
-        let found = attribute(self.alloc, notes, at, &owner, name)?;
+        let found = attribute(self.alloc, notes, at, owner, name)?;
         Ok(found.ty)
     }
 

@@ -24,9 +24,11 @@ use Rattle.pyc_expression_ask_laws.proofs.OperatorLemmas.{of-binary}
 use Rattle.pyc_expression_ask_laws.proofs.StepLemmas.{Files, files_done, files_then}
 use Rattle.pyc_locals.specs.Points.{Point, in_state}
 use Rattle.pyc_names.specs.Interfaces.{interface_of}
+use Rattle.pyc_obligations.specs.Values.{Value}
 use Rattle.pyc_operators.specs.Operations.{in_place_method}
 use Rattle.pyc_places.specs.Places.{Place}
 use Rattle.pyc_places.specs.TargetPlaces.{target_place}
+use Rattle.pyc_reading.specs.Desks.{Step}
 use Rattle.pyc_simple_statements.specs.Augmented.{Operands, augmented_read, class_in_place, has_in_place, in_place, in_place_if_known, operands_read, operation_stored, operation_type, out_of, source_in_place, stored_unless}
 use Rattle.pyc_simple_statements.specs.BodyParts.{body_parts, import_by, simple_read}
 use Rattle.pyc_simple_statements.specs.Deleting.{deleted, each_deleted, form_deleted, single_deleted}
@@ -34,7 +36,7 @@ use Rattle.pyc_simple_statements.specs.Expressions.{expression_read, optional_re
 use Rattle.pyc_simple_statements.specs.Heads.{caught_read, caught_type, item_read, item_target, items_read, optional_caught, turn_begun, turn_item}
 use Rattle.pyc_simple_statements.specs.Raising.{asserted, raised}
 use Rattle.pyc_simple_statements.specs.Returning.{none_returned, owed_return, result_owed, return_owed, returned, value_returned}
-use Rattle.pyc_simple_statements.specs.TargetTypes.{attribute_type, form_type, item_type, known_at, name_type, target_type, type_unless_known}
+use Rattle.pyc_simple_statements.specs.TargetTypes.{attribute_type, form_type, found_type, item_type, known_at, name_type, target_type, unless_known}
 use Rattle.pyc_type_forms.specs.Types.{Ty, any, instance, none}
 use Rattle.pyc_unit_ask_laws.proofs.AssignmentLemmas.{PartsAskFiles, of-annotated_assignment, of-assigned, of-assignment}
 use Rattle.pyc_unit_ask_laws.proofs.BlockLemmas.{StatementPartsAskFiles}
@@ -111,26 +113,30 @@ module _ (body : Body) (source : is_source_around (class_around body.kind) ≡ t
   unfolding name_type
   of-name_type p at x = files_then _ _ (record { all = body_name_of_files body p.locals at x source }) (λ found. files_done)
 
-  of-attribute_type : (p : Point) (at : Position) (x : Expr) (n : List ℕ) → Files (attribute_type body p at x n)
+  of-found_type : (at : Position) (n : List ℕ) (owner : Value) → Files (found_type at n owner)
+  unfolding found_type
+  of-found_type at n owner = files_then _ _ (of-type_attribute at owner.ty n) (λ found. files_done)
+
+  of-unless_known : (known : Option Ty) (found : Step Ty) → Files found → Files (unless_known known found)
+  of-unless_known (Some ty) found files = files_done
+  of-unless_known None found files = files
+
+  of-attribute_type : (known : Option Ty) (p : Point) (at : Position) (x : Expr) (n : List ℕ) → Files (attribute_type body known p at x n)
   unfolding attribute_type
-  of-attribute_type p at x n = files_then _ _ (of-body_value p x None) (λ owner. files_then _ _ (of-type_attribute at owner.ty n) (λ found. files_done))
+  of-attribute_type known p at x n = files_then _ _ (of-body_value p x None) (λ owner. of-unless_known known (found_type at n owner) (of-found_type at n owner))
 
   of-item_type : (p : Point) (at : Position) (x : Expr) (brackets : Index) → Files (item_type body p at x brackets)
   unfolding item_type
   of-item_type p at x brackets = files_then _ _ (of-part_type p x None) (λ ty. files_then _ _ (of-body_index p brackets) (λ got. of-subscript at brackets got ty))
 
-  of-form_type : (p : Point) (at : Position) (form : TargetForm) → Files (form_type body p at form)
-  of-form_type p at (to.name x) = of-name_type p at x
-  of-form_type p at (to.attribute x n) = of-attribute_type p at x n
-  of-form_type p at (to.subscript x brackets) = of-item_type p at x brackets
-  of-form_type p at (to.unpacking elements) = files_done
-
-  of-type_unless_known : (known : Option Ty) (p : Point) (at : Position) (form : TargetForm) → Files (type_unless_known body known p at form)
-  of-type_unless_known (Some ty) p at form = files_done
-  of-type_unless_known None p at form = of-form_type p at form
+  of-form_type : (known : Option Ty) (p : Point) (at : Position) (form : TargetForm) → Files (form_type body known p at form)
+  of-form_type known p at (to.name x) = of-unless_known known (name_type body p at x) (of-name_type p at x)
+  of-form_type known p at (to.attribute x n) = of-attribute_type known p at x n
+  of-form_type known p at (to.subscript x brackets) = of-item_type p at x brackets
+  of-form_type known p at (to.unpacking elements) = files_done
 
   of-target_type : (p : Point) (whole : Target) → Files (target_type body p whole)
-  of-target_type p (target at inside form) = of-type_unless_known (known_at p.state (target_place (target at inside form))) p inside form
+  of-target_type p (target at inside form) = of-form_type (known_at p.state (target_place (target at inside form))) p inside form
 
   -- ---- augmented assignments
 
