@@ -42,7 +42,8 @@ fn same(
 ) -> Result<Vec<bool>, AllocError> {
     let mut told = Vec::new(alloc);
     for id in ids {
-        told.push(first.is_same_at(second, keys, *id)?)?;
+        let own = first.ask(keys, *id)?;
+        told.push(is_same(&own, &second.ask(keys, *id)?))?;
     }
     Ok(told)
 }

@@ -1,66 +1,104 @@
 //! Whether keys have other answers in one world than in another.
 
-use pyc_ast::Text;
-use pyc_iface::World;
-use pyc_keys::Keys;
-use pyc_names::{ModuleName, QualifiedName};
-use pyc_reading::Key;
+use pyc_body::{Checked, Checker, Meter};
+use pyc_iface::{Options, World};
+use pyc_keys::ReadSet;
+use pyc_known_answers::AnsweredKeys;
+use pyc_names::ModuleName;
 use pyc_verdicts::Verdicts;
-use pyc_workspace::File;
+use pyc_workspace::{File, interfaces_of};
 use std::alloc::{AllocError, Global};
+use std::rc::Rc;
 use std::slice;
 use std::test::Fail;
 
-// A world of one file, a.py, of this text.
-fn world_of(alloc: Global, text: &str) -> Result<World, AllocError> {
-    let name = ModuleName::of_path(alloc, "a.py")?;
-    let file = File::new(alloc, "a.py", name, text.as_bytes().to_vec(alloc)?)?;
-    World::build(alloc, slice::from_ref(file.source().shared_interface()))
+/// What each file is looked at with.
+const OPTIONS: Options = Options {
+    ignore_missing: false,
+    check_untyped: false,
+    turns: 1_000_000,
+};
+
+/// A file that reads `x` of `a.py` in its second unit.
+const READER: &str = "from a import x\n\n\ndef f() -> int:\n    return x\n";
+
+/// The files `a.py`, of this text, and `b.py`, which reads it.
+fn files_of(alloc: Global, text: &str) -> Result<Vec<Rc<File>>, AllocError> {
+    let mut files = Vec::new(alloc);
+    for (path, text) in [("a.py", text), ("b.py", READER)] {
+        let name = ModuleName::of_path(alloc, path)?;
+        let file = File::new(alloc, path, name, text.as_bytes().to_vec(alloc)?)?;
+        files.push(Rc::new(alloc, file)?)?;
+    }
+    Ok(files)
 }
 
-// Whether the module a is there, and what its name x stands for.
-fn two_keys(alloc: Global) -> Result<Vec<Key>, AllocError> {
-    let mut keys = Vec::new(alloc);
-    keys.push(Key::HasModule(ModuleName::of_path(alloc, "a.py")?))?;
-    keys.push(Key::Name(QualifiedName {
-        home: ModuleName::of_path(alloc, "a.py")?,
-        name: Text::new(alloc, "x")?,
-    }))?;
-    Ok(keys)
+/// The world in which `a.py` has this text.
+fn world_of(alloc: Global, text: &str) -> Result<Rc<World>, AllocError> {
+    let files = files_of(alloc, text)?;
+    let world = World::build(alloc, &interfaces_of(alloc, &files)?)?;
+    Ok(Rc::new(alloc, world)?)
+}
+
+/// What is found in `b.py`, where `a.py` has this text, with the keys that it reads.
+fn checked(alloc: Global, text: &str) -> Result<(AnsweredKeys, Vec<Checked>), AllocError> {
+    let files = files_of(alloc, text)?;
+    let mut keys = AnsweredKeys::new(alloc, world_of(alloc, text)?);
+    let mut meter = Meter::new(alloc);
+    let reader = files[1].source();
+    let checks = Checker::new(alloc, OPTIONS).check_files(
+        &mut meter,
+        &mut keys,
+        slice::from_ref(reader),
+    )?;
+    Ok((keys, checks))
 }
 
 #[test]
 fn other_type_is_another_answer(rt: HostRuntime) -> Result<(), Fail> {
-    let first = world_of(rt.alloc(), "x: int = 1\n")?;
+    let (keys, checks) = checked(rt.alloc(), "x: int = 1\n")?;
     let second = world_of(rt.alloc(), "x: str = \"\"\n")?;
-    let mut keys = Keys::new(rt.alloc());
-    let ids = keys.intern_all(rt.alloc(), &two_keys(rt.alloc())?)?;
-    let mut verdicts = Verdicts::new(rt.alloc(), &keys, &first, &second)?;
-    assert!(rt; !verdicts.is_any_changed(&ids[..1])?);
-    assert!(rt; verdicts.is_any_changed(&ids)?);
+    let mut verdicts = Verdicts::new(rt.alloc(), &keys, second)?;
+    assert!(rt; !verdicts.is_any_changed(checks[0].reads())?);
+    assert!(rt; verdicts.is_any_changed(checks[1].reads())?);
     Ok(())
 }
 
 #[test]
 fn other_value_is_no_other_answer(rt: HostRuntime) -> Result<(), Fail> {
-    let first = world_of(rt.alloc(), "x: int = 1\n")?;
+    let (keys, checks) = checked(rt.alloc(), "x: int = 1\n")?;
     let second = world_of(rt.alloc(), "x: int = 2\n")?;
-    let mut keys = Keys::new(rt.alloc());
-    let ids = keys.intern_all(rt.alloc(), &two_keys(rt.alloc())?)?;
-    let mut verdicts = Verdicts::new(rt.alloc(), &keys, &first, &second)?;
-    assert!(rt; !verdicts.is_any_changed(&ids)?);
+    let mut verdicts = Verdicts::new(rt.alloc(), &keys, second)?;
+    assert!(rt; !verdicts.is_any_changed(checks[0].reads())?);
+    assert!(rt; !verdicts.is_any_changed(checks[1].reads())?);
     Ok(())
 }
 
 #[test]
 fn keys_are_compared_once(rt: HostRuntime) -> Result<(), Fail> {
-    let first = world_of(rt.alloc(), "x: int = 1\n")?;
+    let (keys, checks) = checked(rt.alloc(), "x: int = 1\n")?;
     let second = world_of(rt.alloc(), "x: str = \"\"\n")?;
-    let mut keys = Keys::new(rt.alloc());
-    let ids = keys.intern_all(rt.alloc(), &two_keys(rt.alloc())?)?;
-    let mut verdicts = Verdicts::new(rt.alloc(), &keys, &first, &second)?;
-    assert!(rt; verdicts.is_any_changed(&ids)?);
-    assert!(rt; verdicts.is_any_changed(&ids[1..])?);
-    assert_eq!(rt; verdicts.into_compared().len(), 2);
+    let mut verdicts = Verdicts::new(rt.alloc(), &keys, second)?;
+    let count = checks[1].reads().len();
+    assert!(rt; count > 0);
+    for _ in 0..2 {
+        assert!(rt; verdicts.is_any_changed(checks[1].reads())?);
+        assert_eq!(rt; verdicts.compared().len(), count);
+    }
+    Ok(())
+}
+
+#[test]
+fn compared_keys_have_answers(rt: HostRuntime) -> Result<(), Fail> {
+    let (keys, checks) = checked(rt.alloc(), "x: int = 1\n")?;
+    let second = world_of(rt.alloc(), "x: str = \"\"\n")?;
+    let mut verdicts = Verdicts::new(rt.alloc(), &keys, second)?;
+    let reads = checks[1].reads();
+    let _ = verdicts.is_any_changed(&reads[..1])?;
+    let known = verdicts.into_second();
+    assert!(rt; known.find(reads[0]).is_some());
+    for id in &reads[1..] {
+        assert!(rt; known.find(*id).is_none());
+    }
     Ok(())
 }

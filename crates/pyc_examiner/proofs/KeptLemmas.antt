@@ -1,10 +1,12 @@
 -- Asking where answers are kept.
-use Rattle.std.proofs.Common.{◌≡◌, ◌∙◌, ap, sym, refl, true≢false, Bool, true, false, cond, ◌||◌, if◌then◌else◌}
+use Rattle.std.proofs.Common.{◌≡◌, ◌∙◌, ap, ap₂, subst, sym, refl, true≢false, Bool, true, false, cond, ◌||◌, if◌then◌else◌}
 use Rattle.std.proofs.Common.{append-nil, List, [], ◌∷◌, ◌++◌, Some, None, is_some, unwrap_or, Result, Ok, Err, IfOk}
 use Rattle.std.proofs.Math.Logic.{∥∥₁_elim}
 use Rattle.std.specs.List.{list_any}
 use Rattle.std.specs.Map.{lookup, keys_of}
 use Rattle.std.specs.declared.alloc.AllocError.{AllocError}
+use Rattle.std.specs.declared.alloc.Global.{Global}
+use Rattle.std.specs.declared.rc.Rc.{Rc}
 use Rattle.indexmap.specs.IndexMap.{insert_entry}
 use Rattle.pyc_examiner.proofs.AnswerSets.{one_proof}
 use Rattle.pyc_examiner.specs.KeptAnswers.{AreAnswers}
@@ -22,9 +24,9 @@ none_some e = true≢false (sym (ap is_some e))
 same_some : {A : Type 0} {x y : A} → Some x ≡ Some y → x ≡ y
 same_some {A} {x} e = ap (λ r. unwrap_or r x) e
 
-module _ (t : Key → Bool) where
+module _ {V : Type 0} (t : Key → Bool) where
   -- a key whose answer is kept is among the keys
-  among : (es : List (Key × AnswerOf)) (a : AnswerOf) → lookup t es ≡ Some a → list_any t (keys_of es) ≡ true
+  among : (es : List (Key × V)) (a : V) → lookup t es ≡ Some a → list_any t (keys_of es) ≡ true
   among [] a h = absurd (none_some h)
   among (e ∷ es) a h = by (t e.0) refl (among es a)
     where
@@ -36,7 +38,7 @@ module _ (t : Key → Bool) where
           ∙ rest (sym (ap (λ c. cond c (Some e.1) (lookup t es)) p) ∙ h)
 
   -- a key without an answer is not among them
-  apart : (es : List (Key × AnswerOf)) → lookup t es ≡ None → list_any t (keys_of es) ≡ false
+  apart : (es : List (Key × V)) → lookup t es ≡ None → list_any t (keys_of es) ≡ false
   apart [] h = refl
   apart (e ∷ es) h = by (t e.0) refl (apart es)
     where
@@ -48,7 +50,7 @@ module _ (t : Key → Bool) where
           ∙ rest (sym (ap (λ c. cond c (Some e.1) (lookup t es)) p) ∙ h)
 
 -- a new key goes last
-last : (k : Key) (a : AnswerOf) (es : List (Key × AnswerOf)) → lookup (is_asked k) es ≡ None
+last : {V : Type 0} (k : Key) (a : V) (es : List (Key × V)) → lookup (is_asked k) es ≡ None
     → keys_of (insert_entry is_asked es k a) ≡ keys_of es ++ (k ∷ [])
 last k a [] h = refl
 last k a (e ∷ es) h = by (is_asked k e.0) refl (last k a es)
@@ -61,32 +63,68 @@ last k a (e ∷ es) h = by (is_asked k e.0) refl (last k a es)
         ap (λ c. keys_of (if c then (e.0, a) ∷ es else e ∷ insert_entry is_asked es k a)) p
         ∙ ap (λ ks. e.0 ∷ ks) (rest (sym (ap (λ c. cond c (Some e.1) (lookup (is_asked k) es)) p) ∙ h))
 
--- the answers that are kept stay the ones to their keys where one more such is kept
-pub still_answers : (answers : Key → Answer) (es fs : List (Key × AnswerOf)) (k : Key) (a : AnswerOf)
-    → ((q : Key) → lookup (is_asked q) fs ≡ cond (is_asked k q) (Some a) (lookup (is_asked q) es))
-    → answer_in a ≡ answers k → AreAnswers answers es → AreAnswers answers fs
-still_answers answers es fs k a updated is all q b found = by (is_asked k q) refl
-  where
-    by : (c : Bool) → is_asked k q ≡ c → answer_in b ≡ answers q
-    by true p =
-        let kept : Some a ≡ Some b =
-        sym (ap (λ c. cond c (Some a) (lookup (is_asked q) es)) p) ∙ sym (updated q) ∙ found
-        in
-        ap answer_in (sym (same_some kept)) ∙ is ∙ ap answers (sym (keys_are q k p))
-    by false p =
-        all q b (sym (ap (λ c. cond c (Some a) (lookup (is_asked q) es)) p) ∙ sym (updated q) ∙ found)
+-- ---- answers to their keys
+
+abbrev Kept : Type 0
+Kept = Key × Rc AnswerOf Global
+
+first : {A : Type 0} → A → List A → A
+first x [] = x
+first x (y ∷ ys) = y
+
+others : {A : Type 0} → List A → List A
+others [] = []
+others (y ∷ ys) = ys
+
+module _ (answers : Key → Answer) where
+  own : (e : Kept) (es : List Kept) → AreAnswers answers (e ∷ es) → answer_in e.1.value ≡ answers e.0
+  own e es are = ap (first (answers e.0)) are
+
+  rest_answers : (e : Kept) (es : List Kept) → AreAnswers answers (e ∷ es) → AreAnswers answers es
+  rest_answers e es are = ap others are
+
+  one_more : (e : Kept) (es : List Kept) → answer_in e.1.value ≡ answers e.0 → AreAnswers answers es → AreAnswers answers (e ∷ es)
+  one_more e es is are = ap₂ (λ (x : Answer) (xs : List Answer). x ∷ xs) is are
+
+  -- the answer to a key that is kept
+  kept_answer : (k : Key) (a : Rc AnswerOf Global) (es : List Kept) → AreAnswers answers es → lookup (is_asked k) es ≡ Some a
+      → answer_in a.value ≡ answers k
+  kept_answer k a [] are found = absurd (none_some found)
+  kept_answer k a (e ∷ es) are found = by (is_asked k e.0) refl (kept_answer k a es (rest_answers e es are))
+    where
+      by : (c : Bool) → is_asked k e.0 ≡ c → (lookup (is_asked k) es ≡ Some a → answer_in a.value ≡ answers k)
+          → answer_in a.value ≡ answers k
+      by true p rest =
+          let kept : Some e.1 ≡ Some a = sym (ap (λ c. cond c (Some e.1) (lookup (is_asked k) es)) p) ∙ found in
+          ap (λ (s : Rc AnswerOf Global). answer_in s.value) (sym (same_some kept)) ∙ own e es are ∙ ap answers (keys_are e.0 k p)
+      by false p rest = rest (sym (ap (λ c. cond c (Some e.1) (lookup (is_asked k) es)) p) ∙ found)
+
+  -- the answers that are kept stay the ones to their keys where one more such is kept
+  pub still_answers : (k : Key) (a : Rc AnswerOf Global) (es : List Kept) → answer_in a.value ≡ answers k → AreAnswers answers es
+      → AreAnswers answers (insert_entry is_asked es k a)
+  still_answers k a [] is are = one_more (k, a) [] is refl
+  still_answers k a (e ∷ es) is are = by (is_asked k e.0) refl (still_answers k a es is (rest_answers e es are))
+    where
+      by : (c : Bool) → is_asked k e.0 ≡ c → AreAnswers answers (insert_entry is_asked es k a)
+          → AreAnswers answers (insert_entry is_asked (e ∷ es) k a)
+      by true p rest =
+          subst (λ c. AreAnswers answers (if c then (e.0, a) ∷ es else e ∷ insert_entry is_asked es k a)) (sym p)
+          (one_more (e.0, a) es (is ∙ ap answers (sym (keys_are e.0 k p))) (rest_answers e es are))
+      by false p rest =
+          subst (λ c. AreAnswers answers (if c then (e.0, a) ∷ es else e ∷ insert_entry is_asked es k a)) (sym p)
+          (one_more e (insert_entry is_asked es k a) (own e es are) rest)
 
 module _ (answers : Key → Answer) (messages : List Message) where
   abbrev pub desk_with : List Key → Desk
   desk_with keys = record { answers = answers; keys = keys; messages = messages }
 
   -- an answer that is kept is handed out, and nothing is taken down
-  pub handed_out : (es : List (Key × AnswerOf)) (k : Key) (a : AnswerOf) (result : Result AnswerOf AllocError)
+  pub handed_out : (es : List Kept) (k : Key) (a : Rc AnswerOf Global) (result : Result AnswerOf AllocError)
       → ∥ AreAnswers answers es ∥₁ → lookup (is_asked k) es ≡ Some a
-      → IfOk result (λ copy. answer_in copy ≡ answer_in a)
+      → IfOk result (λ copy. answer_in copy ≡ answer_in a.value)
       → Performs answer_in (asking k) (desk_with (keys_of es)) result (desk_with (keys_of es))
   handed_out es k a (Ok copy) are found same =
-      let is : answer_in a ≡ answers k = ∥∥₁_elim are (one_proof _ _) (λ all. all k a found) in
+      let is : answer_in a.value ≡ answers k = ∥∥₁_elim are (one_proof _ _) (λ all. kept_answer answers k a es all found) in
       let stay : with_key (keys_of es) k ≡ keys_of es =
       ap (λ c. if c then keys_of es else keys_of es ++ (k ∷ [])) (among (is_asked k) es a found)
       in
@@ -98,8 +136,8 @@ module _ (answers : Key → Answer) (messages : List Message) where
       record { done = tt; grown = record { answers = refl; more = []; keys = sym (append-nil (keys_of es)) } }
 
   -- a new answer is handed out, and its key taken down
-  pub newly_kept : (es fs : List (Key × AnswerOf)) (k : Key) (a copy : AnswerOf)
-      → lookup (is_asked k) es ≡ None → answer_in a ≡ answers k → answer_in copy ≡ answer_in a
+  pub newly_kept : (es fs : List Kept) (k : Key) (a : Rc AnswerOf Global) (copy : AnswerOf)
+      → lookup (is_asked k) es ≡ None → answer_in a.value ≡ answers k → answer_in copy ≡ answer_in a.value
       → fs ≡ insert_entry is_asked es k a
       → Performs answer_in (asking k) (desk_with (keys_of es)) (Ok copy) (desk_with (keys_of fs))
   newly_kept es fs k a copy none is same kept =

@@ -1,13 +1,12 @@
 -- Keys with their answers.
-use Rattle.std.specs.Prelude.{◌≡◌, List, Some}
-use Rattle.std.specs.Map.{lookup}
-use Rattle.pyc_keys.specs.KeyEquality.{is_asked}
+use Rattle.std.specs.Prelude.{◌≡◌, List, map}
+use Rattle.std.specs.declared.alloc.Global.{Global}
+use Rattle.std.specs.declared.rc.Rc.{Rc}
 use Rattle.pyc_reading.specs.AnswerView.{answer_in}
 use Rattle.pyc_reading.specs.Answers.{Answer}
 use Rattle.pyc_reading.specs.Keys.{Key}
 use Rattle.pyc_reading.specs.declared.answer.Answer.{Answer as AnswerOf}
 
 -- each answer that is kept is the one to its key
-abbrev pub AreAnswers : (Key → Answer) → List (Key × AnswerOf) → Type 0
-AreAnswers answers kept =
-    (key : Key) (answer : AnswerOf) → lookup (is_asked key) kept ≡ Some answer → answer_in answer ≡ answers key
+abbrev pub AreAnswers : (Key → Answer) → List (Key × Rc AnswerOf Global) → Type 0
+AreAnswers answers kept = map (λ entry. answer_in entry.1.value) kept ≡ map (λ entry. answers entry.0) kept

@@ -2,3 +2,4 @@ pub mod KeptAnswers
 pub mod ExaminerView
 pub mod CheckedView
 pub mod ReadLists
+pub mod TranscriptView

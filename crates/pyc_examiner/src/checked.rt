@@ -1,16 +1,10 @@
 //! What came of examining a part of a file.
 
-ghost use Rattle.std.specs.Prelude.{◌≡◌, map, IfOk};
-ghost use Rattle.indexmap.specs.IndexMap.{keys};
-ghost use Rattle.pyc_reading.specs.KeyView.{key_of};
+ghost use Rattle.std.specs.Prelude.{◌≡◌, map};
 ghost use Rattle.pyc_report.specs.Message.{message_in};
 
-use crate::asked_key::AskedKey;
-use indexmap::IndexMap;
 use pyc_keys::{KeyId, ReadSet};
-use pyc_reading::{Answer, Key};
 use pyc_report::Message;
-use std::alloc::{AllocError, Global};
 
 /// What came of examining a part of a file: its reads, which are the keys that were asked, by their numbers, each once
 /// and in the order in which they were first asked, and what was found, which are the messages that were told, in
@@ -55,18 +49,4 @@ impl ReadSet for Checked {
     fn reads(&self) -> &[KeyId] {
         self.reads.as_slice()
     }
-}
-
-/// The keys of a map, in their order. The only error is that memory runs out.
-pub(crate) fn listed(
-    alloc: Global,
-    kept: IndexMap<AskedKey, Answer>,
-) -> Result<Vec<Key>, AllocError>
-    ensures { IfOk result (λ listed. map key_of listed.items ≡ keys kept) }
-{
-    let mut listed = Vec::with_capacity(alloc, kept.len())?;
-    for asked in kept.into_keys() {
-        listed.push(asked.into_key())?;
-    }
-    Ok(listed)
 }

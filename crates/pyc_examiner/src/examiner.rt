@@ -1,73 +1,55 @@
 //! The examiner of files.
 
-ghost use Rattle.std.specs.Prelude.{◌≡◌, [], map, IfOk, OnErr, is_ok};
+ghost use Rattle.std.specs.Prelude.{◌≡◌, []};
 ghost use Rattle.pyc_examiner.specs.KeptAnswers.{AreAnswers};
 ghost use Rattle.pyc_iface.specs.Answers.{answer_by};
-ghost use Rattle.pyc_iface.specs.WorldView.{world_in};
-ghost use Rattle.pyc_keys.specs.KeyNumbers.{key_at};
-ghost use Rattle.pyc_keys.specs.Numbering.{AreOf, Extends};
-ghost use Rattle.pyc_report.specs.Message.{message_in};
+ghost use Rattle.pyc_known_answers.specs.AnsweredKeysView.{interfaces_by};
 
 use crate::asked_key::AskedKey;
-use crate::checked::{Checked, listed};
 use crate::copies::copy_of;
 use crate::kept::keep;
+use crate::transcript::Transcript;
 use indexmap::IndexMap;
 use pyc_class::{ClassId, Lin, Lins};
-use pyc_found::in_order;
-use pyc_iface::World;
-use pyc_keys::Keys;
+use pyc_known_answers::AnsweredKeys;
 use pyc_obligations::Judge;
 use pyc_reading::{Answer, Key, Notes};
 use pyc_report::Message;
 use std::alloc::{AllocError, Global};
+use std::rc::Rc;
 
-/// The examiner performs readings over a world, and keeps the keys that were asked, each once with its answer, in the
-/// order in which they were first asked, and the messages that were told.
+/// The examiner performs readings over what a world answers, and keeps the keys that were asked, each once with its
+/// answer, in the order in which they were first asked, and the messages that were told.
 #[derive(Drop)]
 pub struct Examiner<'a> {
-    world: &'a World,
-    answers: IndexMap<AskedKey, Answer>,
+    keys: &'a AnsweredKeys,
+    answers: IndexMap<AskedKey, Rc<Answer>>,
     messages: Vec<Message>,
-    ghost answers_are: { ∥ AreAnswers (answer_by (world_in world.now)) answers.entries ∥₁ },
+    ghost answers_are: { ∥ AreAnswers (answer_by (interfaces_by keys.now)) answers.entries ∥₁ },
 }
 
 impl<'a> Examiner<'a> {
-    ghost use Rattle.pyc_examiner.specs.CheckedView.{messages_of, numbers_in};
     ghost use Rattle.pyc_examiner.specs.ExaminerView.{desk_of};
-    ghost use Rattle.pyc_found.specs.FoundOrder.{in_order};
+    ghost use Rattle.pyc_examiner.specs.TranscriptView.{asked_in, told_in, AreAnswered};
 
-    /// An examiner over a world, at which nothing was asked or told. It takes no memory.
-    pub fn new(alloc: Global, world: &'a World) -> Examiner<'a>
-        ensures { desk_of result ≡ record { answers = answer_by (world_in world.now); keys = []; messages = [] } }
+    /// An examiner over what a world answers, at which nothing was asked or told. It takes no memory.
+    pub fn new(alloc: Global, keys: &'a AnsweredKeys) -> Examiner<'a>
+        ensures { desk_of result ≡ record { answers = answer_by (interfaces_by keys.now); keys = []; messages = [] } }
     {
         Examiner {
-            world,
+            keys,
             answers: IndexMap::new(alloc),
             messages: Vec::new(alloc),
         }
     }
 
-    /// What was told.
-    pub fn into_messages(self) -> Vec<Message>
-        ensures { map message_in result.items ≡ (desk_of self.entry).messages }
+    /// What was asked, answered and told, by itself. It takes no memory.
+    pub fn into_transcript(self) -> Transcript
+        ensures keys { asked_in result ≡ (desk_of self.entry).keys }
+        ensures messages { told_in result ≡ (desk_of self.entry).messages }
+        ensures answers { AreAnswered (desk_of self.entry).answers result }
     {
-        self.messages
-    }
-
-    /// What was asked, by number, and what was told in order, each line, code and text once. The only error is that
-    /// memory runs out; then each number stands for what it did before.
-    pub fn into_checked(self, alloc: Global, keys: &mut Keys) -> Result<Checked, AllocError>
-        ensures reads { IfOk result
-            (λ checked. AreOf (key_at keys.new) (numbers_in checked) (desk_of self.entry).keys) }
-        ensures messages { IfOk result (λ checked. messages_of checked ≡ in_order (desk_of self.entry).messages) }
-        ensures extends { Extends (key_at keys.old) (key_at keys.new) }
-        ensures same { OnErr result (key_at keys.new ≡ key_at keys.old) }
-    {
-        let asked = listed(alloc, self.answers)?;
-        let messages = in_order(alloc, self.messages)?;
-        let reads = keys.intern_all(alloc, &asked)?;
-        Ok(Checked::new(reads, messages))
+        Transcript::new(self.answers, self.messages)
     }
 }
 
@@ -76,12 +58,12 @@ impl Notes for Examiner<'_> {
 
     ghost desk = { desk_of };
 
-    fn ask(&mut self, alloc: Global, key: Key) -> Result<Answer, AllocError> {
+    fn ask(&mut self, _: Global, key: Key) -> Result<Answer, AllocError> {
         let asked = AskedKey::new(key);
         if let Some(answer) = self.answers.get(&asked) {
             return copy_of(answer);
         }
-        let answer = self.world.ask(alloc, asked.key())?;
+        let answer = self.keys.answer(asked.key())?;
         let copy = copy_of(&answer)?;
         keep(&mut self.answers, asked, answer)?;
         Ok(copy)
@@ -95,7 +77,7 @@ impl Notes for Examiner<'_> {
 
 impl Judge for Examiner<'_> {
     fn lin(&self, class: &ClassId) -> Lin<'_> {
-        self.world.lin(class)
+        self.keys.lin(class)
     }
 
     fn told_count(&self) -> usize {

@@ -8,6 +8,8 @@ mod copies;
 mod examiner;
 mod kept;
 pub mod laws;
+mod transcript;
 
 pub use checked::Checked;
 pub use examiner::Examiner;
+pub use transcript::Transcript;

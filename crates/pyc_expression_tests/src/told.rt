@@ -5,6 +5,7 @@ use pyc_blocks::read_statements;
 use pyc_bodies::{Body, BodyKind};
 use pyc_examiner::Examiner;
 use pyc_iface::{Options, World};
+use pyc_known_answers::AnsweredKeys;
 use pyc_locals::{Locals, Point};
 use pyc_lower::read as read_source;
 use pyc_names::{Interface, ModuleName, SourceFile};
@@ -183,14 +184,14 @@ fn shown(alloc: Global, messages: &[Message]) -> Result<String, Fail> {
     Ok(shown)
 }
 
-/// What is told of the last statement of a module that stands in a file of a world.
+/// What is told of the last statement of a module that stands in a file, over what a world answers.
 fn told_in(
     alloc: Global,
-    world: &World,
+    keys: &AnsweredKeys,
     file: &SourceFile,
     module: &Module,
 ) -> Result<String, Fail> {
-    let mut examiner = Examiner::new(alloc, world);
+    let mut examiner = Examiner::new(alloc, keys);
     let last = module.statements.len().saturating_sub(1);
     let body = Body {
         options: OPTIONS,
@@ -204,13 +205,13 @@ fn told_in(
     };
     let statements = &module.statements[last..];
     read_statements(alloc, &mut examiner, &parts, statements, &mut point)?;
-    shown(alloc, &examiner.into_messages())
+    shown(alloc, &examiner.into_transcript().into_messages())
 }
 
-/// What is told of the last statement of a file of a world.
-fn told_of(alloc: Global, world: &World, file: &SourceFile) -> Result<String, Fail> {
+/// What is told of the last statement of a file, over what a world answers.
+fn told_of(alloc: Global, keys: &AnsweredKeys, file: &SourceFile) -> Result<String, Fail> {
     match file.outcome() {
-        Outcome::Tree(module) => told_in(alloc, world, file, module),
+        Outcome::Tree(module) => told_in(alloc, keys, file, module),
         Outcome::Fault(_) => Err("a fault".into()),
     }
 }
@@ -227,10 +228,14 @@ fn interfaces_of(
     Ok(interfaces)
 }
 
-/// What is told of the last statement of the first of the files of a world.
-fn told_of_first(alloc: Global, world: &World, files: &[Rc<SourceFile>]) -> Result<String, Fail> {
+/// What is told of the last statement of the first of these files, over what their world answers.
+fn told_of_first(
+    alloc: Global,
+    keys: &AnsweredKeys,
+    files: &[Rc<SourceFile>],
+) -> Result<String, Fail> {
     match files.first() {
-        Some(file) => told_of(alloc, world, file),
+        Some(file) => told_of(alloc, keys, file),
         None => Err("no file".into()),
     }
 }
@@ -239,5 +244,6 @@ fn told_of_first(alloc: Global, world: &World, files: &[Rc<SourceFile>]) -> Resu
 pub(crate) fn all_told(alloc: Global, setting: &Setting, statement: &str) -> Result<String, Fail> {
     let files = files_of(alloc, setting, statement)?;
     let world = World::build(alloc, &interfaces_of(alloc, &files)?)?;
-    told_of_first(alloc, &world, &files)
+    let keys = AnsweredKeys::new(alloc, Rc::new(alloc, world)?);
+    told_of_first(alloc, &keys, &files)
 }

@@ -1,12 +1,12 @@
 -- Known answers are those of their keys.
-use Rattle.std.proofs.Common.{◌≡◌, ℕ, ◌==◌, Bool, true, false, true≢false, List, Option, None, Some, is_some, option_map, Result, Ok, Err, IfOk, OnErr, MatchResult, subst, if◌then◌else◌, refl, sym, ap, ◌∙◌}
+use Rattle.std.proofs.Common.{◌≡◌, ℕ, ◌==◌, Bool, true, false, true≢false, List, [], ◌∷◌, length, map, Option, None, Some, is_some, option_map, Result, Ok, Err, IfOk, OnErr, MatchResult, subst, if◌then◌else◌, refl, sym, ap, ◌∙◌, arith}
 use Rattle.std.proofs.lemmas.Bool.{eqb-true}
 use Rattle.std.proofs.Math.Logic.{∥∥₁_elim}
 use mathlib.Core.HLevel.{Discrete, hedberg}
 use Rattle.pyc_iface.specs.Answers.{answer_by}
 use Rattle.pyc_keys.proofs.NumberingLemmas.{none_some, same_some}
 use Rattle.pyc_keys.specs.Marks.{is_in}
-use Rattle.pyc_keys.specs.Numbering.{Numbering, Extends, only, with_item}
+use Rattle.pyc_keys.specs.Numbering.{Numbering, AreOf, Extends, only, with_item}
 use Rattle.pyc_known_answers.specs.KnownAnswers.{AreKnownOf, answers_at}
 use Rattle.pyc_known_answers.specs.KnownAnswersLaws.{StayWithMoreKeys, StayWithFewerKeys, StayWithoutOne}
 use Rattle.pyc_names.specs.Interfaces.{Interface}
@@ -85,6 +85,38 @@ pub over_same : (interfaces others : List Interface) (keys : Numbering Key) (kno
     → new ≡ known → AreKnownOf interfaces keys known → AreKnownOf others keys new
 over_same interfaces others keys known new world same are =
     subst (λ w. AreKnownOf w keys new) (sym world) (subst (AreKnownOf interfaces keys) (sym same) are)
+
+-- ---- answers of several numbers
+
+abbrev empty : {A : Type 0} → List A → Bool
+empty [] = true
+empty (x ∷ xs) = false
+
+abbrev first : {A : Type 0} → A → List A → A
+first x [] = x
+first x (y ∷ ys) = y
+
+abbrev others : {A : Type 0} → List A → List A
+others [] = []
+others (y ∷ ys) = ys
+
+module _ {A : Type 0} (keys : Numbering Key) (f : A → Answer) (g : Key → Answer) where
+  -- numbers that are left, and the answers to their keys
+  abbrev pub AreLeft : List ℕ → List A → Type 0
+  AreLeft ids answers = (left : List Key) × AreOf keys ids left × (map f answers ≡ map g left)
+
+  -- the first of them
+  pub first_left : (i : ℕ) (is : List ℕ) (a : A) (bs : List A) → AreLeft (i ∷ is) (a ∷ bs)
+      → (k : Key) × (keys i ≡ Some k) × (f a ≡ g k) × AreLeft is bs
+  first_left i is a bs ([], of, given) = absurd (true≢false (sym (ap empty given)))
+  first_left i is a bs (k ∷ ks, of, given) =
+      (k, ap (first None) of, ap (first (g k)) given, (ks, ap others of, ap others given))
+
+  -- where no number is left, no answer is
+  pub none_left : (ids : List ℕ) (a : A) (bs : List A) → length ids ≡ 0 → AreLeft ids (a ∷ bs) → ⊥
+  none_left [] a bs none ([], of, given) = true≢false (sym (ap empty given))
+  none_left [] a bs none (k ∷ ks, of, given) = true≢false (ap empty of)
+  none_left (i ∷ is) a bs none left = omega (arith, none)
 
 -- ---- laws
 

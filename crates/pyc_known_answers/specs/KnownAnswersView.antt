@@ -1,5 +1,5 @@
 -- Known answers as plain values.
-use Rattle.std.specs.Prelude.{List, None, option_map, slice_index_or}
+use Rattle.std.specs.Prelude.{ℕ, ◌<◌, List, length, None, option_map, slice_index_or}
 use Rattle.pyc_iface.specs.WorldView.{world_in}
 use Rattle.pyc_keys.specs.Numbering.{Numbering}
 use Rattle.pyc_known_answers.specs.KnownAnswers.{AreKnownOf}
@@ -20,3 +20,7 @@ known_at answers i = option_map (λ shared. answer_in shared.value) (slice_index
 -- the answers are over these keys: each known one is the one to the key that its number stands for
 abbrev pub IsOver : Numbering Key → KnownAnswers → Type 0
 IsOver keys answers = AreKnownOf (interfaces_of answers) keys (known_at answers)
+
+-- there is a place for the answer of a number
+abbrev pub HasPlace : KnownAnswers → ℕ → Type 0
+HasPlace answers number = number < length answers.known.items

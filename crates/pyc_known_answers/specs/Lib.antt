@@ -1,3 +1,4 @@
 pub mod KnownAnswers
 pub mod KnownAnswersView
 pub mod KnownAnswersLaws
+pub mod AnsweredKeysView

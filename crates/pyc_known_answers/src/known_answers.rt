@@ -1,20 +1,19 @@
 //! The answers of a world by number.
 
-ghost use Rattle.std.specs.Prelude.{◌≡◌, ◌<◌, Some, None, true, is_some, length, if◌then◌else◌};
+ghost use Rattle.std.specs.Prelude.{◌≡◌, List, Some, None, true, is_some, map, if◌then◌else◌};
 ghost use Rattle.std.specs.Prelude.{IfSome, IfNone, IfOk, OnOk, OnErr};
 ghost use Rattle.pyc_iface.specs.Answers.{answer_by};
 ghost use Rattle.pyc_iface.specs.WorldView.{world_in};
 ghost use Rattle.pyc_keys.specs.KeyNumbers.{key_at};
-ghost use Rattle.pyc_keys.specs.Numbering.{with_item, without, Extends, Numbering};
+ghost use Rattle.pyc_keys.specs.Numbering.{with_item, without, AreOf, Extends, Numbering};
 ghost use Rattle.pyc_known_answers.specs.KnownAnswers.{answers_at, where_held};
 ghost use Rattle.pyc_reading.specs.AnswerView.{answer_in};
+ghost use Rattle.pyc_reading.specs.KeyView.{key_of};
 ghost use Rattle.pyc_reading.specs.Keys.{Key as PlainKey};
-ghost use Rattle.pyc_same_answers.specs.SameAnswers.{same_answer};
 
 use pyc_iface::World;
 use pyc_keys::{KeyId, Keys};
-use pyc_reading::Answer;
-use pyc_same_answers::is_same;
+use pyc_reading::{Answer, Key};
 use std::alloc::{AllocError, Global};
 use std::rc::Rc;
 
@@ -30,7 +29,7 @@ pub struct KnownAnswers {
 }
 
 impl KnownAnswers {
-    ghost use Rattle.pyc_known_answers.specs.KnownAnswersView.{interfaces_of, known_at, IsOver};
+    ghost use Rattle.pyc_known_answers.specs.KnownAnswersView.{interfaces_of, known_at, HasPlace, IsOver};
 
     /// No answers of a world. It takes no memory.
     pub fn new(alloc: Global, world: Rc<World>) -> KnownAnswers
@@ -79,31 +78,8 @@ impl KnownAnswers {
     {
         match self.find(id) {
             Some(answer) => answer.clone(),
-            None => self.form(keys, id),
+            None => self.form_at(keys, id),
         }
-    }
-
-    /// Whether this world and another give one answer to the key of a number that is held. Each forms its answer,
-    /// unless it knows it. The only error is that memory runs out.
-    pub fn is_same_at(
-        &mut self,
-        other: &mut KnownAnswers,
-        keys: &Keys,
-        id: KeyId,
-    ) -> Result<bool, AllocError>
-        requires held { is_some (key_at keys.now id) ≡ true }
-        requires over { IsOver (key_at keys.now) self.old }
-        requires other_over { IsOver (key_at keys.now) other.old }
-        ensures value { (key : PlainKey) → key_at keys.now id ≡ Some key → IfOk result (λ same. same
-            ≡ same_answer (answer_by (interfaces_of self.old) key) (answer_by (interfaces_of other.old) key)) }
-        ensures over { IsOver (key_at keys.now) self.new }
-        ensures other_over { IsOver (key_at keys.now) other.new }
-        ensures world { interfaces_of self.new ≡ interfaces_of self.old }
-        ensures other_world { interfaces_of other.new ≡ interfaces_of other.old }
-    {
-        let own = self.ask(keys, id)?;
-        let found = other.ask(keys, id)?;
-        Ok(is_same(&own, &found))
     }
 
     /// Keeps the answer of a number, which was formed elsewhere. The only error is that memory runs out; then the same
@@ -119,6 +95,61 @@ impl KnownAnswers {
         self.cover(number)?;
         self.known[number] = Some(answer);
         Ok(())
+    }
+
+    /// Gives each number up to `number` a place for its answer. The only error is that memory runs out.
+    pub fn cover(&mut self, number: usize) -> Result<(), AllocError>
+        ensures covered { OnOk result (HasPlace self.new number) }
+        ensures world { interfaces_of self.new ≡ interfaces_of self.old }
+        ensures same { known_at self.new ≡ known_at self.old }
+    {
+        while self.known.len() <= number {
+            self.known.push(None)?;
+        }
+        Ok(())
+    }
+
+    /// Keeps the answers of some numbers, which were formed elsewhere, as far as they have a place. It takes no memory.
+    pub fn keep_all(&mut self, ids: &[KeyId], answers: Vec<Rc<Answer>>)
+        ensures over { (keys : Numbering PlainKey) (asked : List PlainKey) → IsOver keys self.old
+            → AreOf keys ids.now asked
+            → map (λ answer. answer_in answer.value) answers.items ≡ map (answer_by (interfaces_of self.old)) asked
+            → IsOver keys self.new }
+        ensures world { interfaces_of self.new ≡ interfaces_of self.old }
+    {
+        let mut rest = ids;
+        for answer in answers {
+            if let Some((id, others)) = rest.split_first() {
+                self.keep_reserved(*id, answer);
+                rest = others;
+            }
+        }
+    }
+
+    /// Keeps the answer of a number, which was formed elsewhere, if it has a place.
+    fn keep_reserved(&mut self, id: KeyId, answer: Rc<Answer>)
+        ensures over { (keys : Numbering PlainKey) (key : PlainKey) → IsOver keys self.old → keys id ≡ Some key
+            → answer_in answer.value ≡ answer_by (interfaces_of self.old) key → IsOver keys self.new }
+        ensures world { interfaces_of self.new ≡ interfaces_of self.old }
+    {
+        let number = id.number();
+        if number < self.known.len() {
+            self.known[number] = Some(answer);
+        }
+    }
+
+    /// The answer to the key of a number that is held: the known one, or one that is formed and not kept. The only
+    /// error is that memory runs out.
+    pub fn find_or_form(&self, keys: &Keys, id: KeyId) -> Result<Rc<Answer>, AllocError>
+        requires held { is_some (key_at keys.now id) ≡ true }
+        requires over { IsOver (key_at keys.now) self.now }
+        ensures { (key : PlainKey) → key_at keys.now id ≡ Some key
+            → IfOk result (λ answer. answer_in answer.value ≡ answer_by (interfaces_of self.now) key) }
+    {
+        match self.find(id) {
+            Some(answer) => answer.clone(),
+            None => self.form(keys.key(id)),
+        }
     }
 
     /// Forgets the answer of a number. It takes no memory.
@@ -142,8 +173,18 @@ impl KnownAnswers {
         }
     }
 
-    /// Forms the answer to the key of a number that is held.
-    fn form(&mut self, keys: &Keys, id: KeyId) -> Result<Rc<Answer>, AllocError>
+    /// Forms the answer to a key, which is not kept. The only error is that memory runs out.
+    pub fn form(&self, key: &Key) -> Result<Rc<Answer>, AllocError>
+        ensures { IfOk result (λ answer. answer_in answer.value
+            ≡ answer_by (interfaces_of self.now) (key_of key.now)) }
+    {
+        let answer = self.world.ask(self.alloc, key)?;
+        let shared = Rc::new(self.alloc, answer)?;
+        Ok(shared)
+    }
+
+    /// Forms the answer to the key of a number that is held, and keeps it.
+    fn form_at(&mut self, keys: &Keys, id: KeyId) -> Result<Rc<Answer>, AllocError>
         requires held { is_some (key_at keys.now id) ≡ true }
         ensures answer { IfOk result (λ answer. answers_at (interfaces_of self.old) (key_at keys.now) id
             ≡ Some (answer_in answer.value)) }
@@ -152,23 +193,10 @@ impl KnownAnswers {
         ensures world { interfaces_of self.new ≡ interfaces_of self.old }
         ensures same { OnErr result (known_at self.new ≡ known_at self.old) }
     {
-        let answer = self.world.ask(self.alloc, keys.key(id))?;
-        let shared = Rc::new(self.alloc, answer)?;
+        let shared = self.form(keys.key(id))?;
         let kept = shared.clone()?;
         self.keep(id, kept)?;
         Ok(shared)
-    }
-
-    /// Gives each number up to `number` a place for its answer.
-    fn cover(&mut self, number: usize) -> Result<(), AllocError>
-        ensures covered { OnOk result (number < length self.new.known.items) }
-        ensures world { interfaces_of self.new ≡ interfaces_of self.old }
-        ensures same { known_at self.new ≡ known_at self.old }
-    {
-        while self.known.len() <= number {
-            self.known.push(None)?;
-        }
-        Ok(())
     }
 
     /// Forgets the answer of a number, unless the number is held.

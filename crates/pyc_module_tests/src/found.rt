@@ -3,7 +3,7 @@
 use crate::sources::file_of;
 use pyc_body::{Checked, Checker, Meter, unsilenced};
 use pyc_iface::{Options, World};
-use pyc_keys::Keys;
+use pyc_known_answers::AnsweredKeys;
 use pyc_names::SourceFile;
 use pyc_report::Message;
 use std::alloc::Global;
@@ -52,8 +52,8 @@ fn write_checks(checks: &[Checked], shown: &mut String) -> Result<(), Fail> {
 fn shown_alone(alloc: Global, file: &Rc<SourceFile>, is_told: bool) -> Result<String, Fail> {
     let world = World::build(alloc, slice::from_ref(file.shared_interface()))?;
     let mut meter = Meter::new(alloc);
-    let mut keys = Keys::new(alloc);
-    let checker = Checker::new(alloc, OPTIONS, &world);
+    let mut keys = AnsweredKeys::new(alloc, Rc::new(alloc, world)?);
+    let checker = Checker::new(alloc, OPTIONS);
     let checks = checker.check_files(&mut meter, &mut keys, slice::from_ref(file))?;
     let mut shown = String::new(alloc);
     if is_told {

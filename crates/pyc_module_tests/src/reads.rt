@@ -4,7 +4,8 @@ use crate::sources::file_of;
 use pyc_ast::Text;
 use pyc_body::{Checker, Meter, numbered_units};
 use pyc_iface::{Key, Options, World};
-use pyc_keys::{Keys, ReadSet};
+use pyc_keys::ReadSet;
+use pyc_known_answers::AnsweredKeys;
 use pyc_names::QualifiedName;
 use std::alloc::{AllocError, Global};
 use std::rc::Rc;
@@ -79,15 +80,15 @@ fn push_key(key: &Key, shown: &mut String) -> Result<(), AllocError> {
 fn reads_shown(alloc: Global, source: &[u8], number: usize) -> Result<String, Fail> {
     let file = Rc::new(alloc, file_of(alloc, "a.py", source)?)?;
     let world = World::build(alloc, slice::from_ref(file.shared_interface()))?;
-    let checker = Checker::new(alloc, OPTIONS, &world);
+    let checker = Checker::new(alloc, OPTIONS);
     let mut meter = Meter::new(alloc);
-    let mut keys = Keys::new(alloc);
+    let mut keys = AnsweredKeys::new(alloc, Rc::new(alloc, world)?);
     let units = numbered_units(alloc, &file)?;
     let mut shown = String::new(alloc);
     if let Some(unit) = units.get(number) {
         let checked = checker.check_unit(&mut meter, &mut keys, unit)?;
         for id in checked.reads() {
-            push_key(keys.key(*id), &mut shown)?;
+            push_key(keys.keys().key(*id), &mut shown)?;
             shown.push_str("; ")?;
         }
     }

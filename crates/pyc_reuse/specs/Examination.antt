@@ -3,7 +3,6 @@ use Rattle.std.specs.Prelude.{◌≡◌, List}
 use Rattle.pyc_body.specs.CheckerView as checker
 use Rattle.pyc_iface.specs.declared.options.Options.{Options}
 use Rattle.pyc_reuse.specs.declared.examining.Examination.{Examination}
-use Rattle.pyc_reuse.specs.Answering.{AnswerAs}
 use Rattle.pyc_reuse.specs.RecheckView as recheck
 use Rattle.pyc_workspace.specs.Workspace.{File}
 
@@ -17,7 +16,6 @@ last_in examination = recheck.last_in examination.recheck
 abbrev pub present_in : Examination → List File
 present_in examination = recheck.present_in examination.recheck
 
--- its checker has these options, and answers as the files that are present
-pub record IsOver (examination : Examination) : Type 0 where
-  pub options : checker.options_in examination.checker.now ≡ options_in examination
-  pub answers : AnswerAs (checker.files_in examination.checker.now) (present_in examination)
+-- its checker has these options
+abbrev pub HasOptions : Examination → Type 0
+HasOptions examination = checker.options_in examination.checker ≡ options_in examination

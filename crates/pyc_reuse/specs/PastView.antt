@@ -1,7 +1,7 @@
 -- What the last completed check left, as plain values.
 use Rattle.std.specs.Prelude.{ℕ, List}
-use Rattle.pyc_keys.specs.KeyNumbers.{key_at}
 use Rattle.pyc_keys.specs.Numbering.{Numbering}
+use Rattle.pyc_known_answers.specs.AnsweredKeysView.{held_by}
 use Rattle.pyc_reading.specs.Keys.{Key}
 use Rattle.pyc_reuse.specs.declared.kept.Kept.{Kept}
 use Rattle.pyc_reuse.specs.declared.last_check.LastCheck.{LastCheck}
@@ -16,7 +16,7 @@ past_in last = past_kept last.kept
 
 -- the keys that it holds, by number
 abbrev pub keys_in : LastCheck → Numbering Key
-keys_in last = key_at last.keys
+keys_in last = held_by last.keys
 
 -- the numbers of the keys that the rows that it keeps have read
 abbrev pub reads_kept : LastCheck → List ℕ

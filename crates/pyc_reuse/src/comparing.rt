@@ -1,11 +1,12 @@
-//! The work list: which units are to be examined.
+//! The work list: which units are to be examined, over which answers.
 
-ghost use Rattle.std.specs.Prelude.{◌≡◌, IsTrue, true, is_some, map, IfOk, OnOk};
+ghost use Rattle.std.specs.Prelude.{◌≡◌, true, is_some, map, IfOk, IfSome, IfNone};
 ghost use Rattle.std.specs.List.{list_all, list_any};
 ghost use Rattle.pyc_iface.specs.Answers.{answer_by};
 ghost use Rattle.pyc_iface.specs.WorldView.{world_in};
-ghost use Rattle.pyc_keys.specs.KeyNumbers.{key_at};
-ghost use Rattle.pyc_reuse.specs.Answering.{AnswerAlike, AnswerAs};
+ghost use Rattle.pyc_known_answers.specs.AnsweredKeysView.{held_by, interfaces_by};
+ghost use Rattle.pyc_known_answers.specs.KnownAnswersView.{interfaces_of, IsOver};
+ghost use Rattle.pyc_reuse.specs.Answering.{AnswerAs};
 ghost use Rattle.pyc_reuse.specs.Past.{rows_among};
 ghost use Rattle.pyc_reuse.specs.Places.{IsPlace, place_in};
 ghost use Rattle.pyc_reuse.specs.RecheckView.{last_in, options_in, present_in};
@@ -15,35 +16,77 @@ ghost use Rattle.pyc_reuse.specs.Works.{by_flags, is_any, kept_work, work_from, 
 ghost use Rattle.pyc_verdicts.specs.Changes.{has_changed};
 ghost use Rattle.pyc_verdicts.specs.VerdictsView.{first_in, held_in, second_in};
 
-use crate::interfaces::NextWorld;
 use crate::recheck::Recheck;
 use crate::row::Row;
 use crate::work::Work;
-use pyc_keys::{Keys, ReadSet};
+use pyc_iface::World;
+use pyc_keys::ReadSet;
+use pyc_known_answers::{AnsweredKeys, KnownAnswers};
 use pyc_verdicts::Verdicts;
 use std::alloc::AllocError;
+use std::rc::Rc;
+
+/// What is to be done for each file that is present, and the answers of their world, unless it is known to answer as
+/// the last one.
+#[derive(Drop)]
+pub(crate) struct Plan {
+    pub(crate) list: Vec<Work>,
+    pub(crate) next: Option<KnownAnswers>,
+}
 
 impl Recheck<'_> {
-    /// What is to be done for each file that is present.
-    pub(crate) fn work_list(
+    /// What is to be done for each file that is present, and what their world answers.
+    pub(crate) fn plan(
         &self,
-        keys: &Keys,
+        keys: &AnsweredKeys,
         places: &[Option<usize>],
-        next: &NextWorld,
-    ) -> Result<Vec<Work>, AllocError>
-        requires rows { ∥ rows_in (key_at keys.now) self.now.last.now.rows.items
+    ) -> Result<Plan, AllocError>
+        requires rows { ∥ rows_in (held_by keys.now) self.now.last.now.rows.items
             ≡ rows_among (options_in self.now) (last_in self.now) ∥₁ }
         requires places { places.now ≡ map (place_in (last_in self.now)) (present_in self.now) }
-        requires answers { AnswerAs (world_in next.now.world.value) (present_in self.now) }
-        requires alike { IsTrue next.now.is_alike → AnswerAlike (last_in self.now) (present_in self.now) }
-        ensures { IfOk result (λ list. map work_in list.items
+        requires last { AnswerAs (interfaces_by keys.now) (last_in self.now) }
+        ensures list { IfOk result (λ plan. map work_in plan.list.items
             ≡ map (work_of (options_in self.now) (last_in self.now) (present_in self.now)) (present_in self.now)) }
+        ensures answers { IfOk result (λ plan. IfSome plan.next (λ next.
+            AnswerAs (interfaces_of next) (present_in self.now))) }
+        ensures over { IfOk result (λ plan. IfSome plan.next (λ next. IsOver (held_by keys.now) next)) }
+        ensures alike { IfOk result (λ plan. IfNone plan.next
+            (AnswerAs (interfaces_by keys.now) (present_in self.now))) }
     {
-        if next.is_alike {
-            return self.new_files(places);
+        match self.next_world(places)? {
+            Some(world) => self.plan_over(keys, places, world),
+            None => {
+                let list = self.new_files(places)?;
+                Ok(Plan { list, next: None })
+            }
         }
-        let mut verdicts = Verdicts::new(self.alloc, keys, &self.last.world, &next.world)?;
-        self.compare_files(places, &mut verdicts)
+    }
+
+    /// What is to be done where the files that are present have another world.
+    fn plan_over(
+        &self,
+        keys: &AnsweredKeys,
+        places: &[Option<usize>],
+        world: Rc<World>,
+    ) -> Result<Plan, AllocError>
+        requires rows { ∥ rows_in (held_by keys.now) self.now.last.now.rows.items
+            ≡ rows_among (options_in self.now) (last_in self.now) ∥₁ }
+        requires places { places.now ≡ map (place_in (last_in self.now)) (present_in self.now) }
+        requires last { AnswerAs (interfaces_by keys.now) (last_in self.now) }
+        requires world { AnswerAs (world_in world.value) (present_in self.now) }
+        ensures list { IfOk result (λ plan. map work_in plan.list.items
+            ≡ map (work_of (options_in self.now) (last_in self.now) (present_in self.now)) (present_in self.now)) }
+        ensures answers { IfOk result (λ plan. IfSome plan.next (λ next.
+            AnswerAs (interfaces_of next) (present_in self.now))) }
+        ensures over { IfOk result (λ plan. IfSome plan.next (λ next. IsOver (held_by keys.now) next)) }
+        ensures some { IfOk result (λ plan. is_some plan.next ≡ true) }
+    {
+        let mut verdicts = Verdicts::new(self.alloc, keys, world)?;
+        let list = self.compare_files(places, &mut verdicts)?;
+        Ok(Plan {
+            list,
+            next: Some(verdicts.into_second()),
+        })
     }
 
     /// What is to be done where no key has another answer.
@@ -69,10 +112,12 @@ impl Recheck<'_> {
         requires rows { ∥ rows_in (held_in verdicts.old) self.now.last.now.rows.items
             ≡ rows_among (options_in self.now) (last_in self.now) ∥₁ }
         requires places { places.now ≡ map (place_in (last_in self.now)) (present_in self.now) }
-        requires first { first_in verdicts.old ≡ world_in self.now.last.now.world.value }
+        requires first { AnswerAs (first_in verdicts.old) (last_in self.now) }
         requires second { AnswerAs (second_in verdicts.old) (present_in self.now) }
-        ensures { IfOk result (λ list. map work_in list.items
+        ensures list { IfOk result (λ list. map work_in list.items
             ≡ map (work_of (options_in self.now) (last_in self.now) (present_in self.now)) (present_in self.now)) }
+        ensures held { held_in verdicts.new ≡ held_in verdicts.old }
+        ensures second { second_in verdicts.new ≡ second_in verdicts.old }
     {
         let mut list = Vec::with_capacity(self.alloc, places.len())?;
         for place in places {
@@ -91,7 +136,7 @@ impl Recheck<'_> {
         requires rows { ∥ rows_in (held_in verdicts.old) self.now.last.now.rows.items
             ≡ rows_among (options_in self.now) (last_in self.now) ∥₁ }
         requires place { IsPlace (last_in self.now) place }
-        requires first { first_in verdicts.old ≡ world_in self.now.last.now.world.value }
+        requires first { AnswerAs (first_in verdicts.old) (last_in self.now) }
         requires second { AnswerAs (second_in verdicts.old) (present_in self.now) }
         ensures work { IfOk result (λ work. work_in work
             ≡ work_from (options_in self.now) (last_in self.now) (present_in self.now) place) }

@@ -1,16 +1,18 @@
 //! A check after another, from its files to its report.
 
-ghost use Rattle.std.specs.Prelude.{◌≡◌, length, IfOk, OnErr, OnOk};
-ghost use Rattle.pyc_keys.specs.KeyNumbers.{key_at};
+ghost use Rattle.std.specs.Prelude.{◌≡◌, length, map, IfOk, OnErr, OnOk};
 ghost use Rattle.pyc_keys.specs.Numbering.{Extends};
+ghost use Rattle.pyc_known_answers.specs.AnsweredKeysView.{held_by, interfaces_by};
 ghost use Rattle.pyc_report.specs.Report.{report_in};
+ghost use Rattle.pyc_reuse.specs.Answering.{AnswerAs};
 ghost use Rattle.pyc_reuse.specs.Exact.{IsExact};
 ghost use Rattle.pyc_reuse.specs.Holding.{HoldsJust};
 ghost use Rattle.pyc_reuse.specs.Past.{rows_among};
 ghost use Rattle.pyc_reuse.specs.PastView.{keys_in, past_in, past_kept, reads_kept};
-ghost use Rattle.pyc_reuse.specs.RecheckView.{AreKept};
+ghost use Rattle.pyc_reuse.specs.RecheckView.{AreKept, last_in, options_in, present_in};
 ghost use Rattle.pyc_reuse.specs.RowView.{rows_in};
 ghost use Rattle.pyc_reuse.specs.Telling.{next_past};
+ghost use Rattle.pyc_reuse.specs.Works.{work_in, work_of};
 ghost use Rattle.pyc_workspace.specs.Files.{files_in};
 ghost use Rattle.pyc_workspace.specs.Fresh.{fresh, units_of};
 
@@ -19,9 +21,10 @@ use crate::kept::Kept;
 use crate::last_check::LastCheck;
 use crate::recheck::Recheck;
 use crate::telling::report_on;
+use crate::work::Work;
 use indexmap::IndexSet;
 use pyc_body::{Checker, Meter};
-use pyc_keys::Keys;
+use pyc_known_answers::AnsweredKeys;
 use pyc_report::Report;
 use pyc_workspace::{File, Workspace};
 use std::alloc::{AllocError, Global};
@@ -71,24 +74,28 @@ pub fn check_again(
     }
 }
 
-/// A check of the files that are present, after the last one. No key is let go.
+/// A check of the files that are present, after the last one, over what their world answers. No key is let go. Where
+/// memory runs out, what answers is what did.
 fn check_present(
     alloc: Global,
     last: &Kept,
-    keys: &mut Keys,
+    keys: &mut AnsweredKeys,
     present: &Workspace,
     touched: &IndexSet<String>,
 ) -> Result<Completed, AllocError>
     requires kept { AreKept (past_kept last.now).files present.now touched.now }
-    requires rows { ∥ rows_in (key_at keys.old) last.now.rows.items
+    requires rows { ∥ rows_in (held_by keys.old) last.now.rows.items
         ≡ rows_among last.now.options last.now.files ∥₁ }
+    requires answers { AnswerAs (interfaces_by keys.old) last.now.files }
     ensures report { IfOk result (λ done. report_in done.report ≡ fresh (past_kept last.now).options present.now) }
     ensures past { IfOk result (λ done. past_kept done.kept ≡ next_past (past_kept last.now) present.now) }
     ensures exact { IfOk result (λ done. IsExact (past_kept last.now).options (past_kept last.now).files present.now
         (report_in done.report) (past_kept done.kept).examined) }
-    ensures rows { IfOk result (λ done. rows_in (key_at keys.new) done.kept.rows.items
+    ensures rows { IfOk result (λ done. rows_in (held_by keys.new) done.kept.rows.items
         ≡ rows_among done.kept.options done.kept.files) }
-    ensures extends { Extends (key_at keys.old) (key_at keys.new) }
+    ensures answers { IfOk result (λ done. AnswerAs (interfaces_by keys.new) done.kept.files) }
+    ensures extends { Extends (held_by keys.old) (held_by keys.new) }
+    ensures same { OnErr result (interfaces_by keys.new ≡ interfaces_by keys.old) }
 {
     let recheck = Recheck {
         alloc,
@@ -97,24 +104,60 @@ fn check_present(
         touched,
     };
     let places = recheck.places()?;
-    let next = recheck.next_world(&places)?;
-    let list = recheck.work_list(keys, &places, &next)?;
-    let checker = Checker::new(alloc, last.options, &next.world);
+    let plan = recheck.plan(keys, &places)?;
+    match plan.next {
+        Some(next) => {
+            let before = keys.exchange(next);
+            match complete(recheck, keys, present, &plan.list) {
+                Ok(done) => Ok(done),
+                Err(error) => {
+                    keys.exchange(before);
+                    Err(error)
+                }
+            }
+        }
+        None => complete(recheck, keys, present, &plan.list),
+    }
+}
+
+/// A check of the files that are present, by what is to be done for each, over what their world answers.
+fn complete(
+    recheck: Recheck<'_>,
+    keys: &mut AnsweredKeys,
+    present: &Workspace,
+    list: &[Work],
+) -> Result<Completed, AllocError>
+    requires present { present_in recheck ≡ present.now }
+    requires rows { ∥ rows_in (held_by keys.old) recheck.last.now.rows.items
+        ≡ rows_among (options_in recheck) (last_in recheck) ∥₁ }
+    requires answers { AnswerAs (interfaces_by keys.old) present.now }
+    requires list { map work_in list.now
+        ≡ map (work_of (options_in recheck) (last_in recheck) present.now) present.now }
+    ensures report { IfOk result (λ done. report_in done.report ≡ fresh (options_in recheck) present.now) }
+    ensures past { IfOk result (λ done. past_kept done.kept ≡ next_past (past_kept recheck.last.now) present.now) }
+    ensures exact { IfOk result (λ done. IsExact (options_in recheck) (last_in recheck) present.now
+        (report_in done.report) (past_kept done.kept).examined) }
+    ensures rows { IfOk result (λ done. rows_in (held_by keys.new) done.kept.rows.items
+        ≡ rows_among done.kept.options done.kept.files) }
+    ensures extends { Extends (held_by keys.old) (held_by keys.new) }
+    ensures world { interfaces_by keys.new ≡ interfaces_by keys.old }
+{
+    let alloc = recheck.alloc;
+    let options = recheck.last.options;
     let examination = Examination {
         recheck,
-        checker: &checker,
+        checker: Checker::new(alloc, options),
     };
     let mut meter = Meter::new(alloc);
-    let rows = examination.next_rows(&mut meter, keys, &list)?;
+    let rows = examination.next_rows(&mut meter, keys, list)?;
     let report = report_on(alloc, present.files(), &rows)?;
     let files = present.share(alloc)?;
     let bodies = count_units(present.files())?;
     Ok(Completed {
         report,
         kept: Kept {
-            options: last.options,
+            options,
             files,
-            world: next.world,
             rows,
             meter,
             bodies,

@@ -5,9 +5,10 @@ ghost use Rattle.pyc_body.specs.FileUnits.{file_units, id_of};
 ghost use Rattle.pyc_body.specs.FileUnitView.{file_unit_in};
 ghost use Rattle.pyc_body.specs.FoundMessages.{checked};
 ghost use Rattle.pyc_examiner.specs.CheckedView.{checked_in};
-ghost use Rattle.pyc_keys.specs.KeyNumbers.{key_at};
 ghost use Rattle.pyc_keys.specs.Numbering.{Extends};
-ghost use Rattle.pyc_reuse.specs.Examination.{IsOver, last_in, options_in, present_in};
+ghost use Rattle.pyc_known_answers.specs.AnsweredKeysView.{held_by, interfaces_by};
+ghost use Rattle.pyc_reuse.specs.Answering.{AnswerAs};
+ghost use Rattle.pyc_reuse.specs.Examination.{HasOptions, last_in, options_in, present_in};
 ghost use Rattle.pyc_reuse.specs.Examined.{examined, examined_in, reads_anew};
 ghost use Rattle.pyc_reuse.specs.Past.{row_among, rows_among};
 ghost use Rattle.pyc_reuse.specs.RowView.{row_in, rows_in};
@@ -19,16 +20,16 @@ use crate::recheck::Recheck;
 use crate::row::Row;
 use crate::work::Work;
 use pyc_body::{Checked, Checker, FileUnit, Meter, numbered_units};
-use pyc_keys::Keys;
+use pyc_known_answers::AnsweredKeys;
 use pyc_workspace::File;
 use std::alloc::AllocError;
 use std::rc::Rc;
 
-/// The examination of the units of files that are present, by a checker over their world.
+/// The examination of the units of files that are present.
 #[derive(Clone, Copy)]
 pub(crate) struct Examination<'a> {
     pub(crate) recheck: Recheck<'a>,
-    pub(crate) checker: &'a Checker<'a>,
+    pub(crate) checker: Checker,
 }
 
 impl Examination<'_> {
@@ -36,19 +37,21 @@ impl Examination<'_> {
     pub(crate) fn next_rows(
         &self,
         meter: &mut Meter,
-        keys: &mut Keys,
+        keys: &mut AnsweredKeys,
         list: &[Work],
     ) -> Result<Vec<Rc<Row>>, AllocError>
-        requires over { IsOver self.now }
-        requires rows { ∥ rows_in (key_at keys.old) self.now.recheck.last.now.rows.items
+        requires options { HasOptions self.now }
+        requires answers { AnswerAs (interfaces_by keys.old) (present_in self.now) }
+        requires rows { ∥ rows_in (held_by keys.old) self.now.recheck.last.now.rows.items
             ≡ rows_among (options_in self.now) (last_in self.now) ∥₁ }
         requires list { map work_in list.now ≡ map (work_of (options_in self.now) (last_in self.now)
             (present_in self.now)) (present_in self.now) }
-        ensures rows { IfOk result (λ rows. rows_in (key_at keys.new) rows.items
+        ensures rows { IfOk result (λ rows. rows_in (held_by keys.new) rows.items
             ≡ rows_among (options_in self.now) (present_in self.now)) }
         ensures metered { OnOk result (meter.new
             ≡ meter.old ++ examined (options_in self.now) (last_in self.now) (present_in self.now)) }
-        ensures extends { Extends (key_at keys.old) (key_at keys.new) }
+        ensures extends { Extends (held_by keys.old) (held_by keys.new) }
+        ensures world { interfaces_by keys.new ≡ interfaces_by keys.old }
     {
         let files = self.recheck.present;
         let mut rows = Vec::with_capacity(self.recheck.alloc, files.len())?;
@@ -63,20 +66,22 @@ impl Examination<'_> {
     fn next_row(
         &self,
         meter: &mut Meter,
-        keys: &mut Keys,
+        keys: &mut AnsweredKeys,
         file: &File,
         work: &Work,
     ) -> Result<Rc<Row>, AllocError>
-        requires over { IsOver self.now }
-        requires rows { ∥ rows_in (key_at keys.old) self.now.recheck.last.now.rows.items
+        requires options { HasOptions self.now }
+        requires answers { AnswerAs (interfaces_by keys.old) (present_in self.now) }
+        requires rows { ∥ rows_in (held_by keys.old) self.now.recheck.last.now.rows.items
             ≡ rows_among (options_in self.now) (last_in self.now) ∥₁ }
         requires work { work_in work.now
             ≡ work_of (options_in self.now) (last_in self.now) (present_in self.now) (file_in file.now) }
-        ensures row { IfOk result (λ row. row_in (key_at keys.new) row.value
+        ensures row { IfOk result (λ row. row_in (held_by keys.new) row.value
             ≡ row_among (options_in self.now) (present_in self.now) (file_in file.now)) }
         ensures metered { OnOk result (meter.new ≡ meter.old
             ++ examined_in (options_in self.now) (last_in self.now) (present_in self.now) (file_in file.now)) }
-        ensures extends { Extends (key_at keys.old) (key_at keys.new) }
+        ensures extends { Extends (held_by keys.old) (held_by keys.new) }
+        ensures world { interfaces_by keys.new ≡ interfaces_by keys.old }
     {
         match work {
             Work::All => {
@@ -98,13 +103,20 @@ impl Examination<'_> {
     }
 
     /// What comes of a file all of whose units are examined.
-    fn first_row(&self, meter: &mut Meter, keys: &mut Keys, file: &File) -> Result<Row, AllocError>
-        requires over { IsOver self.now }
-        ensures row { IfOk result (λ row. row_in (key_at keys.new) row
+    fn first_row(
+        &self,
+        meter: &mut Meter,
+        keys: &mut AnsweredKeys,
+        file: &File,
+    ) -> Result<Row, AllocError>
+        requires options { HasOptions self.now }
+        requires answers { AnswerAs (interfaces_by keys.old) (present_in self.now) }
+        ensures row { IfOk result (λ row. row_in (held_by keys.new) row
             ≡ row_among (options_in self.now) (present_in self.now) (file_in file.now)) }
         ensures metered { OnOk result (meter.new
             ≡ meter.old ++ map id_of (file_units (source_of (file_in file.now)))) }
-        ensures extends { Extends (key_at keys.old) (key_at keys.new) }
+        ensures extends { Extends (held_by keys.old) (held_by keys.new) }
+        ensures world { interfaces_by keys.new ≡ interfaces_by keys.old }
     {
         let units = numbered_units(self.recheck.alloc, file.source())?;
         let mut checks = Vec::with_capacity(self.recheck.alloc, units.len())?;
@@ -119,22 +131,24 @@ impl Examination<'_> {
     fn changed_row(
         &self,
         meter: &mut Meter,
-        keys: &mut Keys,
+        keys: &mut AnsweredKeys,
         file: &File,
         past: &Row,
         flags: &[bool],
     ) -> Result<Row, AllocError>
-        requires over { IsOver self.now }
-        requires past { row_in (key_at keys.old) past.now
+        requires options { HasOptions self.now }
+        requires answers { AnswerAs (interfaces_by keys.old) (present_in self.now) }
+        requires past { row_in (held_by keys.old) past.now
             ≡ row_among (options_in self.now) (last_in self.now) (file_in file.now) }
         requires flags { flags.now
             ≡ flags_of (options_in self.now) (last_in self.now) (present_in self.now) (file_in file.now) }
-        ensures row { IfOk result (λ row. row_in (key_at keys.new) row
+        ensures row { IfOk result (λ row. row_in (held_by keys.new) row
             ≡ row_among (options_in self.now) (present_in self.now) (file_in file.now)) }
         ensures metered { OnOk result (meter.new ≡ meter.old ++ map id_of (filter
             (reads_anew (options_in self.now) (last_in self.now) (present_in self.now))
             (file_units (source_of (file_in file.now))))) }
-        ensures extends { Extends (key_at keys.old) (key_at keys.new) }
+        ensures extends { Extends (held_by keys.old) (held_by keys.new) }
+        ensures world { interfaces_by keys.new ≡ interfaces_by keys.old }
     {
         let units = numbered_units(self.recheck.alloc, file.source())?;
         let mut checks = Vec::with_capacity(self.recheck.alloc, units.len())?;
@@ -155,21 +169,23 @@ impl Examination<'_> {
     fn next_check(
         &self,
         meter: &mut Meter,
-        keys: &mut Keys,
+        keys: &mut AnsweredKeys,
         unit: &FileUnit<'_>,
         past: &Rc<Checked>,
         flag: bool,
     ) -> Result<Rc<Checked>, AllocError>
-        requires over { IsOver self.now }
-        requires past { checked_in (key_at keys.old) past.now.value
+        requires options { HasOptions self.now }
+        requires answers { AnswerAs (interfaces_by keys.old) (present_in self.now) }
+        requires past { checked_in (held_by keys.old) past.now.value
             ≡ checked (options_in self.now) (sources_of (last_in self.now)) (file_unit_in unit.now) }
         requires flag { flag
             ≡ reads_anew (options_in self.now) (last_in self.now) (present_in self.now) (file_unit_in unit.now) }
-        ensures checked { IfOk result (λ check. checked_in (key_at keys.new) check.value
+        ensures checked { IfOk result (λ check. checked_in (held_by keys.new) check.value
             ≡ checked (options_in self.now) (sources_of (present_in self.now)) (file_unit_in unit.now)) }
         ensures metered { OnOk result (meter.new
             ≡ meter.old ++ (if flag then id_of (file_unit_in unit.now) ∷ [] else [])) }
-        ensures extends { Extends (key_at keys.old) (key_at keys.new) }
+        ensures extends { Extends (held_by keys.old) (held_by keys.new) }
+        ensures world { interfaces_by keys.new ≡ interfaces_by keys.old }
     {
         if flag {
             return self.first_check(meter, keys, unit);
@@ -182,14 +198,16 @@ impl Examination<'_> {
     fn first_check(
         &self,
         meter: &mut Meter,
-        keys: &mut Keys,
+        keys: &mut AnsweredKeys,
         unit: &FileUnit<'_>,
     ) -> Result<Rc<Checked>, AllocError>
-        requires over { IsOver self.now }
-        ensures checked { IfOk result (λ check. checked_in (key_at keys.new) check.value
+        requires options { HasOptions self.now }
+        requires answers { AnswerAs (interfaces_by keys.old) (present_in self.now) }
+        ensures checked { IfOk result (λ check. checked_in (held_by keys.new) check.value
             ≡ checked (options_in self.now) (sources_of (present_in self.now)) (file_unit_in unit.now)) }
         ensures metered { OnOk result (meter.new ≡ meter.old ++ (id_of (file_unit_in unit.now) ∷ [])) }
-        ensures extends { Extends (key_at keys.old) (key_at keys.new) }
+        ensures extends { Extends (held_by keys.old) (held_by keys.new) }
+        ensures world { interfaces_by keys.new ≡ interfaces_by keys.old }
     {
         let checked = self.checker.check_unit(meter, keys, unit)?;
         let shared = Rc::new(self.recheck.alloc, checked)?;

@@ -1,6 +1,6 @@
 //! The world of the files that are present: the last one, where no interface is another one.
 
-ghost use Rattle.std.specs.Prelude.{◌≡◌, ◌<◌, IsTrue, length, map, IfOk};
+ghost use Rattle.std.specs.Prelude.{◌≡◌, ◌<◌, IsTrue, length, map, IfOk, IfSome, IfNone};
 ghost use Rattle.pyc_iface.specs.WorldView.{world_in};
 ghost use Rattle.pyc_reuse.specs.Answering.{AnswerAlike, AnswerAs};
 ghost use Rattle.pyc_reuse.specs.Places.{bare_of, file_at, place_in};
@@ -13,33 +13,25 @@ use pyc_workspace::interfaces_of;
 use std::alloc::AllocError;
 use std::rc::Rc;
 
-/// The world of the files that are present, and whether it is known to answer as the last one.
-#[derive(Drop)]
-pub(crate) struct NextWorld {
-    pub(crate) world: Rc<World>,
-    pub(crate) is_alike: bool,
-}
-
 impl Recheck<'_> {
-    /// The world of the files that are present, where these stood at the last check.
-    pub(crate) fn next_world(&self, places: &[Option<usize>]) -> Result<NextWorld, AllocError>
+    /// The world of the files that are present, where these stood at the last check; none where it is known to answer
+    /// as the last one.
+    pub(crate) fn next_world(
+        &self,
+        places: &[Option<usize>],
+    ) -> Result<Option<Rc<World>>, AllocError>
         requires { places.now ≡ map (place_in (last_in self.now)) (present_in self.now) }
-        ensures answers { IfOk result (λ next. AnswerAs (world_in next.world.value) (present_in self.now)) }
-        ensures alike { IfOk result (λ next. IsTrue next.is_alike
-            → AnswerAlike (last_in self.now) (present_in self.now)) }
+        ensures answers { IfOk result (λ next. IfSome next (λ world.
+            AnswerAs (world_in world.value) (present_in self.now))) }
+        ensures alike { IfOk result (λ next. IfNone next (AnswerAlike (last_in self.now) (present_in self.now))) }
     {
         if self.has_old_interfaces(places) {
-            return Ok(NextWorld {
-                world: self.last.world.clone()?,
-                is_alike: true,
-            });
+            return Ok(None);
         }
         let interfaces = interfaces_of(self.alloc, self.present)?;
         let world = World::build(self.alloc, &interfaces)?;
-        Ok(NextWorld {
-            world: Rc::new(self.alloc, world)?,
-            is_alike: false,
-        })
+        let shared = Rc::new(self.alloc, world)?;
+        Ok(Some(shared))
     }
 
     /// Whether the files that are present have the interfaces of those of the last check, one by one.

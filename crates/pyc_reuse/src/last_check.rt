@@ -1,7 +1,8 @@
 //! What a completed check leaves.
 
 ghost use Rattle.std.specs.Prelude.{◌≡◌, [], length, IfOk};
-ghost use Rattle.pyc_keys.specs.KeyNumbers.{key_at};
+ghost use Rattle.pyc_known_answers.specs.AnsweredKeysView.{held_by, interfaces_by};
+ghost use Rattle.pyc_reuse.specs.Answering.{AnswerAs};
 ghost use Rattle.pyc_reuse.specs.Holding.{HoldsJust};
 ghost use Rattle.pyc_reuse.specs.Past.{rows_among};
 ghost use Rattle.pyc_reuse.specs.RowView.{reads_in, rows_in};
@@ -10,19 +11,20 @@ ghost use Rattle.pyc_workspace.specs.Fresh.{units_of};
 use crate::kept::Kept;
 use pyc_body::Meter;
 use pyc_iface::{Options, World};
-use pyc_keys::Keys;
+use pyc_known_answers::AnsweredKeys;
 use pyc_workspace::Workspace;
 use std::alloc::{AllocError, Global};
 use std::rc::Rc;
 
-/// What a completed check leaves for the next one: what it keeps, and the keys that its rows have read, each with a
-/// number, and no others.
+/// What a completed check leaves for the next one: what it keeps, and the keys that its rows have read, and no others,
+/// each with a number and with its answer over the files that were checked.
 #[derive(Drop)]
 pub struct LastCheck {
     pub(crate) kept: Kept,
-    pub(crate) keys: Keys,
-    ghost rows_are: { ∥ rows_in (key_at keys) kept.rows.items ≡ rows_among kept.options kept.files ∥₁ },
-    ghost held: { HoldsJust (key_at keys) (reads_in kept.rows.items) },
+    pub(crate) keys: AnsweredKeys,
+    ghost rows_are: { ∥ rows_in (held_by keys) kept.rows.items ≡ rows_among kept.options kept.files ∥₁ },
+    ghost answers_are: { AnswerAs (interfaces_by keys) kept.files },
+    ghost held: { HoldsJust (held_by keys) (reads_in kept.rows.items) },
 }
 
 impl LastCheck {
@@ -34,16 +36,16 @@ impl LastCheck {
     {
         let files = Workspace::new(alloc);
         let world = World::build(alloc, &[])?;
+        let shared = Rc::new(alloc, world)?;
         Ok(LastCheck {
             kept: Kept {
                 options,
                 files,
-                world: Rc::new(alloc, world)?,
                 rows: Vec::new(alloc),
                 meter: Meter::new(alloc),
                 bodies: 0,
             },
-            keys: Keys::new(alloc),
+            keys: AnsweredKeys::new(alloc, shared),
         })
     }
 

@@ -1,31 +1,35 @@
 //! Whether keys have other answers in one world than in another.
 
-ghost use Rattle.std.specs.Prelude.{◌≡◌, ◌||◌, [], true, false, length, is_some, map, None, IfOk, OnOk, OnErr};
+ghost use Rattle.std.specs.Prelude.{◌≡◌, ◌||◌, [], true, false, length, is_some, map, None, IfOk, OnOk};
 ghost use Rattle.std.specs.List.{list_all, list_any};
 ghost use Rattle.pyc_iface.specs.Answers.{answer_by};
 ghost use Rattle.pyc_iface.specs.WorldView.{world_in};
 ghost use Rattle.pyc_keys.specs.KeyNumbers.{key_at};
+ghost use Rattle.pyc_known_answers.specs.AnsweredKeysView.{held_by, interfaces_by};
+ghost use Rattle.pyc_known_answers.specs.KnownAnswersView.{interfaces_of, IsOver};
 ghost use Rattle.pyc_verdicts.specs.Changes.{AreKnown, has_changed, unknowns, with_number, with_numbers};
 
 use crate::compared::Compared;
 use pyc_iface::World;
-use pyc_keys::{KeyId, Keys};
+use pyc_keys::KeyId;
+use pyc_known_answers::{AnsweredKeys, KnownAnswers};
 use pyc_same_answers::is_same;
 use std::alloc::{AllocError, Global};
+use std::rc::Rc;
 
-/// Keys and two worlds, and of each key that was compared whether its answer in the second world is another one than in
-/// the first.
+/// Keys with their answers in a first world, what a second world answers, and of each key that was compared whether
+/// that is another answer.
 #[derive(Drop)]
 pub struct Verdicts<'a> {
     alloc: Global,
-    keys: &'a Keys,
-    first: &'a World,
-    second: &'a World,
+    first: &'a AnsweredKeys,
+    second: KnownAnswers,
     compared: Compared,
     /// The verdict on the key of each number, if it was compared.
     known: Vec<Option<bool>>,
-    ghost are_known: { AreKnown (key_at keys.now) (answer_by (world_in first.now)) (answer_by (world_in second.now))
-        compared known.items },
+    ghost second_over: { IsOver (held_by first.now) second },
+    ghost are_known: { AreKnown (held_by first.now) (answer_by (interfaces_by first.now))
+        (answer_by (interfaces_of second)) compared known.items },
 }
 
 impl<'a> Verdicts<'a> {
@@ -34,31 +38,37 @@ impl<'a> Verdicts<'a> {
     /// Verdicts on none of these keys. The only error is that memory runs out.
     pub fn new(
         alloc: Global,
-        keys: &'a Keys,
-        first: &'a World,
-        second: &'a World,
+        first: &'a AnsweredKeys,
+        second: Rc<World>,
     ) -> Result<Verdicts<'a>, AllocError>
-        ensures held { IfOk result (λ verdicts. held_in verdicts ≡ key_at keys.now) }
-        ensures first { IfOk result (λ verdicts. first_in verdicts ≡ world_in first.now) }
-        ensures second { IfOk result (λ verdicts. second_in verdicts ≡ world_in second.now) }
+        ensures held { IfOk result (λ verdicts. held_in verdicts ≡ held_by first.now) }
+        ensures first { IfOk result (λ verdicts. first_in verdicts ≡ interfaces_by first.now) }
+        ensures second { IfOk result (λ verdicts. second_in verdicts ≡ world_in second.value) }
         ensures compared { IfOk result (λ verdicts. compared_in verdicts ≡ []) }
     {
-        let known = unknowns(alloc, keys.bound())?;
+        let known = unknowns(alloc, first.keys().bound())?;
         Ok(Verdicts {
             alloc,
-            keys,
             first,
-            second,
+            second: KnownAnswers::new(alloc, second),
             compared: Compared::new(alloc),
             known,
         })
     }
 
     /// Which keys were compared.
-    pub fn into_compared(self) -> Compared
-        ensures { result ≡ compared_in self.entry }
+    pub fn compared(&self) -> &Compared
+        ensures { result.now ≡ compared_in self.now }
     {
-        self.compared
+        &self.compared
+    }
+
+    /// What the second world answers, by itself: the answers of the keys that were compared are known.
+    pub fn into_second(self) -> KnownAnswers
+        ensures world { interfaces_of result ≡ second_in self.entry }
+        ensures over { IsOver (held_in self.entry) result }
+    {
+        self.second
     }
 
     /// Whether one of the keys of these numbers has another answer in the second world. All of them are compared, but
@@ -101,14 +111,18 @@ impl<'a> Verdicts<'a> {
     }
 
     /// Whether both worlds answer the key of a number otherwise.
-    fn compare(&self, id: KeyId) -> Result<bool, AllocError>
-        requires { is_some (held_in self.now id) ≡ true }
-        ensures { IfOk result (λ found. found
-            ≡ has_changed (answer_by (first_in self.now)) (answer_by (second_in self.now)) (held_in self.now id)) }
+    fn compare(&mut self, id: KeyId) -> Result<bool, AllocError>
+        requires { is_some (held_in self.old id) ≡ true }
+        ensures value { IfOk result (λ found. found
+            ≡ has_changed (answer_by (first_in self.old)) (answer_by (second_in self.old)) (held_in self.old id)) }
+        ensures compared { compared_in self.new ≡ compared_in self.old }
+        ensures held { held_in self.new ≡ held_in self.old }
+        ensures first { first_in self.new ≡ first_in self.old }
+        ensures second { second_in self.new ≡ second_in self.old }
     {
-        let key = self.keys.key(id);
-        let before = self.first.ask(self.alloc, key)?;
-        let now = self.second.ask(self.alloc, key)?;
+        let keys = self.first.keys();
+        let before = self.first.answers().find_or_form(keys, id)?;
+        let now = self.second.ask(keys, id)?;
         Ok(!is_same(&before, &now))
     }
 }

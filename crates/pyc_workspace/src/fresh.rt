@@ -2,8 +2,7 @@
 
 ghost use Rattle.std.specs.Prelude.{◌≡◌, ◌++◌, IfOk, OnOk, map, take, drop};
 ghost use Rattle.pyc_examiner.specs.CheckedView.{checked_in, messages_of};
-ghost use Rattle.pyc_keys.specs.KeyNumbers.{key_at};
-ghost use Rattle.pyc_keys.specs.Numbering.{Extends};
+ghost use Rattle.pyc_known_answers.specs.AnsweredKeysView.{held_by, interfaces_by};
 ghost use Rattle.pyc_names.specs.Interfaces.{interface_of};
 ghost use Rattle.pyc_names.specs.InterfaceView.{interfaces_in};
 ghost use Rattle.pyc_names.specs.SourceFileView.{sources_in};
@@ -16,7 +15,7 @@ ghost use Rattle.pyc_workspace.specs.ToldView.{told_in};
 use crate::file::File;
 use pyc_body::{Checked, Checker, Meter};
 use pyc_iface::{Options, World};
-use pyc_keys::Keys;
+use pyc_known_answers::AnsweredKeys;
 use pyc_names::{Interface, SourceFile};
 use pyc_report as reports;
 use pyc_report::{Found, Message, Report};
@@ -32,30 +31,38 @@ pub fn fresh_report(
     ensures { IfOk result (λ report. report_in report ≡ fresh options (files_in files.now)) }
 {
     let mut meter = Meter::new(alloc);
-    let mut keys = Keys::new(alloc);
+    let mut keys = answered_keys(alloc, files)?;
     let checks = check_files(alloc, options, &mut meter, &mut keys, files)?;
     let report = report(alloc, files, &checks)?;
     Ok(report)
 }
 
-/// Checks the units of these files over one another, in order, each of which the meter then counts. The only error is
-/// that memory runs out.
-pub fn check_files(
+/// No keys yet, and the world of these files, which is to answer.
+fn answered_keys(alloc: Global, files: &[Rc<File>]) -> Result<AnsweredKeys, AllocError>
+    ensures { IfOk result (λ keys. ∥ interfaces_by keys
+        ≡ map interface_of (spec.sources_of (files_in files.now)) ∥₁) }
+{
+    let interfaces = interfaces_of(alloc, files)?;
+    let world = World::build(alloc, &interfaces)?;
+    let shared = Rc::new(alloc, world)?;
+    Ok(AnsweredKeys::new(alloc, shared))
+}
+
+/// Checks the units of these files over one another, in order, each of which the meter then counts.
+fn check_files(
     alloc: Global,
     options: Options,
     meter: &mut Meter,
-    keys: &mut Keys,
+    keys: &mut AnsweredKeys,
     files: &[Rc<File>],
 ) -> Result<Vec<Checked>, AllocError>
-    ensures checked { IfOk result (λ checks. map (checked_in (key_at keys.new)) checks.items
+    requires { ∥ interfaces_by keys.old ≡ map interface_of (spec.sources_of (files_in files.now)) ∥₁ }
+    ensures checked { IfOk result (λ checks. map (checked_in (held_by keys.new)) checks.items
         ≡ checks_of options (files_in files.now)) }
     ensures metered { OnOk result (meter.new ≡ meter.old ++ units_of (files_in files.now)) }
-    ensures extends { Extends (key_at keys.old) (key_at keys.new) }
 {
     let sources = sources_of(alloc, files)?;
-    let interfaces = interfaces_of(alloc, files)?;
-    let world = World::build(alloc, &interfaces)?;
-    let checks = Checker::new(alloc, options, &world).check_files(meter, keys, &sources)?;
+    let checks = Checker::new(alloc, options).check_files(meter, keys, &sources)?;
     Ok(checks)
 }
 

@@ -8,7 +8,7 @@ mod path;
 mod workspace;
 
 pub use file::File;
-pub use fresh::{check_files, fresh_report, interfaces_of, report};
+pub use fresh::{fresh_report, interfaces_of, report};
 pub use path::{LONGEST_PATH, is_file_path};
 pub use pyc_body::{Checked, Meter};
 pub use workspace::Workspace;

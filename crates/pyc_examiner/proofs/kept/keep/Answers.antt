@@ -10,5 +10,5 @@ returns-in_err-insert-clause-answers c =
 pub returns-clause-answers : goal.returns-clause-answers
 returns-clause-answers c =
     λ answers is all.
-    still_answers answers c.args.kept.now.entries c.insert.new.self.entries c.args.asked c.args.answer
-    c.in_ok-insert.ensures.updates.0 is all
+    subst (AreAnswers answers) (sym c.in_ok-insert.ensures.entries)
+    (still_answers answers c.args.asked c.args.answer c.args.kept.now.entries is all)

@@ -17,12 +17,12 @@ returns-in-Some-clause-answer c =
 
 pub returns-in-None-clause-answer : goal.returns-in-None-clause-answer
 returns-in-None-clause-answer c =
-    answer_to (λ shared. answer_in shared.value) (interfaces_of c.args.self.now) (key_at c.args.keys.now c.args.id) c.form.result c.form.ensures.answer
+    answer_to (λ shared. answer_in shared.value) (interfaces_of c.args.self.now) (key_at c.args.keys.now c.args.id) c.form_at.result c.form_at.ensures.answer
 
 pub returns-in-None-clause-over : goal.returns-in-None-clause-over
 returns-in-None-clause-over c =
     let self = c.args.self.now in
     let keys = key_at c.args.keys.now in
-    over_same (interfaces_of self) (interfaces_of c.form.new.self) keys (known_at c.form.new.self) (known_at c.form.new.self) c.form.ensures.world refl
-    (formed (interfaces_of self) (λ shared. answer_in shared.value) keys (known_at self) (known_at c.form.new.self) c.args.id c.form.result c.requires.over
-    c.form.ensures.answer c.form.ensures.kept c.form.ensures.same)
+    over_same (interfaces_of self) (interfaces_of c.form_at.new.self) keys (known_at c.form_at.new.self) (known_at c.form_at.new.self) c.form_at.ensures.world refl
+    (formed (interfaces_of self) (λ shared. answer_in shared.value) keys (known_at self) (known_at c.form_at.new.self) c.args.id c.form_at.result c.requires.over
+    c.form_at.ensures.answer c.form_at.ensures.kept c.form_at.ensures.same)

@@ -1,7 +1,7 @@
 use Rattle.std.proofs.Common.{◌≡◌, ◌++◌, map}
 use Rattle.indexmap.specs.IndexMap.{keys}
 use Rattle.pyc_reading.specs.KeyView.{key_of}
-use Rattle.pyc_examiner.proofs.checked.listed.Given as goal
+use Rattle.pyc_examiner.proofs.transcript.listed.Given as goal
 
 -- the keys so far, with those that are left, are all
 abbrev pub invariant-loop-asked : goal.invariant-loop-asked

@@ -1,0 +1,9 @@
+use Rattle.std.proofs.Common.{◌≡◌, ◌++◌, map}
+use Rattle.pyc_reading.specs.AnswerView.{answer_in}
+use Rattle.pyc_examiner.proofs.transcript.shared.Given as goal
+
+-- the answers so far, with those that are left, are all
+abbrev pub invariant-loop-answer : goal.invariant-loop-answer
+invariant-loop-answer l =
+    map (λ answer. answer_in answer.value) l.shared.items ++ map (λ answer. answer_in answer.value) l.answer-iterator
+    ≡ map (λ entry. answer_in entry.1.value) l.fn.kept.now.entries

@@ -1,0 +1,48 @@
+use Rattle.std.proofs.Common.{◌∙◌, ◌∷◌, ap, arith, length, subst, sym}
+use Rattle.std.specs.Vec.Iter.{into_iter_items}
+use Rattle.pyc_iface.specs.Answers.{answer_by}
+use Rattle.pyc_reading.specs.AnswerView.{answer_in}
+use Rattle.pyc_known_answers.specs.KnownAnswersView.{interfaces_of}
+use Rattle.pyc_known_answers.proofs.KnownLemmas.{AreLeft, first_left, none_left}
+use Rattle.pyc_known_answers.proofs.known_answers.KnownAnswers.keep_all.Goals as goal
+
+pub loop-answer-preserved-in-Some-split_first : goal.loop-answer-preserved-in-Some-split_first
+loop-answer-preserved-in-Some-split_first c = record {
+  world = c.keep_reserved.ensures.world ∙ c.loop-answer.invariant.world;
+  count =
+      let was = c.loop-answer.invariant.count in
+      let gone = c.in-Some.ensures.steps.1 in
+      let short = ap (λ xs. length xs) c.in-Some.ensures.steps.0 in
+      omega arith;
+  over = λ keys asked are of given.
+      let answer_to = answer_by (interfaces_of c.args.self.now) in
+      let after = into_iter_items c.next.new.self in
+      let held = c.loop-answer.invariant.over keys asked are of given in
+      let next =
+          first_left keys (λ answer. answer_in answer.value) answer_to c.in-Some-split_first.id.now c.in-Some-split_first.others.now c.in-Some.answer after
+          (subst (λ ids. AreLeft keys (λ answer. answer_in answer.value) answer_to ids (c.in-Some.answer ∷ after)) c.in-Some-split_first.ensures.cases.0
+          (subst (λ answers. AreLeft keys (λ answer. answer_in answer.value) answer_to c.loop-answer.rest.now answers) c.in-Some.ensures.steps.0 held.1))
+      in
+      (c.keep_reserved.ensures.over keys next.0 held.0 next.1
+      (next.2 ∙ ap (λ interfaces. answer_by interfaces next.0) (sym c.loop-answer.invariant.world)),
+      next.3);
+}
+
+pub loop-answer-preserved : goal.loop-answer-preserved
+loop-answer-preserved c = record {
+  world = c.loop-answer.invariant.world;
+  count =
+      let was = c.loop-answer.invariant.count in
+      let gone = c.in-Some.ensures.steps.1 in
+      let short = ap (λ xs. length xs) c.in-Some.ensures.steps.0 in
+      omega arith;
+  over = λ keys asked are of given.
+      let held = c.loop-answer.invariant.over keys asked are of given in
+      absurd (none_left keys (λ answer. answer_in answer.value) (answer_by (interfaces_of c.args.self.now)) c.loop-answer.rest.now c.in-Some.answer
+      (into_iter_items c.next.new.self) c.in_default.ensures.cases
+      (subst (λ answers. AreLeft keys (λ answer. answer_in answer.value) (answer_by (interfaces_of c.args.self.now)) c.loop-answer.rest.now answers)
+      c.in-Some.ensures.steps.0 held.1));
+}
+
+pub returns-clause-over : goal.returns-clause-over
+returns-clause-over c = λ keys asked are of given. (c.loop-answer.invariant.over keys asked are of given).0

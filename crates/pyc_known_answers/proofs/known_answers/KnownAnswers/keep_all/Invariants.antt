@@ -1,0 +1,20 @@
+use Rattle.std.proofs.Common.{◌≡◌, List, length, map}
+use Rattle.std.specs.Vec.Iter.{into_iter_items, into_iter_len}
+use Rattle.pyc_iface.specs.Answers.{answer_by}
+use Rattle.pyc_keys.specs.Numbering.{AreOf, Numbering}
+use Rattle.pyc_reading.specs.AnswerView.{answer_in}
+use Rattle.pyc_reading.specs.Keys.{Key}
+use Rattle.pyc_known_answers.specs.KnownAnswersView.{interfaces_of, IsOver}
+use Rattle.pyc_known_answers.proofs.KnownLemmas.{AreLeft}
+use Rattle.pyc_known_answers.proofs.known_answers.KnownAnswers.keep_all.Given as goal
+
+-- the answers so far are kept, and those that are left are the ones to the keys of the numbers that are left
+abbrev pub invariant-loop-answer : goal.invariant-loop-answer
+invariant-loop-answer l = record {
+  world : interfaces_of l.self ≡ interfaces_of l.fn.self;
+  count : into_iter_len l.answer-iterator ≡ length (into_iter_items l.answer-iterator);
+  over : (keys : Numbering Key) (asked : List Key) → IsOver keys l.fn.self → AreOf keys l.fn.ids asked
+      → map (λ answer. answer_in answer.value) l.fn.answers.items ≡ map (answer_by (interfaces_of l.fn.self)) asked
+      → IsOver keys l.self
+      × AreLeft keys (λ answer. answer_in answer.value) (answer_by (interfaces_of l.fn.self)) l.rest (into_iter_items l.answer-iterator);
+}
