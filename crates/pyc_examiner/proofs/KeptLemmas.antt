@@ -1,14 +1,14 @@
 -- Asking where answers are kept.
 use Rattle.std.proofs.Common.{◌≡◌, ◌∙◌, ap, ap₂, subst, sym, refl, true≢false, Bool, true, false, cond, ◌||◌, if◌then◌else◌}
-use Rattle.std.proofs.Common.{append-nil, List, [], ◌∷◌, ◌++◌, Some, None, is_some, unwrap_or, Result, Ok, Err, IfOk}
+use Rattle.std.proofs.Common.{append-nil, List, [], ◌∷◌, ◌++◌, map, Some, None, is_some, unwrap_or, Result, Ok, Err, IfOk}
 use Rattle.std.proofs.Math.Logic.{∥∥₁_elim}
 use Rattle.std.specs.List.{list_any}
-use Rattle.std.specs.Map.{lookup, keys_of}
+use Rattle.std.specs.Map.{lookup, keys_of, values_of}
 use Rattle.std.specs.declared.alloc.AllocError.{AllocError}
 use Rattle.std.specs.declared.alloc.Global.{Global}
 use Rattle.std.specs.declared.rc.Rc.{Rc}
 use Rattle.indexmap.specs.IndexMap.{insert_entry}
-use Rattle.pyc_examiner.proofs.AnswerSets.{one_proof}
+use Rattle.pyc_examiner.proofs.AnswerSets.{one_list, one_proof}
 use Rattle.pyc_examiner.specs.KeptAnswers.{AreAnswers}
 use Rattle.pyc_keys.specs.KeyEquality.{is_asked, keys_are}
 use Rattle.pyc_reading.specs.AnswerView.{answer_in}
@@ -68,11 +68,11 @@ last k a (e ∷ es) h = by (is_asked k e.0) refl (last k a es)
 abbrev Kept : Type 0
 Kept = Key × Rc AnswerOf Global
 
-first : {A : Type 0} → A → List A → A
+abbrev first : {A : Type 0} → A → List A → A
 first x [] = x
 first x (y ∷ ys) = y
 
-others : {A : Type 0} → List A → List A
+abbrev others : {A : Type 0} → List A → List A
 others [] = []
 others (y ∷ ys) = ys
 
@@ -113,6 +113,22 @@ module _ (answers : Key → Answer) where
       by false p rest =
           subst (λ c. AreAnswers answers (if c then (e.0, a) ∷ es else e ∷ insert_entry is_asked es k a)) (sym p)
           (one_more e (insert_entry is_asked es k a) (own e es are) rest)
+
+  -- the answers to the keys of which some are kept
+  keyed : (es : List Kept) → map (λ entry. answers entry.0) es ≡ map answers (keys_of es)
+  keyed [] = refl
+  keyed (e ∷ es) = ap (λ (xs : List Answer). answers e.0 ∷ xs) (keyed es)
+
+  valued : (es : List Kept) → map (λ answer. answer_in answer.value) (values_of es) ≡ map (λ entry. answer_in entry.1.value) es
+  valued [] = refl
+  valued (e ∷ es) = ap (λ (xs : List Answer). answer_in e.1.value ∷ xs) (valued es)
+
+  -- answers and keys that were listed
+  pub listed_answers : (es : List Kept) (shared : List (Rc AnswerOf Global)) (asked : List Key) → ∥ AreAnswers answers es ∥₁
+      → map (λ answer. answer_in answer.value) shared ≡ map (λ answer. answer_in answer.value) (values_of es) → asked ≡ keys_of es
+      → map (λ answer. answer_in answer.value) shared ≡ map answers asked
+  listed_answers es shared asked are all keys =
+      ∥∥₁_elim are (one_list _ _) (λ own. all ∙ valued es ∙ own ∙ keyed es ∙ ap (map answers) (sym keys))
 
 module _ (answers : Key → Answer) (messages : List Message) where
   abbrev pub desk_with : List Key → Desk

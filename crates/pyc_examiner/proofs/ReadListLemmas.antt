@@ -6,7 +6,7 @@ use Rattle.pyc_keys.specs.KeyEquality.{is_asked, is_asked_equiv, keys_are}
 use Rattle.pyc_examiner.specs.ReadLists.{AskedAreTheList, OneListAlone, Coming, IsListFrom, after_telling, answered, by_known, first_lacking, known_answer, lacks, over, tells, unless_lacking, with_answer}
 use Rattle.pyc_reading.proofs.OwingLemmas.{same_row}
 use Rattle.pyc_reading.specs.Answers.{Answer, member_is}
-use Rattle.pyc_reading.specs.Desks.{with_key, with_keys}
+use Rattle.pyc_reading.specs.Desks.{with_keys}
 use Rattle.pyc_reading.specs.Frames.{Agree, nothing_asked, one_more}
 use Rattle.pyc_reading.specs.Keys.{Key}
 use Rattle.pyc_reading.specs.Owing.{row_keys, row_told}

@@ -1,7 +1,7 @@
 //! What was asked of an examiner, what it answered, and what it was told.
 
 ghost use Rattle.std.specs.Prelude.{◌≡◌, map, IfOk, OnErr};
-ghost use Rattle.indexmap.specs.IndexMap.{keys};
+ghost use Rattle.indexmap.specs.IndexMap.{keys, values};
 ghost use Rattle.pyc_examiner.specs.KeptAnswers.{AreAnswers};
 ghost use Rattle.pyc_found.specs.FoundOrder.{in_order};
 ghost use Rattle.pyc_iface.specs.Answers.{answer_by};
@@ -80,7 +80,7 @@ fn shared(
     kept: &IndexMap<AskedKey, Rc<Answer>>,
 ) -> Result<Vec<Rc<Answer>>, AllocError>
     ensures { IfOk result (λ shared. map (λ answer. answer_in answer.value) shared.items
-        ≡ map (λ entry. answer_in entry.1.value) kept.now.entries) }
+        ≡ map (λ answer. answer_in answer.value) (values kept.now)) }
 {
     let mut shared = Vec::with_capacity(alloc, kept.len())?;
     for answer in kept.values() {

@@ -1,4 +1,5 @@
 use Rattle.std.proofs.Common.{◌≡◌, ◌++◌, map}
+use Rattle.indexmap.specs.IndexMap.{values}
 use Rattle.pyc_reading.specs.AnswerView.{answer_in}
 use Rattle.pyc_examiner.proofs.transcript.shared.Given as goal
 
@@ -6,4 +7,4 @@ use Rattle.pyc_examiner.proofs.transcript.shared.Given as goal
 abbrev pub invariant-loop-answer : goal.invariant-loop-answer
 invariant-loop-answer l =
     map (λ answer. answer_in answer.value) l.shared.items ++ map (λ answer. answer_in answer.value) l.answer-iterator
-    ≡ map (λ entry. answer_in entry.1.value) l.fn.kept.now.entries
+    ≡ map (λ answer. answer_in answer.value) (values l.fn.kept)
