@@ -25,11 +25,9 @@ use Rattle.pyc_reading.specs.Keys.{Key}
 use Rattle.pyc_report.specs.Message.{Message}
 
 -- the check that comes of a desk
-pub check_from : (held : Numbering Key) (made : CheckedOf) (desk found : Desk) → AreOf held (numbers_in made) desk.keys
-    → messages_of made ≡ in_order desk.messages → desk ≡ found → checked_in held made ≡ check_of found.keys (in_order found.messages)
-check_from held made desk found reads messages same =
-    (λ t. record { reads = reads t; messages = messages t })
-    ∙ ap (λ (d : Desk). check_of d.keys (in_order d.messages)) same
+pub check_from : (held : Numbering Key) (made : CheckedOf) (desk : Desk) → AreOf held (numbers_in made) desk.keys
+    → messages_of made ≡ in_order desk.messages → checked_in held made ≡ check_of desk.keys (in_order desk.messages)
+check_from held made desk reads messages = λ t. record { reads = reads t; messages = messages t }
 
 module _ (old new : Numbering Key) (more : Extends old new) where
   -- more keys change nothing

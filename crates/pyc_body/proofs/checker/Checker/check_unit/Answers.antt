@@ -1,12 +1,17 @@
+use Rattle.std.proofs.Common.{◌∙◌, ap, List, Some, map}
 use Rattle.pyc_body.proofs.CheckLemmas.{check_from}
-use Rattle.pyc_body.specs.CheckerView.{files_in, options_in}
+use Rattle.pyc_body.specs.CheckerView.{options_in}
 use Rattle.pyc_body.specs.FileUnitView.{file_unit_in}
 use Rattle.pyc_body.specs.FoundMessages.{desk_by}
-use Rattle.pyc_keys.specs.KeyNumbers.{key_at}
+use Rattle.pyc_found.specs.FoundOrder.{in_order}
+use Rattle.pyc_known_answers.specs.AnsweredKeysView.{held_by, interfaces_by}
+use Rattle.pyc_reading.specs.Keys.{Key}
 use Rattle.pyc_body.proofs.checker.Checker.check_unit.Goals as goal
 
 pub returns-clause-checked : goal.returns-clause-checked
 returns-clause-checked c =
-    let self = c.args.self.now in
-    check_from (key_at c.into_checked.new.keys) c.in_ok-checked.checked _ (desk_by (options_in self) (files_in self) (file_unit_in c.args.unit.now))
-    c.in_ok-checked.ensures.reads c.in_ok-checked.ensures.messages c.in_ok-notes.ensures
+    let read = c.in_ok-transcript.ensures in
+    check_from (held_by c.into_checked.new.keys) c.in_ok-checked.checked
+    (desk_by (options_in c.args.self.now) (interfaces_by c.args.keys.now) (file_unit_in c.args.unit.now))
+    (c.in_ok-checked.ensures.reads ∙ ap (λ (asked : List Key). map (λ (key : Key). Some key) asked) read.keys)
+    (c.in_ok-checked.ensures.messages ∙ ap in_order read.messages)
