@@ -1,2 +1,0 @@
-use Rattle.std.proofs.Common.{◌∙◌}
-use Rattle.pyc_reuse.proofs.completing.check_present.Goals as goal
