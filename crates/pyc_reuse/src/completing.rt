@@ -141,6 +141,7 @@ fn complete(
         (report_in done.report) (past_kept done.kept).examined) }
     ensures rows { IfOk result (λ done. rows_in (held_by keys.new) done.kept.rows.items
         ≡ rows_among done.kept.options done.kept.files) }
+    ensures answers { IfOk result (λ done. AnswerAs (interfaces_by keys.new) done.kept.files) }
     ensures extends { Extends (held_by keys.old) (held_by keys.new) }
     ensures world { interfaces_by keys.new ≡ interfaces_by keys.old }
 {
