@@ -3,7 +3,6 @@
 ghost use Rattle.std.specs.Prelude.{◌≡◌, true, is_some, map, IfOk, IfSome, IfNone};
 ghost use Rattle.std.specs.List.{list_all, list_any};
 ghost use Rattle.pyc_iface.specs.Answers.{answer_by};
-ghost use Rattle.pyc_iface.specs.WorldView.{world_in};
 ghost use Rattle.pyc_known_answers.specs.AnsweredKeysView.{held_by, interfaces_by};
 ghost use Rattle.pyc_known_answers.specs.KnownAnswersView.{interfaces_of, IsOver};
 ghost use Rattle.pyc_reuse.specs.Answering.{AnswerAs};
@@ -19,12 +18,10 @@ ghost use Rattle.pyc_verdicts.specs.VerdictsView.{first_in, held_in, second_in};
 use crate::recheck::Recheck;
 use crate::row::Row;
 use crate::work::Work;
-use pyc_iface::World;
 use pyc_keys::ReadSet;
 use pyc_known_answers::{AnsweredKeys, KnownAnswers};
 use pyc_verdicts::Verdicts;
 use std::alloc::AllocError;
-use std::rc::Rc;
 
 /// What is to be done for each file that is present, and the answers of their world, unless it is known to answer as
 /// the last one.
@@ -54,39 +51,17 @@ impl Recheck<'_> {
             (AnswerAs (interfaces_by keys.now) (present_in self.now))) }
     {
         match self.next_world(places)? {
-            Some(world) => self.plan_over(keys, places, world),
+            Some(world) => {
+                let mut verdicts = Verdicts::new(self.alloc, keys, world)?;
+                let list = self.compare_files(places, &mut verdicts)?;
+                let next = Some(verdicts.into_second());
+                Ok(Plan { list, next })
+            }
             None => {
                 let list = self.new_files(places)?;
                 Ok(Plan { list, next: None })
             }
         }
-    }
-
-    /// What is to be done where the files that are present have another world.
-    fn plan_over(
-        &self,
-        keys: &AnsweredKeys,
-        places: &[Option<usize>],
-        world: Rc<World>,
-    ) -> Result<Plan, AllocError>
-        requires rows { ∥ rows_in (held_by keys.now) self.now.last.now.rows.items
-            ≡ rows_among (options_in self.now) (last_in self.now) ∥₁ }
-        requires places { places.now ≡ map (place_in (last_in self.now)) (present_in self.now) }
-        requires last { AnswerAs (interfaces_by keys.now) (last_in self.now) }
-        requires world { AnswerAs (world_in world.value) (present_in self.now) }
-        ensures list { IfOk result (λ plan. map work_in plan.list.items
-            ≡ map (work_of (options_in self.now) (last_in self.now) (present_in self.now)) (present_in self.now)) }
-        ensures answers { IfOk result (λ plan. IfSome plan.next (λ next.
-            AnswerAs (interfaces_of next) (present_in self.now))) }
-        ensures over { IfOk result (λ plan. IfSome plan.next (λ next. IsOver (held_by keys.now) next)) }
-        ensures some { IfOk result (λ plan. is_some plan.next ≡ true) }
-    {
-        let mut verdicts = Verdicts::new(self.alloc, keys, world)?;
-        let list = self.compare_files(places, &mut verdicts)?;
-        Ok(Plan {
-            list,
-            next: Some(verdicts.into_second()),
-        })
     }
 
     /// What is to be done where no key has another answer.

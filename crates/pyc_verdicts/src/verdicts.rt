@@ -4,7 +4,6 @@ ghost use Rattle.std.specs.Prelude.{◌≡◌, ◌||◌, [], true, false, length
 ghost use Rattle.std.specs.List.{list_all, list_any};
 ghost use Rattle.pyc_iface.specs.Answers.{answer_by};
 ghost use Rattle.pyc_iface.specs.WorldView.{world_in};
-ghost use Rattle.pyc_keys.specs.KeyNumbers.{key_at};
 ghost use Rattle.pyc_known_answers.specs.AnsweredKeysView.{held_by, interfaces_by};
 ghost use Rattle.pyc_known_answers.specs.KnownAnswersView.{interfaces_of, IsOver};
 ghost use Rattle.pyc_verdicts.specs.Changes.{AreKnown, has_changed, unknowns, with_number, with_numbers};
@@ -21,7 +20,6 @@ use std::rc::Rc;
 /// that is another answer.
 #[derive(Drop)]
 pub struct Verdicts<'a> {
-    alloc: Global,
     first: &'a AnsweredKeys,
     second: KnownAnswers,
     compared: Compared,
@@ -48,7 +46,6 @@ impl<'a> Verdicts<'a> {
     {
         let known = unknowns(alloc, first.keys().bound())?;
         Ok(Verdicts {
-            alloc,
             first,
             second: KnownAnswers::new(alloc, second),
             compared: Compared::new(alloc),
@@ -104,27 +101,27 @@ impl<'a> Verdicts<'a> {
         if let Some(changed) = self.known[id.number()] {
             return Ok(changed);
         }
-        let changed = self.compare(id)?;
+        let changed = compare(self.first, &mut self.second, id)?;
         self.compared.numbers.push(id)?;
         self.known[id.number()] = Some(changed);
         Ok(changed)
     }
+}
 
-    /// Whether both worlds answer the key of a number otherwise.
-    fn compare(&mut self, id: KeyId) -> Result<bool, AllocError>
-        requires { is_some (held_in self.old id) ≡ true }
-        ensures value { IfOk result (λ found. found
-            ≡ has_changed (answer_by (first_in self.old)) (answer_by (second_in self.old)) (held_in self.old id)) }
-        ensures compared { compared_in self.new ≡ compared_in self.old }
-        ensures held { held_in self.new ≡ held_in self.old }
-        ensures first { first_in self.new ≡ first_in self.old }
-        ensures second { second_in self.new ≡ second_in self.old }
-    {
-        let keys = self.first.keys();
-        let before = self.first.answers().find_or_form(keys, id)?;
-        let now = self.second.ask(keys, id)?;
-        Ok(!is_same(&before, &now))
-    }
+/// Whether the second world answers the key of a number otherwise than the first.
+fn compare(first: &AnsweredKeys, second: &mut KnownAnswers, id: KeyId) -> Result<bool, AllocError>
+    requires held { is_some (held_by first.now id) ≡ true }
+    requires over { IsOver (held_by first.now) second.old }
+    ensures value { IfOk result (λ found. found
+        ≡ has_changed (answer_by (interfaces_by first.now)) (answer_by (interfaces_of second.old))
+        (held_by first.now id)) }
+    ensures over { IsOver (held_by first.now) second.new }
+    ensures world { interfaces_of second.new ≡ interfaces_of second.old }
+{
+    let keys = first.keys();
+    let before = first.answers().find_or_form(keys, id)?;
+    let now = second.ask(keys, id)?;
+    Ok(!is_same(&before, &now))
 }
 
 /// So many verdicts that are not known.

@@ -1,4 +1,4 @@
-use Rattle.std.proofs.Common.{◌∙◌, ap, map, refl}
+use Rattle.std.proofs.Common.{◌∙◌, ap}
 use Rattle.pyc_body.proofs.CheckLemmas.{ids_more, unit_more}
 use Rattle.pyc_body.specs.CheckerView.{options_in}
 use Rattle.pyc_body.specs.FileUnitView.{file_unit_in}

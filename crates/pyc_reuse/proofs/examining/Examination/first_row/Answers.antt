@@ -1,20 +1,26 @@
-use Rattle.std.proofs.Common.{◌≡◌, ◌++◌, ap, arith, map, sym, take, take_all, ◌∙◌}
+use Rattle.std.proofs.Common.{◌≡◌, ◌++◌, ap, arith, map, sym, take, take_all, ◌∙◌, List, subst}
 use Rattle.pyc_body.specs.FileUnits.{id_of}
 use Rattle.pyc_body.specs.FileUnitView.{file_unit_in}
 use Rattle.pyc_body.specs.FoundMessages.{checked, without_ignored}
 use Rattle.pyc_keys.proofs.NumberingLemmas.{extends_trans}
-use Rattle.pyc_keys.specs.KeyNumbers.{key_at}
+use Rattle.pyc_known_answers.specs.AnsweredKeysView.{held_by}
 use Rattle.pyc_lower.specs.Reading.{read_of}
+use Rattle.pyc_names.specs.Interfaces.{Interface}
 use Rattle.pyc_names.specs.SourceFileView.{source_in}
 use Rattle.pyc_reuse.proofs.ChangedLemmas.{checks_more, id_more}
 use Rattle.pyc_reuse.proofs.ResultLemmas.{ok_both, on_ok}
 use Rattle.pyc_reuse.proofs.RowLemmas.{found_in_checks, ids_are, row_is}
+use Rattle.pyc_reuse.specs.Answering.{AnswerAs}
 use Rattle.pyc_reuse.specs.Examination.{options_in, present_in}
 use Rattle.pyc_reuse.specs.RowView.{told_in}
 use Rattle.pyc_reuse.specs.SharedChecks.{checks_of, found_of}
 use Rattle.pyc_workspace.specs.Files.{file_in}
 use Rattle.pyc_workspace.specs.Fresh.{source_of}
 use Rattle.pyc_reuse.proofs.examining.Examination.first_row.Goals as goal
+
+pub first_check-requires-clause-answers : goal.first_check-requires-clause-answers
+first_check-requires-clause-answers c =
+    subst (λ (s : List Interface). AnswerAs s (present_in c.args.self.now)) (sym c.loop-unit.invariant.world) c.requires.answers
 
 pub loop-unit-preserved : goal.loop-unit-preserved
 loop-unit-preserved c =
@@ -24,19 +30,20 @@ loop-unit-preserved c =
     let one = c.in_ok-check.ensures in
     record {
       checks =
-          checks_more us i c.unit-item.result (key_at c.loop-unit.keys) (key_at c.first_check.new.keys) (options_in self) (map source_of (present_in self))
+          checks_more us i c.unit-item.result (held_by c.loop-unit.keys) (held_by c.first_check.new.keys) (options_in self) (map source_of (present_in self))
           c.loop-unit.checks.items c.push.new.self.items c.in_ok-check.check one.extends c.loop-unit-test.true c.unit-item.is c.loop-unit.invariant.checks one.checked c.in_ok-push.ensures.items;
       metered =
           id_more us i c.unit-item.result c.args.meter.now c.loop-unit.meter c.first_check.new.meter c.loop-unit-test.true c.unit-item.is
           c.loop-unit.invariant.metered one.metered;
-      extends = extends_trans (key_at c.args.keys.now) (key_at c.loop-unit.keys) (key_at c.first_check.new.keys) c.loop-unit.invariant.extends one.extends;
+      extends = extends_trans (held_by c.args.keys.now) (held_by c.loop-unit.keys) (held_by c.first_check.new.keys) c.loop-unit.invariant.extends one.extends;
+      world = one.world ∙ c.loop-unit.invariant.world;
     }
 
 pub returns-clause-row : goal.returns-clause-row
 returns-clause-row c =
     let self = c.args.self.now in
     let file = file_in c.args.file.now in
-    let held = key_at c.loop-unit.keys in
+    let held = held_by c.loop-unit.keys in
     let us = c.deref-unit-items.result.now in
     let whole : take c.loop-unit.unit-index us ≡ us = take_all c.loop-unit.unit-index us (omega (arith, c.loop-unit-test.false)) in
     let units = ap (map file_unit_in) c.deref-unit-items.ensures.value ∙ c.in_ok-units.ensures in

@@ -1,12 +1,14 @@
-use Rattle.std.proofs.Common.{◌≡◌, ◌<◌, ◌++◌, ap, arith, flat_map, length, map, refl, sym, take, take_all, ◌∙◌}
+use Rattle.std.proofs.Common.{◌≡◌, ◌<◌, ◌++◌, ap, arith, flat_map, length, map, refl, sym, take, take_all, ◌∙◌, List, subst}
 use Rattle.std.proofs.lemmas.List.{length-map}
 use Rattle.std.specs.declared.alloc.Global.{Global}
 use Rattle.std.specs.declared.rc.Rc.{Rc}
 use Rattle.pyc_keys.proofs.NumberingLemmas.{extends_trans}
-use Rattle.pyc_keys.specs.KeyNumbers.{key_at}
+use Rattle.pyc_known_answers.specs.AnsweredKeysView.{held_by}
+use Rattle.pyc_names.specs.Interfaces.{Interface}
 use Rattle.pyc_reuse.proofs.FileLemmas.{ids_more, rows_more, work_there}
 use Rattle.pyc_reuse.proofs.HoldLemmas.{all_rows_still}
 use Rattle.pyc_reuse.proofs.InterfaceLemmas.{file_is}
+use Rattle.pyc_reuse.specs.Answering.{AnswerAs}
 use Rattle.pyc_reuse.specs.Examination.{last_in, options_in, present_in}
 use Rattle.pyc_reuse.specs.Examined.{examined, examined_in}
 use Rattle.pyc_reuse.specs.Past.{row_among, rows_among}
@@ -29,7 +31,11 @@ next_row-requires-clause-work c =
 pub next_row-requires-clause-rows : goal.next_row-requires-clause-rows
 next_row-requires-clause-rows c =
     let self = c.args.self.now in
-    all_rows_still (options_in self) (last_in self) (key_at c.args.keys.now) (key_at c.loop-index.keys) c.loop-index.invariant.extends self.recheck.last.now.rows.items c.requires.rows
+    all_rows_still (options_in self) (last_in self) (held_by c.args.keys.now) (held_by c.loop-index.keys) c.loop-index.invariant.extends self.recheck.last.now.rows.items c.requires.rows
+
+pub next_row-requires-clause-answers : goal.next_row-requires-clause-answers
+next_row-requires-clause-answers c =
+    subst (λ (s : List Interface). AnswerAs s (present_in c.args.self.now)) (sym c.loop-index.invariant.world) c.requires.answers
 
 pub loop-index-preserved : goal.loop-index-preserved
 loop-index-preserved c =
@@ -42,13 +48,14 @@ loop-index-preserved c =
     let at = file_is files i c.index-files-index.result c.deref.result.now (present_in self) within refl c.index-files-index.is c.deref.ensures in
     record {
       rows =
-          rows_more (options_in self) (last_in self) (present_in self) i (key_at c.loop-index.keys) (key_at c.next_row.new.keys) c.loop-index.rows.items c.push.new.self.items c.in_ok-row.row file
+          rows_more (options_in self) (last_in self) (present_in self) i (held_by c.loop-index.keys) (held_by c.next_row.new.keys) c.loop-index.rows.items c.push.new.self.items c.in_ok-row.row file
           c.in_ok-row.ensures.extends within at
           c.loop-index.invariant.rows c.in_ok-row.ensures.row c.in_ok-push.ensures.items;
       metered =
           ids_more (options_in self) (last_in self) (present_in self) i c.args.meter.now c.loop-index.meter c.next_row.new.meter file within at
           c.loop-index.invariant.metered c.in_ok-row.ensures.metered;
-      extends = extends_trans (key_at c.args.keys.now) (key_at c.loop-index.keys) (key_at c.next_row.new.keys) c.loop-index.invariant.extends c.in_ok-row.ensures.extends;
+      extends = extends_trans (held_by c.args.keys.now) (held_by c.loop-index.keys) (held_by c.next_row.new.keys) c.loop-index.invariant.extends c.in_ok-row.ensures.extends;
+      world = c.in_ok-row.ensures.world ∙ c.loop-index.invariant.world;
     }
 
 pub returns-clause-rows : goal.returns-clause-rows

@@ -1,9 +1,7 @@
-use Rattle.std.proofs.Common.{◌<◌, ap, arith, length, List, subst, sym, ◌∙◌}
+use Rattle.std.proofs.Common.{◌<◌, ap, arith, length, subst, sym, ◌∙◌}
 use Rattle.std.proofs.Math.Logic.{∥∥₁_elim}
-use Rattle.pyc_names.specs.Interfaces.{Interface}
 use Rattle.pyc_reuse.proofs.FlagLemmas.{checks_held, flags_are}
 use Rattle.pyc_reuse.proofs.RowLemmas.{row_at, row_within}
-use Rattle.pyc_reuse.specs.Answering.{AnswerAs}
 use Rattle.pyc_reuse.specs.Past.{Row}
 use Rattle.pyc_reuse.specs.Places.{IsPlace, file_at}
 use Rattle.pyc_reuse.specs.RecheckView.{last_in, options_in, present_in}
@@ -41,6 +39,5 @@ returns-clause-work c =
     let within = subst (IsPlace last) c.in-Some.is c.requires.place in
     let row = row_at (held_in verdicts) options last self.last.now.rows.items place c.index.result.now c.deref.result.now c.requires.rows within c.index.ensures c.deref.ensures in
     let checks = ∥∥₁_elim row squash₁ (λ e. ∣ ap (λ (r : Row). r.checks) e ∣₁) in
-    let first = subst (λ (s : List Interface). AnswerAs s last) (sym c.requires.first) self.last.now.answers_are in
-    let flags = flags_are options last (present_in self) (first_in verdicts) (second_in verdicts) (file_at last place) (row_in (held_in verdicts) c.deref.result.now).checks first c.requires.second checks in
+    let flags = flags_are options last (present_in self) (first_in verdicts) (second_in verdicts) (file_at last place) (row_in (held_in verdicts) c.deref.result.now).checks c.requires.first c.requires.second checks in
     c.by_flags.ensures ∙ ap (by_flags place) (c.in_ok-flags.ensures.flags ∙ flags) ∙ ap (work_from options last (present_in self)) (sym c.in-Some.is)

@@ -21,6 +21,14 @@ compare_file-requires-clause-rows c =
     let self = c.args.self.now in
     subst (λ (held : Numbering Key). ∥ rows_in held self.last.now.rows.items ≡ rows_among (options_in self) (last_in self) ∥₁) (sym c.loop-place.invariant.held) c.requires.rows
 
+pub compare_file-requires-clause-first : goal.compare_file-requires-clause-first
+compare_file-requires-clause-first c =
+    subst (λ (s : List Interface). AnswerAs s (last_in c.args.self.now)) (sym c.loop-place.invariant.first) c.requires.first
+
+pub compare_file-requires-clause-second : goal.compare_file-requires-clause-second
+compare_file-requires-clause-second c =
+    subst (λ (s : List Interface). AnswerAs s (present_in c.args.self.now)) (sym c.loop-place.invariant.second) c.requires.second
+
 pub loop-place-preserved : goal.loop-place-preserved
 loop-place-preserved c =
     let self = c.args.self.now in
@@ -33,5 +41,5 @@ loop-place-preserved c =
           c.requires.places c.loop-place-test.true c.loop-place.invariant.work c.in_ok-work.ensures.work;
       held = c.in_ok-work.ensures.held ∙ c.loop-place.invariant.held;
       first = c.in_ok-work.ensures.first ∙ c.loop-place.invariant.first;
-      second = subst (λ (s : List Interface). AnswerAs s (present_in self)) (sym c.in_ok-work.ensures.second) c.loop-place.invariant.second;
+      second = c.in_ok-work.ensures.second ∙ c.loop-place.invariant.second;
     }

@@ -1,12 +1,20 @@
+use Rattle.std.proofs.Common.{◌<◌, ◌≡◌, is_some, subst, true, ℕ}
 use Rattle.pyc_iface.specs.Answers.{answer_by}
-use Rattle.pyc_iface.specs.WorldView.{world_in}
-use Rattle.pyc_keys.specs.KeyNumbers.{key_at}
+use Rattle.pyc_keys.specs.Numbering.{Numbering}
+use Rattle.pyc_known_answers.specs.AnsweredKeysView.{held_by, interfaces_by}
+use Rattle.pyc_known_answers.specs.KnownAnswersView.{interfaces_of}
+use Rattle.pyc_reading.specs.Keys.{Key}
 use Rattle.pyc_verdicts.proofs.VerdictLemmas.{known_first}
 use Rattle.pyc_verdicts.proofs.verdicts.Verdicts.new.Goals as goal
 
 pub invariant_of-result : goal.invariant_of-result
-invariant_of-result c = record {
-  are_known =
-      rw (c.new.ensures, c.in_ok-known.ensures)
-      (known_first (key_at c.args.keys.now) (answer_by (world_in c.args.first.now)) (answer_by (world_in c.args.second.now)) c.bound.result c.bound.ensures);
-}
+invariant_of-result c =
+    let first = c.args.first.now in
+    let count = c.bound.result in
+    record {
+      second_over = c.new.ensures.over (held_by first);
+      are_known =
+          rw (c.new-2.ensures, c.in_ok-known.ensures)
+          (known_first (held_by first) (answer_by (interfaces_by first)) (answer_by (interfaces_of c.new.result)) count
+          (subst (λ (h : Numbering Key). (i : ℕ) → is_some (h i) ≡ true → i < count) c.keys.ensures c.bound.ensures));
+    }
