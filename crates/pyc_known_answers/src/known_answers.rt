@@ -10,10 +10,12 @@ ghost use Rattle.pyc_known_answers.specs.KnownAnswers.{answers_at, where_held};
 ghost use Rattle.pyc_reading.specs.AnswerView.{answer_in};
 ghost use Rattle.pyc_reading.specs.KeyView.{key_of};
 ghost use Rattle.pyc_reading.specs.Keys.{Key as PlainKey};
+ghost use Rattle.pyc_same_answers.specs.SameAnswers.{same_answer};
 
 use pyc_iface::World;
 use pyc_keys::{KeyId, Keys};
 use pyc_reading::{Answer, Key};
+use pyc_same_answers::is_same;
 use std::alloc::{AllocError, Global};
 use std::rc::Rc;
 
@@ -80,6 +82,32 @@ impl KnownAnswers {
             Some(answer) => answer.clone(),
             None => self.form_at(keys, id),
         }
+    }
+
+    /// Whether the answer to the key of a number that is held is this one. It is formed and kept; where it is this one,
+    /// this one is shared. The only error is that memory runs out.
+    pub fn is_answered_by(
+        &mut self,
+        keys: &Keys,
+        id: KeyId,
+        given: &Rc<Answer>,
+    ) -> Result<bool, AllocError>
+        requires held { is_some (key_at keys.now id) ≡ true }
+        requires over { IsOver (key_at keys.now) self.old }
+        ensures value { (key : PlainKey) → key_at keys.now id ≡ Some key → IfOk result (λ same. same
+            ≡ same_answer (answer_in given.now.value) (answer_by (interfaces_of self.old) key)) }
+        ensures over { IsOver (key_at keys.now) self.new }
+        ensures world { interfaces_of self.new ≡ interfaces_of self.old }
+    {
+        let formed = self.world.ask(self.alloc, keys.key(id))?;
+        if is_same(given, &formed) {
+            let shared = given.clone()?;
+            self.keep(id, shared)?;
+            return Ok(true);
+        }
+        let shared = Rc::new(self.alloc, formed)?;
+        self.keep(id, shared)?;
+        Ok(false)
     }
 
     /// Keeps the answer of a number, which was formed elsewhere. The only error is that memory runs out; then the same

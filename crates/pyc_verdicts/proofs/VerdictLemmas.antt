@@ -30,10 +30,12 @@ known_first held before now n bound = record { room = λ i here. let below = bou
 
 -- ---- the answers to the key of a number that is held
 
-pub changed_at : (first second : Key → Answer) (key : Option Key) (before now : Answer) → is_some key ≡ true → ((k : Key) → key ≡ Some k → before ≡ first k)
-    → ((k : Key) → key ≡ Some k → now ≡ second k) → not (same_answer before now) ≡ has_changed first second key
-changed_at first second None before now held b n = absurd (true≢false (sym held))
-changed_at first second (Some k) before now held b n = λ t. not (same_answer (b k refl t) (n k refl t))
+pub changed_is : (first second : Key → Answer) (key : Option Key) (before : Answer) (same : Bool) → is_some key ≡ true
+    → ((k : Key) → key ≡ Some k → before ≡ first k) → ((k : Key) → key ≡ Some k → same ≡ same_answer before (second k))
+    → not same ≡ has_changed first second key
+changed_is first second None before same held b is = absurd (true≢false (sym held))
+changed_is first second (Some k) before same held b is =
+    ap not (is k refl) ∙ ap (λ (answer : Answer). not (same_answer answer (second k))) (b k refl)
 
 -- ---- some numbers
 

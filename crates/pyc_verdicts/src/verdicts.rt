@@ -12,7 +12,6 @@ use crate::compared::Compared;
 use pyc_iface::World;
 use pyc_keys::KeyId;
 use pyc_known_answers::{AnsweredKeys, KnownAnswers};
-use pyc_same_answers::is_same;
 use std::alloc::{AllocError, Global};
 use std::rc::Rc;
 
@@ -120,8 +119,8 @@ fn compare(first: &AnsweredKeys, second: &mut KnownAnswers, id: KeyId) -> Result
 {
     let keys = first.keys();
     let before = first.answers().find_or_form(keys, id)?;
-    let now = second.ask(keys, id)?;
-    Ok(!is_same(&before, &now))
+    let same = second.is_answered_by(keys, id, &before)?;
+    Ok(!same)
 }
 
 /// So many verdicts that are not known.
