@@ -43,7 +43,8 @@ fn same(
     let mut told = Vec::new(alloc);
     for id in ids {
         let own = first.ask(keys, *id)?;
-        told.push(is_same(&own, &second.ask(keys, *id)?))?;
+        let other = second.ask(keys, *id)?;
+        told.push(is_same(&own, &other))?;
     }
     Ok(told)
 }

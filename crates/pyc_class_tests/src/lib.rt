@@ -1,7 +1,9 @@
 //! Tests of classes and files: what class statements bind, what classes have under names, and their orders; when files
-//! have one interface, when answers are one, keys by number, and answers by number; in a crate of their own.
+//! have one interface, when answers are one, keys and answers by number; in a crate of their own.
 #![tactic(auto)]
 
+#[cfg(test)]
+mod answered_keys;
 #[cfg(test)]
 mod answers;
 #[cfg(test)]
