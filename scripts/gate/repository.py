@@ -16,11 +16,17 @@ def libraries(root=ROOT):
 
 
 def below(known, name):
-    """Returns the repository's crates below a crate."""
-    found = []
-    for it in [it for it in known[name] if it in known]:
-        found += [one for one in [*below(known, it), it] if one not in found]
-    return found
+    """Returns the repository's crates below a crate, each after those that it stands on."""
+    found = {}
+
+    def visit(crate):
+        for it in known[crate]:
+            if it in known and it not in found:
+                visit(it)
+                found[it] = None
+
+    visit(name)
+    return [*found]
 
 
 def ask_git(root, *words):
