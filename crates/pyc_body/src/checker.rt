@@ -73,7 +73,8 @@ impl Checker {
         files: &[Rc<SourceFile>],
     ) -> Result<Vec<Checked>, AllocError>
         ensures checked { IfOk result (λ checks. map (checked_in (held_by keys.new)) checks.items
-            ≡ map (spec.checked_by (options_in self.now) (interfaces_by keys.old)) (units.units_of (sources_in files.now))) }
+            ≡ map (spec.checked_by (options_in self.now) (interfaces_by keys.old))
+            (units.units_of (sources_in files.now))) }
         ensures metered { OnOk result (meter.new ≡ meter.old ++ map id_of (units.units_of (sources_in files.now))) }
         ensures extends { Extends (held_by keys.old) (held_by keys.new) }
         ensures world { interfaces_by keys.new ≡ interfaces_by keys.old }

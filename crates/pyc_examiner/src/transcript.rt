@@ -34,10 +34,7 @@ impl Transcript {
     ghost use Rattle.pyc_examiner.specs.TranscriptView.{asked_in, told_in, AreAnswered};
 
     /// These answers and messages. It takes no memory.
-    pub(crate) fn new(
-        answers: IndexMap<AskedKey, Rc<Answer>>,
-        messages: Vec<Message>,
-    ) -> Transcript
+    pub(crate) fn new(answers: IndexMap<AskedKey, Rc<Answer>>, messages: Vec<Message>) -> Transcript
         ensures keys { asked_in result ≡ keys answers }
         ensures messages { told_in result ≡ map message_in messages.items }
         ensures answers { result.answers.entries ≡ answers.entries }
@@ -54,11 +51,7 @@ impl Transcript {
 
     /// What was asked, by number, and what was told in order, each line, code and text once; the answers are kept. The
     /// only error is that memory runs out; then each number stands for what it did before.
-    pub fn into_checked(
-        self,
-        alloc: Global,
-        keys: &mut AnsweredKeys,
-    ) -> Result<Checked, AllocError>
+    pub fn into_checked(self, alloc: Global, keys: &mut AnsweredKeys) -> Result<Checked, AllocError>
         requires { AreAnswered (answer_by (interfaces_by keys.old)) self }
         ensures reads { IfOk result (λ checked. AreOf (held_by keys.new) (numbers_in checked) (asked_in self)) }
         ensures messages { IfOk result (λ checked. messages_of checked ≡ in_order (told_in self)) }

@@ -10,7 +10,7 @@ use Rattle.pyc_body.specs.FileUnits.{FileUnit, UnitId, file_units, id_of}
 use Rattle.pyc_body.specs.FileUnitView.{file_unit_in}
 use Rattle.pyc_body.proofs.CheckLemmas.{one_check_more}
 use Rattle.pyc_body.specs.FoundMessages.{checked, found, reads}
-use Rattle.pyc_examiner.specs.CheckedView.{Checked, checked_in}
+use Rattle.pyc_examiner.specs.CheckedView.{checked_in}
 use Rattle.pyc_examiner.specs.declared.checked.Checked.{Checked as CheckedOf}
 use Rattle.pyc_iface.specs.declared.options.Options.{Options}
 use Rattle.pyc_keys.specs.Numbering.{Extends, Numbering}

@@ -1,10 +1,6 @@
 -- What holds of a result where there is one.
 use Rattle.std.proofs.Common.{Result, Ok, Err, IfOk, OnOk}
 
-pub ok_also : {X E : Type 0} {P Q : X → Type 0} (result : Result X E) → ((x : X) → P x → Q x) → IfOk result P → IfOk result Q
-ok_also (Ok x) h p = h x p
-ok_also (Err e) h p = tt
-
 pub ok_both : {X E : Type 0} {P Q R : X → Type 0} (result : Result X E) → ((x : X) → P x → Q x → R x) → IfOk result P → IfOk result Q → IfOk result R
 ok_both (Ok x) h p q = h x p q
 ok_both (Err e) h p q = tt

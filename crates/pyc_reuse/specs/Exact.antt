@@ -1,5 +1,5 @@
 -- What a completed check is.
-use Rattle.std.specs.Prelude.{◌≡◌, ℕ, ◌↔◌, List, map, slice_get, Some}
+use Rattle.std.specs.Prelude.{◌≡◌, ℕ, ◌↔◌, List, slice_get, Some}
 use Rattle.std.specs.List.{Contains}
 use Rattle.pyc_body.specs.FileUnits.{FileUnit, UnitId}
 use Rattle.pyc_body.specs.FoundLaws.{AreListed}

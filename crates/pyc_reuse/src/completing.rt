@@ -16,6 +16,7 @@ ghost use Rattle.pyc_reuse.specs.Works.{work_in, work_of};
 ghost use Rattle.pyc_workspace.specs.Files.{files_in};
 ghost use Rattle.pyc_workspace.specs.Fresh.{fresh, units_of};
 
+use crate::comparing::Plan;
 use crate::examining::Examination;
 use crate::kept::Kept;
 use crate::last_check::LastCheck;
@@ -76,12 +77,12 @@ pub fn check_again(
 
 /// A check of the files that are present, after the last one, over what their world answers. No key is let go. Where
 /// memory runs out, what answers is what did.
-fn check_present(
+fn check_present<'a>(
     alloc: Global,
-    last: &Kept,
+    last: &'a Kept,
     keys: &mut AnsweredKeys,
-    present: &Workspace,
-    touched: &IndexSet<String>,
+    present: &'a Workspace,
+    touched: &'a IndexSet<String>,
 ) -> Result<Completed, AllocError>
     requires kept { AreKept (past_kept last.now).files present.now touched.now }
     requires rows { ∥ rows_in (held_by keys.old) last.now.rows.items
@@ -104,11 +105,11 @@ fn check_present(
         touched,
     };
     let places = recheck.places()?;
-    let plan = recheck.plan(keys, &places)?;
-    match plan.next {
+    let Plan { list, next } = recheck.plan(keys, &places)?;
+    match next {
         Some(next) => {
             let before = keys.exchange(next);
-            match complete(recheck, keys, present, &plan.list) {
+            match complete(recheck, keys, present, &list) {
                 Ok(done) => Ok(done),
                 Err(error) => {
                     keys.exchange(before);
@@ -116,7 +117,7 @@ fn check_present(
                 }
             }
         }
-        None => complete(recheck, keys, present, &plan.list),
+        None => complete(recheck, keys, present, &list),
     }
 }
 
@@ -133,12 +134,14 @@ fn complete(
     requires answers { AnswerAs (interfaces_by keys.old) present.now }
     requires list { map work_in list.now
         ≡ map (work_of (options_in recheck) (last_in recheck) present.now) present.now }
-    ensures report { IfOk result (λ done. report_in done.report ≡ fresh (options_in recheck) present.now) }
-    ensures past { IfOk result (λ done. past_kept done.kept ≡ next_past (past_kept recheck.last.now) present.now) }
-    ensures exact { IfOk result (λ done. IsExact (options_in recheck) (last_in recheck) present.now
+    ensures report { IfOk result (λ done. report_in done.report ≡ fresh (options_in recheck.entry) present.now) }
+    ensures past { IfOk result (λ done. past_kept done.kept
+        ≡ next_past (past_kept recheck.entry.last.now) present.now) }
+    ensures exact { IfOk result (λ done. IsExact (options_in recheck.entry) (last_in recheck.entry) present.now
         (report_in done.report) (past_kept done.kept).examined) }
     ensures rows { IfOk result (λ done. rows_in (held_by keys.new) done.kept.rows.items
         ≡ rows_among done.kept.options done.kept.files) }
+    ensures answers { IfOk result (λ done. AnswerAs (interfaces_by keys.new) done.kept.files) }
     ensures extends { Extends (held_by keys.old) (held_by keys.new) }
     ensures world { interfaces_by keys.new ≡ interfaces_by keys.old }
 {

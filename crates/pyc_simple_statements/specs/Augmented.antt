@@ -1,5 +1,5 @@
 -- Augmented assignments (Python reference 3.13, "Augmented assignment statements" and "Emulating numeric types").
-use Rattle.std.specs.Prelude.{ℕ, Bool, true, false, is_some, Option, None}
+use Rattle.std.specs.Prelude.{Bool, true, false, is_some, None}
 use Rattle.pyc_assignments.specs.Assignments.{assigned}
 use Rattle.pyc_ast.specs.declared.operator.Operator.{Operator}
 use Rattle.pyc_ast.specs.declared.operator.Operator.TheVariants as o

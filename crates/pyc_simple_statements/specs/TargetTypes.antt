@@ -43,11 +43,12 @@ module _ (body : Body) where
     found ← body_name body p.locals at x
     Done found.ty
 
-  -- the type of an attribute of an expression: its owner is read also where the attribute is narrowed
-  unfoldable pub attribute_type : Option Ty → Point → Position → Expr → List ℕ → Step Ty
-  attribute_type known p at x n = do
+  -- the type of an attribute of an expression: its owner is read also where the attribute, which is the target, is
+  -- narrowed
+  unfoldable pub attribute_type : Point → Target → Position → Expr → List ℕ → Step Ty
+  attribute_type p whole at x n = do
     owner ← (body_reads body).value p x None
-    unless_known known (found_type at n owner)
+    unless_known (known_at p.state (target_place whole)) (found_type at n owner)
 
   -- the type of an item of a value
   unfoldable pub item_type : Point → Position → Expr → Index → Step Ty
@@ -56,15 +57,14 @@ module _ (body : Body) where
     got ← (body_reads body).index p brackets
     subscript at brackets got ty
 
-  -- the type of a target that begins at a position within its parentheses, by its form, where it is narrowed to some
-  -- type or to none; an item is no place, and a tuple or a list of targets is never asked
-  abbrev pub form_type : Option Ty → Point → Position → TargetForm → Step Ty
-  form_type known p at (name x) = unless_known known (name_type p at x)
-  form_type known p at (to.attribute x n) = attribute_type known p at x n
-  form_type known p at (to.subscript x brackets) = item_type p at x brackets
-  form_type known p at (unpacking elements) = Done any
+  -- the type of a target that begins at a position within its parentheses, by its form: that to which it is narrowed,
+  -- if it is; an item is no place, and a tuple or a list of targets is never asked
+  abbrev pub form_type : Point → Target → Position → TargetForm → Step Ty
+  form_type p whole at (name x) = unless_known (known_at p.state (target_place whole)) (name_type p at x)
+  form_type p whole at (to.attribute x n) = attribute_type p whole at x n
+  form_type p whole at (to.subscript x brackets) = item_type p at x brackets
+  form_type p whole at (unpacking elements) = Done any
 
   -- the type of a target at a point, as an expression has it
   abbrev pub target_type : Point → Target → Step Ty
-  target_type p (target at inside form) =
-      form_type (known_at p.state (target_place (target at inside form))) p inside form
+  target_type p (target at inside form) = form_type p (target at inside form) inside form

@@ -2,7 +2,7 @@
 
 ghost use Rattle.std.specs.Prelude.{◌≡◌, IfOk, option_map};
 ghost use Rattle.pyc_ast.specs.ExprView.{expr_of, index_of};
-ghost use Rattle.pyc_ast.specs.TargetView.{target_form_of, target_of};
+ghost use Rattle.pyc_ast.specs.TargetView.{target_of};
 ghost use Rattle.pyc_bodies.specs.Views.{body_in};
 ghost use Rattle.pyc_locals.specs.Views.{point_in};
 ghost use Rattle.pyc_obligations.specs.ValueView.{value_of};
@@ -36,37 +36,35 @@ impl StatementReader<'_> {
             (spec.target_type (body_in self.now.body.now) (point_in point.now) (target_of target.now))
             (N.desk notes.old) result (N.desk notes.new) }
     {
-        let known = known_type(self.alloc, &point.state, target)?;
-        self.form_type(notes, known, target, point)
-    }
-
-    /// The type of a target by its form, where it is narrowed to `known`, if to any type.
-    #[tactic(auto, using(pyc_obligations::proofs::Steps::performing), unfolding(crate::specs::TargetTypes::attribute_type))]
-    fn form_type<N: Judge>(
-        &self,
-        notes: &mut N,
-        known: Option<Ty>,
-        target: &Target,
-        point: &Point,
-    ) -> Result<Ty, AllocError>
-        ensures { Performs ty_of
-            (spec.form_type (body_in self.now.body.now) (option_map ty_of known) (point_in point.now)
-            target.now.inside (target_form_of target.now.form)) (N.desk notes.old) result (N.desk notes.new) }
-    {
         match &target.form {
-            TargetForm::Name(name) => match known {
-                Some(ty) => Ok(ty),
-                None => self.name_type(notes, target.inside, name, point),
-            },
+            TargetForm::Name(name) => self.name_unless_known(notes, target, name, point),
             TargetForm::Attribute { value, name } => {
-                let owner = self.body.value(self.alloc, notes, point, value, None)?;
-                let ty = self.type_unless_known(notes, known, target.inside, &owner, name)?;
-                Ok(ty)
+                self.attribute_type(notes, target, value, name, point)
             }
             TargetForm::Subscript { value, index } => {
                 self.item_type(notes, target.inside, value, index, point)
             }
             TargetForm::Unpacking(_) => Ok(Ty::Any),
+        }
+    }
+
+    /// The type of a target that is a name: that to which it is narrowed, if it is.
+    fn name_unless_known<N: Judge>(
+        &self,
+        notes: &mut N,
+        target: &Target,
+        name: &Text,
+        point: &Point,
+    ) -> Result<Ty, AllocError>
+        ensures { Performs ty_of
+            (spec.unless_known
+            (spec.known_at (state_of point.now.state) (places.target_place (target_of target.now)))
+            (spec.name_type (body_in self.now.body.now) (point_in point.now) target.now.inside name.now))
+            (N.desk notes.old) result (N.desk notes.new) }
+    {
+        match known_type(self.alloc, &point.state, target)? {
+            Some(ty) => Ok(ty),
+            None => self.name_type(notes, target.inside, name, point),
         }
     }
 
@@ -87,22 +85,43 @@ impl StatementReader<'_> {
         Ok(found.ty)
     }
 
-    /// The type of the attribute of a value that was read, which is narrowed to `known`, if to any type.
-    fn type_unless_known<N: Judge>(
+    /// The type of a target that is an attribute of an expression: its owner is read also where it is narrowed.
+    #[tactic(auto, using(pyc_obligations::proofs::Steps::performing), unfolding(crate::specs::TargetTypes::attribute_type))]
+    fn attribute_type<N: Judge>(
         &self,
         notes: &mut N,
-        known: Option<Ty>,
-        at: Position,
-        owner: &Value,
+        target: &Target,
+        value: &Expr,
         name: &Text,
+        point: &Point,
     ) -> Result<Ty, AllocError>
         ensures { Performs ty_of
-            (spec.unless_known (option_map ty_of known) (spec.found_type at name.now (value_of owner.now)))
+            (spec.attribute_type (body_in self.now.body.now) (point_in point.now) (target_of target.now)
+            target.now.inside (expr_of value.now) name.now) (N.desk notes.old) result (N.desk notes.new) }
+    {
+        let owner = self.body.value(self.alloc, notes, point, value, None)?;
+        let ty = self.found_unless_known(notes, target, &owner, name, point)?;
+        Ok(ty)
+    }
+
+    /// The type of a target that is an attribute of a value that was read: that to which it is narrowed, if it is.
+    fn found_unless_known<N: Judge>(
+        &self,
+        notes: &mut N,
+        target: &Target,
+        owner: &Value,
+        name: &Text,
+        point: &Point,
+    ) -> Result<Ty, AllocError>
+        ensures { Performs ty_of
+            (spec.unless_known
+            (spec.known_at (state_of point.now.state) (places.target_place (target_of target.now)))
+            (spec.found_type target.now.inside name.now (value_of owner.now)))
             (N.desk notes.old) result (N.desk notes.new) }
     {
-        match known {
+        match known_type(self.alloc, &point.state, target)? {
             Some(ty) => Ok(ty),
-            None => self.found_type(notes, at, owner, name),
+            None => self.found_type(notes, target.inside, owner, name),
         }
     }
 

@@ -121,22 +121,24 @@ module _ (body : Body) (source : is_source_around (class_around body.kind) ≡ t
   of-unless_known (Some ty) found files = files_done
   of-unless_known None found files = files
 
-  of-attribute_type : (known : Option Ty) (p : Point) (at : Position) (x : Expr) (n : List ℕ) → Files (attribute_type body known p at x n)
+  of-attribute_type : (p : Point) (whole : Target) (at : Position) (x : Expr) (n : List ℕ) → Files (attribute_type body p whole at x n)
   unfolding attribute_type
-  of-attribute_type known p at x n = files_then _ _ (of-body_value p x None) (λ owner. of-unless_known known (found_type at n owner) (of-found_type at n owner))
+  of-attribute_type p whole at x n =
+      files_then _ _ (of-body_value p x None)
+      (λ owner. of-unless_known (known_at p.state (target_place whole)) (found_type at n owner) (of-found_type at n owner))
 
   of-item_type : (p : Point) (at : Position) (x : Expr) (brackets : Index) → Files (item_type body p at x brackets)
   unfolding item_type
   of-item_type p at x brackets = files_then _ _ (of-part_type p x None) (λ ty. files_then _ _ (of-body_index p brackets) (λ got. of-subscript at brackets got ty))
 
-  of-form_type : (known : Option Ty) (p : Point) (at : Position) (form : TargetForm) → Files (form_type body known p at form)
-  of-form_type known p at (to.name x) = of-unless_known known (name_type body p at x) (of-name_type p at x)
-  of-form_type known p at (to.attribute x n) = of-attribute_type known p at x n
-  of-form_type known p at (to.subscript x brackets) = of-item_type p at x brackets
-  of-form_type known p at (to.unpacking elements) = files_done
+  of-form_type : (p : Point) (whole : Target) (at : Position) (form : TargetForm) → Files (form_type body p whole at form)
+  of-form_type p whole at (to.name x) = of-unless_known (known_at p.state (target_place whole)) (name_type body p at x) (of-name_type p at x)
+  of-form_type p whole at (to.attribute x n) = of-attribute_type p whole at x n
+  of-form_type p whole at (to.subscript x brackets) = of-item_type p at x brackets
+  of-form_type p whole at (to.unpacking elements) = files_done
 
   of-target_type : (p : Point) (whole : Target) → Files (target_type body p whole)
-  of-target_type p (target at inside form) = of-form_type (known_at p.state (target_place (target at inside form))) p inside form
+  of-target_type p (target at inside form) = of-form_type p (target at inside form) inside form
 
   -- ---- augmented assignments
 

@@ -1,2 +1,36 @@
-use Rattle.std.proofs.Common.{◌∙◌}
+use Rattle.std.proofs.Common.{List, subst, sym}
+use Rattle.pyc_keys.specs.Numbering.{Extends, Numbering}
+use Rattle.pyc_known_answers.proofs.KnownLemmas.{stay_with_more_keys}
+use Rattle.pyc_known_answers.specs.AnsweredKeysView.{held_by, interfaces_by}
+use Rattle.pyc_known_answers.specs.KnownAnswersView.{interfaces_of, known_at}
+use Rattle.pyc_names.specs.Interfaces.{Interface}
+use Rattle.pyc_reading.specs.Keys.{Key}
+use Rattle.pyc_reuse.specs.Answering.{AnswerAs}
 use Rattle.pyc_reuse.proofs.completing.check_present.Goals as goal
+
+pub complete-requires-clause-answers : goal.complete-requires-clause-answers
+complete-requires-clause-answers c =
+    let answers = rw c.in-Some.is at c.in_ok-list.ensures.answers in
+    subst (λ (interfaces : List Interface). AnswerAs interfaces c.args.present.now) (sym c.exchange-before.ensures.world)
+    (subst (AnswerAs (interfaces_of c.in-Some.next)) c.files.ensures.all answers)
+
+pub returns-in-Ok-clause-extends : goal.returns-in-Ok-clause-extends
+returns-in-Ok-clause-extends c =
+    subst (λ (held : Numbering Key). Extends held (held_by c.complete.new.keys)) c.exchange-before.ensures.held c.complete.ensures.extends
+
+pub exchange-requires : goal.exchange-requires
+exchange-requires c =
+    let before = c.exchange-before.result in
+    let held = held_by c.complete.new.keys in
+    stay_with_more_keys (interfaces_of before) (held_by c.args.keys.now) held (known_at before)
+    (subst (λ (first : Numbering Key). Extends first held) c.exchange-before.ensures.held c.complete.ensures.extends) c.exchange-before.ensures.over
+
+pub returns-in-Some-clause-extends : goal.returns-in-Some-clause-extends
+returns-in-Some-clause-extends c =
+    subst (λ (held : Numbering Key). Extends (held_by c.args.keys.now) held) (sym c.exchange.ensures.held)
+    (subst (λ (held : Numbering Key). Extends held (held_by c.complete.new.keys)) c.exchange-before.ensures.held c.complete.ensures.extends)
+
+pub complete-requires-in-None-clause-answers : goal.complete-requires-in-None-clause-answers
+complete-requires-in-None-clause-answers c =
+    let answers = rw c.in-None.is at c.in_ok-list.ensures.alike in
+    subst (AnswerAs (interfaces_by c.args.keys.now)) c.files.ensures.all answers

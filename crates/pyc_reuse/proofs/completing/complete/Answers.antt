@@ -3,6 +3,7 @@ use Rattle.std.proofs.lemmas.List.{length-map}
 use Rattle.std.specs.declared.alloc.Global.{Global}
 use Rattle.std.specs.declared.rc.Rc.{Rc}
 use Rattle.pyc_known_answers.specs.AnsweredKeysView.{held_by, interfaces_by}
+use Rattle.pyc_names.specs.Interfaces.{Interface}
 use Rattle.pyc_reuse.proofs.ExactLemmas.{exact_from}
 use Rattle.pyc_reuse.proofs.RowLemmas.{report_is}
 use Rattle.pyc_reuse.specs.Answering.{AnswerAs}
@@ -61,3 +62,8 @@ returns-clause-exact c =
 
 pub returns-clause-rows : goal.returns-clause-rows
 returns-clause-rows c = c.in_ok-rows.ensures.rows ∙ ap (rows_among (options_in c.args.recheck)) (c.requires.present ∙ sym c.in_ok-files.ensures.same)
+
+pub returns-clause-answers : goal.returns-clause-answers
+returns-clause-answers c =
+    subst (λ (interfaces : List Interface). AnswerAs interfaces c.in_ok-files.files) (sym c.in_ok-rows.ensures.world)
+    (subst (AnswerAs (interfaces_by c.args.keys.now)) (sym c.in_ok-files.ensures.same) c.requires.answers)

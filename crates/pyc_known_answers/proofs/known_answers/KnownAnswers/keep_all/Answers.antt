@@ -19,13 +19,14 @@ loop-answer-preserved-in-Some-split_first c = record {
       let after = into_iter_items c.next.new.self in
       let held = c.loop-answer.invariant.over keys asked are of given in
       let next =
-          first_left keys (λ answer. answer_in answer.value) answer_to c.in-Some-split_first.id.now c.in-Some-split_first.others.now c.in-Some.answer after
-          (subst (λ ids. AreLeft keys (λ answer. answer_in answer.value) answer_to ids (c.in-Some.answer ∷ after)) c.in-Some-split_first.ensures.cases.0
-          (subst (λ answers. AreLeft keys (λ answer. answer_in answer.value) answer_to c.loop-answer.rest.now answers) c.in-Some.ensures.steps.0 held.1))
-      in
-      (c.keep_reserved.ensures.over keys next.0 held.0 next.1
-      (next.2 ∙ ap (λ interfaces. answer_by interfaces next.0) (sym c.loop-answer.invariant.world)),
-      next.3);
+      first_left keys (λ answer. answer_in answer.value) answer_to c.in-Some-split_first.id.now c.in-Some-split_first.others.now c.in-Some.answer after
+      (subst (λ ids. AreLeft keys (λ answer. answer_in answer.value) answer_to ids (c.in-Some.answer ∷ after)) c.in-Some-split_first.ensures.cases.0
+      (subst (λ answers. AreLeft keys (λ answer. answer_in answer.value) answer_to c.loop-answer.rest.now answers) c.in-Some.ensures.steps.0 held.1))
+      in (
+        c.keep_reserved.ensures.over keys next.0 held.0 next.1
+            (next.2 ∙ ap (λ interfaces. answer_by interfaces next.0) (sym c.loop-answer.invariant.world)),
+        next.3,
+      );
 }
 
 pub loop-answer-preserved : goal.loop-answer-preserved

@@ -1,4 +1,4 @@
-use Rattle.std.proofs.Common.{◌≡◌, List, [], length, is_some, ap, sym, ◌∙◌, rules}
+use Rattle.std.proofs.Common.{◌≡◌, List, [], is_some, ap, sym, ◌∙◌, rules}
 use Rattle.std.specs.declared.alloc.Global.{Global}
 use Rattle.std.specs.declared.rc.Rc.{Rc}
 use Rattle.pyc_iface.specs.Answers.{answer_by}
@@ -11,25 +11,18 @@ use Rattle.pyc_reuse.specs.declared.row.Row.{Row as RowOf}
 use Rattle.pyc_reuse.specs.Examined.{answers_of}
 use Rattle.pyc_reuse.specs.Past.{rows_among}
 use Rattle.pyc_reuse.specs.RowView.{reads_in, rows_in}
-use Rattle.pyc_workspace.specs.Files.{files_in}
-use Rattle.pyc_workspace.specs.Fresh.{units_of}
 use Rattle.pyc_workspace.specs.Workspace.{File}
 use Rattle.pyc_reuse.proofs.last_check.LastCheck.of_nothing.Goals as goal
 
 pub invariant_of-result-2 : goal.invariant_of-result-2
-invariant_of-result-2 c =
-    let none : files_in c.files.inside.files.items ≡ [] = search rules in
-    record { bodies_are = ap (λ (fs : List File). length (units_of fs)) (sym none) }
-
-pub invariant_of-result-3 : goal.invariant_of-result-3
 unfolding rows_among answers_of
-invariant_of-result-3 c =
-    let none : files_in c.files.inside.files.items ≡ [] = search rules in
-    let rows : c.new-3.result.items ≡ [] = search rules in
-    let keys = c.new-5.result in
+invariant_of-result-2 c =
+    let none : c.new-files.result ≡ [] = search rules in
+    let rows : c.new-2.result.items ≡ [] = search rules in
+    let keys = c.new-4.result in
     let world : interfaces_by keys ≡ [] = search rules in
     record {
       rows_are = ∣ ap (rows_in (held_by keys)) rows ∙ ap (rows_among c.args.options) (sym none) ∣₁;
       answers_are = ∣ (λ key. ap (λ (fs : List Interface). answer_by fs key) world ∙ ap (λ (fs : List File). answers_of fs key) (sym none)) ∣₁;
-      held = λ i. ap (λ (h : Numbering Key). is_some (h i)) c.new-5.ensures.held ∙ sym (ap (λ (rs : List (Rc RowOf Global)). is_in (reads_in rs) i) rows);
+      held = λ i. ap (λ (h : Numbering Key). is_some (h i)) c.new-4.ensures.held ∙ sym (ap (λ (rs : List (Rc RowOf Global)). is_in (reads_in rs) i) rows);
     }

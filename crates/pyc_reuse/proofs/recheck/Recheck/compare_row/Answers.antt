@@ -1,4 +1,4 @@
-use Rattle.std.proofs.Common.{◌≡◌, ◌∙◌, ap, is_some, map, refl, true}
+use Rattle.std.proofs.Common.{◌≡◌, ◌∙◌, ap, is_some, map, refl}
 use Rattle.std.specs.List.{list_all, list_any}
 use Rattle.pyc_examiner.specs.CheckedView.{Checked, checked_in}
 use Rattle.pyc_iface.specs.Answers.{answer_by}

@@ -16,32 +16,32 @@ use Rattle.pyc_reuse.proofs.recheck.Recheck.plan.Goals as goal
 pub compare_files-requires-clause-rows : goal.compare_files-requires-clause-rows
 compare_files-requires-clause-rows c =
     let self = c.args.self.now in
-    subst (λ (held : Numbering Key). ∥ rows_in held self.last.now.rows.items ≡ rows_among (options_in self) (last_in self) ∥₁) (sym c.in_ok-verdicts.ensures.held) c.requires.rows
+    subst (λ (held : Numbering Key). ∥ rows_in held self.last.now.rows.items ≡ rows_among (options_in self) (last_in self) ∥₁) (sym c.in_ok-verdicts-in-Some.ensures.held) c.requires.rows
 
 pub compare_files-requires-clause-first : goal.compare_files-requires-clause-first
 compare_files-requires-clause-first c =
-    subst (λ (s : List Interface). AnswerAs s (last_in c.args.self.now)) (sym c.in_ok-verdicts.ensures.first) c.requires.last
+    subst (λ (s : List Interface). AnswerAs s (last_in c.args.self.now)) (sym c.in_ok-verdicts-in-Some.ensures.first) c.requires.last
 
 pub compare_files-requires-clause-second : goal.compare_files-requires-clause-second
 compare_files-requires-clause-second c =
-    subst (λ (s : List Interface). AnswerAs s (present_in c.args.self.now)) (sym c.in_ok-verdicts.ensures.second) c.in-Some.ensures.answers
+    subst (λ (s : List Interface). AnswerAs s (present_in c.args.self.now)) (sym c.in_ok-verdicts-in-Some.ensures.second) (rw c.in-Some.is at c.in_ok-world.ensures.answers)
 
-pub returns-in-Some-clause-answers : goal.returns-in-Some-clause-answers
-returns-in-Some-clause-answers c =
+pub returns-in_ok-list-in-Some-clause-answers : goal.returns-in_ok-list-in-Some-clause-answers
+returns-in_ok-list-in-Some-clause-answers c =
     subst (λ (s : List Interface). AnswerAs s (present_in c.args.self.now))
-    (sym (c.into_second.ensures.world ∙ c.in_ok-list.ensures.second ∙ c.in_ok-verdicts.ensures.second)) c.in-Some.ensures.answers
+    (sym (c.into_second.ensures.world ∙ c.in_ok-list-in-Some.ensures.second ∙ c.in_ok-verdicts-in-Some.ensures.second)) (rw c.in-Some.is at c.in_ok-world.ensures.answers)
 
-pub returns-in-Some-clause-over : goal.returns-in-Some-clause-over
-returns-in-Some-clause-over c =
-    subst (λ (held : Numbering Key). IsOver held c.into_second.result) (c.in_ok-list.ensures.held ∙ c.in_ok-verdicts.ensures.held) c.into_second.ensures.over
+pub returns-in_ok-list-in-Some-clause-over : goal.returns-in_ok-list-in-Some-clause-over
+returns-in_ok-list-in-Some-clause-over c =
+    subst (λ (held : Numbering Key). IsOver held c.into_second.result) (c.in_ok-list-in-Some.ensures.held ∙ c.in_ok-verdicts-in-Some.ensures.held) c.into_second.ensures.over
 
-pub returns-in-None-clause-list : goal.returns-in-None-clause-list
-returns-in-None-clause-list c =
+pub returns-in_ok-list-in-None-clause-list : goal.returns-in_ok-list-in-None-clause-list
+returns-in_ok-list-in-None-clause-list c =
     let self = c.args.self.now in
-    c.in_ok-list.ensures ∙ ap (map kept_work) c.requires.places
-    ∙ kept_works (options_in self) (last_in self) (present_in self) c.in-None.ensures.alike (present_in self)
+    c.in_ok-list-in-None.ensures ∙ ap (map kept_work) c.requires.places
+    ∙ kept_works (options_in self) (last_in self) (present_in self) (rw c.in-None.is at c.in_ok-world.ensures.alike) (present_in self)
 
-pub returns-in-None-clause-alike : goal.returns-in-None-clause-alike
-returns-in-None-clause-alike c =
+pub returns-in_ok-list-in-None-clause-alike : goal.returns-in_ok-list-in-None-clause-alike
+returns-in_ok-list-in-None-clause-alike c =
     let self = c.args.self.now in
-    as_present (interfaces_by c.args.keys.now) (last_in self) (present_in self) c.requires.last c.in-None.ensures.alike
+    as_present (interfaces_by c.args.keys.now) (last_in self) (present_in self) c.requires.last (rw c.in-None.is at c.in_ok-world.ensures.alike)

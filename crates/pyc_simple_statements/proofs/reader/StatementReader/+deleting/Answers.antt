@@ -1,6 +1,4 @@
-use Rattle.std.proofs.Common.{◌≡◌, ◌∙◌, ap}
-use Rattle.pyc_ast.specs.declared.target.TargetElement.{TargetElement}
-use Rattle.pyc_ast.specs.TargetView.{target_of}
+use Rattle.std.proofs.Common.{◌∙◌}
 use Rattle.pyc_bodies.specs.Views.{body_in}
 use Rattle.pyc_locals.specs.Views.{point_in}
 use Rattle.pyc_reading.proofs.RunLemmas.{grown_trans}
