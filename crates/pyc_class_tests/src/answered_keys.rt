@@ -15,7 +15,8 @@ const SOURCE: &str = "class C:\n    C: int\nclass D(C): ...\n";
 /// The world in which `m` has this source.
 fn shared_world(alloc: Global, source: &str) -> Result<Rc<World>, AllocError> {
     let world = world_of(alloc, &[("m.py", source)])?;
-    Rc::new(alloc, world)
+    let shared = Rc::new(alloc, world)?;
+    Ok(shared)
 }
 
 /// No keys, and the world in which `m` has the source from above.
