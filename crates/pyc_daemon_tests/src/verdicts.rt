@@ -20,7 +20,7 @@ const OPTIONS: Options = Options {
 };
 
 /// A file that reads `x` of `a.py` in its second unit.
-const READER: &str = "from a import x\n\n\ndef f() -> int:\n    return x\n";
+const READER: &str = "from a import x\n\ny: int = x\n";
 
 /// The files `a.py`, of this text, and `b.py`, which reads it.
 fn files_of(alloc: Global, text: &str) -> Result<Vec<Rc<File>>, AllocError> {
