@@ -204,36 +204,48 @@ fn marks(file: &SourceFile) -> (bool, bool, usize) {
     )
 }
 
-/// Whether a file of this path and source tells its path, this name of its module, and these marks.
-fn is_told(
-    alloc: Global,
-    path: &str,
-    source: &str,
-    name: &str,
-    want: (bool, bool, usize),
-) -> Result<bool, AllocError> {
-    let file = file_of(alloc, path, source.as_bytes())?;
-    let is_named = *file.name() == module_of(alloc, name)?;
-    Ok(is_named && file.path() == path && marks(&file) == want)
+/// A file: its path and source, the name of its module, and its marks.
+struct Told {
+    path: &'static str,
+    source: &'static str,
+    name: &'static str,
+    marks: (bool, bool, usize),
 }
 
-/// Files, each of its path and source: the name of its module, and its marks.
-const TOLD: &[(&str, &str, &str, (bool, bool, usize))] = &[
-    (
-        "p/q/__init__.py",
-        "x: int = 1\nimport m\n",
-        "p.q",
-        (true, true, 2),
-    ),
-    ("p/q.py", "x: int = 1\ndef (\n", "p.q", (false, false, 0)),
-    ("p/my__init__.py", "", "p.my__init__", (false, true, 0)),
+/// Whether a file tells its path, the name of its module, and its marks.
+fn is_told(alloc: Global, told: &Told) -> Result<bool, AllocError> {
+    let file = file_of(alloc, told.path, told.source.as_bytes())?;
+    let is_named = *file.name() == module_of(alloc, told.name)?;
+    Ok(is_named && file.path() == told.path && marks(&file) == told.marks)
+}
+
+/// Files with what they tell.
+const TOLD: &[Told] = &[
+    Told {
+        path: "p/q/__init__.py",
+        source: "x: int = 1\nimport m\n",
+        name: "p.q",
+        marks: (true, true, 2),
+    },
+    Told {
+        path: "p/q.py",
+        source: "x: int = 1\ndef (\n",
+        name: "p.q",
+        marks: (false, false, 0),
+    },
+    Told {
+        path: "p/my__init__.py",
+        source: "",
+        name: "p.my__init__",
+        marks: (false, true, 0),
+    },
 ];
 
 #[test]
 fn files_tell_what_they_are(rt: HostRuntime) -> Result<(), Fail> {
-    for (path, source, name, want) in TOLD {
-        let is_told = is_told(rt.alloc(), path, source, name, *want)?;
-        assert!(rt; is_told, "{path}");
+    for told in TOLD {
+        let is_told = is_told(rt.alloc(), told)?;
+        assert!(rt; is_told, "{}", told.path);
     }
     Ok(())
 }
