@@ -1,5 +1,5 @@
 #!/usr/bin/env python3
-"""Measures how fast `check_files` and `unsilenced` of `pyc_body` find the messages of an abstract tree.
+"""Measures how fast `check_unit` and `unsilenced` of `pyc_body` find the messages of an abstract tree.
 
     bench/checking.py [--program PROGRAM] [--keep FILE]
 

@@ -2,10 +2,11 @@
 # The gate: `scripts/gate.sh [--quick | --proofs | --anew]`, from any folder.
 #
 # First comes what is told in seconds: the layout of the code, by the kit's formatter and in its columns, the names in the
-# documents, and whether each must-fail edit fits its text. Where one of these fails the gate ends at once; with --quick they are
-# all. Then it runs the tests and proves and builds every crate by `rt ci`; with --proofs that is all, and what it proved is kept
-# on this machine. Then it runs the built program by the other scripts, and tries the must-fail edits. Where nothing failed it
-# leaves the program and its SHA-256 in out/.
+# documents, whether the program calls each function, whether the conditions of calls are listed, and whether each must-fail
+# edit fits its text. Where one of these fails the gate ends at once; with --quick they are all. Then it runs the tests and
+# proves and builds every crate by `rt ci`; with --proofs that is all, and what it proved is kept on this machine. Then it
+# runs the built program by the other scripts, and tries the must-fail edits. Where nothing failed it leaves the program and
+# its SHA-256 in out/.
 # The crates are proved and built in a copy without the edits: `rt ci` would try these one by one, each with a load of its
 # crate, after it had proved each crate a second time; scripts/gate/edits.py tries several in one check, each crate's once
 # `rt ci` has proved it. What it found refused is kept, too; with --anew nothing that is kept counts, and all is proved and tried.
@@ -82,6 +83,8 @@ quick() {
     run python3 scripts/gate/check_format.py &&
         run python3 scripts/gate/check_layout.py &&
         run python3 scripts/gate/check_names.py &&
+        run python3 scripts/gate/check_uncalled.py &&
+        run python3 scripts/gate/check_conditions.py &&
         run python3 scripts/gate/edits.py --fit
 }
 
@@ -92,9 +95,9 @@ copy() {
         sed -i '/^[a-z_]*tests:/d' "$tree/crates.txt"
 }
 
-# Proves and builds the crates in the copy.
+# Proves and builds the crates in the copy, by `rt ci` with the libraries below each crate remembered.
 prove() {
-    env -C "$tree" rt ci "${anew[@]}" 2>&1 | tee "$proofs"
+    env -C "$tree" python3 "$PWD/scripts/gate/rt_ci.py" "${anew[@]}" 2>&1 | tee "$proofs"
     local status=${PIPESTATUS[0]}
     cp "$proofs" "$log"
     judge "$status" rt ci
@@ -161,9 +164,11 @@ run python3 "$tree/scripts/gate/long_imports.py"
 run python3 "$tree/scripts/gate/refused_growths.py"
 run python3 "$tree/scripts/gate/real_files.py"
 run python3 "$tree/scripts/gate/editor.py"
+run python3 "$tree/scripts/gate/project.py"
 run python3 "$tree/scripts/gate/hooks.py"
 run python3 "$tree/scripts/gate/commits.py"
 run python3 "$tree/scripts/gate/ignores.py"
+run python3 "$tree/scripts/gate/release.py"
 judge_beside "$tests" "$tested" scripts/gate/tests.py
 judge_beside "$edits_test" "$edits_tested" scripts/gate/edits_test.py
 judge_beside "$edits" "$tried" scripts/gate/edits.py

@@ -1,21 +1,19 @@
-"""Texts in which `reveal_type` tells the type of the name at a place. The session holds such a text for one check."""
+"""Texts in which `reveal_type` tells the type of the name at a place. The session holds such a text for one check.
+
+None of these texts changes what other files see, so that only the units of its own file are examined.
+"""
 
 import ast
-import io
-import keyword
-import tokenize
+import re
 from typing import NamedTuple
 
-from .documents import LINE_END, characters, lines_of
+from .trees import first_line, source_of
 
-
-class Word(NamedTuple):
-    """A name in a text. Its line is counted from 1, its columns in characters from 0."""
-
-    text: str
-    line: int
-    begin: int
-    end: int
+FUNCTIONS = (ast.FunctionDef, ast.AsyncFunctionDef)
+ASSIGNMENTS = (ast.Assign, ast.AnnAssign, ast.AugAssign)
+DOTTED = re.compile(r"[\w.]*$")
+# what stands around an expression: the body of a function, or what other files see
+BODY, VALUE, ANNOTATION = range(3)
 
 
 class Probe(NamedTuple):
@@ -26,94 +24,86 @@ class Probe(NamedTuple):
     shown: str
 
 
-def word_at(text, position):
-    """Returns the name at a position of a text, or None. Keywords, comments and strings have no names."""
-    lines, line = lines_of(text), position["line"] + 1
-    column = characters(lines[line - 1], position["character"]) if line <= len(lines) else 0
-    try:
-        for token in tokenize.generate_tokens(io.StringIO(text, newline=None).readline):
-            is_there = token.start[0] == line and token.start[1] <= column <= token.end[1]
-            if is_there and token.type == tokenize.NAME and not keyword.iskeyword(token.string):
-                return Word(token.string, line, token.start[1], token.end[1])
-    except (tokenize.TokenError, SyntaxError):
-        pass
-    return None
-
-
 def probes(text, word):
-    """Returns the texts that may tell the type of a name, the best first: around the expression that ends with the name,
-    where it is read, and behind its statement."""
-    try:
-        source = Source(text)
-    except (SyntaxError, ValueError, RecursionError):
-        return []
-    node = source.expression(word)
-    if node is None and source.names_argument(word):
-        return []
-    found = [source.around(node)] if node and isinstance(node.ctx, ast.Load) else []
-    return found + source.behind(word.line, source.shown(node) if node else word.text)
+    """Yields the texts that may tell the type of a name, the best first."""
+    source = source_of(text)
+    node = source and source.expression(word)
+    if source and (node or not source.argument(word)):
+        shown = source.shown(node) if node else dotted(source, word)
+        yield from probes_of(source, node, shown, source.statement(word.line, word.begin))
 
 
-class Source:
-    """A text with its tree, which counts lines from 1 and columns in bytes of UTF-8."""
+def dotted(source, word):
+    """Returns a word of a string with the names before it, as `m.A`, or another word that has no node as it is."""
+    line = source.line(word.line)[: word.end]
+    return DOTTED.search(line)[0] if source.quoted(word.line, word.end) else word.text
 
-    def __init__(self, text):
-        self.text = text
-        self.nodes = list(ast.walk(ast.parse(text)))
-        self.starts = [0, *(found.end() for found in LINE_END.finditer(text)), len(text)]
 
-    def place(self, line, column):
-        """Returns where a place of the tree is in the text."""
-        start, end = self.starts[line - 1 : line + 1]
-        return start + len(self.text[start:end].encode()[:column].decode(errors="ignore"))
+def probes_of(source, node, shown, statement):
+    """Yields the texts that may tell the type of an expression of a statement, or of a name that has no node."""
+    for way in ways(source, node) if statement else ():
+        found = way(source, node, shown, statement)
+        if found:
+            yield found
 
-    def span(self, node):
-        """Returns where a node begins and ends in the text."""
-        return self.place(node.lineno, node.col_offset), self.place(node.end_lineno, node.end_col_offset)
 
-    def shown(self, node):
-        """Returns the text of a node."""
-        begin, end = self.span(node)
-        return self.text[begin:end]
+def ways(source, node):
+    """Returns the ways to tell the type of an expression, the best first. A name that is bound has its type behind the
+    statement."""
+    if node is None or isinstance(getattr(node, "ctx", None), (ast.Store, ast.Del)):
+        return [behind]
+    return {BODY: [around, behind], VALUE: [before, behind], ANNOTATION: [behind, before]}[place_of(source, node)]
 
-    def expression(self, word):
-        """Returns the name or the attribute that ends with a word, or None."""
-        end = self.starts[word.line - 1] + word.end
-        for node in self.nodes:
-            if isinstance(node, (ast.Name, ast.Attribute)) and node.end_lineno == word.line and self.span(node)[1] == end:
-                return node
-        return None
 
-    def names_argument(self, word):
-        """Whether a word is the name of an argument of a call: in the scope it may name something else."""
-        begin = self.starts[word.line - 1] + word.begin
-        named = [it for it in self.nodes if isinstance(it, ast.keyword) and it.arg and it.lineno == word.line]
-        return any(self.span(it)[0] == begin for it in named)
+def place_of(source, node):
+    """Returns what stands around an expression."""
+    if source.is_annotation(node):
+        return ANNOTATION
+    steps = source.steps(node)
+    is_inside = any(isinstance(parent, FUNCTIONS) and child in parent.body for child, parent in steps)
+    is_seen = any(is_header(child, parent) or is_assigned(parent, is_inside) for child, parent in steps)
+    return VALUE if is_seen else BODY
 
-    def around(self, node):
-        """Returns the text with `reveal_type` around an expression."""
-        begin, end = self.span(node)
-        text = f"{self.text[:begin]}reveal_type({self.text[begin:end]}){self.text[end:]}"
-        return Probe(text, node.lineno, self.text[begin:end])
 
-    def behind(self, line, shown):
-        """Returns the text with `reveal_type` behind the statement on a line: at the front of its block, if it has one."""
-        blocks = [it for it in self.nodes if isinstance(it, (ast.stmt, ast.ExceptHandler))]
-        found = [it for it in blocks if it.lineno <= line <= it.end_lineno]
-        if not found:
-            return []
-        statement = max(found, key=lambda it: (it.lineno, -it.end_lineno))
-        if not hasattr(statement, "body"):
-            return [self.inserted(statement.end_lineno + 1, statement.lineno, shown)]
-        first = statement.body[0]
-        begun = min(it.lineno for it in [first, *getattr(first, "decorator_list", [])])
-        return [self.inserted(begun, begun, shown)] if begun > line else []
+def is_header(child, node):
+    """Whether a part of a definition is not in its body: a decorator, a base, a default."""
+    return isinstance(node, (*FUNCTIONS, ast.ClassDef)) and child not in node.body
 
-    def inserted(self, at, like, shown):
-        """Returns the text with a line before line `at`, as deep as line `like`."""
-        begin, end = self.starts[like - 1 : like + 1]
-        deep = self.text[begin:end]
-        indent = deep[: len(deep) - len(deep.lstrip(" \t"))]
-        before, after = self.text[: self.starts[at - 1]], self.text[self.starts[at - 1] :]
-        joined = "" if not before or before.endswith(("\n", "\r")) else "\n"
-        return Probe(f"{before}{joined}{indent}reveal_type({shown})\n{after}", at, shown)
+
+def is_assigned(node, is_inside):
+    """Whether a node assigns what other files may see: inside a function these are attributes."""
+    if not isinstance(node, ASSIGNMENTS):
+        return False
+    targets = node.targets if isinstance(node, ast.Assign) else [node.target]
+    return not is_inside or any(isinstance(it, ast.Attribute) for target in targets for it in ast.walk(target))
+
+
+def around(source, node, shown, _):
+    """Returns the text with `reveal_type` around an expression."""
+    begin, end = source.span(node)
+    return Probe(f"{source.text[:begin]}reveal_type({shown}){source.text[end:]}", node.lineno, shown)
+
+
+def before(source, _, shown, statement):
+    """Returns the text with `reveal_type` before a statement, or None where no line may stand there."""
+    begun = first_line(statement)
+    return inserted(source, begun, begun, shown) if source.is_apart(statement) else None
+
+
+def behind(source, node, shown, statement):
+    """Returns the text with `reveal_type` behind a statement, or at the front of its block, or None where no line may
+    stand there."""
+    if hasattr(statement, "body"):
+        return before(source, node, shown, statement.body[0])
+    is_apart = source.is_apart(statement)
+    return inserted(source, statement.end_lineno + 1, statement.lineno, shown) if is_apart else None
+
+
+def inserted(source, at, like, shown):
+    """Returns the text with a line before line `at`, as deep as line `like`."""
+    deep = source.line(like)
+    indent = deep[: len(deep) - len(deep.lstrip(" \t"))]
+    start = source.starts[at - 1]
+    front = source.text[:start]
+    joined = "" if not front or front.endswith(("\n", "\r")) else "\n"
+    return Probe(f"{front}{joined}{indent}reveal_type({shown})\n{source.text[start:]}", at, shown)

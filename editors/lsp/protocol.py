@@ -4,6 +4,7 @@ import json
 import os
 import select
 import time
+from collections import deque
 
 HEAD_END = b"\r\n\r\n"
 CHUNK = 65536
@@ -21,21 +22,46 @@ class Channel:
         self.source = source
         self.sink = sink
         self.buffer = b""
+        self.waiting = deque()
+        # why nothing more comes, or None
+        self.end = None
 
     def receive(self, timeout=None):
         """Returns the next message, or None where none came within `timeout` seconds."""
         until = None if timeout is None else time.monotonic() + timeout
-        body = self._take()
-        while body is None:
-            left = None if until is None else max(0, until - time.monotonic())
-            if not select.select([self.source], [], [], left)[0]:
+        while not self.waiting:
+            if self.end:
+                raise self.end
+            if not self._read(None if until is None else max(0, until - time.monotonic())):
                 return None
-            chunk = os.read(self.source, CHUNK)
+        return self.waiting.popleft()
+
+    def arrived(self):
+        """Returns the messages that came and were not received yet, in order. They are received later."""
+        while not self.end and self._read(0):
+            pass
+        return [*self.waiting]
+
+    def _read(self, timeout):
+        """Reads what comes within `timeout` seconds. Returns whether something came, or the end."""
+        if not select.select([self.source], [], [], timeout)[0]:
+            return False
+        chunk = os.read(self.source, CHUNK)
+        self.buffer += chunk
+        try:
             if not chunk:
                 raise Closed("the input ended")
-            self.buffer += chunk
+            self._split()
+        except Closed as why:
+            self.end = why
+        return True
+
+    def _split(self):
+        """Puts the whole messages of the buffer to those that wait."""
+        body = self._take()
+        while body is not None:
+            self.waiting.append(self._message(body))
             body = self._take()
-        return self._message(body)
 
     def _take(self):
         """Takes the body of a whole message from the front of the buffer, or returns None."""

@@ -24,9 +24,9 @@ LIBRARIES = {
     "reading": ["pyc_lower", "pyc_ast"],
     "assigning": ["pyc_types", "pyc_ast"],
     "types": ["pyc_types"],
-    "orders": ["pyc_mro", "pyc_class"],
+    "orders": ["pyc_mro", "pyc_class_ids"],
     "checking": ["pyc_body", "pyc_iface", "pyc_lower", "pyc_names"],
-    "classes": ["pyc_classes", "pyc_ast", "pyc_class", "pyc_builtins"],
+    "classes": ["pyc_class_table", "pyc_ast", "pyc_class_ids", "pyc_builtins"],
 }
 
 

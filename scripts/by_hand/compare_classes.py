@@ -1,5 +1,5 @@
 #!/usr/bin/env python3
-"""Compares the orders of `pyc_classes` with those that Python itself makes, `type.__mro__`.
+"""Compares the orders of `pyc_class_table` with those that Python itself makes, `type.__mro__`.
 
     scripts/by_hand/compare_classes.py [--count COUNT] [--seed SEED] PROGRAM
 

@@ -5,14 +5,17 @@
 
 In `crates.txt` a comment of one word begins a room. Each folder of `crates/` is listed there once, in one room, and the rooms
 have no cycle: a crate names crates of its own room and of earlier ones. The attic is the last room: no other names it.
-ARCHITECTURE.md has a heading for each room, in the same order, with a table of just its crates.
+ARCHITECTURE.md has a heading for each room, in the same order, with a table of just its crates. Where it says how many
+crates are above another, as many are: `scripts/above.py --write` sets the numbers.
 
-In README.md and docs/*.md each link to a file of the repository has its target, and the heading that it may name. Where
+In README.md and below docs/ each link to a file of the repository has its target, and the heading that it may name. Where
 a link's text is one name in backticks and its target a file of code, of definitions, an edit or a row, that file defines
-the name, or is that edit or row. In ARCHITECTURE.md, INDEX.md, THEOREMS.md and README.md each crate in backticks is listed, and
-each path in backticks is the end of one of the repository. The last line is `N passed, M failed`.
+the name, or is that edit or row. In ARCHITECTURE.md, INDEX.md and its pages, THEOREMS.md and README.md each crate in
+backticks is listed, and each path in backticks is the end of one of the repository. The last line is
+`N passed, M failed`.
 
-The text of each message of INDEX.md stands in the definition, in the code and in the row that its line links.
+The text of each message of docs/index/messages.md stands in the definition, in the code and in the row that its line
+links, and the line links an edit.
 """
 
 import os
@@ -20,10 +23,13 @@ import re
 import sys
 from pathlib import Path
 
-ROOT = Path(__file__).resolve().parents[2]
+from repository import ABOVE, ROOT, above, libraries, listed
+
 DOCS = ROOT / "docs"
-PAGES = [ROOT / "README.md", *sorted(DOCS.glob("*.md"))]
-MAPS = {"README.md", "ARCHITECTURE.md", "INDEX.md", "THEOREMS.md"}
+INDEX = DOCS / "index"
+PAGES = [ROOT / "README.md", *sorted(DOCS.glob("**/*.md"))]
+MAPS = {ROOT / "README.md", *(DOCS / f"{name}.md" for name in ("ARCHITECTURE", "INDEX", "THEOREMS")), *INDEX.glob("*.md")}
+MESSAGES = INDEX / "messages.md"
 
 BLOCK = re.compile(r"^```.*?^```|^    [^\n]*$|<!--.*?-->", re.DOTALL | re.MULTILINE)
 LINK = re.compile(r"\[((?:`[^`]*`|[^\]`])*)\]\(([^)\s]+)\)")
@@ -37,7 +43,6 @@ FIRST = {"crates", "editors", "scripts", "docs", "bench", ".ci", "src", "specs",
 # no path of the repository: made by `rt`, or words that stand for a name
 NO_PATH = re.compile(r"(^|/)out(/|$)|NAME|\.\.|^\.git/")
 ATTIC = "attic"
-ROOM = re.compile(r"# (\w+)")
 # a heading of ARCHITECTURE.md with what stands below it, and the crate that a line of a table is on
 SECTION = re.compile(r"^### (\w+)\n(.*?)(?=^#|\Z)", re.DOTALL | re.MULTILINE)
 ROW = re.compile(r"^\| `(\w+)` \|", re.MULTILINE)
@@ -88,7 +93,7 @@ def fault_of_link(page, text, target):
 
 def texts_of_messages(page, text):
     """Each place that a row of the page's messages gives for its text, with what is wrong where it does not have it."""
-    for line in text.partition("\n## Messages\n")[2].splitlines():
+    for line in text.splitlines() if page == MESSAGES else ():
         cells = line.split(" | ")
         message = re.match(r"\| `([^`]+)`", line)
         if not message or not LINK.search(line):
@@ -107,22 +112,12 @@ def texts_of_messages(page, text):
                 pattern += re.escape(f"  [{cells[1].strip('`')}]")
             is_there = re.search(pattern, re.sub(r"\\\n\s*", "", shown))
             yield target, None if is_there else f"{target}: does not have the text {message[1]}"
+        yield message[1], None if ".edit)" in cells[-1] else f"{message[1]}: its line names no edit"
 
 
 def crates():
     """The crates of `crates.txt`."""
     return {name for name, _, _ in listed()}
-
-
-def listed():
-    """The lines of `crates.txt`: each crate with its room, or None before the first, and the libraries that it names."""
-    found, room = [], None
-    for line in (ROOT / "crates.txt").read_text(encoding="utf-8").splitlines():
-        begun = ROOM.fullmatch(line)
-        room = begun[1] if begun else room
-        name, colon, uses = line.partition("#")[0].partition(":")
-        found += [(name.strip(), room, uses.split())] if colon else []
-    return found
 
 
 def described():
@@ -166,6 +161,14 @@ def judgements_of_rooms():
     yield "rooms", None if described() == wanted else "docs/ARCHITECTURE.md: its rooms are not those of crates.txt"
 
 
+def judgements_of_numbers():
+    """Each number of crates above another that the map gives, with what is wrong with it, or None."""
+    known = libraries()
+    for name, given in ABOVE.findall((DOCS / "ARCHITECTURE.md").read_text(encoding="utf-8")):
+        number = len(above(known, name)) if name in known else "none"
+        yield name, None if given == str(number) else f"docs/ARCHITECTURE.md: {name} has {number} above, not {given}"
+
+
 def is_path(word):
     """Whether a word in backticks is a path of the repository."""
     if " " in word or NO_PATH.search(word):
@@ -191,7 +194,7 @@ def judgements(page, there):
     for found in LINK.finditer(text):
         if "://" not in found[2]:
             yield found[2], fault_of_link(page, found[1], found[2])
-    if page.name not in MAPS:
+    if page not in MAPS:
         return
     yield from texts_of_messages(page, text)
     known = crates()
@@ -204,7 +207,7 @@ def judgements(page, there):
 
 def main():
     there = paths()
-    faults = [fault for _, fault in judgements_of_rooms()]
+    faults = [fault for _, fault in (*judgements_of_rooms(), *judgements_of_numbers())]
     for page in PAGES:
         faults += [fault and f"{page.relative_to(ROOT)}: {fault}" for _, fault in judgements(page, there)]
     failed = [fault for fault in faults if fault]

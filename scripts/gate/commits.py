@@ -17,9 +17,13 @@ PRICES = "def price(net: float) -> float:\n    return net\n"
 SHOP = "from prices import price\n\ntotal: float = price(1)\n"
 STRAY = "y: int = ''\n"
 WALRUS = "if (n := 1):\n    pass\n"
+CALLED_TEXT = "def f(n: int) -> None: ...\n"
+CALLS = "from pkg.a import f\n\nf('')\nf('')\n"
+ROOTS = "[tool.dmypy]\nroots = ['.']\n"
 CLEAN = "Success: no issues found in {}"
 WRONG = "Found 2 errors in 2 files (checked {})"
 FOUND = "Found 1 error in 1 file (checked {})"
+CALLED = "Found 2 errors in 1 file (checked {})"
 # each commit: what it writes, what it takes away, and the line on it
 COMMITS = (
     ({"prices.py": PRICES, "shop.py": SHOP}, (), f"2 sent, 0 refused: {CLEAN.format('2 source files')}"),
@@ -27,10 +31,14 @@ COMMITS = (
     ({"text.txt": "", "caf\u00e9.py": "x = 1\n"}, (), f"1 sent, 0 refused: {WRONG.format('3 source files')}"),
     ({"costs.py": PRICES}, ("prices.py",), f"2 sent, 0 refused: {FOUND.format('3 source files')}"),
     ({"shop.py": SHOP.replace("prices", "costs")}, (), f"1 sent, 0 refused: {CLEAN.format('3 source files')}"),
-    ({"my file.py": "stop\n", "shop/__init__.py": STRAY}, (), f"2 sent, 2 refused: {CLEAN.format('3 source files')}"),
-    ({}, ("shop.py",), f"3 sent, 1 refused: {FOUND.format('3 source files')}"),
-    ({"costs.py": WALRUS}, ("shop/__init__.py",), f"3 sent, 1 refused: {FOUND.format('2 source files')}"),
+    # (the text is no command: its name is not defined; and of a package and a module of one name the package counts)
+    ({"my file.py": "stop\n", "shop/__init__.py": STRAY}, (), f"2 sent, 1 refused: {WRONG.format('4 source files')}"),
+    ({}, ("shop.py",), f"1 sent, 0 refused: {WRONG.format('4 source files')}"),
+    ({"costs.py": WALRUS}, ("shop/__init__.py",), f"2 sent, 0 refused: {WRONG.format('3 source files')}"),
     ({}, ("costs.py", "caf\u00e9.py", "my file.py"), f"3 sent, 0 refused: {CLEAN.format('0 source files')}"),
+    # (with src as a root the calls are wrong, and without it the import)
+    ({"src/pkg/a.py": CALLED_TEXT, "b.py": CALLS}, (), f"2 sent, 0 refused: {CALLED.format('2 source files')}"),
+    ({"pyproject.toml": ROOTS}, (), f"2 sent, 0 refused: {FOUND.format('2 source files')}"),
 )
 
 
@@ -46,9 +54,9 @@ def judge(room, tally):
         tally.judge(line == want, f"{line}is not\n{want}")
     last = f"{len(COMMITS)} of {len(COMMITS)} commits have the fresh run's report\n"
     tally.judge((printed[len(COMMITS) :], done.returncode) == ([last], 0), f"the end: {done}")
-    done = room.script("follow_commits.py", ".", "HEAD~6..HEAD~4")
+    done = room.script("follow_commits.py", ".", "HEAD~8..HEAD~6")
     printed = done.stdout.decode().splitlines(keepends=True)
-    first = f"{names[-6][:12]} 3 sent, 0 refused: {FOUND.format('3 source files')}: the fresh run's report\n"
+    first = f"{names[-8][:12]} 3 sent, 0 refused: {FOUND.format('3 source files')}: the fresh run's report\n"
     tally.judge((len(printed), printed[0]) == (3, first), f"a part of the commits: {done}")
 
 
@@ -63,7 +71,8 @@ def judge_difference(room, tally):
     done = room.script("follow_commits.py", ".", "HEAD~2..HEAD")
     last = done.stdout.decode().splitlines()[-1]
     tally.judge((done.returncode, last) == (1, "1 of 2 commits have the fresh run's report"), f"another report: {done}")
-    tally.judge(b"NOT the fresh run's report:\nlast.py:2: error: " in done.stdout, f"the other report: {done}")
+    tally.judge(b"NOT the fresh run's report:\nb.py:1: error: " in done.stdout, f"the other report: {done}")
+    tally.judge(done.stdout.count(b"\nlast.py:2: error: ") == 1, f"what differs: {done}")
     tally.judge(room.script("follow_commits.py", ".", "HEAD..HEAD").returncode == 1, "no commit at all")
 
 

@@ -7,66 +7,18 @@ Ends with the line `editor: P passed, F failed`, and with status 0 or 1.
 """
 
 import os
-import signal
 import subprocess
 import sys
 import time
 
+import editor_edits
+import editor_folders
+import editor_names
+import editor_sessions
+from editor_room import ASSIGNED, COLON, MISSING, MODELS, NOTE, PRICE, SHOP, UNKNOWN, WRONG, Room
 from judging import SECONDS, Tally, judge_in_rooms, program_given
 from language_client import Client, Silent, edit
-from small_repository import SmallRepository
-
-MODELS = """class Item:
-    def __init__(self, price: int) -> None:
-        self.price = price
-
-
-def first() -> Item:
-    return Item(1)
-"""
-SHOP = "from models import first\n\nprice: str = first().price\nreveal_type(price)\n"
-ASSIGNED = 'Incompatible types in assignment (expression has type "int", variable has type "str")'
-WRONG = (2, "assignment", ASSIGNED)
-NOTE = (3, None, 'Revealed type is "str"')
-MISSING = 'Cannot find implementation or library stub for module named "{}"'
-UNKNOWN = (0, "import-not-found", MISSING.format("models"))
-# the place of `int` in MODELS, of which the second line is broken by taking away its colon
-PRICE = ((1, 30), (1, 33))
-COLON = ((1, 42), (1, 43))
-
-
-HOVERED = """class A:
-    size: int = 1
-
-
-def f(a: "A | None", *, n: float = 2) -> int:
-    if a is None:
-        return 0
-    # a comment
-    \U0001d465 = "\U0001f600"; k = a.size; f(a=None)
-    for i in [k]:
-        a.size = i
-    return a.size + len("a")
-"""
-
-
-class Room(SmallRepository):
-    """A folder with a small project."""
-
-    def __init__(self, folder, program):
-        super().__init__(folder, program)
-        self.write(**{"models.py": MODELS, "shop.py": SHOP})
-
-    def client(self, *words):
-        """A server of the project that nobody has spoken to."""
-        return Client(self.folder, "--program", self.program, *words)
-
-    def begun(self, *words, **how):
-        """A server that showed the messages of the project."""
-        client = self.client(*words)
-        client.begin(**how)
-        client.checked("shop.py")
-        return client
+from repository import ROOT
 
 
 def protocol(room, tally):
@@ -75,7 +27,7 @@ def protocol(room, tally):
         tally.judge(client.ask("textDocument/hover") == -32002, "a request before initialize")
         can = client.begin()["capabilities"]
         wanted = {"openClose": True, "change": 2, "save": {"includeText": False}}
-        tally.judge(can["textDocumentSync"] == wanted and can["hoverProvider"] is True, f"what the server can do: {can}")
+        tally.judge(can["textDocumentSync"] == wanted and can["hoverProvider"] is True, f"what it can do: {can}")
         tally.judge(client.ask("initialize") == -32600, "a second initialize")
         tally.judge(client.ask("textDocument/rename") == -32601, "a request that is unknown")
         tally.judge(client.ask("textDocument/hover", position=3) == -32602, "a request without its document")
@@ -99,12 +51,14 @@ def messages(room, tally):
         error, note = client.shown["shop.py"]
         span = {"start": {"line": 2, "character": 0}, "end": {"line": 2, "character": 26}}
         wanted = {"range": span, "severity": 1, "source": "dmypy", "message": ASSIGNED, "code": "assignment"}
+        wanted["codeDescription"] = {"href": f"file://{ROOT}/docs/CODES.md#assignment"}
         tally.judge(error == wanted, f"an error: {error}")
         tally.judge((note["severity"], "code" in note) == (3, False), f"a note: {note}")
         tally.judge(client.told("shop.py") == [WRONG, NOTE], f"the first messages: {client.shown}")
         tally.judge("models.py" not in client.shown, "a file without messages is shown")
         client.open("models.py", MODELS, 7)
-        tally.judge((client.shown["models.py"], client.versions["models.py"]) == ([], [7]), "an open document without messages")
+        shown = client.shown["models.py"], client.versions["models.py"]
+        tally.judge(shown == ([], [7]), f"an open document without messages: {shown}")
 
 
 def edits(room, tally):
@@ -134,7 +88,8 @@ def two_documents(room, tally):
         client.open("models.py", MODELS)
         client.change("models.py", 2, edit(*PRICE, "str"))
         tally.judge(client.told("shop.py") == [NOTE], f"an unsaved change: {client.shown}")
-        tally.judge([it[:2] for it in client.told("models.py")] == [(6, "arg-type")], f"its own messages: {client.shown}")
+        told = [it[:2] for it in client.told("models.py")]
+        tally.judge(told == [(6, "arg-type")], f"its own messages: {client.shown}")
         client.close("models.py")
         client.checked("models.py")
         told = client.told("shop.py"), client.told("models.py")
@@ -189,7 +144,8 @@ def disk(room, tally):
         client.touch(2, "models.py")
         client.touch(1, "sub/new.py")
         client.checked("sub/new.py")
-        tally.judge([it[:2] for it in client.told("models.py")] == [(6, "arg-type")], f"a file that changed: {client.shown}")
+        told = [it[:2] for it in client.told("models.py")]
+        tally.judge(told == [(6, "arg-type")], f"a file that changed: {client.shown}")
         told = client.told("shop.py"), [it[0] for it in client.told("sub/new.py")]
         tally.judge(told == ([NOTE], [0]), f"one that came: {client.shown}")
         before = (room.folder / "models.py").stat()
@@ -210,104 +166,39 @@ def disk(room, tally):
 
 
 def refusals(room, tally):
-    """Files that the session refuses have a warning, and no bytes of theirs are taken as commands."""
+    """Files that the session refuses have a warning. Names that it cannot take go out under others."""
     large = "# " + "x" * 1_048_576 + "\n"
     room.write(**{"large.py": large, "shop/__init__.py": "", "on disk.py": "x: int = ''\n"})
     with room.begun() as client:
-        for path, reason in (("large.py", "1,048,576"), ("shop/__init__.py", "same module"), ("on%20disk.py", "space")):
-            it = (client.shown.get(path) or [{"message": "", "severity": 0}])[0]
-            tally.judge(it["severity"] == 2 and reason in it["message"], f"{path}: {client.shown}")
-        for path in ("my%20file.py", "tab%09.py", "line%0Aend.py", "caf%E9.py", f"{'a' * 253}.py", f"{'a/' * 300}b.py"):
-            client.open(path, "stop\nadd x.py 3\n")
-            is_warned = [it["severity"] for it in client.shown[path]] == [2]
-            tally.judge(is_warned, f"{path}: {client.shown[path]}")
-        tally.judge(client.told("shop.py") == [WRONG, NOTE], f"the session goes on: {client.shown}")
-        longest = f"{'a' * 252}.py"
-        client.open(longest, "x: int = ''\n")
-        told = [it[1] for it in client.told(longest)]
-        tally.judge(told == ["assignment"], f"a path of 255 bytes: {client.shown[longest]}")
+        reasons = {
+            "large.py": "it has more than 1,048,576 bytes",
+            "shop.py": "shop/__init__.py names the same module, shop",
+        }
+        for path, reason in reasons.items():
+            told = client.told(path)
+            tally.judge(told == [(0, None, f"dmypy does not check this file: {reason}")], f"{path}: {told}")
+            shown = [it["severity"] for it in client.shown.get(path, [])]
+            tally.judge(shown == [2], f"the warning on {path}: {shown}")
+        wrong = [(0, "assignment")]
+        told = [it[:2] for it in client.told("on%20disk.py")]
+        tally.judge(told == wrong, f"a name with a space: {client.shown.get('on%20disk.py')}")
+        long = (f"{'a' * 253}.py", f"{'a' * 252}.py", f"{'a/' * 300}b.py")
+        for path in ("my%20file.py", "tab%09.py", "line%0Aend.py", "caf%E9.py", *long):
+            client.open(path, "x: int = ''\nstop\nadd = 3\n")
+            told = [it[:2] for it in client.told(path)]
+            tally.judge(told == [*wrong, (1, "name-defined")], f"{path}: {client.shown[path]}")
         client.open("models.py", MODELS)
         client.change("models.py", 2, {"text": large})
         tally.judge([it["severity"] for it in client.shown["models.py"]] == [2], "a document that is too large")
-        tally.judge(client.told("shop.py") == [UNKNOWN, NOTE], f"its text is gone: {client.shown}")
+        client.open("other.py", SHOP)
+        tally.judge(client.told("other.py") == [UNKNOWN, NOTE], f"its text is gone: {client.shown}")
         client.change("models.py", 3, {"text": MODELS})
-        told = client.told("models.py"), client.told("shop.py")
+        told = client.told("models.py"), client.told("other.py")
         tally.judge(told == ([], [WRONG, NOTE]), f"it is small again: {client.shown}")
-        (room.folder / "shop.py").unlink()
-        client.touch(3, "shop.py")
+        (room.folder / "shop" / "__init__.py").unlink()
+        client.touch(3, "shop/__init__.py")
         client.checked("shop.py")
-        tally.judge(client.told("shop/__init__.py") == [], f"the name of its module is free: {client.shown}")
-
-
-def deaths(room, tally):
-    """A session that is killed is started anew with all texts, also while it is asked."""
-    number, wrapped = room.folder / "number", room.folder / "wrapped"
-    wrapped.write_text(f'#!/bin/sh\necho $$ > "{number}"\nexec "{room.program}" "$@"\n')
-    wrapped.chmod(0o755)
-    with Client(room.folder, "--program", wrapped) as client:
-        client.begin()
-        client.checked("shop.py")
-        client.open("models.py", MODELS)
-        client.open("shop.py", SHOP)
-        client.change("models.py", 2, edit(*PRICE, "str"))
-        os.kill(int(number.read_text()), signal.SIGKILL)
-        client.change("shop.py", 2, edit((3, 0), (4, 0), ""))
-        tally.judge(client.told("shop.py") == [], f"killed between checks: {client.shown}")
-        stopped = int(number.read_text())
-        os.kill(stopped, signal.SIGSTOP)
-        client.send_change("shop.py", 3, edit((2, 7), (2, 10), "int"))
-        time.sleep(0.5)
-        os.kill(stopped, signal.SIGKILL)
-        client.checked("shop.py", 3)
-        wrong = 'Incompatible types in assignment (expression has type "str", variable has type "int")'
-        tally.judge(client.told("shop.py") == [(2, "assignment", wrong)], f"killed while it is asked: {client.shown}")
-        os.kill(int(number.read_text()), signal.SIGKILL)
-        tally.judge(client.hover("shop.py", 2, 1) is None, "hover on a session that is killed")
-        tally.judge(client.hover("shop.py", 2, 1) == "price: int", "hover on the one after it")
-        tally.judge(client.said == [], f"what the user is told: {client.said}")
-        wrapped.unlink()
-        os.kill(int(number.read_text()), signal.SIGKILL)
-        client.send_change("shop.py", 4, edit((2, 7), (2, 10), "str"))
-        client.take(lambda it: it.get("method") == "window/showMessage")
-        said = [f"dmypy: {wrapped} cannot be started: No such file or directory"]
-        tally.judge(client.said == said, f"no program: {client.said}")
-
-
-def hovers(room, tally):
-    """The type of what stands at a place, as it is narrowed there."""
-    wanted = {
-        (4, 6): "a: A | None",
-        (4, 24): "n: float",
-        (5, 7): "a: A | None",
-        (7, 6): None,
-        (8, 4): "\U0001d465: str",
-        (8, 20): "a: A",
-        (8, 22): "a.size: int",
-        (8, 16): "k: int",
-        (8, 29): None,
-        (9, 8): "i: int",
-        (10, 10): "a.size: int",
-        (11, 5): None,
-        (11, 15): "a.size: int",
-        (11, 25): None,
-        (40, 0): None,
-    }
-    with room.begun() as client:
-        client.open("shop.py", HOVERED)
-        shown = list(client.versions["shop.py"])
-        for place, told in wanted.items():
-            found = client.hover("shop.py", *place)
-            tally.judge(found == told, f"hover at {place}: {found}, not {told}")
-        tally.judge(client.hover("models.py", 0, 6) is None, "hover on a file that is not open")
-        client.open("models.py", MODELS)
-        tally.judge(client.told("shop.py") == [], f"a probe stays: {client.shown}")
-        client.change("shop.py", 2, edit((12, 0), (12, 0), "x: int = ''\n"))
-        told = [it[:2] for it in client.told("shop.py")]
-        tally.judge(told == [(12, "assignment")], f"an edit after hover: {client.shown}")
-        tally.judge(client.versions["shop.py"] == [*shown, 2], "hover shows no diagnostics")
-        client.change("shop.py", 3, {"text": "def f(x: int):\n\tif x:\n\t\ty = x"})
-        found = [client.hover("shop.py", 2, 2), client.hover("shop.py", 0, 6), client.hover("shop.py", 2, 6)]
-        tally.judge(found == ["y: int", "x: int", "x: int"], f"hover behind the last line, and with tabs: {found}")
+        tally.judge(client.told("shop.py") == [WRONG, NOTE], f"the name of its module is free: {client.shown}")
 
 
 def settings(room, tally):
@@ -343,35 +234,44 @@ def settings(room, tally):
             client.send_change("shop.py", version, edit((0, 0), (0, 0), "\n"))
         client.checked("shop.py", 5)
         tally.judge(client.versions["shop.py"] == [None, 1, 5], f"edits without a pause are one: {client.versions}")
+    with Client(inner, "--program", room.program) as client:
+        client.begin(options={"options": ["--fast"], "colour": 3})
+        client.checked("shop.py")
+        said = ['dmypy: the setting options cannot be ["--fast"]; the setting colour cannot be 3']
+        tally.judge(client.said == said, f"settings that are of no use: {client.said}")
+        tally.judge([it[0] for it in client.told("shop.py")] == [0, 1], f"the check without them: {client.shown}")
 
 
 def files(room, tally):
     """Which files of a folder are the project's, by git and without."""
     wrong = "x: int = ''\n"
-    paths = ("new.py", "ignored.py", "caf\u00e9.py", ".hidden/a.py", "__pycache__/a.py", "env/a.py", "text.txt", "sub/a.py")
-    room.write(**{path: wrong for path in paths}, **{".gitignore": "ignored.py\nenv\n", "env/pyvenv.cfg": ""})
+    paths = ("new.py", "ignored.py", "caf\u00e9.py", ".hidden/a.py", "__pycache__/a.py", "env/a.py", "text.txt")
+    room.write(**{path: wrong for path in (*paths, "sub/a.py")})
+    room.write(**{".gitignore": "ignored.py\nenv\n", "env/pyvenv.cfg": ""})
     with room.begun() as client:
         walked = {"new.py", "ignored.py", "caf%C3%A9.py", "sub/a.py", "shop.py"}
         tally.judge(set(client.shown) == walked, f"the files without git: {sorted(client.shown)}")
     room.git("init", "-q")
     room.git("add", "shop.py", "caf\u00e9.py", "models.py")
     with room.begun() as client:
-        tracked = {"new.py", "caf%C3%A9.py", ".hidden/a.py", "__pycache__/a.py", "sub/a.py", "shop.py"}
+        tracked = {"new.py", "caf%C3%A9.py", ".hidden/a.py", "sub/a.py", "shop.py"}
         tally.judge(set(client.shown) == tracked, f"the files with git: {sorted(client.shown)}")
         client.open("ignored.py", wrong)
-        tally.judge([it[0] for it in client.told("ignored.py")] == [0], f"an open file that git ignores: {client.shown}")
+        told = [it[0] for it in client.told("ignored.py")]
+        tally.judge(told == [0], f"an open file that git ignores: {client.shown}")
         client.close("ignored.py")
         client.checked("ignored.py")
         tally.judge(client.told("ignored.py") == [], f"the file is closed: {client.shown}")
 
 
-TESTS = (protocol, messages, edits, two_documents, faults, disk, refusals, deaths, hovers, settings, files)
+TESTS = (protocol, messages, edits, two_documents, faults, disk, refusals, settings, files)
 
 
 def main():
     program = program_given("Runs the language server on small projects.")
     tally = Tally("editor")
-    judge_in_rooms(TESTS, Room, program, tally, (Silent, OSError, subprocess.SubprocessError))
+    tests = (*TESTS, *editor_sessions.TESTS, *editor_names.TESTS, *editor_folders.TESTS, *editor_edits.TESTS)
+    judge_in_rooms(tests, Room, program, tally, (Silent, OSError, subprocess.SubprocessError))
     return tally.close()
 
 

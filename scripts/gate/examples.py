@@ -1,13 +1,14 @@
 #!/usr/bin/env python3
-"""Runs the examples of docs/CODES.md, docs/DIFFERENCES.md and the README, and tries the problem matchers of docs/USING.md.
+"""Runs the examples of docs/CODES.md, docs/DIFFERENCES.md and the README, and tries what docs/USING.md quotes.
 
     scripts/gate/examples.py [--program PROGRAM]
 
-Each indented block of the first two pages is a file a.py, or the report on the file before it, without the last line. The
-command with its options stands on the page. A file without a report is clean. The README has two files and the whole
-report. CODES.md has a part for each code of the messages in INDEX.md, in order, and the report of each has the code. A problem
-matcher finds the parts of an error, and no note and no summary. Ends with the line `examples: P passed, F failed`, and with
-status 0 or 1.
+Each indented block of the first two pages is a file a.py, or the report on the file before it, without the last line.
+The command with its options stands on the page. A file without a report is clean. The README has two files and the
+whole report. CODES.md has a part for each code of docs/index/messages.md, in order, and the report of each has the
+code. A problem matcher finds the parts of an error, and no note and no summary. The lines that USING.md quotes of
+scripts/check_project.py are those on a small project, and with the settings that stand there no import of it finds
+nothing. Ends with the line `examples: P passed, F failed`, and with status 0 or 1.
 """
 
 import json
@@ -20,12 +21,14 @@ from pathlib import Path
 from judging import SECONDS, Tally, program_given
 from repository import ROOT
 
+CHECKER = ROOT / "scripts" / "check_project.py"
 CODES = ROOT / "docs" / "CODES.md"
 PAGES = (CODES, ROOT / "docs" / "DIFFERENCES.md")
-MESSAGES = ROOT / "docs" / "INDEX.md"
+MESSAGES = ROOT / "docs" / "index" / "messages.md"
 README = ROOT / "README.md"
 RECIPES = ROOT / "docs" / "USING.md"
-ERROR = {"file": "pkg/a.py", "line": "12", "severity": "error", "message": 'Name "x" is not defined', "code": "name-defined"}
+ERROR = {"file": "pkg/a.py", "line": "12", "severity": "error", "message": 'Name "x" is not defined'}
+ERROR["code"] = "name-defined"
 NO_ERRORS = ('a.py:1: note: Revealed type is "int"', "Found 1 error in 1 file (checked 1 source file)")
 COMMAND = re.compile(r"`dmypy (check(?: --[a-z-]+)*) a\.py`")
 BLOCK = re.compile(r"(?:^    .*\n|^\n(?=    ))+", re.MULTILINE)
@@ -33,6 +36,12 @@ REPORT = re.compile(r"a\.py:\d+: ")
 CODE = re.compile(r"  \[([a-z-]+)\]$", re.MULTILINE)
 LISTED = re.compile(r"^\| `[^|]*\| `([a-z-]+)` \|", re.MULTILINE)
 CLEAN = "Success: no issues found in 1 source file"
+# a project with an import that finds nothing, and with an opaque file
+PROJECT = {
+    "app.py": "from shop.prices import price\n",
+    "server/shop/prices.py": "price = 1\n",
+    "a.py": "names = [1]\nif (count := len(names)) > 1:\n    pass\n",
+}
 
 
 def blocks_of(text):
@@ -48,11 +57,26 @@ def examples(text):
             yield block, after if REPORT.match(after) else ""
 
 
+def write(folder, files):
+    """Writes files with these texts."""
+    for path, text in files.items():
+        Path(folder, path).parent.mkdir(parents=True, exist_ok=True)
+        Path(folder, path).write_text(text, encoding="utf-8")
+
+
+def check_project(program, files, *words):
+    """Checks a project of these files. Returns the lines that are printed, of messages and of all else."""
+    with tempfile.TemporaryDirectory() as folder:
+        write(folder, files)
+        how = {"cwd": folder, "capture_output": True, "text": True, "timeout": SECONDS, "check": False}
+        done = subprocess.run([sys.executable, CHECKER, "--program", program, "--root", ".", *words], **how)
+        return [*done.stdout.splitlines(), *done.stderr.splitlines()]
+
+
 def run(program, words, files):
     """Runs a check on files with these texts."""
     with tempfile.TemporaryDirectory() as folder:
-        for path, text in files.items():
-            Path(folder, path).write_text(text, encoding="utf-8")
+        write(folder, files)
         how = {"cwd": folder, "capture_output": True, "text": True, "timeout": SECONDS, "check": False}
         return subprocess.run([program, *words, *files], **how)
 
@@ -68,8 +92,8 @@ def judge_example(program, words, source, wanted, tally):
     """The report on a file, less its last line."""
     done = run(program, words, {"a.py": source})
     *lines, last = done.stdout.splitlines(keepends=True)
-    is_right = ("".join(lines), done.returncode) == (wanted, 1 if wanted else 0) and bool(wanted) != last.startswith(CLEAN)
-    tally.judge(is_right, f"{source}{done.stdout}{done.stderr}")
+    is_right = ("".join(lines), done.returncode) == (wanted, 1 if wanted else 0)
+    tally.judge(is_right and bool(wanted) != last.startswith(CLEAN), f"{source}{done.stdout}{done.stderr}")
 
 
 def judge_page(page, program, tally):
@@ -85,7 +109,7 @@ def judge_page(page, program, tally):
 
 def judge_codes(tally):
     """The parts of CODES.md are the codes of all messages, and each has a report with its code."""
-    codes = sorted(set(LISTED.findall(MESSAGES.read_text(encoding="utf-8").partition("\n## Messages\n")[2])))
+    codes = sorted(set(LISTED.findall(MESSAGES.read_text(encoding="utf-8"))))
     parts = re.split(r"(?m)^## ", CODES.read_text(encoding="utf-8"))[1:]
     names = [part.partition("\n")[0] for part in parts]
     tally.judge(names == codes != [], f"CODES.md has {names}, not {codes}")
@@ -112,6 +136,19 @@ def judge_matchers(tally):
             tally.judge(not re.search(pattern["regexp"], line), f"a problem matcher finds an error: {line}")
 
 
+def judge_project(program, tally):
+    """The lines on a project that USING.md quotes, and the settings by which an import finds its file."""
+    blocks = blocks_of(RECIPES.read_text(encoding="utf-8"))
+    quoted = [line for block in blocks if block.startswith(("dmypy: ", "a.py:")) for line in block.splitlines()]
+    printed = check_project(program, PROJECT, "--ignore-missing-imports")
+    missing = [line for line in quoted if line not in printed]
+    tally.judge(len(quoted) == 4 and missing == [], f"of {quoted} {missing} are not printed: {printed}")
+    settings = [block for block in blocks if block.startswith("[tool.dmypy]\n")]
+    printed = check_project(program, {**PROJECT, "pyproject.toml": "".join(settings)})
+    is_found = printed and not any("is not found" in line for line in printed)
+    tally.judge(len(settings) == 1 and is_found, f"with the settings {settings}: {printed}")
+
+
 def main():
     program = program_given("Runs the examples of the pages for users.")
     tally = Tally("examples")
@@ -120,6 +157,7 @@ def main():
     judge_readme(program, tally)
     judge_codes(tally)
     judge_matchers(tally)
+    judge_project(program, tally)
     return tally.close()
 
 

@@ -6,10 +6,12 @@
 Ends with the line `ignores: P passed, F failed`, and with status 0 or 1.
 """
 
+import re
 import subprocess
 import sys
 
 from judging import Tally, judge_in_rooms, program_given
+from repository import ROOT
 from small_repository import SmallRepository
 
 LISTED = """x: list[int] = [
@@ -47,6 +49,28 @@ TEXTS = (
     (LISTED, LISTED_AFTER),
     (ENDED, ENDED_AFTER),
 )
+# the text of a file, and what --unused makes of it
+UNUSED = (
+    ("x = 1  # type: ignore[assignment]\n", "x = 1\n"),
+    ("x = 1  # type: ignore\n", "x = 1\n"),
+    ("x = 1  # type: ignore[assignment]  # why\n", "x = 1  # why\n"),
+    ("x: int = ''  # type: ignore[assignment]\n", "x: int = ''  # type: ignore[assignment]\n"),
+    ("x: int = ''  # type: ignore\n", "x: int = ''  # type: ignore\n"),
+    ("x: int = ''  #type:ignore[assignment,index]# z\n", "x: int = ''  #type:ignore[assignment]  # z\n"),
+    ("x = 1  # type: ignore[index, no-untyped-call]\n", "x = 1  # type: ignore[no-untyped-call]\n"),
+    ("x = 1  # type: ignore [index]\n", "x = 1\n"),
+    ("x = 1  # type: ignore why not\n", "x = 1  # why not\n"),
+    ("x = 1  # type: ignore [index, x]  # why\n", "x = 1  # type: ignore[x]  # why\n"),
+    ("x: int = ''  # type: ignore [index]\n", "x: int = ''  # type: ignore [index]\n"),
+    ("x = 1  # type: ignore [no-untyped-call]\n", "x = 1  # type: ignore [no-untyped-call]\n"),
+    ("x = 1  # type: ignore[no-untyped-call]\n", "x = 1  # type: ignore[no-untyped-call]\n"),
+    (LISTED_AFTER, LISTED_AFTER),
+    ("# type: ignore\n\nx: int = ''\n", "# type: ignore\n\nx: int = ''\n"),
+    ("# type: ignore\nx: int = 1\n", "x: int = 1\n"),
+    ("x = 1\r\n  # type: ignore[index]\r\ny = 2", "x = 1\r\ny = 2"),
+    ("if 1:\n  # type: ignore[index] # why\n  x = 1\n", "if 1:\n  # why\n  x = 1\n"),
+    ('s = "# type: ignore"  # see # type: ignore\n', 's = "# type: ignore"  # see # type: ignore\n'),
+)
 # texts with a line that can have no comment, or no comment that counts
 OPEN = ("x: int = '''\n'''\n", "x = y + \\\n  1\n", "if (n := 1):\n    pass\n", "x = (\n", "x = $\n")
 
@@ -69,23 +93,47 @@ def judge_texts(room, tally):
         tally.judge((got, is_told, done.returncode) == (text, True, 1), f"{text!r}: {got!r}: {done}")
 
 
+def judge_unused(room, tally):
+    """Comments that suppress nothing are taken away, and no others."""
+    for text, wanted in UNUSED:
+        room.write(**{"a.py": text})
+        done = room.script("add_ignores.py", "--unused", "a.py")
+        got = room.read("a.py")
+        tally.judge((got, done.returncode) == (wanted, 0), f"--unused: {text!r}: {got!r}: {done}")
+    room.write(**{"a.py": "x: int = ''\ny: int = 1  # type: ignore[assignment]\n"})
+    done = room.script("add_ignores.py", "--unused", "a.py")
+    is_right = room.read("a.py") == "x: int = ''\ny: int = 1\n" and done.stdout.startswith(b"a.py:1: error: ")
+    tally.judge(is_right and done.returncode == 1, f"--unused adds nothing: {done}")
+    codes = set(re.findall(r"(?m)^## (.*)$", (ROOT / "docs" / "CODES.md").read_text(encoding="utf-8")))
+    script = (ROOT / "scripts" / "add_ignores.py").read_text(encoding="utf-8")
+    listed = set(re.search(r'CODES = frozenset\(\n    """(.*?)"""', script, re.DOTALL)[1].split())
+    tally.judge(listed == codes - {"syntax"} != set(), f"the codes of the script: {listed}")
+
+
 def judge_projects(room, tally):
-    """Whole folders, options, and files that are refused."""
-    inner = {"a.py": "import b\n\nx: str = b.f(1)\n", "b.py": "def f(n: int) -> int:\n    return n\n", "c/d.py": "import os\n"}
+    """Whole folders, options, names of all kinds, and source roots."""
+    inner = {"a.py": "import b\n\nx: str = b.f(1)\n", "b.py": "def f(n: int) -> int:\n    return n\n"}
+    inner["c/d.py"] = "import os\n"
     room.write(**inner, **{"my file.py": "x: int = ''\n"})
     done = room.script("add_ignores.py", "--ignore-missing-imports")
-    tally.judge(b"'my file.py' is skipped: " in done.stdout and done.returncode == 0, f"a folder: {done}")
+    tally.judge(done.returncode == 0, f"a folder: {done}")
     changed = {"a.py": inner["a.py"].replace(")\n", ")  # type: ignore[assignment]\n")}
-    for path, text in {**inner, **changed, "my file.py": "x: int = ''\n"}.items():
+    changed["my file.py"] = "x: int = ''  # type: ignore[assignment]\n"
+    for path, text in {**inner, **changed}.items():
         tally.judge(room.read(path) == text, f"{path}: {room.read(path)!r}")
-    room.script("add_ignores.py")
+    room.script("add_ignores.py", "c")
     tally.judge(room.read("c/d.py") == "import os  # type: ignore[import-not-found]\n", "an import that is not found")
+    room.write(**{"src/pkg/m.py": inner["b.py"], "src/pkg/n.py": "from pkg.m import f\n\nx: str = f(1)\n"})
+    done = room.script("add_ignores.py", "src/pkg/n.py")
+    wanted = "from pkg.m import f\n\nx: str = f(1)  # type: ignore[assignment]\n"
+    tally.judge(room.read("src/pkg/n.py") == wanted, f"a file of src: {done}")
 
 
 def main():
     program = program_given("Adds ignore comments to small projects.")
     tally = Tally("ignores")
-    judge_in_rooms((judge_texts, judge_projects), SmallRepository, program, tally, (OSError, subprocess.SubprocessError))
+    faults = (OSError, subprocess.SubprocessError)
+    judge_in_rooms((judge_texts, judge_unused, judge_projects), SmallRepository, program, tally, faults)
     return tally.close()
 
 

@@ -25,10 +25,10 @@ def edit(begin, end, text):
 
 
 class Client:
-    """A running server in a folder. `shown` has the diagnostics of each file by its path, `versions` those that came with
-    them, in order, and `said` the messages to the user."""
+    """A running server in a folder. `shown` has the diagnostics of each file by its path, `versions` those that came
+    with them, in order, and `said` the messages to the user."""
 
-    def __init__(self, root, *words):
+    def __init__(self, root, *words, command=(sys.executable, SERVER), environment=ENVIRONMENT):
         self.root = root
         self.shown = {}
         self.versions = {}
@@ -38,7 +38,7 @@ class Client:
         self.inbox = queue.Queue()
         self.errors = tempfile.TemporaryFile()
         pipes = {"stdin": subprocess.PIPE, "stdout": subprocess.PIPE, "stderr": self.errors}
-        self.server = subprocess.Popen([sys.executable, SERVER, *map(str, words)], cwd="/", env=ENVIRONMENT, **pipes)
+        self.server = subprocess.Popen([*map(str, (*command, *words))], cwd="/", env=environment, **pipes)
         self.reader = threading.Thread(target=self.read, daemon=True)
         self.reader.start()
 
@@ -74,9 +74,13 @@ class Client:
     def ask(self, method, **params):
         """Sends a request, and returns the result or the code of the error."""
         self.number += 1
-        self.send(json.dumps({"jsonrpc": "2.0", "id": self.number, "method": method, "params": params}).encode())
+        self.request(self.number, method, **params)
         answer = self.take(lambda it: it.get("id") == self.number and "method" not in it)
         return answer["error"]["code"] if "error" in answer else answer["result"]
+
+    def request(self, number, method, **params):
+        """Sends a request."""
+        self.send(json.dumps({"jsonrpc": "2.0", "id": number, "method": method, "params": params}).encode())
 
     def take(self, is_wanted):
         """Takes messages up to a wanted one, and returns it."""
@@ -96,7 +100,7 @@ class Client:
         """Keeps what a message of the server says."""
         method, params = message.get("method"), message.get("params")
         if method == "textDocument/publishDiagnostics":
-            path = params["uri"][len(self.uri("")) :]
+            path = self.path(params["uri"])
             self.shown[path] = params["diagnostics"]
             self.versions.setdefault(path, []).append(params.get("version"))
         elif method == "window/showMessage":
@@ -106,15 +110,30 @@ class Client:
             self.send(json.dumps({"jsonrpc": "2.0", "id": message["id"], "result": None}).encode())
 
     def uri(self, path):
-        """The name of a file."""
-        return f"file://{self.root}/{path}"
+        """The name of a file: of one in the folder by its path."""
+        return path if path.startswith("file:") else f"file://{self.root}/{path}"
 
-    def begin(self, options=None, capabilities=None, root=True):
+    def path(self, uri):
+        """The path of a file in the folder, or the whole name of another."""
+        return uri[len(self.uri("")) :] if uri.startswith(self.uri("")) else uri
+
+    def folder(self, path):
+        """A folder inside the server's folder, as the protocol names it."""
+        return {"uri": self.uri(path).rstrip("/"), "name": path}
+
+    def begin(self, options=None, capabilities=None, root=True, folders=None):
         """Begins to speak with the server. Returns what it can do."""
-        folder = {"rootUri": self.uri("").rstrip("/") if root else None}
-        answer = self.ask("initialize", capabilities=capabilities or {}, initializationOptions=options, **folder)
+        given = {"rootUri": self.uri("").rstrip("/") if root else None}
+        if folders is not None:
+            given["workspaceFolders"] = [self.folder(path) for path in folders]
+        answer = self.ask("initialize", capabilities=capabilities or {}, initializationOptions=options, **given)
         self.tell("initialized")
         return answer
+
+    def refolder(self, added=(), removed=()):
+        """Adds folders to the workspace, and takes others away."""
+        event = {"added": [self.folder(path) for path in added], "removed": [self.folder(path) for path in removed]}
+        self.tell("workspace/didChangeWorkspaceFolders", event=event)
 
     def open(self, path, text, version=1):
         """Opens a document, and waits until it is checked."""
@@ -150,11 +169,27 @@ class Client:
         found = self.ask("textDocument/hover", textDocument={"uri": self.uri(path)}, position=place)
         return found and found["contents"]["value"]
 
+    def definitions(self, path, line, column):
+        """Where the name at a place is defined: the path, the line and the columns of each place."""
+        place = {"line": line, "character": column}
+        found = self.ask("textDocument/definition", textDocument={"uri": self.uri(path)}, position=place)
+        ranges = [(it["range"]["start"], it["range"]["end"]) for it in found]
+        columns = [(begin["line"], begin["character"], end["character"]) for begin, end in ranges]
+        return [(self.path(it["uri"]), *its) for it, its in zip(found, columns)]
+
+    def actions(self, path, line, **more):
+        """The code actions on a line, for what is shown there."""
+        shown = [it for it in self.shown.get(path, []) if it["range"]["start"]["line"] == line]
+        where = {"start": {"line": line, "character": 0}, "end": {"line": line, "character": 0}}
+        document = {"uri": self.uri(path)}
+        context = {"diagnostics": shown, **more}
+        return self.ask("textDocument/codeAction", textDocument=document, range=where, context=context)
+
     def checked(self, path, version=None):
         """Waits until a file is shown, in a version if it is open, and all that the same check shows."""
         self.take(
             lambda it: it.get("method") == "textDocument/publishDiagnostics"
-            and it["params"]["uri"] == self.uri(path)
+            and self.path(it["params"]["uri"]) == path
             and it["params"].get("version") == version
         )
         self.ask("nothing")

@@ -1,13 +1,17 @@
 """Runs stored sessions with each of their growths refused in turn.
 
 Each file sessions/NAME.session is run with its first growth refused, then with its second, and so on, until a run in
-which none was refused. Such a run writes sessions/NAME.stdout. Each other run does one of two:
+which none was refused. (The growths before the first read are those of the words and the buffers, whatever the session:
+all but the first session begin with the last of them.) Such a run writes sessions/NAME.stdout. Each other run does one of two:
 
 - It reads nothing, writes nothing to standard output, tells on standard error that memory ran out, and ends with
   status 2.
 - It writes the session in which exactly one command that takes memory (`add`, `change`, `update` or `check`) was
   answered `refused 9 memory`. A refused command changes nothing, so the rest of that session is what the program
   writes, with memory enough, for the session without that command.
+
+Some of these other runs are made once more, with a longer session: before `stop` the commands that were refused are given
+again in their order, and then `check` and `status`. Each is then answered as in the session without the refused command.
 
 Each report that is so expected is also compared with that of a fresh session, which adds the files then present and
 checks them.
@@ -25,6 +29,9 @@ REFUSAL = b"refused 9 memory\n"
 BEFORE_THE_FIRST_READ = {OUT_OF_MEMORY: "words", b"dmypy: out of memory\n": "buffers"}
 # the commands that take memory, each with the refusals that are told only after memory was taken
 LATE_REFUSALS = {"add": ("6", "7"), "change": (), "update": ("5", "6", "7", "10"), "check": ()}
+
+# of the runs in which a growth is refused, each one of so many is made once more, with the longer session
+AGAIN = 5
 
 
 class Command(NamedTuple):
@@ -78,6 +85,15 @@ def takes_memory(command, reply):
 def is_done_again(place, commands, replies):
     """Whether the refused command stands again right after it, and is then done."""
     return commands[place + 1].text == commands[place].text and not replies[place + 1].startswith(b"refused ")
+
+
+CHECK, STATUS = (Command(word, "", f"{word}\n".encode(), b"") for word in ("check", "status"))
+
+
+def refused_commands(place, commands, replies, others):
+    """The commands that are refused where the one at this place is refused memory, and else are not."""
+    late = zip(commands[place + 1:], replies[place + 1:], others[place + 1:])
+    return [commands[place]] + [it for it, reply, other in late if other != reply and other.startswith(b"refused ")]
 
 
 def refused_place(output, variants):
@@ -141,6 +157,8 @@ class Sessions:
         self.answers = Answers(program)
         self.tally = tally
         self.seen = set()
+        # the growth of each session that is refused first
+        self.first = 1
 
     def judge_session(self, name, session, expected):
         """Judges the runs of one session."""
@@ -148,21 +166,48 @@ class Sessions:
         replies = replies_of(expected, commands)
         variants = self.answers.variants(commands, replies)
         self.judge_fresh(name, commands, replies, variants)
-        for nth in growth_numbers():
+        longer = self.longer_sessions(name, commands, replies, variants)
+        for nth in growth_numbers(self.first):
             done = self.program.run(["session"], session, nth)
+            if not done.output:
+                self.first = nth
             if not done.was_refused:
                 is_right = (done.output, done.told, done.status) == (expected, b"", 0)
                 self.tally.judge(is_right, f"{name}, no growth refused: {done}")
                 return
-            self.judge_refused(done, f"{name}, growth {nth} refused: {done}", commands, variants)
+            place = self.judge_refused(done, f"{name}, growth {nth} refused: {done}", commands, variants)
+            if place is not None and nth % AGAIN == 0:
+                self.judge_again(f"{name}, growth {nth} refused, then given again", nth, longer[place])
+
+    def longer_sessions(self, name, commands, replies, variants):
+        """For each place of a command that memory can refuse: a session in which all that is then refused is given again, and
+        what is written for it."""
+        longer = {}
+        end = len(commands) - (commands[-1].word == "stop")
+        for place, others in variants.items():
+            more = refused_commands(place, commands[:end], replies, others[:end]) + [CHECK, STATUS] + commands[end:]
+            without = commands[:place] + commands[place + 1:end] + more
+            answered = self.answers.replies(session_of(without))
+            is_fresh = self.answers.are_reports_fresh(without, answered)
+            self.tally.judge(is_fresh, f"{name}, command {place + 1} given again: a report is not the fresh one: {answered!r}")
+            written = answered[:place] + [REFUSAL] + answered[place:]
+            longer[place] = session_of(commands[:end] + more), b"".join(written)
+        return longer
+
+    def judge_again(self, where, nth, longer):
+        """Judges a run of a session in which a growth is refused and all that was refused is given again."""
+        session, written = longer
+        done = self.program.run(["session"], session, nth)
+        is_right = (done.output, done.told, done.status, done.was_refused) == (written, b"", 0, True)
+        self.tally.judge(is_right, f"{where}: {done}")
 
     def judge_refused(self, done, where, commands, variants):
-        """Judges a run of a session in which a growth was refused."""
+        """Judges a run of a session in which a growth was refused, and answers the place of the command that was."""
         if done.output == b"":
             kind = BEFORE_THE_FIRST_READ.get(done.told)
             self.tally.judge(kind is not None and done.status == 2 and done.count == 0, where)
             self.seen.add(kind)
-            return
+            return None
         place = refused_place(done.output, variants)
         self.tally.judge(place is not None and done.told == b"" and done.status == 0, where)
         if place is not None:
@@ -170,6 +215,7 @@ class Sessions:
             self.seen.add(word)
             if is_done_again(place, commands, variants[place]):
                 self.seen.add(f"{word} again")
+        return place
 
     def judge_fresh(self, name, commands, replies, variants):
         """Judges the reports that are expected of one session, with none and with each of its commands refused."""

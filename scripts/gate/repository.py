@@ -1,5 +1,6 @@
 """The repository's crates, and the kit that checks them."""
 
+import re
 import shutil
 import subprocess
 from pathlib import Path
@@ -7,12 +8,25 @@ from pathlib import Path
 ROOT = Path(__file__).resolve().parents[2]
 KIT = Path(shutil.which("rt")).resolve().parents[1]
 PARTS = ("src", "specs", "proofs")
+ROOM = re.compile(r"# (\w+)")
+# how ARCHITECTURE.md says which crates a change proves again
+ABOVE = re.compile(r"`(\w+)` and (\d+) above")
+
+
+def listed(root=ROOT):
+    """Returns the lines of crates.txt: each crate with its room, or None before the first, and the libraries it names."""
+    found, room = [], None
+    for line in (root / "crates.txt").read_text(encoding="utf-8").splitlines():
+        begun = ROOM.fullmatch(line)
+        room = begun[1] if begun else room
+        name, colon, uses = line.partition("#")[0].partition(":")
+        found += [(name.strip(), room, uses.split())] if colon else []
+    return found
 
 
 def libraries(root=ROOT):
     """Returns the libraries that each crate stands on, by crates.txt."""
-    lines = [it.partition("#")[0].partition(":") for it in (root / "crates.txt").read_text(encoding="utf-8").splitlines()]
-    return {name.strip(): uses.split() for name, _, uses in lines if name.strip()}
+    return {name: uses for name, _, uses in listed(root)}
 
 
 def below(known, name):
@@ -27,6 +41,11 @@ def below(known, name):
 
     visit(name)
     return [*found]
+
+
+def above(known, name):
+    """Returns the repository's crates that stand on a crate, in the order of crates.txt, those of tests left out."""
+    return [it for it in known if name in below(known, it) and not it.endswith("tests")]
 
 
 def ask_git(root, *words):

@@ -7,8 +7,13 @@ What a test compares is settled by running it. `rt ci` would first prove that ea
 the crates that it tests and took a sixth of the gate's time.
 
 All crates of tests run as the modules of one crate, made in a folder that is removed at the end: each run reads all crates
-below its own anew, which takes longer than the tests. The last line is `tests: P passed, F failed`, over the tests; a run
-that ends in another way than with passed tests counts as one that failed.
+below its own anew, which takes longer than the tests.
+
+Crates with functions that meet a refused growth run a second time, with the tests that refused_in_tests.py makes of these in
+place of their own.
+
+The last line is `tests: P passed, F failed`, over the tests; a run that ends in another way than with passed tests counts as
+one that failed.
 """
 
 import re
@@ -18,12 +23,15 @@ import sys
 import tempfile
 from pathlib import Path
 
-from repository import libraries
 from judging import Tally
+from refused_in_tests import REFUSED, are_growths_refused, judge_tests, make_tests
+from repository import libraries
 
 ROOT = Path(__file__).resolve().parents[2]
 RESULT = re.compile(r"(?m)^test result: \w+\. (\d+) passed; (\d+) failed;")
 JOINED = "joined_tests"
+# how long the tests of refused growths may take
+SECONDS = "1000"
 
 
 def join(names, known, room):
@@ -48,19 +56,45 @@ def join(names, known, room):
     return room / "crates" / JOINED
 
 
+def run(folder, words):
+    """Runs the tests of the crate in a folder, and returns the status and what was printed."""
+    how = {"cwd": folder, "stdin": subprocess.DEVNULL, "stdout": subprocess.PIPE, "stderr": subprocess.STDOUT}
+    ran = subprocess.run(["rt", "try", "--test", *words], text=True, errors="replace", check=False, **how)
+    return ran.returncode, ran.stdout
+
+
+def judge(status, output, tally):
+    """Adds up how many tests passed and failed."""
+    found = RESULT.search(output)
+    passed, failed = (int(it) for it in found.groups()) if found else (0, 0)
+    tally.passed += passed
+    tally.failed += failed
+    if failed or status or not passed:
+        print(output, end="")
+    if not failed and (status or not passed):
+        tally.judge(False, f"status {status}, {passed} passed")
+
+
+def judge_refusing(name, known, tally):
+    """Judges the functions of a crate of tests that meet a refused growth."""
+    with tempfile.TemporaryDirectory(prefix="tests-") as room:
+        folder = join([name], known, Path(room))
+        numbers = make_tests(folder / "src", name)
+        _, output = run(folder, ["--fail-alloc", str(REFUSED), "--seconds", SECONDS])
+    failed = tally.failed
+    judge_tests(numbers, output, tally)
+    if tally.failed > failed and not RESULT.search(output):
+        print(output, end="")
+
+
 def main():
     tally, known = Tally("tests"), libraries()
     names = sys.argv[1:] or [it for it in known if it.endswith("tests")]
     with tempfile.TemporaryDirectory(prefix="tests-") as room:
-        folder = join(names, known, Path(room))
-        how = {"cwd": folder, "stdin": subprocess.DEVNULL, "stdout": subprocess.PIPE, "stderr": subprocess.STDOUT}
-        ran = subprocess.run(["rt", "try", "--test"], text=True, errors="replace", check=False, **how)
-    found = RESULT.search(ran.stdout)
-    tally.passed, tally.failed = (int(it) for it in found.groups()) if found else (0, 0)
-    if tally.failed or ran.returncode or not tally.passed:
-        print(ran.stdout, end="")
-    if not tally.failed and (ran.returncode or not tally.passed):
-        tally.judge(False, f"status {ran.returncode}, {tally.passed} passed")
+        judge(*run(join(names, known, Path(room)), []), tally)
+    for name in names:
+        if are_growths_refused(ROOT / "crates" / name):
+            judge_refusing(name, known, tally)
     return tally.close()
 
 

@@ -1,8 +1,9 @@
 //! `dmypy`: a daemon that checks annotated Python files and answers commands on standard input.
 #![tactic(auto)]
 
-use pyc_command_line::{Job, read_words, word_text};
-use pyc_console::{Counted, Disk, Options, check_files, check_status, session};
+use pyc_console::{
+    Counted, Disk, Job, Options, check_files, check_status, read_words, session, word_text,
+};
 use std::alloc::AllocError;
 use std::env::{Env, FillError};
 use std::process::ExitCode;

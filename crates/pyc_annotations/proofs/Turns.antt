@@ -7,7 +7,7 @@ use Rattle.pyc_ast.specs.declared.expr.Argument.{Argument}
 use Rattle.pyc_ast.specs.ExprView.{argument_of}
 use Rattle.pyc_names.specs.Interfaces.{Interface}
 use Rattle.pyc_reading.proofs.RunLemmas.{one_turn}
-use Rattle.pyc_reading.specs.Desks.{Step, Desk, run}
+use Rattle.pyc_reading.specs.Traces.{Step, Trace, run}
 use Rattle.pyc_reading.specs.Readings.{and_then}
 use Rattle.pyc_type_exprs.specs.declared.forms.TypeArgument.{TypeArgument}
 use Rattle.pyc_type_exprs.specs.declared.forms.TypeExpr.{TypeExpr}
@@ -29,14 +29,14 @@ unfolding more_types
 more_argument file tys x xs =
     ap (λ (r : ArgumentReading). and_then r.read (λ found. more_types (tys ++ (found.ty ∷ [])) (arguments_left file xs))) (one_reading file x)
 
-pub argument_turn : (file : Interface) (tys more : List Ty) (xs : List TypeArgument) (i : ℕ) (x : TypeArgument) (found : Annotation) (desk middle : Desk)
-    → i < length xs → x ≡ get_or xs i x → run (read_type file (type_expr_of x.written)) desk ≡ (found, middle)
+pub argument_turn : (file : Interface) (tys more : List Ty) (xs : List TypeArgument) (i : ℕ) (x : TypeArgument) (found : Annotation) (trace middle : Trace)
+    → i < length xs → x ≡ get_or xs i x → run (read_type file (type_expr_of x.written)) trace ≡ (found, middle)
     → more ≡ tys ++ (found.ty ∷ [])
-    → run (more_types more (arguments_left file (drop (i + 1) xs))) middle ≡ run (more_types tys (arguments_left file (drop i xs))) desk
-argument_turn file tys more xs i x found desk middle within is first pushed =
+    → run (more_types more (arguments_left file (drop (i + 1) xs))) middle ≡ run (more_types tys (arguments_left file (drop i xs))) trace
+argument_turn file tys more xs i x found trace middle within is first pushed =
     ap (λ l. run (more_types l (arguments_left file (drop (i + 1) xs))) middle) pushed
     ∙ sym (one_turn (λ l. more_types tys (arguments_left file l)) (λ y. read_type file (type_expr_of y.written))
-    (λ a l. more_types (tys ++ (a.ty ∷ [])) (arguments_left file l)) (more_argument file tys) xs i x desk middle found within is first)
+    (λ a l. more_types (tys ++ (a.ty ∷ [])) (arguments_left file l)) (more_argument file tys) xs i x trace middle found within is first)
 
 -- the types in a list
 more_type : (file : Interface) (tys : List Ty) (x : TypeExpr) (xs : List TypeExpr)
@@ -45,14 +45,14 @@ more_type : (file : Interface) (tys : List Ty) (x : TypeExpr) (xs : List TypeExp
 unfolding more_types
 more_type file tys x xs = refl
 
-pub type_turn : (file : Interface) (tys more : List Ty) (xs : List TypeExpr) (i : ℕ) (x : TypeExpr) (found : Annotation) (desk middle : Desk)
-    → i < length xs → x ≡ get_or xs i x → run (read_type file (type_expr_of x)) desk ≡ (found, middle)
+pub type_turn : (file : Interface) (tys more : List Ty) (xs : List TypeExpr) (i : ℕ) (x : TypeExpr) (found : Annotation) (trace middle : Trace)
+    → i < length xs → x ≡ get_or xs i x → run (read_type file (type_expr_of x)) trace ≡ (found, middle)
     → more ≡ tys ++ (found.ty ∷ [])
-    → run (more_types more (types_left file (drop (i + 1) xs))) middle ≡ run (more_types tys (types_left file (drop i xs))) desk
-type_turn file tys more xs i x found desk middle within is first pushed =
+    → run (more_types more (types_left file (drop (i + 1) xs))) middle ≡ run (more_types tys (types_left file (drop i xs))) trace
+type_turn file tys more xs i x found trace middle within is first pushed =
     ap (λ l. run (more_types l (types_left file (drop (i + 1) xs))) middle) pushed
     ∙ sym (one_turn (λ l. more_types tys (types_left file l)) (λ y. read_type file (type_expr_of y))
-    (λ a l. more_types (tys ++ (a.ty ∷ [])) (types_left file l)) (more_type file tys) xs i x desk middle found within is first)
+    (λ a l. more_types (tys ++ (a.ty ∷ [])) (types_left file l)) (more_type file tys) xs i x trace middle found within is first)
 
 -- the bases of a class
 more_base : (file : Interface) (bases : List Base) (x : Argument) (xs : List Argument)
@@ -61,11 +61,11 @@ more_base : (file : Interface) (bases : List Base) (x : Argument) (xs : List Arg
 unfolding more_bases
 more_base file bases x xs = refl
 
-pub base_turn : (file : Interface) (bases more : List Base) (xs : List Argument) (i : ℕ) (x : Argument) (found : Option Base) (desk middle : Desk)
-    → i < length xs → x ≡ get_or xs i x → run (base_of_argument file (argument_of x)) desk ≡ (found, middle)
+pub base_turn : (file : Interface) (bases more : List Base) (xs : List Argument) (i : ℕ) (x : Argument) (found : Option Base) (trace middle : Trace)
+    → i < length xs → x ≡ get_or xs i x → run (base_of_argument file (argument_of x)) trace ≡ (found, middle)
     → more ≡ with_base bases found
-    → run (more_bases file more (map argument_of (drop (i + 1) xs))) middle ≡ run (more_bases file bases (map argument_of (drop i xs))) desk
-base_turn file bases more xs i x found desk middle within is first pushed =
+    → run (more_bases file more (map argument_of (drop (i + 1) xs))) middle ≡ run (more_bases file bases (map argument_of (drop i xs))) trace
+base_turn file bases more xs i x found trace middle within is first pushed =
     ap (λ l. run (more_bases file l (map argument_of (drop (i + 1) xs))) middle) pushed
     ∙ sym (one_turn (λ l. more_bases file bases (map argument_of l)) (λ y. base_of_argument file (argument_of y))
-    (λ a l. more_bases file (with_base bases a) (map argument_of l)) (more_base file bases) xs i x desk middle found within is first)
+    (λ a l. more_bases file (with_base bases a) (map argument_of l)) (more_base file bases) xs i x trace middle found within is first)

@@ -1,4 +1,4 @@
--- The types that annotations mean, and what is told of them (typing specification, "Type annotations", "Valid type
+-- The types that annotations mean, and what is reported of them (typing specification, "Type annotations", "Valid type
 -- expression forms", "Union types", "Callables", "Tuples", "`type[]`").
 use Rattle.std.specs.Prelude.{ℕ, Bool, true, false, not, ◌&&◌, ◌==◌, if◌then◌else◌, List, [], ◌∷◌, ◌++◌, codes, map}
 use Rattle.std.specs.Prelude.{length, Option, None, Some}
@@ -14,13 +14,13 @@ use Rattle.pyc_type_exprs.specs.TypeExprs.{ArgumentShape, ellipsis_shape, list_s
 use Rattle.pyc_type_exprs.specs.TypeExprs.{another_type}
 use Rattle.pyc_type_exprs.specs.TypeExprs.{TypeArguments, no_argument, another_argument}
 use Rattle.pyc_ast.specs.declared.position.Position.{Position}
-use Rattle.pyc_class.specs.declared.builtin_class.BuiltinClass.TheVariants as class
-use Rattle.pyc_class.specs.Class.{Id, builtin, user}
+use Rattle.pyc_class_ids.specs.declared.builtin_class.BuiltinClass.TheVariants as class
+use Rattle.pyc_class_ids.specs.Class.{Id, builtin, user}
 use Rattle.pyc_names.specs.declared.fixed.FixedName.{FixedName}
 use Rattle.pyc_names.specs.declared.fixed.FixedName.TheVariants as special
 use Rattle.pyc_names.specs.Interfaces.{Interface}
-use Rattle.pyc_reading.specs.Desks.{Step}
-use Rattle.pyc_reading.specs.Readings.{Done, Tell, and_then}
+use Rattle.pyc_reading.specs.Traces.{Step}
+use Rattle.pyc_reading.specs.Readings.{Done, Report, and_then}
 use Rattle.pyc_report.specs.declared.message.Code.TheVariants.{ValidType}
 use Rattle.pyc_report.specs.Message.{error_at}
 use Rattle.pyc_report.specs.NameTexts.{joined_names}
@@ -35,14 +35,14 @@ pub record Annotation : Type 0 where
   pub ty : Ty
   pub class : Option Id
 
-abbrev pub of_type : Ty → Annotation
-of_type ty = record { ty = ty; class = None }
+abbrev pub annotation_of_type : Ty → Annotation
+annotation_of_type ty = record { ty = ty; class = None }
 
 -- the instances of a class, by its name
 abbrev pub of_class : Id → Annotation
 of_class c = record { ty = instance_of c; class = Some c }
 
--- ---- what is told
+-- ---- what is reported
 
 unfoldable pub not_a_type_text : List ℕ → List ℕ
 not_a_type_text names = codes "\"" ++ (names ++ codes "\" is not valid as a type")
@@ -53,18 +53,18 @@ wrong_count_text form = codes "Wrong number of type arguments for \"" ++ (form +
 unfoldable pub invalid_text : List ℕ
 invalid_text = codes "Invalid type comment or annotation"
 
--- an annotation of which this is told is Any
-abbrev pub wrong : Position → List ℕ → Step Annotation
-wrong at text = Tell (error_at at ValidType text) (Done (of_type any))
+-- an annotation of which this is reported is Any
+abbrev pub report_invalid : Position → List ℕ → Step Annotation
+report_invalid at text = Report (error_at at ValidType text) (Done (annotation_of_type any))
 
 -- a variable, a function or a module
 unfoldable pub not_a_type : DottedName → Step Annotation
-not_a_type name = wrong name.at (not_a_type_text (joined_names name.names))
+not_a_type name = report_invalid name.at (not_a_type_text (joined_names name.names))
 
 unfoldable pub invalid : Position → Step Annotation
-invalid at = wrong at invalid_text
+invalid at = report_invalid at invalid_text
 
--- a type form as it is told of
+-- a type form as it is reported of
 abbrev pub form_name : TypeForm → List ℕ
 form_name type_form.List = codes "list"
 form_name type_form.Dict = codes "dict"
@@ -75,7 +75,7 @@ form_name type_form.Callable = codes "Callable"
 form_name type_form.Type = codes "type"
 
 unfoldable pub wrong_count : Position → TypeForm → Step Annotation
-wrong_count at form = wrong at (wrong_count_text (form_name form))
+wrong_count at form = report_invalid at (wrong_count_text (form_name form))
 
 -- ---- names
 
@@ -111,24 +111,24 @@ dotted_meaning r file at (x ∷ names) = and_then (own_name file at x) (attribut
 
 -- the bare name of a special form
 abbrev pub bare_form : Position → FixedName → Step Annotation
-bare_form at special.Any = Done (of_type any)
-bare_form at special.List = Done (of_type (list any))
-bare_form at special.Dict = Done (of_type (dict any any))
-bare_form at special.Tuple = Done (of_type (tuple_of any))
-bare_form at special.Callable = Done (of_type (callable dots any))
+bare_form at special.Any = Done (annotation_of_type any)
+bare_form at special.List = Done (annotation_of_type (list any))
+bare_form at special.Dict = Done (annotation_of_type (dict any any))
+bare_form at special.Tuple = Done (annotation_of_type (tuple_of any))
+bare_form at special.Callable = Done (annotation_of_type (callable dots any))
 bare_form at _ = invalid at
 
 -- what a name by itself is, by what it means; the annotation begins at a position
-unfoldable pub named : Position → DottedName → Meaning → Step Annotation
-named at name (class_meant c) = Done (of_class c)
-named at name any_meant = Done (of_type any)
-named at name type_meant = Done (of_type any)
-named at name (fixed_meant found) = bare_form at found
-named at name nothing_meant = invalid at
-named at name _ = not_a_type name
+unfoldable pub resolve_name : Position → DottedName → Meaning → Step Annotation
+resolve_name at name (class_meant c) = Done (of_class c)
+resolve_name at name any_meant = Done (annotation_of_type any)
+resolve_name at name type_meant = Done (annotation_of_type any)
+resolve_name at name (fixed_meant found) = bare_form at found
+resolve_name at name nothing_meant = invalid at
+resolve_name at name _ = not_a_type name
 
 unfoldable pub name_rule : Interface → Position → DottedName → Step Annotation
-name_rule file at name = and_then (dotted_meaning role.Annotation file name.at name.names) (named at name)
+name_rule file at name = and_then (dotted_meaning role.Annotation file name.at name.names) (resolve_name at name)
 
 -- ---- forms with arguments
 
@@ -210,16 +210,17 @@ takes type_form.Callable n = n == 2
 takes type_form.Type n = n == 1
 
 -- the type of a form whose arguments are these types
-abbrev pub built : TypeForm → List Ty → Ty
-built type_form.List (item ∷ []) = list item
-built type_form.Dict (key ∷ value ∷ []) = dict key value
-built type_form.Tuple tys = tuple (tys_of tys)
-built type_form.Optional (item ∷ []) = union_of (item ∷ none ∷ [])
-built type_form.Union tys = union_of tys
-built _ _ = any
+abbrev pub build_form_type : TypeForm → List Ty → Ty
+build_form_type type_form.List (item ∷ []) = list item
+build_form_type type_form.Dict (key ∷ value ∷ []) = dict key value
+build_form_type type_form.Tuple tys = tuple (tys_of tys)
+build_form_type type_form.Optional (item ∷ []) = union_of (item ∷ none ∷ [])
+build_form_type type_form.Union tys = union_of tys
+build_form_type _ _ = any
 
 unfoldable pub built_rule : TypeForm → List ArgumentReading → Step Annotation
-built_rule form arguments = and_then (argument_types arguments) (λ tys. Done (of_type (built form tys)))
+built_rule form arguments = and_then (argument_types arguments)
+    (λ tys. Done (annotation_of_type (build_form_type form tys)))
 
 -- the class object of the class that an annotation names; Any for another type
 abbrev pub object_of : Option Id → Ty
@@ -228,15 +229,15 @@ object_of None = any
 
 -- `type[C]`
 abbrev pub object_rule : Step Annotation → Step Annotation
-object_rule read = and_then read (λ found. Done (of_type (object_of found.class)))
+object_rule read = and_then read (λ found. Done (annotation_of_type (object_of found.class)))
 
 abbrev pub class_object_rule : List ArgumentReading → Step Annotation
 class_object_rule (argument ∷ rest) = object_rule argument.read
-class_object_rule [] = Done (of_type any)
+class_object_rule [] = Done (annotation_of_type any)
 
 -- `tuple[T, ...]`
 abbrev pub any_length_rule : Step Annotation → Step Annotation
-any_length_rule read = and_then read (λ found. Done (of_type (tuple_of found.ty)))
+any_length_rule read = and_then read (λ found. Done (annotation_of_type (tuple_of found.ty)))
 
 -- a tuple of two arguments, the second of which has this shape
 abbrev pub pair_rule : ArgumentReading → ArgumentReading → ShapeReading → Step Annotation
@@ -256,12 +257,13 @@ plain_callable tys result = callable (listed (listed_of (map plain_param tys))) 
 
 -- `Callable[..., T]`
 abbrev pub any_callable : Step Annotation → Step Annotation
-any_callable answer = and_then answer (λ found. Done (of_type (callable dots found.ty)))
+any_callable answer = and_then answer (λ found. Done (annotation_of_type (callable dots found.ty)))
 
 -- `Callable[[..], T]`
 abbrev pub listed_callable : List (Step Annotation) → Step Annotation → Step Annotation
 listed_callable params answer =
-    and_then (more_types [] params) (λ tys. and_then answer (λ found. Done (of_type (plain_callable tys found.ty))))
+    and_then (more_types [] params) (λ tys. and_then answer (λ found. Done
+    (annotation_of_type (plain_callable tys found.ty))))
 
 -- a callable whose first argument has this shape
 abbrev pub callable_of : Position → ShapeReading → Step Annotation → Step Annotation
@@ -285,7 +287,7 @@ unfoldable pub subscripted_rule : Position → DottedName → List ArgumentReadi
 subscripted_rule at name arguments (form_subscripted form) =
     if takes form (length arguments) then form_rule at form arguments else wrong_count at form
 subscripted_rule at name arguments (class_subscripted c) = Done (of_class c)
-subscripted_rule at name arguments any_subscripted = Done (of_type any)
+subscripted_rule at name arguments any_subscripted = Done (annotation_of_type any)
 subscripted_rule at name arguments value_subscripted = not_a_type name
 subscripted_rule at name arguments wrong_subscripted = invalid at
 
@@ -296,14 +298,15 @@ subscript_rule file at name is_nested arguments =
 
 -- `X | Y`
 unfoldable pub union_rule : Step Annotation → Step Annotation → Step Annotation
-union_rule left right = and_then left (λ l. and_then right (λ r. Done (of_type (union_of (l.ty ∷ r.ty ∷ [])))))
+union_rule left right = and_then left (λ l. and_then right (λ r. Done
+    (annotation_of_type (union_of (l.ty ∷ r.ty ∷ [])))))
 
 -- ---- the whole
 
 abbrev mutual
   -- what an annotation means that stands in a file
   pub read_type : Interface → TypeExpr → Step Annotation
-  read_type file none_written = Done (of_type none)
+  read_type file none_written = Done (annotation_of_type none)
   read_type file (name_written at name) = name_rule file at name
   read_type file (union_written left right) = union_rule (read_type file left) (read_type file right)
   read_type file (subscript_written at name is_nested arguments) =

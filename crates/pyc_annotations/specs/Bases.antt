@@ -8,10 +8,10 @@ use Rattle.pyc_ast.specs.declared.expr.ArgumentKind.{ArgumentKind}
 use Rattle.pyc_ast.specs.declared.expr.ArgumentKind.TheVariants as argument_kind
 use Rattle.pyc_ast.specs.declared.position.Position.{Position}
 use Rattle.pyc_ast.specs.Exprs.{Expr, Argument, argument, at_of, inside_of}
-use Rattle.pyc_class.specs.Class.{Id}
+use Rattle.pyc_class_ids.specs.Class.{Id}
 use Rattle.pyc_names.specs.Interfaces.{Interface}
-use Rattle.pyc_reading.specs.Desks.{Step}
-use Rattle.pyc_reading.specs.Readings.{Done, Tell, and_then}
+use Rattle.pyc_reading.specs.Traces.{Step}
+use Rattle.pyc_reading.specs.Readings.{Done, Report, and_then}
 use Rattle.pyc_report.specs.declared.message.Code.TheVariants.{Misc}
 use Rattle.pyc_report.specs.Message.{error_at}
 use Rattle.pyc_report.specs.NameTexts.{joined_names}
@@ -29,26 +29,26 @@ unfoldable pub invalid_base_text : List ℕ → List ℕ
 invalid_base_text shown = codes "Invalid base class \"" ++ (shown ++ codes "\"")
 
 unfoldable pub invalid_base : Position → List ℕ → Step Base
-invalid_base at shown = Tell (error_at at Misc (invalid_base_text shown)) (Done no_base)
+invalid_base at shown = Report (error_at at Misc (invalid_base_text shown)) (Done no_base)
 
--- what is told of a base that is no name
+-- what is reported of a base that is no name
 abbrev pub unnamed : List ℕ
 unnamed = codes "expression"
 
 -- what a name is as a base: a variable or a function of type Any is Any
-unfoldable pub base_named : Position → List ℕ → Meaning → Step Base
-base_named at names (class_meant c) = Done (class_base c)
-base_named at names any_meant = Done any_base
-base_named at names type_meant = Done any_base
-base_named at names (fixed_meant found) = Done any_base
-base_named at names (variable_meant true) = Done any_base
-base_named at names (function_meant true) = Done any_base
-base_named at names _ = invalid_base at names
+unfoldable pub base_of_meaning : Position → List ℕ → Meaning → Step Base
+base_of_meaning at names (class_meant c) = Done (class_base c)
+base_of_meaning at names any_meant = Done any_base
+base_of_meaning at names type_meant = Done any_base
+base_of_meaning at names (fixed_meant found) = Done any_base
+base_of_meaning at names (variable_meant true) = Done any_base
+base_of_meaning at names (function_meant true) = Done any_base
+base_of_meaning at names _ = invalid_base at names
 
 -- names joined by dots, or another expression, as a base: where the base begins, and where its names do
 abbrev pub written_base : Interface → (at inside : Position) → Option (List (List ℕ)) → Step Base
 written_base file at inside (Some names) =
-    and_then (dotted_meaning role.Base file inside names) (base_named at (joined_names names))
+    and_then (dotted_meaning role.Base file inside names) (base_of_meaning at (joined_names names))
 written_base file at inside None = invalid_base at unnamed
 
 -- where the names of a base begin: under its subscripts, in its parentheses

@@ -8,7 +8,7 @@ ghost use Rattle.pyc_type_forms.specs.TypeView.{ty_of, param_of, tys_of};
 ghost use Rattle.pyc_type_forms.specs.Unions.{union_of as plain_union_of};
 
 use crate::type_form::TypeForm;
-use pyc_class::ClassId;
+use pyc_class_ids::ClassId;
 use pyc_type_forms::{DictTypes, Param, ParamKind, Params, Signature, Ty, union_of};
 use std::alloc::{AllocError, Global};
 use std::rc::Rc;
@@ -87,8 +87,12 @@ fn plain_param(ty: &Ty) -> Result<Param, AllocError>
 }
 
 /// The type of a form whose arguments are these types.
-pub(crate) fn built(alloc: Global, form: TypeForm, types: Vec<Ty>) -> Result<Ty, AllocError>
-    ensures { IfOk result (λ ty. ty_of ty ≡ spec.built form (map ty_of types.items)) }
+pub(crate) fn build_form_type(
+    alloc: Global,
+    form: TypeForm,
+    types: Vec<Ty>,
+) -> Result<Ty, AllocError>
+    ensures { IfOk result (λ ty. ty_of ty ≡ spec.build_form_type form (map ty_of types.items)) }
 {
     match form {
         TypeForm::List => built_list(alloc, &types),
@@ -102,7 +106,7 @@ pub(crate) fn built(alloc: Global, form: TypeForm, types: Vec<Ty>) -> Result<Ty,
 
 /// A list of one type.
 fn built_list(alloc: Global, types: &[Ty]) -> Result<Ty, AllocError>
-    ensures { IfOk result (λ ty. ty_of ty ≡ spec.built type_form.List (map ty_of types.now)) }
+    ensures { IfOk result (λ ty. ty_of ty ≡ spec.build_form_type type_form.List (map ty_of types.now)) }
 {
     match types {
         [item] => list_type(alloc, item.clone()?),
@@ -112,7 +116,7 @@ fn built_list(alloc: Global, types: &[Ty]) -> Result<Ty, AllocError>
 
 /// A dictionary of two types.
 fn built_dict(alloc: Global, types: &[Ty]) -> Result<Ty, AllocError>
-    ensures { IfOk result (λ ty. ty_of ty ≡ spec.built type_form.Dict (map ty_of types.now)) }
+    ensures { IfOk result (λ ty. ty_of ty ≡ spec.build_form_type type_form.Dict (map ty_of types.now)) }
 {
     match types {
         [key, value] => dict_type(alloc, key.clone()?, value.clone()?),
@@ -122,7 +126,7 @@ fn built_dict(alloc: Global, types: &[Ty]) -> Result<Ty, AllocError>
 
 /// One type or `None`.
 fn built_optional(alloc: Global, types: &[Ty]) -> Result<Ty, AllocError>
-    ensures { IfOk result (λ ty. ty_of ty ≡ spec.built type_form.Optional (map ty_of types.now)) }
+    ensures { IfOk result (λ ty. ty_of ty ≡ spec.build_form_type type_form.Optional (map ty_of types.now)) }
 {
     match types {
         [item] => pair_union(alloc, item, &Ty::None),

@@ -7,117 +7,118 @@ ghost use Rattle.pyc_annotations.specs.Views.{meaning_of};
 ghost use Rattle.pyc_names.specs.FixedModules as fixed;
 ghost use Rattle.pyc_names.specs.InterfaceView.{interface_in};
 ghost use Rattle.pyc_reading.specs.AnswerView.{answer_in, kind_of, name_answer_of};
-ghost use Rattle.pyc_reading.specs.Desks.{Performs};
+ghost use Rattle.pyc_reading.specs.Traces.{Performs};
 
 use crate::meaning::{Meaning, Role, answer_meaning, builtin_meaning, fixed_meaning, kind_meaning};
-use crate::messages::{no_attribute, not_defined};
+use crate::messages::{no_attribute, report_undefined};
 use pyc_ast::{Position, Text};
 use pyc_builtins::{BuiltinName, builtin_name, is_dunder};
 use pyc_names::{Interface, ModuleName, QualifiedName, fixed_module, fixed_name};
-use pyc_reading::{Answer, Key, NameAnswer, NameKind, Notes};
+use pyc_reading::{Answer, Ask, Key, NameAnswer, NameKind};
 use std::alloc::{AllocError, Global};
 
 /// What a name of a module means.
 #[tactic(auto, unfolding(crate::specs::Meanings::module_name_meaning))]
-fn module_name_meaning<N: Notes>(
+fn module_name_meaning<N: Ask>(
     alloc: Global,
-    notes: &mut N,
-    home: &ModuleName,
+    recorder: &mut N,
+    module_path: &ModuleName,
     name: &Text,
 ) -> Result<Meaning, AllocError>
-    ensures { Performs meaning_of (spec.module_name_meaning home.now name.now) (N.desk notes.old) result
-        (N.desk notes.new) }
+    ensures { Performs meaning_of (spec.module_name_meaning module_path.now name.now) (N.trace recorder.old) result
+        (N.trace recorder.new) }
 {
-    match fixed_module(home.parts()) {
+    match fixed_module(module_path.parts()) {
         Some(found) => Ok(fixed_meaning(fixed_name(found, name.as_str()))),
-        None => asked_meaning(alloc, notes, home, name),
+        None => ask_meaning(alloc, recorder, module_path, name),
     }
 }
 
 /// What a name of a module that is no fixed one means.
-fn asked_meaning<N: Notes>(
+fn ask_meaning<N: Ask>(
     alloc: Global,
-    notes: &mut N,
-    home: &ModuleName,
+    recorder: &mut N,
+    module_path: &ModuleName,
     name: &Text,
 ) -> Result<Meaning, AllocError>
-    ensures { Performs meaning_of (spec.name_in_module home.now name.now None)
-        (N.desk notes.old) result (N.desk notes.new) }
+    ensures { Performs meaning_of (spec.name_in_module module_path.now name.now None)
+        (N.trace recorder.old) result (N.trace recorder.new) }
 {
     let key = Key::Name(QualifiedName {
-        home: home.clone()?,
+        module_path: module_path.clone()?,
         name: name.clone()?,
     });
-    let answer = notes.ask(alloc, key)?;
+    let answer = recorder.ask(alloc, key)?;
     answer_meaning(answer)
 }
 
 /// What a name of the own module means, by whether that binds it.
-fn own_meaning<N: Notes>(
+fn own_meaning<N: Ask>(
     alloc: Global,
-    notes: &mut N,
+    recorder: &mut N,
     at: Position,
     name: &Text,
     is_bound: bool,
     found: Meaning,
 ) -> Result<Meaning, AllocError>
-    ensures { Performs meaning_of (spec.own_meaning at name.now is_bound (meaning_of found)) (N.desk notes.old) result
-        (N.desk notes.new) }
+    ensures { Performs meaning_of (spec.own_meaning at name.now is_bound (meaning_of found)) (N.trace recorder.old)
+        result
+        (N.trace recorder.new) }
 {
     if is_bound {
         Ok(found)
     } else {
-        unbound(alloc, notes, at, name.as_str())
+        unbound(alloc, recorder, at, name.as_str())
     }
 }
 
 /// What a name that the module does not bind means.
 #[tactic(auto, unfolding(crate::specs::Meanings::unbound))]
-fn unbound<N: Notes>(
+fn unbound<N: Ask>(
     alloc: Global,
-    notes: &mut N,
+    recorder: &mut N,
     at: Position,
     name: &str,
 ) -> Result<Meaning, AllocError>
-    ensures { Performs meaning_of (spec.unbound at name.now) (N.desk notes.old) result (N.desk notes.new) }
+    ensures { Performs meaning_of (spec.unbound at name.now) (N.trace recorder.old) result (N.trace recorder.new) }
 {
     if name == "type" {
         Ok(Meaning::Type)
     } else {
-        found_builtin(alloc, notes, at, name, builtin_name(name))
+        found_builtin(alloc, recorder, at, name, builtin_name(name))
     }
 }
 
 /// What a name that the module does not bind means, by what it is among the builtins.
-fn found_builtin<N: Notes>(
+fn found_builtin<N: Ask>(
     alloc: Global,
-    notes: &mut N,
+    recorder: &mut N,
     at: Position,
     name: &str,
     found: Option<BuiltinName>,
 ) -> Result<Meaning, AllocError>
-    ensures { Performs meaning_of (spec.found_builtin at name.now found) (N.desk notes.old) result
-        (N.desk notes.new) }
+    ensures { Performs meaning_of (spec.found_builtin at name.now found) (N.trace recorder.old) result
+        (N.trace recorder.new) }
 {
     match found {
         Some(found) => Ok(builtin_meaning(found)),
-        None => no_builtin(alloc, notes, at, name),
+        None => no_builtin(alloc, recorder, at, name),
     }
 }
 
-/// What a name that is no builtin means: where two underscores stand at both ends it is Any, else it is told.
-fn no_builtin<N: Notes>(
+/// What a name that is no builtin means: where two underscores stand at both ends it is Any, else it is reported.
+fn no_builtin<N: Ask>(
     alloc: Global,
-    notes: &mut N,
+    recorder: &mut N,
     at: Position,
     name: &str,
 ) -> Result<Meaning, AllocError>
-    ensures { Performs meaning_of (spec.no_builtin at name.now) (N.desk notes.old) result (N.desk notes.new) }
+    ensures { Performs meaning_of (spec.no_builtin at name.now) (N.trace recorder.old) result (N.trace recorder.new) }
 {
     if is_dunder(name) {
         Ok(Meaning::Any)
     } else {
-        not_defined(alloc, notes, at, name)
+        report_undefined(alloc, recorder, at, name)
     }
 }
 
@@ -128,108 +129,110 @@ fn binds(file: &Interface, name: &Text) -> bool
     file.declaration(name).is_some()
 }
 
-/// What a name that stands in a file means: one that nothing defines is told.
+/// What a name that stands in a file means: one that nothing defines is reported.
 #[tactic(auto, using(crate::proofs::Steps::performing), unfolding(crate::specs::Meanings::own_name))]
-fn own_name<N: Notes>(
+fn own_name<N: Ask>(
     alloc: Global,
-    notes: &mut N,
+    recorder: &mut N,
     file: &Interface,
     at: Position,
     name: &Text,
 ) -> Result<Meaning, AllocError>
-    ensures { Performs meaning_of (spec.own_name (interface_in file.now) at name.now) (N.desk notes.old) result
-        (N.desk notes.new) }
+    ensures { Performs meaning_of (spec.own_name (interface_in file.now) at name.now) (N.trace recorder.old) result
+        (N.trace recorder.new) }
 {
-    let found = module_name_meaning(alloc, notes, file.name(), name)?;
-    own_meaning(alloc, notes, at, name, binds(file, name), found)
+    let found = module_name_meaning(alloc, recorder, file.name(), name)?;
+    own_meaning(alloc, recorder, at, name, binds(file, name), found)
 }
 
-/// What an attribute of a module means: one that the module does not have is told.
+/// What an attribute of a module means: one that the module does not have is reported.
 #[tactic(auto, unfolding(crate::specs::Meanings::module_attribute))]
-fn module_attribute<N: Notes>(
+fn module_attribute<N: Ask>(
     alloc: Global,
-    notes: &mut N,
+    recorder: &mut N,
     at: Position,
-    home: &ModuleName,
+    module_path: &ModuleName,
     name: &Text,
 ) -> Result<Meaning, AllocError>
-    ensures { Performs meaning_of (spec.module_attribute at home.now name.now) (N.desk notes.old) result
-        (N.desk notes.new) }
+    ensures { Performs meaning_of (spec.module_attribute at module_path.now name.now) (N.trace recorder.old) result
+        (N.trace recorder.new) }
 {
     if is_dunder(name.as_str()) {
         Ok(Meaning::Any)
     } else {
-        attribute_in_module(alloc, notes, at, home, name)
+        attribute_in_module(alloc, recorder, at, module_path, name)
     }
 }
 
 /// What an attribute of a module means, which has not two underscores at both ends.
-fn attribute_in_module<N: Notes>(
+fn attribute_in_module<N: Ask>(
     alloc: Global,
-    notes: &mut N,
+    recorder: &mut N,
     at: Position,
-    home: &ModuleName,
+    module_path: &ModuleName,
     name: &Text,
 ) -> Result<Meaning, AllocError>
-    ensures { Performs meaning_of (spec.attribute_in_module at home.now name.now (fixed.fixed_module home.now))
-        (N.desk notes.old) result (N.desk notes.new) }
+    ensures { Performs meaning_of (spec.attribute_in_module at module_path.now name.now
+        (fixed.fixed_module module_path.now))
+        (N.trace recorder.old) result (N.trace recorder.new) }
 {
-    match fixed_module(home.parts()) {
+    match fixed_module(module_path.parts()) {
         Some(found) => Ok(fixed_meaning(fixed_name(found, name.as_str()))),
-        None => asked_attribute(alloc, notes, at, home, name),
+        None => ask_attribute(alloc, recorder, at, module_path, name),
     }
 }
 
 /// What an attribute of a module that is no fixed one means.
 #[tactic(auto, using(crate::proofs::Steps::performing))]
-fn asked_attribute<N: Notes>(
+fn ask_attribute<N: Ask>(
     alloc: Global,
-    notes: &mut N,
+    recorder: &mut N,
     at: Position,
-    home: &ModuleName,
+    module_path: &ModuleName,
     name: &Text,
 ) -> Result<Meaning, AllocError>
-    ensures { Performs meaning_of (spec.attribute_in_module at home.now name.now None) (N.desk notes.old) result
-        (N.desk notes.new) }
+    ensures { Performs meaning_of (spec.attribute_in_module at module_path.now name.now None) (N.trace recorder.old)
+        result
+        (N.trace recorder.new) }
 {
     let key = Key::Name(QualifiedName {
-        home: home.clone()?,
+        module_path: module_path.clone()?,
         name: name.clone()?,
     });
-    let answer = notes.ask(alloc, key)?;
-    answered_attribute(alloc, notes, at, name.as_str(), answer)
+    let answer = recorder.ask(alloc, key)?;
+    answered_attribute(alloc, recorder, at, name.as_str(), answer)
 }
 
-/// What an attribute of a module means, as the answer to its key tells it.
-fn answered_attribute<N: Notes>(
+/// What an attribute of a module means, as the answer to its key says it.
+fn answered_attribute<N: Ask>(
     alloc: Global,
-    notes: &mut N,
+    recorder: &mut N,
     at: Position,
     name: &str,
     answer: Answer,
 ) -> Result<Meaning, AllocError>
-    ensures { Performs meaning_of (spec.answered_attribute at name.now (answer_in answer)) (N.desk notes.old) result
-        (N.desk notes.new) }
+    ensures { Performs meaning_of (spec.answered_attribute at name.now (answer_in answer)) (N.trace recorder.old) result
+        (N.trace recorder.new) }
 {
     match answer {
-        Answer::Name(found) => attribute_of_kind(alloc, notes, at, name, found),
-        Answer::Presence(_) | Answer::Order(_) | Answer::Member(_) => Ok(Meaning::Any),
+        Answer::Name(found) => attribute_of_kind(alloc, recorder, at, name, found),
+        Answer::Presence(_) | Answer::Mro(_) | Answer::Member(_) => Ok(Meaning::Any),
     }
 }
 
-/// What an attribute of a module means, by what it stands for: where its module does not have it that is told.
-fn attribute_of_kind<N: Notes>(
+/// What an attribute of a module means, by what it stands for: where its module does not have it that is reported.
+fn attribute_of_kind<N: Ask>(
     alloc: Global,
-    notes: &mut N,
+    recorder: &mut N,
     at: Position,
     name: &str,
     found: NameAnswer,
 ) -> Result<Meaning, AllocError>
     ensures { Performs meaning_of (spec.attribute_of_kind at name.now (name_answer_of found) (kind_of found.kind))
-        (N.desk notes.old) result (N.desk notes.new) }
+        (N.trace recorder.old) result (N.trace recorder.new) }
 {
     match &found.kind {
-        NameKind::NoName => no_attribute(alloc, notes, at, name),
+        NameKind::NoName => no_attribute(alloc, recorder, at, name),
         _ => kind_meaning(found.kind, &found.ty),
     }
 }
@@ -246,19 +249,19 @@ fn attribute_of_value(is_any: bool) -> Meaning
 }
 
 /// What an attribute of what a name means is.
-fn attribute_meaning<N: Notes>(
+fn attribute_meaning<N: Ask>(
     alloc: Global,
-    notes: &mut N,
+    recorder: &mut N,
     role: Role,
     at: Position,
     name: &Text,
     value: Meaning,
 ) -> Result<Meaning, AllocError>
-    ensures { Performs meaning_of (rule.attribute_meaning role at name.now (meaning_of value)) (N.desk notes.old)
-        result (N.desk notes.new) }
+    ensures { Performs meaning_of (rule.attribute_meaning role at name.now (meaning_of value)) (N.trace recorder.old)
+        result (N.trace recorder.new) }
 {
     match value {
-        Meaning::Module(home) => module_attribute(alloc, notes, at, &home, name),
+        Meaning::Module(module_path) => module_attribute(alloc, recorder, at, &module_path, name),
         Meaning::Any | Meaning::Type | Meaning::Fixed(_) => Ok(Meaning::Any),
         Meaning::Variable(is_any) | Meaning::Function(is_any) => {
             Ok(attribute_of_value(role.is_base() && is_any))
@@ -269,41 +272,41 @@ fn attribute_meaning<N: Notes>(
 
 /// What attributes one behind another mean, of what a name means.
 #[tactic(auto, using(crate::proofs::Steps::performing), unfolding(crate::specs::Annotations::attributes))]
-fn attributes<N: Notes>(
+fn attributes<N: Ask>(
     alloc: Global,
-    notes: &mut N,
+    recorder: &mut N,
     role: Role,
     at: Position,
     names: &[Text],
     found: Meaning,
 ) -> Result<Meaning, AllocError>
-    ensures { Performs meaning_of (rule.attributes role at names.now (meaning_of found)) (N.desk notes.old) result
-        (N.desk notes.new) }
+    ensures { Performs meaning_of (rule.attributes role at names.now (meaning_of found)) (N.trace recorder.old) result
+        (N.trace recorder.new) }
 {
     let mut found = found;
     for name in names {
-        found = attribute_meaning(alloc, notes, role, at, name, found)?;
+        found = attribute_meaning(alloc, recorder, role, at, name, found)?;
     }
     Ok(found)
 }
 
 /// What names joined by dots mean that begin at a position in a file.
 #[tactic(auto, using(crate::proofs::Steps::performing), unfolding(crate::specs::Annotations::dotted_meaning))]
-pub(crate) fn dotted_meaning<N: Notes>(
+pub(crate) fn dotted_meaning<N: Ask>(
     alloc: Global,
-    notes: &mut N,
+    recorder: &mut N,
     role: Role,
     file: &Interface,
     at: Position,
     names: &[Text],
 ) -> Result<Meaning, AllocError>
-    ensures { Performs meaning_of (rule.dotted_meaning role (interface_in file.now) at names.now) (N.desk notes.old)
-        result (N.desk notes.new) }
+    ensures { Performs meaning_of (rule.dotted_meaning role (interface_in file.now) at names.now) (N.trace recorder.old)
+        result (N.trace recorder.new) }
 {
     match names {
         [first, rest @ ..] => {
-            let found = own_name(alloc, notes, file, at, first)?;
-            let meaning = attributes(alloc, notes, role, at, rest, found)?;
+            let found = own_name(alloc, recorder, file, at, first)?;
+            let meaning = attributes(alloc, recorder, role, at, rest, found)?;
             Ok(meaning)
         }
         [] => Ok(Meaning::Nothing),

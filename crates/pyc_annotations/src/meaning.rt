@@ -8,7 +8,7 @@ ghost use Rattle.pyc_reading.specs.AnswerView.{answer_in, kind_of};
 ghost use Rattle.pyc_type_forms.specs.TypeView.{ty_of};
 
 use pyc_builtins::BuiltinName;
-use pyc_class::ClassId;
+use pyc_class_ids::ClassId;
 use pyc_names::{FixedName, ModuleName};
 use pyc_reading::{Answer, NameKind};
 use pyc_type_forms::Ty;
@@ -93,7 +93,7 @@ pub(crate) fn kind_meaning(kind: NameKind, ty: &Ty) -> Result<Meaning, AllocErro
         NameKind::Variable => unannotated(is_any(ty)),
         NameKind::Function => Meaning::Function(is_any(ty)),
         NameKind::Class => class_in(ty)?,
-        NameKind::Module(home) => Meaning::Module(home),
+        NameKind::Module(module_path) => Meaning::Module(module_path),
         NameKind::Fixed(name) => Meaning::Fixed(name),
         _ => Meaning::Any,
     })
@@ -105,7 +105,7 @@ pub(crate) fn answer_meaning(answer: Answer) -> Result<Meaning, AllocError>
 {
     match answer {
         Answer::Name(found) => kind_meaning(found.kind, &found.ty),
-        Answer::Presence(_) | Answer::Order(_) | Answer::Member(_) => Ok(Meaning::Any),
+        Answer::Presence(_) | Answer::Mro(_) | Answer::Member(_) => Ok(Meaning::Any),
     }
 }
 

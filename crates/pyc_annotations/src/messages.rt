@@ -1,32 +1,36 @@
-//! What is told of annotations and bases.
+//! What is reported of annotations and bases.
 
 ghost use Rattle.std.specs.Prelude.{◌≡◌, IfOk, string_bytes};
 ghost use Rattle.pyc_annotations.specs.Annotations as spec;
 ghost use Rattle.pyc_annotations.specs.Bases as base_spec;
 ghost use Rattle.pyc_annotations.specs.Meanings as name_spec;
 ghost use Rattle.pyc_annotations.specs.Views.{annotation_in, base_of, meaning_of};
-ghost use Rattle.pyc_reading.specs.Desks.{Performs};
+ghost use Rattle.pyc_reading.specs.Traces.{Performs};
 ghost use Rattle.pyc_report.specs.NameTexts.{joined_names};
 ghost use Rattle.pyc_type_exprs.specs.TypeExprView.{dotted_name_of};
 
 use crate::class_bases::Base;
 use crate::meaning::Meaning;
-use crate::reading::{Annotation, of_type};
+use crate::reading::{Annotation, annotation_of_type};
 use crate::type_form::TypeForm;
 use pyc_ast::{Position, Text};
-use pyc_reading::{Notes, tell_error};
+use pyc_reading::{Ask, report_error};
 use pyc_report::{Code, push_names};
 use pyc_type_exprs::DottedName;
 use pyc_type_forms::Ty;
 use std::alloc::{AllocError, Global};
 
-/// Tells an error of an annotation, which is Any.
-fn wrong<N: Notes>(notes: &mut N, at: Position, text: String) -> Result<Annotation, AllocError>
-    ensures { Performs annotation_in (spec.wrong at (string_bytes text)) (N.desk notes.old) result
-        (N.desk notes.new) }
+/// Reports an error of an annotation, which is Any.
+fn report_invalid<N: Ask>(
+    recorder: &mut N,
+    at: Position,
+    text: String,
+) -> Result<Annotation, AllocError>
+    ensures { Performs annotation_in (spec.report_invalid at (string_bytes text)) (N.trace recorder.old) result
+        (N.trace recorder.new) }
 {
-    tell_error(notes, at, Code::ValidType, text)?;
-    Ok(of_type(Ty::Any))
+    report_error(recorder, at, Code::ValidType, text)?;
+    Ok(annotation_of_type(Ty::Any))
 }
 
 /// Names with a dot between each two.
@@ -62,46 +66,46 @@ fn invalid_text(alloc: Global) -> Result<String, AllocError>
     String::from_str(alloc, "Invalid type comment or annotation")
 }
 
-/// Tells that a variable, a function or a module is no type.
+/// Reports that a variable, a function or a module is no type.
 #[tactic(auto, unfolding(crate::specs::Annotations::not_a_type))]
-pub(crate) fn not_a_type<N: Notes>(
+pub(crate) fn not_a_type<N: Ask>(
     alloc: Global,
-    notes: &mut N,
+    recorder: &mut N,
     name: &DottedName,
 ) -> Result<Annotation, AllocError>
-    ensures { Performs annotation_in (spec.not_a_type (dotted_name_of name.now)) (N.desk notes.old) result
-        (N.desk notes.new) }
+    ensures { Performs annotation_in (spec.not_a_type (dotted_name_of name.now)) (N.trace recorder.old) result
+        (N.trace recorder.new) }
 {
     let names = names_text(alloc, &name.names)?;
     let text = not_a_type_text(alloc, names.as_str())?;
-    wrong(notes, name.at, text)
+    report_invalid(recorder, name.at, text)
 }
 
-/// Tells that a form has another number of arguments than it takes.
+/// Reports that a form has another number of arguments than it takes.
 #[tactic(auto, unfolding(crate::specs::Annotations::wrong_count))]
-pub(crate) fn wrong_count<N: Notes>(
+pub(crate) fn wrong_count<N: Ask>(
     alloc: Global,
-    notes: &mut N,
+    recorder: &mut N,
     at: Position,
     form: TypeForm,
 ) -> Result<Annotation, AllocError>
-    ensures { Performs annotation_in (spec.wrong_count at form) (N.desk notes.old) result (N.desk notes.new) }
+    ensures { Performs annotation_in (spec.wrong_count at form) (N.trace recorder.old) result (N.trace recorder.new) }
 {
     let text = wrong_count_text(alloc, form.name())?;
-    wrong(notes, at, text)
+    report_invalid(recorder, at, text)
 }
 
-/// Tells that an annotation is wrong.
+/// Reports that an annotation is wrong.
 #[tactic(auto, unfolding(crate::specs::Annotations::invalid))]
-pub(crate) fn invalid<N: Notes>(
+pub(crate) fn invalid<N: Ask>(
     alloc: Global,
-    notes: &mut N,
+    recorder: &mut N,
     at: Position,
 ) -> Result<Annotation, AllocError>
-    ensures { Performs annotation_in (spec.invalid at) (N.desk notes.old) result (N.desk notes.new) }
+    ensures { Performs annotation_in (spec.invalid at) (N.trace recorder.old) result (N.trace recorder.new) }
 {
     let text = invalid_text(alloc)?;
-    wrong(notes, at, text)
+    report_invalid(recorder, at, text)
 }
 
 /// The text on a base that no class is.
@@ -112,18 +116,19 @@ fn invalid_base_text(alloc: Global, shown: &str) -> Result<String, AllocError>
     format!(in alloc; "Invalid base class \"{shown}\"")
 }
 
-/// Tells that a base is no class.
+/// Reports that a base is no class.
 #[tactic(auto, unfolding(crate::specs::Bases::invalid_base))]
-pub(crate) fn invalid_base<N: Notes>(
+pub(crate) fn invalid_base<N: Ask>(
     alloc: Global,
-    notes: &mut N,
+    recorder: &mut N,
     at: Position,
     shown: &str,
 ) -> Result<Base, AllocError>
-    ensures { Performs base_of (base_spec.invalid_base at shown.now) (N.desk notes.old) result (N.desk notes.new) }
+    ensures { Performs base_of (base_spec.invalid_base at shown.now) (N.trace recorder.old) result
+        (N.trace recorder.new) }
 {
     let text = invalid_base_text(alloc, shown)?;
-    tell_error(notes, at, Code::Misc, text)?;
+    report_error(recorder, at, Code::Misc, text)?;
     Ok(Base::Invalid)
 }
 
@@ -135,18 +140,19 @@ fn not_defined_text(alloc: Global, name: &str) -> Result<String, AllocError>
     format!(in alloc; "Name \"{name}\" is not defined")
 }
 
-/// Tells that nothing defines a name, which is Any.
-#[tactic(auto, unfolding(crate::specs::Meanings::not_defined))]
-pub(crate) fn not_defined<N: Notes>(
+/// Reports that nothing defines a name, which is Any.
+#[tactic(auto, unfolding(crate::specs::Meanings::report_undefined))]
+pub(crate) fn report_undefined<N: Ask>(
     alloc: Global,
-    notes: &mut N,
+    recorder: &mut N,
     at: Position,
     name: &str,
 ) -> Result<Meaning, AllocError>
-    ensures { Performs meaning_of (name_spec.not_defined at name.now) (N.desk notes.old) result (N.desk notes.new) }
+    ensures { Performs meaning_of (name_spec.report_undefined at name.now) (N.trace recorder.old) result
+        (N.trace recorder.new) }
 {
     let text = not_defined_text(alloc, name)?;
-    tell_error(notes, at, Code::NameDefined, text)?;
+    report_error(recorder, at, Code::NameDefined, text)?;
     Ok(Meaning::Any)
 }
 
@@ -158,17 +164,18 @@ fn no_attribute_text(alloc: Global, name: &str) -> Result<String, AllocError>
     format!(in alloc; "Module has no attribute \"{name}\"")
 }
 
-/// Tells that a module does not have an attribute, which is Any.
+/// Reports that a module does not have an attribute, which is Any.
 #[tactic(auto, unfolding(crate::specs::Meanings::no_attribute))]
-pub(crate) fn no_attribute<N: Notes>(
+pub(crate) fn no_attribute<N: Ask>(
     alloc: Global,
-    notes: &mut N,
+    recorder: &mut N,
     at: Position,
     name: &str,
 ) -> Result<Meaning, AllocError>
-    ensures { Performs meaning_of (name_spec.no_attribute at name.now) (N.desk notes.old) result (N.desk notes.new) }
+    ensures { Performs meaning_of (name_spec.no_attribute at name.now) (N.trace recorder.old) result
+        (N.trace recorder.new) }
 {
     let text = no_attribute_text(alloc, name)?;
-    tell_error(notes, at, Code::AttrDefined, text)?;
+    report_error(recorder, at, Code::AttrDefined, text)?;
     Ok(Meaning::Any)
 }

@@ -6,7 +6,7 @@ ghost use Rattle.pyc_annotations.specs.Views.{meaning_of, subscripted_of};
 
 use crate::meaning::Meaning;
 use crate::type_form::TypeForm;
-use pyc_class::{BuiltinClass, ClassId};
+use pyc_class_ids::{BuiltinClass, ClassId};
 use pyc_names::FixedName;
 
 /// What a name with arguments in brackets is.

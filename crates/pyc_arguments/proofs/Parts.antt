@@ -10,10 +10,10 @@ use Rattle.pyc_arguments.specs.declared.arguments.Arguments.{Arguments}
 use Rattle.pyc_arguments.specs.declared.arguments.Arguments.TheVariants as a
 use Rattle.pyc_arguments.specs.declared.arguments.ReadArgument.{ReadArgument}
 use Rattle.pyc_arguments.specs.Matched.{Filling, argument_matched, argument_taken}
-use Rattle.pyc_arguments.specs.Telling.{Call}
+use Rattle.pyc_arguments.specs.Reporting.{Call}
 use Rattle.pyc_arguments.specs.Views.{args_in, has_unpacked_in, read_in, unread_in}
 use Rattle.pyc_matching.specs.Matching.{Given, by_place, by_name, match_of}
-use Rattle.pyc_reading.specs.Desks.{Desk, run}
+use Rattle.pyc_reading.specs.Traces.{Trace, run}
 use Rattle.pyc_reading.specs.Readings.{Done, and_then}
 use Rattle.pyc_type_forms.specs.Types.{Listed}
 
@@ -25,7 +25,7 @@ pub view_unread : (read : Reads) (x : Argument) → unread read (argument_of x) 
 view_unread read x = ap (unread read) (view_argument x)
 
 -- arguments that were read are not read again
-pub run_all_read : (xs : List ReadArgument) (d : Desk) → run (all_read (map read_in xs)) d ≡ (tt, d)
+pub run_all_read : (xs : List ReadArgument) (d : Trace) → run (all_read (map read_in xs)) d ≡ (tt, d)
 unfolding all_read and_then
 run_all_read [] d = refl
 run_all_read (x ∷ xs) d = run_all_read xs d

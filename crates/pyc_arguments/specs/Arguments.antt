@@ -5,7 +5,7 @@ use Rattle.pyc_ast.specs.declared.expr.ArgumentKind.TheVariants as kind
 use Rattle.pyc_ast.specs.declared.position.Position.{Position}
 use Rattle.pyc_ast.specs.Exprs.{Expr, Argument, argument}
 use Rattle.pyc_matching.specs.Matching.{Given, by_place, by_name}
-use Rattle.pyc_reading.specs.Desks.{Step}
+use Rattle.pyc_reading.specs.Traces.{Step}
 use Rattle.pyc_reading.specs.Readings.{Done, and_then}
 use Rattle.pyc_type_forms.specs.Types.{Ty}
 

@@ -1,4 +1,4 @@
-pub mod Telling
+pub mod Reporting
 pub mod Arguments
 pub mod Matched
 pub mod Views

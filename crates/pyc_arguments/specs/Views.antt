@@ -6,12 +6,12 @@ use Rattle.pyc_arguments.specs.declared.arguments.Arguments.{Arguments}
 use Rattle.pyc_arguments.specs.declared.arguments.Arguments.TheVariants as a
 use Rattle.pyc_arguments.specs.declared.arguments.ReadArgument.{ReadArgument}
 use Rattle.pyc_arguments.specs.declared.filling.Filling.{Filling as FillingOf}
-use Rattle.pyc_arguments.specs.declared.owed_argument.OwedArgument.{OwedArgument}
-use Rattle.pyc_arguments.specs.declared.telling.Call.{Call as CallOf}
-use Rattle.pyc_arguments.specs.declared.telling.Shown.{Shown as ShownOf}
-use Rattle.pyc_arguments.specs.declared.telling.Shown.TheVariants as s
+use Rattle.pyc_arguments.specs.declared.required_argument.RequiredArgument.{RequiredArgument}
+use Rattle.pyc_arguments.specs.declared.reporting.Call.{Call as CallOf}
+use Rattle.pyc_arguments.specs.declared.reporting.CalleeName.{CalleeName as ShownOf}
+use Rattle.pyc_arguments.specs.declared.reporting.CalleeName.TheVariants as s
 use Rattle.pyc_arguments.specs.Matched.{Filling}
-use Rattle.pyc_arguments.specs.Telling.{Call, Shown, owed_argument, shown_name, shown_member, shown_nameless}
+use Rattle.pyc_arguments.specs.Reporting.{Call, CalleeName, required_argument, shown_name, shown_member, shown_nameless}
 use Rattle.pyc_ast.specs.declared.expr.Argument.{Argument}
 use Rattle.pyc_ast.specs.ExprView.{argument_of}
 use Rattle.pyc_matching.specs.Views.{fill_of, given_in}
@@ -19,7 +19,7 @@ use Rattle.pyc_reading.specs.Owing.{Obligation}
 use Rattle.pyc_type_forms.specs.TypeView.{ty_of}
 
 -- what is called, as messages show it
-abbrev pub shown_in : ShownOf → Shown
+abbrev pub shown_in : ShownOf → CalleeName
 shown_in (s.Name n) = shown_name n.now
 shown_in (s.Member n owner) = shown_member n.now owner.now
 shown_in s.Nameless = shown_nameless
@@ -51,5 +51,6 @@ abbrev pub filling_in : FillingOf → Filling
 filling_in filling = record { fill = fill_of filling.fill; has_too_many = filling.has_too_many }
 
 -- an argument that has to be of the type that is wanted of it
-abbrev pub owed_in : OwedArgument → Obligation
-owed_in o = owed_argument (call_in o.call.now) o.at (given_in o.given) o.number (ty_of o.got.now) (ty_of o.want.now)
+abbrev pub required_in : RequiredArgument → Obligation
+required_in o = required_argument (call_in o.call.now) o.at (given_in o.given) o.number (ty_of o.got.now)
+    (ty_of o.want.now)

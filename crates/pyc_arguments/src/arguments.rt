@@ -7,12 +7,12 @@ ghost use Rattle.pyc_ast.specs.ExprView.{argument_of};
 ghost use Rattle.pyc_arguments.specs.Arguments as spec;
 ghost use Rattle.pyc_arguments.specs.Views.{args_in, has_unpacked_in, read_in, unread_in};
 ghost use Rattle.pyc_matching.specs.Views.{given_in};
-ghost use Rattle.pyc_reading.specs.Desks.{Performs};
+ghost use Rattle.pyc_reading.specs.Traces.{Performs};
 ghost use Rattle.pyc_type_forms.specs.TypeView.{ty_of};
 
 use pyc_ast::{Argument, ArgumentKind, Position};
 use pyc_matching::Given;
-use pyc_obligations::{Judge, Reader};
+use pyc_obligations::{AskTypes, InferType};
 use pyc_type_forms::Ty;
 use std::alloc::{AllocError, Global};
 
@@ -99,36 +99,37 @@ fn some_read_unpacked(arguments: &[ReadArgument]) -> bool
 
 /// Reads arguments of which nothing is expected, in turn, if they are to be read. The only error is that
 /// memory runs out.
-pub fn read_all<N: Judge, R: Reader<N>>(
+pub fn read_all<N: AskTypes, R: InferType<N>>(
     alloc: Global,
-    notes: &mut N,
+    recorder: &mut N,
     reader: &R,
     arguments: &Arguments<'_>,
 ) -> Result<(), AllocError>
     requires { R.ready reader.now }
-    ensures { Performs (λ u. u) (spec.all_read (args_in (R.reads reader.now) arguments.now)) (N.desk notes.old) result
-        (N.desk notes.new) }
+    ensures { Performs (λ u. u) (spec.all_read (args_in (R.reads reader.now) arguments.now)) (N.trace recorder.old)
+        result
+        (N.trace recorder.new) }
 {
     match arguments {
-        Arguments::Unread(arguments) => read_each(alloc, notes, reader, arguments),
+        Arguments::Unread(arguments) => read_each(alloc, recorder, reader, arguments),
         Arguments::Read(_) => Ok(()),
     }
 }
 
 /// Reads arguments of which nothing is expected, in turn.
 #[tactic(auto, using(pyc_obligations::proofs::Steps::performing), unfolding(crate::specs::Arguments::all_read))]
-fn read_each<N: Judge, R: Reader<N>>(
+fn read_each<N: AskTypes, R: InferType<N>>(
     alloc: Global,
-    notes: &mut N,
+    recorder: &mut N,
     reader: &R,
     arguments: &[Argument],
 ) -> Result<(), AllocError>
     requires { R.ready reader.now }
-    ensures { Performs (λ u. u) (spec.all_read (unread_in (R.reads reader.now) arguments.now)) (N.desk notes.old)
-        result (N.desk notes.new) }
+    ensures { Performs (λ u. u) (spec.all_read (unread_in (R.reads reader.now) arguments.now)) (N.trace recorder.old)
+        result (N.trace recorder.new) }
 {
     for argument in arguments {
-        reader.read(alloc, notes, &argument.value, None)?;
+        reader.read(alloc, recorder, &argument.value, None)?;
     }
     Ok(())
 }
@@ -136,19 +137,20 @@ fn read_each<N: Judge, R: Reader<N>>(
 /// Reads arguments of which nothing is expected, in turn: each is of the type that it then has. The only
 /// error is that memory runs out.
 #[tactic(auto, using(pyc_obligations::proofs::Steps::performing), unfolding(crate::specs::Arguments::more_read))]
-pub fn read_once<N: Judge, R: Reader<N>>(
+pub fn read_once<N: AskTypes, R: InferType<N>>(
     alloc: Global,
-    notes: &mut N,
+    recorder: &mut N,
     reader: &R,
     arguments: &[Argument],
 ) -> Result<Vec<ReadArgument>, AllocError>
     requires { R.ready reader.now }
     ensures { Performs (λ (read : Vec ReadArgument Global). map read_in read.items)
-        (spec.read_once (unread_in (R.reads reader.now) arguments.now)) (N.desk notes.old) result (N.desk notes.new) }
+        (spec.read_once (unread_in (R.reads reader.now) arguments.now)) (N.trace recorder.old) result
+        (N.trace recorder.new) }
 {
     let mut read = Vec::with_capacity(alloc, arguments.len())?;
     for argument in arguments {
-        let ty = reader.read(alloc, notes, &argument.value, None)?;
+        let ty = reader.read(alloc, recorder, &argument.value, None)?;
         push_read(&mut read, argument.at, &argument.kind, ty)?;
     }
     Ok(read)
@@ -166,14 +168,14 @@ pub fn push_read(
 {
     read.push(ReadArgument {
         at,
-        kind: copied_kind(kind)?,
+        kind: copy_kind(kind)?,
         ty,
     })?;
     Ok(())
 }
 
-/// The same kind of argument once more.
-fn copied_kind(kind: &ArgumentKind) -> Result<ArgumentKind, AllocError>
+/// A copy of `kind`.
+fn copy_kind(kind: &ArgumentKind) -> Result<ArgumentKind, AllocError>
     ensures { IfOk result (λ copy. copy ≡ kind.now) }
 {
     match kind {

@@ -1,28 +1,28 @@
-//! The texts of what is told of the arguments of calls.
+//! The texts of what is reported of the arguments of calls.
 
 ghost use Rattle.std.specs.Prelude.{◌≡◌, IfOk, string_bytes};
-ghost use Rattle.pyc_arguments.specs.Telling as spec;
+ghost use Rattle.pyc_arguments.specs.Reporting as spec;
 ghost use Rattle.pyc_arguments.specs.Views.{shown_in};
 ghost use Rattle.pyc_matching.specs.Views.{given_in, missing_in};
 
-use crate::telling::Shown;
+use crate::reporting::CalleeName;
 use pyc_matching::{Given, MissingArgument};
 use std::alloc::{AllocError, Global};
 
 /// What is called, in a message.
-#[tactic(auto, unfolding(crate::specs::Telling::shown_text))]
-pub(crate) fn shown_text(alloc: Global, shown: Shown<'_>) -> Result<String, AllocError>
+#[tactic(auto, unfolding(crate::specs::Reporting::shown_text))]
+pub(crate) fn shown_text(alloc: Global, shown: CalleeName<'_>) -> Result<String, AllocError>
     ensures { IfOk result (λ text. string_bytes text ≡ spec.shown_text (shown_in shown.entry)) }
 {
     match shown {
-        Shown::Name(name) => format!(in alloc; "\"{name}\""),
-        Shown::Member(name, owner) => format!(in alloc; "\"{name}\" of \"{owner}\""),
-        Shown::Nameless => String::from_str(alloc, "\"function\""),
+        CalleeName::Name(name) => format!(in alloc; "\"{name}\""),
+        CalleeName::Member(name, owner) => format!(in alloc; "\"{name}\" of \"{owner}\""),
+        CalleeName::Nameless => String::from_str(alloc, "\"function\""),
     }
 }
 
 /// The text on an argument by place.
-#[tactic(auto, unfolding(crate::specs::Telling::placed_text))]
+#[tactic(auto, unfolding(crate::specs::Reporting::placed_text))]
 fn placed_text(
     alloc: Global,
     number: usize,
@@ -38,7 +38,7 @@ fn placed_text(
 }
 
 /// The text on an argument by name.
-#[tactic(auto, unfolding(crate::specs::Telling::named_text))]
+#[tactic(auto, unfolding(crate::specs::Reporting::named_text))]
 fn named_text(
     alloc: Global,
     name: &str,
@@ -72,7 +72,7 @@ pub(crate) fn argument_text(
 }
 
 /// The text on an argument by the name of a parameter that is filled already.
-#[tactic(auto, unfolding(crate::specs::Telling::repeated_text))]
+#[tactic(auto, unfolding(crate::specs::Reporting::repeated_text))]
 pub(crate) fn repeated_text(alloc: Global, name: &str, shown: &str) -> Result<String, AllocError>
     ensures { IfOk result (λ text. string_bytes text ≡ spec.repeated_text name.now shown.now) }
 {
@@ -80,7 +80,7 @@ pub(crate) fn repeated_text(alloc: Global, name: &str, shown: &str) -> Result<St
 }
 
 /// The text on an argument by the name of no parameter.
-#[tactic(auto, unfolding(crate::specs::Telling::unexpected_text))]
+#[tactic(auto, unfolding(crate::specs::Reporting::unexpected_text))]
 pub(crate) fn unexpected_text(alloc: Global, name: &str, shown: &str) -> Result<String, AllocError>
     ensures { IfOk result (λ text. string_bytes text ≡ spec.unexpected_text name.now shown.now) }
 {
@@ -88,7 +88,7 @@ pub(crate) fn unexpected_text(alloc: Global, name: &str, shown: &str) -> Result<
 }
 
 /// The text on arguments for whose places no parameter is left.
-#[tactic(auto, unfolding(crate::specs::Telling::too_many_text))]
+#[tactic(auto, unfolding(crate::specs::Reporting::too_many_text))]
 pub(crate) fn too_many_text(alloc: Global, shown: &str) -> Result<String, AllocError>
     ensures { IfOk result (λ text. string_bytes text ≡ spec.too_many_text shown.now) }
 {
@@ -96,7 +96,7 @@ pub(crate) fn too_many_text(alloc: Global, shown: &str) -> Result<String, AllocE
 }
 
 /// The text on a plain parameter that no argument fills.
-#[tactic(auto, unfolding(crate::specs::Telling::missing_place_text))]
+#[tactic(auto, unfolding(crate::specs::Reporting::missing_place_text))]
 fn missing_place_text(alloc: Global, name: &str, shown: &str) -> Result<String, AllocError>
     ensures { IfOk result (λ text. string_bytes text ≡ spec.missing_place_text name.now shown.now) }
 {
@@ -104,7 +104,7 @@ fn missing_place_text(alloc: Global, name: &str, shown: &str) -> Result<String, 
 }
 
 /// The text on a keyword-only parameter that no argument fills.
-#[tactic(auto, unfolding(crate::specs::Telling::missing_name_text))]
+#[tactic(auto, unfolding(crate::specs::Reporting::missing_name_text))]
 fn missing_name_text(alloc: Global, name: &str, shown: &str) -> Result<String, AllocError>
     ensures { IfOk result (λ text. string_bytes text ≡ spec.missing_name_text name.now shown.now) }
 {

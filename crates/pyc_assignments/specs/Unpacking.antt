@@ -5,10 +5,10 @@ use Rattle.std.specs.Prelude.{None, Some}
 use Rattle.std.specs.Fmt.{decimal}
 use Rattle.pyc_ast.specs.declared.position.Position.{Position}
 use Rattle.pyc_ast.specs.Targets.{TargetElement, target_element, TargetElements, no_target, another_target}
-use Rattle.pyc_items.specs.Chosen.{row_length, ty_at}
-use Rattle.pyc_items.specs.Iteration.{iterated}
-use Rattle.pyc_reading.specs.Desks.{Step}
-use Rattle.pyc_reading.specs.Readings.{Done, Tell, and_then}
+use Rattle.pyc_subscripts.specs.Chosen.{row_length, ty_at}
+use Rattle.pyc_subscripts.specs.Iteration.{infer_iteration}
+use Rattle.pyc_reading.specs.Traces.{Step}
+use Rattle.pyc_reading.specs.Readings.{Done, Report, and_then}
 use Rattle.pyc_report.specs.declared.message.Code.TheVariants.{Misc}
 use Rattle.pyc_report.specs.Message.{error_at}
 use Rattle.pyc_type_forms.specs.Types.{Ty, any, tuple}
@@ -20,7 +20,7 @@ pub data Shares : Type 0 where
   -- each its place of a tuple
   places_of : Ty → Shares
 
--- ---- what is told
+-- ---- what is reported
 
 -- how many values, in words
 abbrev pub values_word : ℕ → List ℕ
@@ -34,7 +34,7 @@ too_few_text provided word expected =
 -- a tuple with fewer places than there are targets: each gets Any
 unfoldable pub too_few : Position → (provided expected : ℕ) → Step Shares
 too_few at provided expected =
-    Tell (error_at at Misc (too_few_text provided (values_word provided) expected)) (Done (each_gets any))
+    Report (error_at at Misc (too_few_text provided (values_word provided) expected)) (Done (each_gets any))
 
 unfoldable pub too_many_text : (provided expected : ℕ) → List ℕ
 too_many_text provided expected =
@@ -43,7 +43,7 @@ too_many_text provided expected =
 
 -- a tuple with more places than there are targets
 unfoldable pub too_many : Position → (provided expected : ℕ) → Step Shares
-too_many at provided expected = Tell (error_at at Misc (too_many_text provided expected)) (Done (each_gets any))
+too_many at provided expected = Report (error_at at Misc (too_many_text provided expected)) (Done (each_gets any))
 
 -- ---- the targets
 
@@ -72,7 +72,7 @@ tuple_shares at provided expected ty =
     if nat_eq provided expected then Done (places_of ty) else unequal_shares at provided expected
 
 unfoldable pub iterated_shares : Position → Ty → Step Shares
-iterated_shares at ty = and_then (iterated at ty) (λ item. Done (each_gets item))
+iterated_shares at ty = and_then (infer_iteration at ty) (λ item. Done (each_gets item))
 
 abbrev pub shares_by_type : Position → ℕ → Ty → Step Shares
 shares_by_type at expected (tuple items) = tuple_shares at (row_length items) expected (tuple items)

@@ -2,43 +2,46 @@
 
 ghost use Rattle.std.specs.Prelude.{◌≡◌, map, option_map};
 ghost use Rattle.pyc_assignments.specs.Assignments as spec;
-ghost use Rattle.pyc_assignments.specs.Views.{met_in};
+ghost use Rattle.pyc_assignments.specs.Views.{outcome_in};
 ghost use Rattle.pyc_ast.specs.ExprView.{expr_of};
 ghost use Rattle.pyc_ast.specs.TargetView.{target_of};
-ghost use Rattle.pyc_locals.specs.Views.{point_in};
-ghost use Rattle.pyc_reading.specs.Desks.{Performs};
+ghost use Rattle.pyc_locals.specs.Views.{flow_state_in};
+ghost use Rattle.pyc_reading.specs.Traces.{Performs};
 ghost use Rattle.pyc_type_forms.specs.TypeView.{ty_of};
 
-use crate::assigning::assigned;
-use crate::reading::{AssignmentReader, Met, type_read};
-use crate::singles::{is_unpacking, met};
-use crate::storing::stored;
+use crate::assigning::assign_target;
+use crate::reading::{AssignmentOutcome, InferAssignment, infer_type_at};
+use crate::singles::{is_unpacking, outcome};
+use crate::storing::store_in_target;
 use pyc_ast::{Expr, Position, Target};
-use pyc_locals::Point;
-use pyc_obligations::Judge;
+use pyc_locals::FlowState;
+use pyc_obligations::AskTypes;
 use pyc_type_forms::Ty;
 use std::alloc::{AllocError, Global};
 
-/// Checks an assignment to targets from left to right, and leaves `point` as it is after it. The type that the first
-/// target takes which is no tuple or list of targets is expected of the value. Reports each obligation that does not
-/// hold. The only error is that memory runs out.
+/// Checks an assignment to targets from left to right, and leaves `flow_state` as it is after it. The type that the
+/// first target takes which is no tuple or list of targets is expected of the value. Reports each obligation that does
+/// not hold. The only error is that memory runs out.
 #[tactic(auto, using(pyc_obligations::proofs::Steps::performing), unfolding(crate::specs::Assignments::assignment))]
-pub fn assignment<N: Judge, R: AssignmentReader<N>>(
+pub fn assignment<N: AskTypes, R: InferAssignment<N>>(
     alloc: Global,
-    notes: &mut N,
+    recorder: &mut N,
     reader: &R,
     targets: &[Target],
     value: &Expr,
-    point: &mut Point,
+    flow_state: &mut FlowState,
 ) -> Result<(), AllocError>
     requires { R.ready reader.now }
-    ensures { Performs (λ u. point_in point.new)
-        (spec.assignment (R.reads reader.now) (map target_of targets.now) (expr_of value.now) (point_in point.old))
-        (N.desk notes.old) result (N.desk notes.new) }
+    ensures { Performs (λ u. flow_state_in flow_state.new)
+        (spec.assignment (R.reads reader.now) (map target_of targets.now) (expr_of value.now)
+        (flow_state_in flow_state.old))
+        (N.trace recorder.old) result (N.trace recorder.new) }
 {
     let first = first_single(targets);
-    let found = first_met(alloc, notes, reader, point, targets.get(first))?;
-    assignment_by(alloc, notes, reader, targets, first, value, point, &found)?;
+    let found = first_outcome(alloc, recorder, reader, flow_state, targets.get(first))?;
+    assignment_by(
+        alloc, recorder, reader, targets, first, value, flow_state, &found,
+    )?;
     Ok(())
 }
 
@@ -55,103 +58,105 @@ fn first_single(targets: &[Target]) -> usize
 }
 
 /// What an assignment to some first single target meets.
-fn first_met<N: Judge, R: AssignmentReader<N>>(
+fn first_outcome<N: AskTypes, R: InferAssignment<N>>(
     alloc: Global,
-    notes: &mut N,
+    recorder: &mut N,
     reader: &R,
-    point: &Point,
+    flow_state: &FlowState,
     target: Option<&Target>,
-) -> Result<Met, AllocError>
+) -> Result<AssignmentOutcome, AllocError>
     requires { R.ready reader.now }
-    ensures { Performs met_in
-        (spec.first_met (R.reads reader.now) (point_in point.now)
-        (option_map (λ target. target_of target.now) target.entry)) (N.desk notes.old) result (N.desk notes.new) }
+    ensures { Performs outcome_in
+        (spec.first_outcome (R.reads reader.now) (flow_state_in flow_state.now)
+        (option_map (λ target. target_of target.now) target.entry)) (N.trace recorder.old) result
+        (N.trace recorder.new) }
 {
     match target {
-        Some(target) => met(alloc, notes, reader, point, target),
-        None => Ok(Met::free()),
+        Some(target) => outcome(alloc, recorder, reader, flow_state, target),
+        None => Ok(AssignmentOutcome::free()),
     }
 }
 
 /// Infers the value and assigns it to targets, of which the one of the number `first` meets `found`.
 #[tactic(auto, using(pyc_obligations::proofs::Steps::performing), unfolding(crate::specs::Assignments::assignment_by))]
-fn assignment_by<N: Judge, R: AssignmentReader<N>>(
+fn assignment_by<N: AskTypes, R: InferAssignment<N>>(
     alloc: Global,
-    notes: &mut N,
+    recorder: &mut N,
     reader: &R,
     targets: &[Target],
     first: usize,
     value: &Expr,
-    point: &mut Point,
-    found: &Met,
+    flow_state: &mut FlowState,
+    found: &AssignmentOutcome,
 ) -> Result<(), AllocError>
     requires { R.ready reader.now }
-    ensures { Performs (λ u. point_in point.new)
+    ensures { Performs (λ u. flow_state_in flow_state.new)
         (spec.assignment_by (R.reads reader.now) first (map target_of targets.now) (expr_of value.now)
-        (point_in point.old) (met_in found.now)) (N.desk notes.old) result (N.desk notes.new) }
+        (flow_state_in flow_state.old) (outcome_in found.now)) (N.trace recorder.old) result (N.trace recorder.new) }
 {
-    let ty = type_read(alloc, notes, reader, point, value, found.want())?;
-    targets_assigned(
-        alloc, notes, reader, value.at, found, first, &ty, targets, point,
+    let ty = infer_type_at(alloc, recorder, reader, flow_state, value, found.want())?;
+    assign_targets(
+        alloc, recorder, reader, value.at, found, first, &ty, targets, flow_state,
     )?;
     Ok(())
 }
 
 /// Assigns a value of type `ty` to targets in turn, of which the one of the number `first` meets `found`.
-#[tactic(auto, using(pyc_obligations::proofs::Steps::performing), unfolding(crate::specs::Assignments::targets_assigned))]
-fn targets_assigned<N: Judge, R: AssignmentReader<N>>(
+#[tactic(auto, using(pyc_obligations::proofs::Steps::performing), unfolding(crate::specs::Assignments::assign_targets))]
+fn assign_targets<N: AskTypes, R: InferAssignment<N>>(
     alloc: Global,
-    notes: &mut N,
+    recorder: &mut N,
     reader: &R,
     at: Position,
-    found: &Met,
+    found: &AssignmentOutcome,
     first: usize,
     ty: &Ty,
     targets: &[Target],
-    point: &mut Point,
+    flow_state: &mut FlowState,
 ) -> Result<(), AllocError>
     requires { R.ready reader.now }
-    ensures { Performs (λ u. point_in point.new)
-        (spec.targets_assigned (R.reads reader.now) at (met_in found.now) first (ty_of ty.now) 0
-        (map target_of targets.now) (point_in point.old)) (N.desk notes.old) result (N.desk notes.new) }
+    ensures { Performs (λ u. flow_state_in flow_state.new)
+        (spec.assign_targets (R.reads reader.now) at (outcome_in found.now) first (ty_of ty.now) 0
+        (map target_of targets.now) (flow_state_in flow_state.old)) (N.trace recorder.old) result
+        (N.trace recorder.new) }
 {
     for index in 0..targets.len() {
         let is_first = index == first;
-        target_assigned(
+        assign_one(
             alloc,
-            notes,
+            recorder,
             reader,
             at,
             found,
             is_first,
             ty,
             &targets[index],
-            point,
+            flow_state,
         )?;
     }
     Ok(())
 }
 
 /// Assigns a value of type `ty` to a target, by whether `found`, which was read before, is what it meets.
-fn target_assigned<N: Judge, R: AssignmentReader<N>>(
+fn assign_one<N: AskTypes, R: InferAssignment<N>>(
     alloc: Global,
-    notes: &mut N,
+    recorder: &mut N,
     reader: &R,
     at: Position,
-    found: &Met,
+    found: &AssignmentOutcome,
     is_first: bool,
     ty: &Ty,
     target: &Target,
-    point: &mut Point,
+    flow_state: &mut FlowState,
 ) -> Result<(), AllocError>
     requires { R.ready reader.now }
-    ensures { Performs (λ u. point_in point.new)
-        (spec.target_assigned (R.reads reader.now) at (met_in found.now) is_first (ty_of ty.now)
-        (target_of target.now) (point_in point.old)) (N.desk notes.old) result (N.desk notes.new) }
+    ensures { Performs (λ u. flow_state_in flow_state.new)
+        (spec.assign_one (R.reads reader.now) at (outcome_in found.now) is_first (ty_of ty.now)
+        (target_of target.now) (flow_state_in flow_state.old)) (N.trace recorder.old) result (N.trace recorder.new) }
 {
     if is_first {
-        stored(alloc, notes, at, target, found, ty, point)
+        store_in_target(alloc, recorder, at, target, found, ty, flow_state)
     } else {
-        assigned(alloc, notes, reader, at, target, ty, point)
+        assign_target(alloc, recorder, reader, at, target, ty, flow_state)
     }
 }

@@ -1,4 +1,4 @@
-//! Assignments: what is told of them, and what is known of locals and places after them.
+//! Assignments: what is reported of them, and what is known of locals and places after them.
 #![tactic(auto)]
 
 mod annotated;
@@ -11,8 +11,8 @@ mod storing;
 mod unpacking;
 
 pub use annotated::annotated_assignment;
-pub use assigning::assigned;
+pub use assigning::assign_target;
 pub use assignments::assignment;
-pub use reading::{AssignmentReader, Met};
-pub use singles::met;
-pub use storing::{assignment_owed, stored};
+pub use reading::{AssignmentOutcome, InferAssignment};
+pub use singles::outcome;
+pub use storing::{assignment_required, store_in_target};

@@ -1,16 +1,16 @@
-//! What is told of assignments.
+//! What is reported of assignments.
 
 ghost use Rattle.std.specs.Prelude.{◌≡◌, IfOk, string_bytes};
 ghost use Rattle.pyc_assignments.specs.Storing as spec;
 ghost use Rattle.pyc_assignments.specs.Unpacking as unpacking;
-ghost use Rattle.pyc_assignments.specs.Views.{owed_in, shares_in};
-ghost use Rattle.pyc_reading.specs.Desks.{Performs, telling};
+ghost use Rattle.pyc_assignments.specs.Views.{required_in, shares_in};
+ghost use Rattle.pyc_reading.specs.Traces.{Performs, reporting};
 ghost use Rattle.pyc_type_forms.specs.TypeView.{ty_of};
 
 use crate::unpacking::Shares;
 use pyc_ast::Position;
-use pyc_obligations::{Judge, Owed, tell_error};
-use pyc_report::{Code, Duty, Message};
+use pyc_obligations::{AsObligation, AskTypes, report_error};
+use pyc_report::{Code, Message, ObligationKind};
 use pyc_type_forms::{Ty, show};
 use std::alloc::{AllocError, Global};
 
@@ -52,15 +52,15 @@ fn assignment_text(
 
 /// A value, where it begins, its type and the type that its target takes, and whether that is an item of a subscript.
 #[derive(Clone, Copy)]
-pub(crate) struct OwedAssignment<'a> {
+pub(crate) struct RequiredAssignment<'a> {
     pub(crate) at: Position,
     pub(crate) is_item: bool,
     pub(crate) got: &'a Ty,
     pub(crate) want: &'a Ty,
 }
 
-impl<N: Judge> Owed<N> for OwedAssignment<'_> {
-    ghost obligation = { owed_in };
+impl<N: AskTypes> AsObligation<N> for RequiredAssignment<'_> {
+    ghost obligation = { required_in };
 
     fn got(&self) -> &Ty {
         self.got
@@ -70,16 +70,16 @@ impl<N: Judge> Owed<N> for OwedAssignment<'_> {
         self.want
     }
 
-    fn ask_details(&self, _alloc: Global, _notes: &mut N) -> Result<(), AllocError> {
+    fn ask_details(&self, _alloc: Global, _recorder: &mut N) -> Result<(), AllocError> {
         Ok(())
     }
 
-    #[tactic(auto, unfolding(crate::specs::Storing::owed_assignment_text))]
-    fn message(&self, alloc: Global, _notes: &N) -> Result<Message, AllocError> {
+    #[tactic(auto, unfolding(crate::specs::Storing::required_assignment_text))]
+    fn message(&self, alloc: Global, _recorder: &N) -> Result<Message, AllocError> {
         let got = show(alloc, self.got)?;
         let want = show(alloc, self.want)?;
         let text = assignment_text(alloc, self.is_item, got.as_str(), want.as_str())?;
-        Ok(Message::failing_at(self.at, Duty::Assignment, text))
+        Ok(Message::failing_at(self.at, ObligationKind::Assignment, text))
     }
 }
 
@@ -103,20 +103,20 @@ fn too_few_text(
     format!(in alloc; "Need more than {provided} {word} to unpack ({expected} expected)")
 }
 
-/// Tells that a tuple has fewer places than there are targets.
+/// Reports that a tuple has fewer places than there are targets.
 #[tactic(auto, using(pyc_obligations::proofs::Steps::performing), unfolding(crate::specs::Unpacking::too_few))]
-pub(crate) fn too_few<N: Judge>(
+pub(crate) fn too_few<N: AskTypes>(
     alloc: Global,
-    notes: &mut N,
+    recorder: &mut N,
     at: Position,
     provided: usize,
     expected: usize,
 ) -> Result<Shares, AllocError>
-    ensures { Performs shares_in (unpacking.too_few at provided expected) (N.desk notes.old) result
-        (N.desk notes.new) }
+    ensures { Performs shares_in (unpacking.too_few at provided expected) (N.trace recorder.old) result
+        (N.trace recorder.new) }
 {
     let text = too_few_text(alloc, provided, values_word(provided), expected)?;
-    tell_error(notes, at, Code::Misc, text)?;
+    report_error(recorder, at, Code::Misc, text)?;
     Ok(Shares::Each(Ty::Any))
 }
 
@@ -128,19 +128,19 @@ fn too_many_text(alloc: Global, provided: usize, expected: usize) -> Result<Stri
     format!(in alloc; "Too many values to unpack ({expected} expected, {provided} provided)")
 }
 
-/// Tells that a tuple has more places than there are targets.
+/// Reports that a tuple has more places than there are targets.
 #[tactic(auto, using(pyc_obligations::proofs::Steps::performing), unfolding(crate::specs::Unpacking::too_many))]
-pub(crate) fn too_many<N: Judge>(
+pub(crate) fn too_many<N: AskTypes>(
     alloc: Global,
-    notes: &mut N,
+    recorder: &mut N,
     at: Position,
     provided: usize,
     expected: usize,
 ) -> Result<Shares, AllocError>
-    ensures { Performs shares_in (unpacking.too_many at provided expected) (N.desk notes.old) result
-        (N.desk notes.new) }
+    ensures { Performs shares_in (unpacking.too_many at provided expected) (N.trace recorder.old) result
+        (N.trace recorder.new) }
 {
     let text = too_many_text(alloc, provided, expected)?;
-    tell_error(notes, at, Code::Misc, text)?;
+    report_error(recorder, at, Code::Misc, text)?;
     Ok(Shares::Each(Ty::Any))
 }

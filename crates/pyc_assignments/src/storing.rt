@@ -1,84 +1,114 @@
-//! What is owed to targets, and what is known of them after assignments.
+//! What is required of targets, and what is known of them after assignments.
 
 ghost use Rattle.std.specs.Prelude.{◌≡◌, IfOk, OnOk, option_map};
 ghost use Rattle.pyc_assignments.specs.Storing as spec;
-ghost use Rattle.pyc_assignments.specs.Views.{met_in};
+ghost use Rattle.pyc_assignments.specs.Views.{outcome_in};
 ghost use Rattle.pyc_ast.specs.TargetView.{target_of};
-ghost use Rattle.pyc_locals.specs.Views.{point_in};
+ghost use Rattle.pyc_locals.specs.Views.{flow_state_in};
 ghost use Rattle.pyc_places.specs.States as states;
 ghost use Rattle.pyc_places.specs.StateView.{state_of};
-ghost use Rattle.pyc_reading.specs.Desks.{Performs};
-ghost use Rattle.pyc_targets.specs.Views.{slot_of};
+ghost use Rattle.pyc_reading.specs.Traces.{Performs};
+ghost use Rattle.pyc_targets.specs.Views.{target_type_of};
 ghost use Rattle.pyc_type_forms.specs.TypeView.{ty_of};
 
-use crate::messages::OwedAssignment;
-use crate::reading::Met;
+use crate::messages::RequiredAssignment;
+use crate::reading::AssignmentOutcome;
 use pyc_ast::{Position, Target, Text};
-use pyc_locals::{LocalType, Point};
-use pyc_obligations::{Judge, judged, owe};
+use pyc_locals::{FlowState, LocalType};
+use pyc_obligations::{AskTypes, judge_assignable, require};
 use pyc_places::{Place, State, name_place, target_place};
-use pyc_targets::Slot;
+use pyc_targets::TargetType;
 use pyc_type_forms::Ty;
 use std::alloc::{AllocError, Global};
 
-/// Assigns a value of type `got`, which begins at `at`, to a target that meets `met`, and leaves `point` as it is after
-/// that. Reports the obligation, if there is one and it does not hold. The only error is that memory runs out.
-pub fn stored<N: Judge>(
+/// Assigns a value of type `got`, which begins at `at`, to a target that meets `outcome`, and leaves `flow_state` as it
+/// is after that. Reports the obligation, if there is one and it does not hold. The only error is that memory runs out.
+pub fn store_in_target<N: AskTypes>(
     alloc: Global,
-    notes: &mut N,
+    recorder: &mut N,
     at: Position,
     target: &Target,
-    met: &Met,
+    outcome: &AssignmentOutcome,
     got: &Ty,
-    point: &mut Point,
+    flow_state: &mut FlowState,
 ) -> Result<(), AllocError>
-    ensures { Performs (λ u. point_in point.new)
-        (spec.stored at (target_of target.now) (met_in met.now) (ty_of got.now) (point_in point.old))
-        (N.desk notes.old) result (N.desk notes.new) }
+    ensures { Performs (λ u. flow_state_in flow_state.new)
+        (spec.store_in_target at (target_of target.now) (outcome_in outcome.now) (ty_of got.now)
+        (flow_state_in flow_state.old))
+        (N.trace recorder.old) result (N.trace recorder.new) }
 {
-    match met {
-        Met::Slot(slot) => slot_stored(alloc, notes, at, target, slot, got, point),
-        Met::NewLocal(name) => local_stored(alloc, name, got, point),
+    match outcome {
+        AssignmentOutcome::TargetType(target_type) => target_type_stored(
+            alloc,
+            recorder,
+            at,
+            target,
+            target_type,
+            got,
+            flow_state,
+        ),
+        AssignmentOutcome::NewLocal(name) => store_local(alloc, name, got, flow_state),
     }
 }
 
-/// Assigns a value of type `got` to a target that takes what `slot` says.
-#[tactic(auto, using(pyc_obligations::proofs::Steps::performing), unfolding(crate::specs::Storing::slot_stored))]
-fn slot_stored<N: Judge>(
+/// Assigns a value of type `got` to a target that takes what `target_type` says.
+#[tactic(auto, using(pyc_obligations::proofs::Steps::performing), unfolding(crate::specs::Storing::target_type_stored))]
+fn target_type_stored<N: AskTypes>(
     alloc: Global,
-    notes: &mut N,
+    recorder: &mut N,
     at: Position,
     target: &Target,
-    slot: &Slot,
+    target_type: &TargetType,
     got: &Ty,
-    point: &mut Point,
+    flow_state: &mut FlowState,
 ) -> Result<(), AllocError>
-    ensures { Performs (λ u. point_in point.new)
-        (spec.slot_stored at (target_of target.now) (slot_of slot.now) (ty_of got.now) (point_in point.old))
-        (N.desk notes.old) result (N.desk notes.new) }
+    ensures { Performs (λ u. flow_state_in flow_state.new)
+        (spec.target_type_stored at (target_of target.now) (target_type_of target_type.now) (ty_of got.now)
+        (flow_state_in flow_state.old))
+        (N.trace recorder.old) result (N.trace recorder.new) }
 {
-    want_owed(alloc, notes, at, slot.is_item, got, slot.want.as_ref())?;
-    let state = renarrowed(alloc, notes, target, slot.want.as_ref(), got, &point.state)?;
-    point.set_state(state);
+    want_required(
+        alloc,
+        recorder,
+        at,
+        target_type.is_item,
+        got,
+        target_type.want.as_ref(),
+    )?;
+    let state = renarrow(
+        alloc,
+        recorder,
+        target,
+        target_type.want.as_ref(),
+        got,
+        &flow_state.state,
+    )?;
+    flow_state.set_state(state);
     Ok(())
 }
 
 /// Declares a local by a value of type `got`. Nothing that was known of it and of all below it stays known.
-fn local_stored(alloc: Global, name: &Text, got: &Ty, point: &mut Point) -> Result<(), AllocError>
-    ensures { OnOk result (point_in point.new ≡ spec.local_stored name.now (ty_of got.now) (point_in point.old)) }
+fn store_local(
+    alloc: Global,
+    name: &Text,
+    got: &Ty,
+    flow_state: &mut FlowState,
+) -> Result<(), AllocError>
+    ensures { OnOk result (flow_state_in flow_state.new ≡ spec.store_local name.now (ty_of got.now)
+        (flow_state_in flow_state.old)) }
 {
-    let ty = declared_by(got)?;
+    let ty = declared_local_type(got)?;
     let place = name_place(alloc, name)?;
-    let dropped = point.state.dropped_at(alloc, &place)?;
-    let state = narrowed_to_itself(alloc, &place, &ty, &dropped)?;
-    point.set_state(state);
-    point.declare(name, LocalType::Declared(ty));
+    let dropped = flow_state.state.drop_place(alloc, &place)?;
+    let state = narrow_to_itself(alloc, &place, &ty, &dropped)?;
+    flow_state.set_state(state);
+    flow_state.declare(name, LocalType::Declared(ty));
     Ok(())
 }
 
 /// The type of a local that a value of type `got` declares: None gives Any, since any value may follow it.
-fn declared_by(got: &Ty) -> Result<Ty, AllocError>
-    ensures { IfOk result (λ ty. ty_of ty ≡ spec.declared_by (ty_of got.now)) }
+fn declared_local_type(got: &Ty) -> Result<Ty, AllocError>
+    ensures { IfOk result (λ ty. ty_of ty ≡ spec.declared_local_type (ty_of got.now)) }
 {
     match got {
         Ty::None => Ok(Ty::Any),
@@ -87,147 +117,151 @@ fn declared_by(got: &Ty) -> Result<Ty, AllocError>
 }
 
 /// The state in which a place of type `ty` holds a value of that type.
-fn narrowed_to_itself(
+fn narrow_to_itself(
     alloc: Global,
     place: &Place,
     ty: &Ty,
     state: &State,
 ) -> Result<State, AllocError>
     ensures { IfOk result (λ after. state_of after
-        ≡ spec.narrowed_to_itself place.now (ty_of ty.now) (state_of state.now)) }
+        ≡ spec.narrow_to_itself place.now (ty_of ty.now) (state_of state.now)) }
 {
-    narrowed_if(alloc, is_union(ty), place, ty, state)
+    narrow_if(alloc, is_union(ty), place, ty, state)
 }
 
-/// A value must be of the type that its target takes, where something is owed.
-fn want_owed<N: Judge>(
+/// A value must be of the type that its target takes, where something is required.
+fn want_required<N: AskTypes>(
     alloc: Global,
-    notes: &mut N,
+    recorder: &mut N,
     at: Position,
     is_item: bool,
     got: &Ty,
     want: Option<&Ty>,
 ) -> Result<(), AllocError>
     ensures { Performs (λ u. u)
-        (spec.want_owed at is_item (ty_of got.now) (option_map (λ ty. ty_of ty.now) want.entry)) (N.desk notes.old)
-        result (N.desk notes.new) }
+        (spec.want_required at is_item (ty_of got.now) (option_map (λ ty. ty_of ty.now) want.entry))
+        (N.trace recorder.old)
+        result (N.trace recorder.new) }
 {
     match want {
-        Some(want) => assignment_owed(alloc, notes, at, is_item, got, want),
+        Some(want) => assignment_required(alloc, recorder, at, is_item, got, want),
         None => Ok(()),
     }
 }
 
-/// Owes that a value, which begins at `at`, is of the type that its target takes; `is_item` says whether the target is
-/// an item of a subscript. The only error is that memory runs out.
-#[tactic(auto, using(pyc_obligations::proofs::Steps::performing), unfolding(crate::specs::Storing::assignment_owed))]
-pub fn assignment_owed<N: Judge>(
+/// Requires that a value, which begins at `at`, is of the type that its target takes; `is_item` says whether the target
+/// is an item of a subscript. The only error is that memory runs out.
+#[tactic(auto, using(pyc_obligations::proofs::Steps::performing), unfolding(crate::specs::Storing::assignment_required))]
+pub fn assignment_required<N: AskTypes>(
     alloc: Global,
-    notes: &mut N,
+    recorder: &mut N,
     at: Position,
     is_item: bool,
     got: &Ty,
     want: &Ty,
 ) -> Result<(), AllocError>
-    ensures { Performs (λ u. u) (spec.assignment_owed at is_item (ty_of got.now) (ty_of want.now)) (N.desk notes.old)
-        result (N.desk notes.new) }
+    ensures { Performs (λ u. u) (spec.assignment_required at is_item (ty_of got.now) (ty_of want.now))
+        (N.trace recorder.old)
+        result (N.trace recorder.new) }
 {
-    let owed = OwedAssignment {
+    let required = RequiredAssignment {
         at,
         is_item,
         got,
         want,
     };
-    owe(alloc, notes, &owed)
+    require(alloc, recorder, &required)
 }
 
 /// What is known after a target that takes a type was assigned a value of a type.
-pub(crate) fn renarrowed<N: Judge>(
+pub(crate) fn renarrow<N: AskTypes>(
     alloc: Global,
-    notes: &mut N,
+    recorder: &mut N,
     target: &Target,
     want: Option<&Ty>,
     got: &Ty,
     state: &State,
 ) -> Result<State, AllocError>
     ensures { Performs state_of
-        (spec.renarrowed (target_of target.now) (option_map (λ ty. ty_of ty.now) want.entry) (ty_of got.now)
-        (state_of state.now)) (N.desk notes.old) result (N.desk notes.new) }
+        (spec.renarrow (target_of target.now) (option_map (λ ty. ty_of ty.now) want.entry) (ty_of got.now)
+        (state_of state.now)) (N.trace recorder.old) result (N.trace recorder.new) }
 {
     let place = target_place(alloc, target)?;
-    place_assigned(alloc, notes, place, want, got, state)
+    assign_place(alloc, recorder, place, want, got, state)
 }
 
 /// What is known after a place, if the target is one, was assigned a value of a type.
-fn place_assigned<N: Judge>(
+fn assign_place<N: AskTypes>(
     alloc: Global,
-    notes: &mut N,
+    recorder: &mut N,
     place: Option<Place>,
     want: Option<&Ty>,
     got: &Ty,
     state: &State,
 ) -> Result<State, AllocError>
     ensures { Performs state_of
-        (spec.place_assigned place (option_map (λ ty. ty_of ty.now) want.entry) (ty_of got.now) (state_of state.now))
-        (N.desk notes.old) result (N.desk notes.new) }
+        (spec.assign_place place (option_map (λ ty. ty_of ty.now) want.entry) (ty_of got.now) (state_of state.now))
+        (N.trace recorder.old) result (N.trace recorder.new) }
 {
     match place {
-        Some(place) => dropped_narrowed(alloc, notes, &place, want, got, state),
+        Some(place) => drop_and_narrow(alloc, recorder, &place, want, got, state),
         None => state.clone(),
     }
 }
 
 /// What is known after a place was assigned a value of a type: what was known of it and of all below it is dropped.
-fn dropped_narrowed<N: Judge>(
+fn drop_and_narrow<N: AskTypes>(
     alloc: Global,
-    notes: &mut N,
+    recorder: &mut N,
     place: &Place,
     want: Option<&Ty>,
     got: &Ty,
     state: &State,
 ) -> Result<State, AllocError>
     ensures { Performs state_of
-        (spec.narrowed place.now (option_map (λ ty. ty_of ty.now) want.entry) (ty_of got.now)
-        (states.dropped_at place.now (state_of state.now))) (N.desk notes.old) result (N.desk notes.new) }
+        (spec.narrow_by_want place.now (option_map (λ ty. ty_of ty.now) want.entry) (ty_of got.now)
+        (states.drop_place place.now (state_of state.now))) (N.trace recorder.old) result (N.trace recorder.new) }
 {
-    let dropped = state.dropped_at(alloc, place)?;
-    narrowed(alloc, notes, place, want, got, &dropped)
+    let dropped = state.drop_place(alloc, place)?;
+    narrow_by_want(alloc, recorder, place, want, got, &dropped)
 }
 
 /// A place that takes a type is narrowed to that of a value.
-fn narrowed<N: Judge>(
+fn narrow_by_want<N: AskTypes>(
     alloc: Global,
-    notes: &mut N,
+    recorder: &mut N,
     place: &Place,
     want: Option<&Ty>,
     got: &Ty,
     state: &State,
 ) -> Result<State, AllocError>
     ensures { Performs state_of
-        (spec.narrowed place.now (option_map (λ ty. ty_of ty.now) want.entry) (ty_of got.now) (state_of state.now))
-        (N.desk notes.old) result (N.desk notes.new) }
+        (spec.narrow_by_want place.now (option_map (λ ty. ty_of ty.now) want.entry) (ty_of got.now)
+        (state_of state.now))
+        (N.trace recorder.old) result (N.trace recorder.new) }
 {
     match want {
-        Some(want) => narrowed_to(alloc, notes, place, want, got, state),
+        Some(want) => narrow_if_union(alloc, recorder, place, want, got, state),
         None => state.clone(),
     }
 }
 
 /// Only a place that is declared as a union is narrowed, and not to Any.
-fn narrowed_to<N: Judge>(
+fn narrow_if_union<N: AskTypes>(
     alloc: Global,
-    notes: &mut N,
+    recorder: &mut N,
     place: &Place,
     want: &Ty,
     got: &Ty,
     state: &State,
 ) -> Result<State, AllocError>
     ensures { Performs state_of
-        (spec.narrowed_to place.now (ty_of want.now) (ty_of got.now) (state_of state.now)) (N.desk notes.old) result
-        (N.desk notes.new) }
+        (spec.narrow_if_union place.now (ty_of want.now) (ty_of got.now) (state_of state.now)) (N.trace recorder.old)
+        result
+        (N.trace recorder.new) }
 {
     if is_union(want) && !is_any(got) {
-        narrowed_by(alloc, notes, place, want, got, state)
+        narrow_if_assignable(alloc, recorder, place, want, got, state)
     } else {
         state.clone()
     }
@@ -248,25 +282,26 @@ fn is_any(ty: &Ty) -> bool
 }
 
 /// A place is narrowed to the type of a value where that is assignable to what the place takes.
-#[tactic(auto, using(pyc_obligations::proofs::Steps::performing), unfolding(crate::specs::Storing::narrowed_by))]
-fn narrowed_by<N: Judge>(
+#[tactic(auto, using(pyc_obligations::proofs::Steps::performing), unfolding(crate::specs::Storing::narrow_if_assignable))]
+fn narrow_if_assignable<N: AskTypes>(
     alloc: Global,
-    notes: &mut N,
+    recorder: &mut N,
     place: &Place,
     want: &Ty,
     got: &Ty,
     state: &State,
 ) -> Result<State, AllocError>
     ensures { Performs state_of
-        (spec.narrowed_by place.now (ty_of want.now) (ty_of got.now) (state_of state.now)) (N.desk notes.old) result
-        (N.desk notes.new) }
+        (spec.narrow_if_assignable place.now (ty_of want.now) (ty_of got.now) (state_of state.now))
+        (N.trace recorder.old) result
+        (N.trace recorder.new) }
 {
-    let goes = judged(alloc, notes, got, want)?;
-    narrowed_if(alloc, goes, place, got, state)
+    let goes = judge_assignable(alloc, recorder, got, want)?;
+    narrow_if(alloc, goes, place, got, state)
 }
 
 /// A state in which a place has a type, if it goes.
-fn narrowed_if(
+fn narrow_if(
     alloc: Global,
     goes: bool,
     place: &Place,
@@ -274,7 +309,7 @@ fn narrowed_if(
     state: &State,
 ) -> Result<State, AllocError>
     ensures { IfOk result (λ after. state_of after
-        ≡ spec.narrowed_if goes place.now (ty_of ty.now) (state_of state.now)) }
+        ≡ spec.narrow_if goes place.now (ty_of ty.now) (state_of state.now)) }
 {
     if goes {
         state.with_place(alloc, place.clone()?, ty.clone()?)

@@ -5,14 +5,14 @@ ghost use Rattle.pyc_assignments.specs.Unpacking as spec;
 ghost use Rattle.pyc_assignments.specs.Views.{shares_in};
 ghost use Rattle.pyc_ast.specs.Targets.{target_elements};
 ghost use Rattle.pyc_ast.specs.TargetView.{target_element_of};
-ghost use Rattle.pyc_items.specs.Chosen as chosen;
-ghost use Rattle.pyc_reading.specs.Desks.{Performs};
+ghost use Rattle.pyc_subscripts.specs.Chosen as chosen;
+ghost use Rattle.pyc_reading.specs.Traces.{Performs};
 ghost use Rattle.pyc_type_forms.specs.TypeView.{row, ty_of};
 
 use crate::messages::{too_few, too_many};
 use pyc_ast::{Position, TargetElement};
-use pyc_items::iterated;
-use pyc_obligations::Judge;
+use pyc_obligations::AskTypes;
+use pyc_subscripts::infer_iteration;
 use pyc_type_forms::Ty;
 use std::alloc::{AllocError, Global};
 
@@ -45,38 +45,38 @@ pub(crate) fn target_count(elements: &[TargetElement]) -> usize
 }
 
 /// What so many targets get of a value of a type that begins at a position: Any where one stands after `*`.
-pub(crate) fn shares_of<N: Judge>(
+pub(crate) fn shares_of<N: AskTypes>(
     alloc: Global,
-    notes: &mut N,
+    recorder: &mut N,
     at: Position,
     is_starred: bool,
     expected: usize,
     ty: &Ty,
 ) -> Result<Shares, AllocError>
-    ensures { Performs shares_in (spec.shares_of at is_starred expected (ty_of ty.now)) (N.desk notes.old) result
-        (N.desk notes.new) }
+    ensures { Performs shares_in (spec.shares_of at is_starred expected (ty_of ty.now)) (N.trace recorder.old) result
+        (N.trace recorder.new) }
 {
     if is_starred {
         Ok(Shares::Each(Ty::Any))
     } else {
-        shares_by_type(alloc, notes, at, expected, ty)
+        shares_by_type(alloc, recorder, at, expected, ty)
     }
 }
 
-/// The same where no target stands after `*`.
-fn shares_by_type<N: Judge>(
+/// What each of `expected` targets gets of a value of type `ty`, where no target is starred.
+fn shares_by_type<N: AskTypes>(
     alloc: Global,
-    notes: &mut N,
+    recorder: &mut N,
     at: Position,
     expected: usize,
     ty: &Ty,
 ) -> Result<Shares, AllocError>
-    ensures { Performs shares_in (spec.shares_by_type at expected (ty_of ty.now)) (N.desk notes.old) result
-        (N.desk notes.new) }
+    ensures { Performs shares_in (spec.shares_by_type at expected (ty_of ty.now)) (N.trace recorder.old) result
+        (N.trace recorder.new) }
 {
     match ty {
-        Ty::Tuple(items) => tuple_shares(alloc, notes, at, row_length(items), expected, ty),
-        _ => iterated_shares(alloc, notes, at, ty),
+        Ty::Tuple(items) => tuple_shares(alloc, recorder, at, row_length(items), expected, ty),
+        _ => iterated_shares(alloc, recorder, at, ty),
     }
 }
 
@@ -88,54 +88,54 @@ fn row_length(items: &[Ty]) -> usize
 }
 
 /// The places of a tuple with so many.
-fn tuple_shares<N: Judge>(
+fn tuple_shares<N: AskTypes>(
     alloc: Global,
-    notes: &mut N,
+    recorder: &mut N,
     at: Position,
     provided: usize,
     expected: usize,
     ty: &Ty,
 ) -> Result<Shares, AllocError>
-    ensures { Performs shares_in (spec.tuple_shares at provided expected (ty_of ty.now)) (N.desk notes.old) result
-        (N.desk notes.new) }
+    ensures { Performs shares_in (spec.tuple_shares at provided expected (ty_of ty.now)) (N.trace recorder.old) result
+        (N.trace recorder.new) }
 {
     if provided == expected {
         Ok(Shares::Places(ty.clone()?))
     } else {
-        unequal_shares(alloc, notes, at, provided, expected)
+        unequal_shares(alloc, recorder, at, provided, expected)
     }
 }
 
 /// The shares of a tuple that has not as many places as there are targets.
-fn unequal_shares<N: Judge>(
+fn unequal_shares<N: AskTypes>(
     alloc: Global,
-    notes: &mut N,
+    recorder: &mut N,
     at: Position,
     provided: usize,
     expected: usize,
 ) -> Result<Shares, AllocError>
-    ensures { Performs shares_in (spec.unequal_shares at provided expected) (N.desk notes.old) result
-        (N.desk notes.new) }
+    ensures { Performs shares_in (spec.unequal_shares at provided expected) (N.trace recorder.old) result
+        (N.trace recorder.new) }
 {
     if provided < expected {
-        too_few(alloc, notes, at, provided, expected)
+        too_few(alloc, recorder, at, provided, expected)
     } else {
-        too_many(alloc, notes, at, provided, expected)
+        too_many(alloc, recorder, at, provided, expected)
     }
 }
 
 /// The items of an iteration.
 #[tactic(auto, using(pyc_obligations::proofs::Steps::performing), unfolding(crate::specs::Unpacking::iterated_shares))]
-fn iterated_shares<N: Judge>(
+fn iterated_shares<N: AskTypes>(
     alloc: Global,
-    notes: &mut N,
+    recorder: &mut N,
     at: Position,
     ty: &Ty,
 ) -> Result<Shares, AllocError>
-    ensures { Performs shares_in (spec.iterated_shares at (ty_of ty.now)) (N.desk notes.old) result
-        (N.desk notes.new) }
+    ensures { Performs shares_in (spec.iterated_shares at (ty_of ty.now)) (N.trace recorder.old) result
+        (N.trace recorder.new) }
 {
-    let item = iterated(alloc, notes, at, ty)?;
+    let item = infer_iteration(alloc, recorder, at, ty)?;
     Ok(Shares::Each(item))
 }
 

@@ -25,12 +25,12 @@ use Rattle.pyc_ast.specs.Exprs as plain
 abbrev pub form_step : Form-F DictItem Form IndexForm OptionalExpr Argument Comparison Element Expr Index → Form
 form_step (layer.Name n) = plain.name n
 form_step (layer.Constant c) = plain.constant c
-form_step (layer.Quoted x) = plain.quoted x.value
+form_step (layer.StringAnnotation x) = plain.string_annotation x.value
 form_step (layer.Tuple items) = plain.tuple (elements items.items)
 form_step (layer.List items) = plain.list (elements items.items)
 form_step (layer.Set items) = plain.set (elements items.items)
 form_step (layer.Dict items) = plain.dict (dict_items items.items)
-form_step (layer.Opaque o) = plain.opaque o
+form_step (layer.Unchecked o) = plain.unchecked o
 form_step (layer.Attribute x n) = plain.attribute x.value n
 form_step (layer.Call x items) = plain.call x.value (arguments items.items)
 form_step (layer.Subscript x i) = plain.subscript x.value i.value

@@ -3,7 +3,7 @@
 -- bytes.
 use Rattle.std.specs.Prelude.{ℕ, Bool, List, [], ◌∷◌}
 use Rattle.pyc_ast.specs.declared.constant.Constant.{Constant}
-use Rattle.pyc_ast.specs.declared.constant.Opaque.{Opaque}
+use Rattle.pyc_ast.specs.declared.constant.Unchecked.{Unchecked}
 use Rattle.pyc_ast.specs.declared.expr.ArgumentKind.{ArgumentKind}
 use Rattle.pyc_ast.specs.declared.operator.BooleanOperator.{BooleanOperator}
 use Rattle.pyc_ast.specs.declared.operator.ComparisonOperator.{ComparisonOperator}
@@ -20,13 +20,13 @@ mutual
     name : List ℕ → Form
     constant : Constant → Form
     -- a string that may be an annotation and spells an expression
-    quoted : Expr → Form
+    string_annotation : Expr → Form
     tuple : Elements → Form
     list : Elements → Form
     set : Elements → Form
     dict : DictItems → Form
     -- what is not looked into
-    opaque : Opaque → Form
+    unchecked : Unchecked → Form
     attribute : Expr → List ℕ → Form
     call : Expr → Arguments → Form
     subscript : Expr → Index → Form

@@ -9,7 +9,7 @@ use Rattle.pyc_ast.specs.declared.module.Outcome.TheVariants as o
 use Rattle.pyc_ast.specs.Statements.{Stmts, stmts}
 use Rattle.pyc_ast.specs.StatementView.{stmt_of}
 
--- which errors an ignore comment silences: all, or those of these codes
+-- which errors an ignore comment suppresses: all, or those of these codes
 pub data Codes : Type 0 where
   all : Codes
   listed : List (List ℕ) → Codes
@@ -20,14 +20,14 @@ pub record Ignore : Type 0 where
   pub codes : Codes
 
 -- a module: its statements, whether a `yield` or `await` stands in them outside functions, classes and lambdas, its
--- ignore comments, and whether one of them silences the whole file
+-- ignore comments, and whether one of them suppresses the whole file
 pub record Module : Type 0 where
   pub statements : Stmts
   pub suspends : Bool
   pub ignores : List Ignore
   pub whole_file : Bool
 
--- what a source is: its module, or the physical line of its first fault and what is told of it
+-- what a source is: its module, or the physical line of its first fault and what is reported of it
 pub data Outcome : Type 0 where
   tree : Module → Outcome
   fault : ℕ → List ℕ → Outcome

@@ -14,14 +14,14 @@ pub enum Constant {
     Imaginary,
     /// A string, or strings one after another that join.
     Str,
-    /// The same where one of them is formatted.
+    /// A formatted string, or strings one after another that join, of which at least one is formatted.
     FormattedStr,
     Bytes,
 }
 
 /// An expression that is not looked into.
 #[derive(Clone, Copy, Debug, PartialEq, Eq)]
-pub enum Opaque {
+pub enum Unchecked {
     Lambda,
     Generator,
     ListComprehension,

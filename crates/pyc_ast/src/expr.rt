@@ -1,6 +1,6 @@
 //! Expressions.
 
-use crate::constant::{Constant, Opaque};
+use crate::constant::{Constant, Unchecked};
 use crate::operator::{BooleanOperator, ComparisonOperator, Operator, UnaryOperator};
 use crate::position::Position;
 use crate::text::Text;
@@ -32,12 +32,12 @@ pub enum Form {
     Name(Text),
     Constant(Constant),
     /// A string that may be an annotation and spells an expression: each part of that stands at the string's position.
-    Quoted(Box<Expr>),
+    StringAnnotation(Box<Expr>),
     Tuple(Vec<Element>),
     List(Vec<Element>),
     Set(Vec<Element>),
     Dict(Vec<DictItem>),
-    Opaque(Opaque),
+    Unchecked(Unchecked),
     Attribute {
         value: Box<Expr>,
         name: Text,
@@ -86,7 +86,7 @@ impl Drop for Form {
     fn drop(self) {
         match self {
             Form::Name(part) => drop(part),
-            Form::Quoted(part) => drop(part),
+            Form::StringAnnotation(part) => drop(part),
             Form::Tuple(part) => drop(part),
             Form::List(part) => drop(part),
             Form::Set(part) => drop(part),
@@ -135,7 +135,7 @@ impl Drop for Form {
             Form::Await(part) => drop(part),
             Form::Yield(part) => drop(part),
             Form::YieldFrom(part) => drop(part),
-            Form::Constant(_) | Form::Opaque(_) => {}
+            Form::Constant(_) | Form::Unchecked(_) => {}
         }
     }
 }

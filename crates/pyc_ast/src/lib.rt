@@ -12,7 +12,7 @@ mod stmt;
 mod target;
 mod text;
 
-pub use constant::{Constant, Opaque};
+pub use constant::{Constant, Unchecked};
 pub use expr::{
     Argument, ArgumentKind, Comparison, DictItem, Element, Expr, Form, Index, IndexForm,
     OptionalExpr,

@@ -4,7 +4,7 @@ use crate::stmt::Stmt;
 use crate::text::Text;
 
 /// A module: its statements, whether a `yield` or `await` stands in them outside functions, classes and lambdas, its
-/// ignore comments, and whether one of them silences the whole file.
+/// ignore comments, and whether one of them suppresses the whole file.
 pub struct Module {
     pub statements: Vec<Stmt>,
     pub suspends: bool,
@@ -33,7 +33,7 @@ pub struct Ignore {
     pub codes: Codes,
 }
 
-/// Which errors an ignore comment silences.
+/// Which errors an ignore comment suppresses.
 #[derive(Debug, Drop)]
 pub enum Codes {
     /// All of them.
@@ -42,7 +42,7 @@ pub enum Codes {
     Listed(Vec<Text>),
 }
 
-/// What is wrong with a source: the physical line on which it is told, and what is told.
+/// What is wrong with a source: the physical line on which it is reported, and what is reported.
 #[derive(Clone, Copy, Debug, PartialEq, Eq)]
 pub struct Fault {
     pub line: usize,

@@ -66,7 +66,7 @@ impl Text {
 impl Clone for Text {
     ghost is_clone = { λ text copy. copy ≡ text };
 
-    /// The same text, shared: it takes no memory. The only error is a full count of those that share it.
+    /// A clone shares the text, and takes no memory. The only error is a full count of those that share it.
     fn clone(&self) -> Result<Text, AllocError> {
         Ok(Text {
             shared: self.shared.clone()?,

@@ -1,7 +1,7 @@
 -- Members as they are read through an instance and through the class object (Python reference 3.13, "The standard type
 -- hierarchy", instance methods and class methods).
 use Rattle.std.specs.Prelude.{Bool, true, false, is_some, if◌then◌else◌}
-use Rattle.pyc_class.specs.Class.{builtin_of}
+use Rattle.pyc_class_ids.specs.Class.{builtin_of}
 use Rattle.pyc_reading.specs.Answers.{MemberAnswer}
 use Rattle.pyc_reading.specs.declared.answer.MemberKind.{MemberKind}
 use Rattle.pyc_reading.specs.declared.answer.MemberKind.TheVariants as kind
@@ -27,20 +27,20 @@ abbrev pub is_of_builtin : MemberAnswer → Bool
 is_of_builtin found = is_some (builtin_of found.class)
 
 -- a member of this kind and type through an instance: a method is given the instance, or its class
-abbrev pub bound : MemberKind → Ty → Ty
-bound kind.Method ty = without_first ty
-bound kind.ClassMethod ty = without_first ty
-bound _ ty = ty
+abbrev pub bind_member : MemberKind → Ty → Ty
+bind_member kind.Method ty = without_first ty
+bind_member kind.ClassMethod ty = without_first ty
+bind_member _ ty = ty
 
 abbrev pub through_instance : MemberAnswer → Ty
-through_instance found = if is_of_builtin found then found.ty else bound found.kind found.ty
+through_instance found = if is_of_builtin found then found.ty else bind_member found.kind found.ty
 
--- the same through the class object: a class method is given the class, and nothing is known of a property
-abbrev pub bound_to_class : MemberKind → Ty → Ty
-bound_to_class kind.ClassMethod ty = without_first ty
-bound_to_class kind.Property ty = any
-bound_to_class kind.SettableProperty ty = any
-bound_to_class _ ty = ty
+-- a member of this kind and type through the class object: a class method is given the class, and a property is Any
+abbrev pub bind_to_class : MemberKind → Ty → Ty
+bind_to_class kind.ClassMethod ty = without_first ty
+bind_to_class kind.Property ty = any
+bind_to_class kind.SettableProperty ty = any
+bind_to_class _ ty = ty
 
 abbrev pub through_class : MemberAnswer → Ty
-through_class found = if is_of_builtin found then any else bound_to_class found.kind found.ty
+through_class found = if is_of_builtin found then any else bind_to_class found.kind found.ty

@@ -4,17 +4,17 @@ use Rattle.std.specs.Prelude.{ℕ, Bool, codes, if◌then◌else◌, ◌&&◌, L
 use Rattle.pyc_builtins.specs.declared.members.FoundMember.{FoundMember}
 use Rattle.pyc_builtins.specs.Members.{builtin_member, is_dunder}
 use Rattle.pyc_builtins.specs.MemberTypes.{member_type}
-use Rattle.pyc_class.specs.declared.builtin_class.BuiltinClass.{BuiltinClass}
-use Rattle.pyc_class.specs.declared.builtin_class.BuiltinClass.TheVariants as class
-use Rattle.pyc_class.specs.Class.{Id, builtin, user}
+use Rattle.pyc_class_ids.specs.declared.builtin_class.BuiltinClass.{BuiltinClass}
+use Rattle.pyc_class_ids.specs.declared.builtin_class.BuiltinClass.TheVariants as class
+use Rattle.pyc_class_ids.specs.Class.{Id, builtin, user}
 use Rattle.pyc_attributes.specs.Binding.{is_of_builtin, through_instance, through_class}
 use Rattle.pyc_names.specs.declared.fixed.FixedModule.{FixedModule}
 use Rattle.pyc_names.specs.declared.fixed.FixedName.{FixedName}
 use Rattle.pyc_names.specs.FixedModules.{fixed_module, fixed_name}
-use Rattle.pyc_obligations.specs.Asking.{asked_member, asked_name, is_unknown_class}
+use Rattle.pyc_obligations.specs.Asking.{ask_member, ask_name, is_unknown_class}
 use Rattle.pyc_reading.specs.Answers.{MemberAnswer, NameAnswer, NameKind, fixed, no_name}
 use Rattle.pyc_reading.specs.declared.answer.MemberKind.{MemberKind}
-use Rattle.pyc_reading.specs.Desks.{Step}
+use Rattle.pyc_reading.specs.Traces.{Step}
 use Rattle.pyc_reading.specs.Readings.{Done, and_then}
 use Rattle.pyc_type_forms.specs.Types.{Ty, any, none, module_type, instance, class_object, list, dict, tuple}
 use Rattle.pyc_type_forms.specs.Types.{tuple_of, union, callable}
@@ -36,7 +36,7 @@ abbrev pub builtin_found : Ty → Option FoundMember → Found
 builtin_found owner (Some found) = known (member_type owner found.member)
 builtin_found owner None = absent
 
--- the same of a name: Any where two underscores stand at both ends
+-- what an instance of a builtin class has under a name: Any where two underscores stand at both ends of the name
 unfoldable pub builtin_attribute : Ty → BuiltinClass → List ℕ → Found
 builtin_attribute owner c n = if is_dunder n then known any else builtin_found owner (builtin_member c n)
 
@@ -68,7 +68,7 @@ by_getattr None = absent
 abbrev pub without_member : Id → Bool → Step Found
 without_member c is_unknown =
     if is_unknown then Done (known any)
-    else and_then (asked_member c (codes "__getattr__")) (λ found. Done (by_getattr found))
+    else and_then (ask_member c (codes "__getattr__")) (λ found. Done (by_getattr found))
 
 abbrev pub no_member : Id → List ℕ → Step Found
 no_member c n = if is_dunder n then Done (known any) else and_then (is_unknown_class c) (without_member c)
@@ -79,7 +79,7 @@ instance_found c n None = no_member c n
 
 -- an instance of a class of a source
 unfoldable pub instance_attribute : Id → List ℕ → Step Found
-instance_attribute c n = and_then (asked_member c n) (instance_found c n)
+instance_attribute c n = and_then (ask_member c n) (instance_found c n)
 
 -- a class object, by whether the order of its class is not known
 abbrev pub absent_unless : Bool → Found
@@ -95,11 +95,11 @@ class_object_found c n None = no_class_member c n
 
 -- the class object of a class of a source
 unfoldable pub class_object_attribute : Id → List ℕ → Step Found
-class_object_attribute c n = and_then (asked_member c n) (class_object_found c n)
+class_object_attribute c n = and_then (ask_member c n) (class_object_found c n)
 
 -- ---- modules
 
--- a name of a module, as the answer to its key tells it
+-- a name of a module, as the answer to its key says it
 abbrev pub answered_found : NameAnswer → NameKind → Found
 answered_found found no_name = absent
 answered_found found _ = name_with found
@@ -112,7 +112,7 @@ fixed_found None = known any
 abbrev pub module_name : List (List ℕ) → List ℕ → Option FixedModule → Step Found
 module_name m n (Some found) = Done (fixed_found (fixed_name found n))
 module_name m n None =
-    and_then (asked_name (record { home = m; name = n })) (λ found. Done (answered_found found found.kind))
+    and_then (ask_name (record { module_path = m; name = n })) (λ found. Done (answered_found found found.kind))
 
 -- Any where two underscores stand at both ends
 unfoldable pub module_attribute : List (List ℕ) → List ℕ → Step Found

@@ -18,13 +18,13 @@ pub fn through_instance(alloc: Global, found: MemberAnswer) -> Result<Ty, AllocE
     if found.class.as_builtin().is_some() {
         Ok(found.ty)
     } else {
-        bound(alloc, found.kind, found.ty)
+        bind_member(alloc, found.kind, found.ty)
     }
 }
 
 /// A member of this kind and type through an instance.
-fn bound(alloc: Global, kind: MemberKind, ty: Ty) -> Result<Ty, AllocError>
-    ensures { IfOk result (λ found. ty_of found ≡ spec.bound kind (ty_of ty)) }
+fn bind_member(alloc: Global, kind: MemberKind, ty: Ty) -> Result<Ty, AllocError>
+    ensures { IfOk result (λ found. ty_of found ≡ spec.bind_member kind (ty_of ty)) }
 {
     match kind {
         MemberKind::Method => without_first(alloc, &ty),
@@ -41,13 +41,13 @@ pub fn through_class(alloc: Global, found: MemberAnswer) -> Result<Ty, AllocErro
     if found.class.as_builtin().is_some() {
         Ok(Ty::Any)
     } else {
-        bound_to_class(alloc, found.kind, found.ty)
+        bind_to_class(alloc, found.kind, found.ty)
     }
 }
 
 /// A member of this kind and type through the class object.
-fn bound_to_class(alloc: Global, kind: MemberKind, ty: Ty) -> Result<Ty, AllocError>
-    ensures { IfOk result (λ found. ty_of found ≡ spec.bound_to_class kind (ty_of ty)) }
+fn bind_to_class(alloc: Global, kind: MemberKind, ty: Ty) -> Result<Ty, AllocError>
+    ensures { IfOk result (λ found. ty_of found ≡ spec.bind_to_class kind (ty_of ty)) }
 {
     match kind {
         MemberKind::ClassMethod => without_first(alloc, &ty),
@@ -99,9 +99,9 @@ fn later_params(alloc: Global, params: &[Param]) -> Result<Vec<Param>, AllocErro
     match params {
         [first, rest @ ..] => {
             if is_plain(&first.kind) {
-                copied(alloc, rest)
+                copy_params(alloc, rest)
             } else {
-                copied(alloc, params)
+                copy_params(alloc, params)
             }
         }
         [] => Ok(Vec::new(alloc)),
@@ -119,29 +119,29 @@ fn is_plain(kind: &ParamKind) -> bool
 }
 
 /// These parameters once more.
-fn copied(alloc: Global, params: &[Param]) -> Result<Vec<Param>, AllocError>
+fn copy_params(alloc: Global, params: &[Param]) -> Result<Vec<Param>, AllocError>
     ensures { IfOk result (λ copy. map param_of copy.items ≡ map param_of params.now) }
 {
     let mut copy = Vec::with_capacity(alloc, params.len())?;
     for param in params {
-        copy.push(copied_param(param)?)?;
+        copy.push(copy_param(param)?)?;
     }
     Ok(copy)
 }
 
 /// This parameter once more.
-fn copied_param(param: &Param) -> Result<Param, AllocError>
+fn copy_param(param: &Param) -> Result<Param, AllocError>
     ensures { IfOk result (λ copy. param_of copy ≡ param_of param.now) }
 {
     Ok(Param {
-        kind: copied_kind(&param.kind)?,
+        kind: copy_kind(&param.kind)?,
         ty: param.ty.clone()?,
         is_optional: param.is_optional,
     })
 }
 
 /// This kind of parameter once more.
-fn copied_kind(kind: &ParamKind) -> Result<ParamKind, AllocError>
+fn copy_kind(kind: &ParamKind) -> Result<ParamKind, AllocError>
     ensures { IfOk result (λ copy. kind_of copy ≡ kind_of kind.now) }
 {
     match kind {

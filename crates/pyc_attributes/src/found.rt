@@ -6,15 +6,15 @@ ghost use Rattle.pyc_attributes.specs.FoundAttributes as spec;
 ghost use Rattle.pyc_attributes.specs.FoundView.{found_in};
 ghost use Rattle.pyc_obligations.specs.Asking as asked;
 ghost use Rattle.pyc_reading.specs.AnswerView.{member_answer_of};
-ghost use Rattle.pyc_reading.specs.Desks.{Performs};
+ghost use Rattle.pyc_reading.specs.Traces.{Performs};
 ghost use Rattle.pyc_type_forms.specs.Types as plain;
 ghost use Rattle.pyc_type_forms.specs.TypeView.{ty_of};
 
 use crate::binding::{through_class, through_instance};
 use crate::modules::module_attribute;
 use pyc_builtins::{FoundMember, builtin_member, is_dunder, member_type};
-use pyc_class::{BuiltinClass, ClassId};
-use pyc_obligations::{Judge, asked_member, is_unknown_class};
+use pyc_class_ids::{BuiltinClass, ClassId};
+use pyc_obligations::{AskTypes, ask_member, is_unknown_class};
 use pyc_reading::{MemberAnswer, MemberKind, NameAnswer};
 use pyc_type_forms::Ty;
 use std::alloc::{AllocError, Global};
@@ -32,21 +32,21 @@ pub enum FoundAttribute {
 }
 
 /// What a value of a type that is no union has under a name. The only error is that memory runs out.
-pub fn item_attribute<N: Judge>(
+pub fn item_attribute<N: AskTypes>(
     alloc: Global,
-    notes: &mut N,
+    recorder: &mut N,
     ty: &Ty,
     name: &str,
 ) -> Result<FoundAttribute, AllocError>
-    ensures { Performs found_in (spec.item_attribute (ty_of ty.now) name.now) (N.desk notes.old) result
-        (N.desk notes.new) }
+    ensures { Performs found_in (spec.item_attribute (ty_of ty.now) name.now) (N.trace recorder.old) result
+        (N.trace recorder.new) }
 {
     match ty {
         Ty::Any => Ok(FoundAttribute::Known(Ty::Any)),
         Ty::None => Ok(bare_attribute(name)),
-        Ty::Module(home) => module_attribute(alloc, notes, home, name),
-        Ty::Instance(class) => of_instance(alloc, notes, ty, class, name),
-        Ty::Class(class) => of_class_object(alloc, notes, class, name),
+        Ty::Module(module_path) => module_attribute(alloc, recorder, module_path, name),
+        Ty::Instance(class) => of_instance(alloc, recorder, ty, class, name),
+        Ty::Class(class) => of_class_object(alloc, recorder, class, name),
         Ty::List(_) => builtin_attribute(alloc, ty, BuiltinClass::List, name),
         Ty::Dict(_) => builtin_attribute(alloc, ty, BuiltinClass::Dict, name),
         Ty::Tuple(_) => builtin_attribute(alloc, ty, BuiltinClass::Tuple, name),
@@ -121,67 +121,68 @@ fn class_found(found: Option<FoundMember>) -> FoundAttribute
 }
 
 /// What an instance of a class has under a name.
-fn of_instance<N: Judge>(
+fn of_instance<N: AskTypes>(
     alloc: Global,
-    notes: &mut N,
+    recorder: &mut N,
     ty: &Ty,
     class: &ClassId,
     name: &str,
 ) -> Result<FoundAttribute, AllocError>
     requires { ty_of ty.now ≡ plain.instance class.now }
-    ensures { Performs found_in (spec.of_instance class.now name.now) (N.desk notes.old) result (N.desk notes.new) }
+    ensures { Performs found_in (spec.of_instance class.now name.now) (N.trace recorder.old) result
+        (N.trace recorder.new) }
 {
     match class.as_builtin() {
         Some(found) => builtin_attribute(alloc, ty, found, name),
-        None => instance_attribute(alloc, notes, class, name),
+        None => instance_attribute(alloc, recorder, class, name),
     }
 }
 
 /// What the class object of a class has under a name.
-fn of_class_object<N: Judge>(
+fn of_class_object<N: AskTypes>(
     alloc: Global,
-    notes: &mut N,
+    recorder: &mut N,
     class: &ClassId,
     name: &str,
 ) -> Result<FoundAttribute, AllocError>
-    ensures { Performs found_in (spec.of_class_object class.now name.now) (N.desk notes.old) result
-        (N.desk notes.new) }
+    ensures { Performs found_in (spec.of_class_object class.now name.now) (N.trace recorder.old) result
+        (N.trace recorder.new) }
 {
     match class.as_builtin() {
         Some(found) => Ok(builtin_class_attribute(found, name)),
-        None => class_object_attribute(alloc, notes, class, name),
+        None => class_object_attribute(alloc, recorder, class, name),
     }
 }
 
 /// What an instance of a class of a source has under a name.
 #[tactic(auto, using(crate::proofs::Steps::performing), unfolding(crate::specs::FoundAttributes::instance_attribute))]
-fn instance_attribute<N: Judge>(
+fn instance_attribute<N: AskTypes>(
     alloc: Global,
-    notes: &mut N,
+    recorder: &mut N,
     class: &ClassId,
     name: &str,
 ) -> Result<FoundAttribute, AllocError>
-    ensures { Performs found_in (spec.instance_attribute class.now name.now) (N.desk notes.old) result
-        (N.desk notes.new) }
+    ensures { Performs found_in (spec.instance_attribute class.now name.now) (N.trace recorder.old) result
+        (N.trace recorder.new) }
 {
-    let found = asked_member(alloc, notes, class, name)?;
-    instance_found(alloc, notes, class, name, found)
+    let found = ask_member(alloc, recorder, class, name)?;
+    instance_found(alloc, recorder, class, name, found)
 }
 
-/// The same, by the member that it has.
-fn instance_found<N: Judge>(
+/// What an instance of `class` has under `name`, where `found` is some member of the class.
+fn instance_found<N: AskTypes>(
     alloc: Global,
-    notes: &mut N,
+    recorder: &mut N,
     class: &ClassId,
     name: &str,
     found: Option<MemberAnswer>,
 ) -> Result<FoundAttribute, AllocError>
     ensures { Performs found_in (spec.instance_found class.now name.now (option_map member_answer_of found))
-        (N.desk notes.old) result (N.desk notes.new) }
+        (N.trace recorder.old) result (N.trace recorder.new) }
 {
     match found {
         Some(found) => instance_member(alloc, name, found),
-        None => no_member(alloc, notes, class, name),
+        None => no_member(alloc, recorder, class, name),
     }
 }
 
@@ -223,52 +224,53 @@ fn class_member(
 
 /// An instance of a class that has no such member.
 #[tactic(auto, using(crate::proofs::Steps::performing))]
-fn no_member<N: Judge>(
+fn no_member<N: AskTypes>(
     alloc: Global,
-    notes: &mut N,
+    recorder: &mut N,
     class: &ClassId,
     name: &str,
 ) -> Result<FoundAttribute, AllocError>
-    ensures { Performs found_in (spec.no_member class.now name.now) (N.desk notes.old) result (N.desk notes.new) }
+    ensures { Performs found_in (spec.no_member class.now name.now) (N.trace recorder.old) result
+        (N.trace recorder.new) }
 {
     if is_dunder(name) {
         Ok(FoundAttribute::Known(Ty::Any))
     } else {
-        let is_unknown = is_unknown_class(alloc, notes, class)?;
-        let attribute = without_member(alloc, notes, class, is_unknown)?;
+        let is_unknown = is_unknown_class(alloc, recorder, class)?;
+        let attribute = without_member(alloc, recorder, class, is_unknown)?;
         Ok(attribute)
     }
 }
 
-/// The same, by whether the order of the class is not known.
+/// What an instance of `class` has under a name that is no member. `is_unknown` says whether the order is unknown.
 #[tactic(auto, using(crate::proofs::Steps::performing))]
-fn without_member<N: Judge>(
+fn without_member<N: AskTypes>(
     alloc: Global,
-    notes: &mut N,
+    recorder: &mut N,
     class: &ClassId,
     is_unknown: bool,
 ) -> Result<FoundAttribute, AllocError>
-    ensures { Performs found_in (spec.without_member class.now is_unknown) (N.desk notes.old) result
-        (N.desk notes.new) }
+    ensures { Performs found_in (spec.without_member class.now is_unknown) (N.trace recorder.old) result
+        (N.trace recorder.new) }
 {
     if is_unknown {
         Ok(FoundAttribute::Known(Ty::Any))
     } else {
-        let found = getattr_member(alloc, notes, class)?;
+        let found = getattr_member(alloc, recorder, class)?;
         Ok(by_getattr(found))
     }
 }
 
 /// The `__getattr__` of a class.
-fn getattr_member<N: Judge>(
+fn getattr_member<N: AskTypes>(
     alloc: Global,
-    notes: &mut N,
+    recorder: &mut N,
     class: &ClassId,
 ) -> Result<Option<MemberAnswer>, AllocError>
-    ensures { Performs (option_map member_answer_of) (asked.asked_member class.now (codes "__getattr__"))
-        (N.desk notes.old) result (N.desk notes.new) }
+    ensures { Performs (option_map member_answer_of) (asked.ask_member class.now (codes "__getattr__"))
+        (N.trace recorder.old) result (N.trace recorder.new) }
 {
-    asked_member(alloc, notes, class, "__getattr__")
+    ask_member(alloc, recorder, class, "__getattr__")
 }
 
 /// What `__getattr__` gives, if it is there.
@@ -283,51 +285,51 @@ fn by_getattr(found: Option<MemberAnswer>) -> FoundAttribute
 
 /// What the class object of a class of a source has under a name.
 #[tactic(auto, using(crate::proofs::Steps::performing), unfolding(crate::specs::FoundAttributes::class_object_attribute))]
-fn class_object_attribute<N: Judge>(
+fn class_object_attribute<N: AskTypes>(
     alloc: Global,
-    notes: &mut N,
+    recorder: &mut N,
     class: &ClassId,
     name: &str,
 ) -> Result<FoundAttribute, AllocError>
-    ensures { Performs found_in (spec.class_object_attribute class.now name.now) (N.desk notes.old) result
-        (N.desk notes.new) }
+    ensures { Performs found_in (spec.class_object_attribute class.now name.now) (N.trace recorder.old) result
+        (N.trace recorder.new) }
 {
-    let found = asked_member(alloc, notes, class, name)?;
-    class_object_found(alloc, notes, class, name, found)
+    let found = ask_member(alloc, recorder, class, name)?;
+    class_object_found(alloc, recorder, class, name, found)
 }
 
-/// The same, by the member that it has.
-fn class_object_found<N: Judge>(
+/// What the class object of `class` has under `name`, where `found` is some member of the class.
+fn class_object_found<N: AskTypes>(
     alloc: Global,
-    notes: &mut N,
+    recorder: &mut N,
     class: &ClassId,
     name: &str,
     found: Option<MemberAnswer>,
 ) -> Result<FoundAttribute, AllocError>
     ensures { Performs found_in (spec.class_object_found class.now name.now (option_map member_answer_of found))
-        (N.desk notes.old) result (N.desk notes.new) }
+        (N.trace recorder.old) result (N.trace recorder.new) }
 {
     match found {
         Some(found) => class_member(alloc, name, found),
-        None => no_class_member(alloc, notes, class, name),
+        None => no_class_member(alloc, recorder, class, name),
     }
 }
 
 /// The class object of a class that has no such member.
 #[tactic(auto, using(crate::proofs::Steps::performing))]
-fn no_class_member<N: Judge>(
+fn no_class_member<N: AskTypes>(
     alloc: Global,
-    notes: &mut N,
+    recorder: &mut N,
     class: &ClassId,
     name: &str,
 ) -> Result<FoundAttribute, AllocError>
-    ensures { Performs found_in (spec.no_class_member class.now name.now) (N.desk notes.old) result
-        (N.desk notes.new) }
+    ensures { Performs found_in (spec.no_class_member class.now name.now) (N.trace recorder.old) result
+        (N.trace recorder.new) }
 {
     if is_dunder(name) {
         Ok(FoundAttribute::Known(Ty::Any))
     } else {
-        let is_unknown = is_unknown_class(alloc, notes, class)?;
+        let is_unknown = is_unknown_class(alloc, recorder, class)?;
         Ok(absent_unless(is_unknown))
     }
 }

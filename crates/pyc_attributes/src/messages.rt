@@ -1,13 +1,13 @@
-//! What is told of attributes that are not there.
+//! What is reported of attributes that are not there.
 
 ghost use Rattle.std.specs.Prelude.{◌≡◌, IfOk, string_bytes};
 ghost use Rattle.pyc_attributes.specs.AttributeValues as spec;
-ghost use Rattle.pyc_reading.specs.Desks.{Performs};
+ghost use Rattle.pyc_reading.specs.Traces.{Performs};
 ghost use Rattle.pyc_type_forms.specs.Text.{text_of};
 ghost use Rattle.pyc_type_forms.specs.TypeView.{ty_of};
 
 use pyc_ast::Position;
-use pyc_obligations::{Judge, tell_error};
+use pyc_obligations::{AskTypes, report_error};
 use pyc_report::Code;
 use pyc_type_forms::{Ty, show};
 use std::alloc::{AllocError, Global};
@@ -47,20 +47,20 @@ fn no_type_attribute_text(alloc: Global, ty: &Ty, name: &str) -> Result<String, 
     no_attribute_text(alloc, shown.as_str(), name)
 }
 
-/// Tells that a type has no such attribute, and answers Any. The only error is that memory runs out.
+/// Reports that a type has no such attribute, and answers Any. The only error is that memory runs out.
 #[tactic(auto, using(crate::proofs::Steps::performing), unfolding(crate::specs::AttributeValues::no_attribute))]
-pub fn no_attribute<N: Judge>(
+pub fn no_attribute<N: AskTypes>(
     alloc: Global,
-    notes: &mut N,
+    recorder: &mut N,
     at: Position,
     ty: &Ty,
     name: &str,
 ) -> Result<Ty, AllocError>
-    ensures { Performs ty_of (spec.no_attribute at (ty_of ty.now) name.now) (N.desk notes.old) result
-        (N.desk notes.new) }
+    ensures { Performs ty_of (spec.no_attribute at (ty_of ty.now) name.now) (N.trace recorder.old) result
+        (N.trace recorder.new) }
 {
     let text = absent_text(alloc, ty, name)?;
-    tell_error(notes, at, Code::AttrDefined, text)?;
+    report_error(recorder, at, Code::AttrDefined, text)?;
     Ok(Ty::Any)
 }
 
@@ -78,22 +78,22 @@ fn no_item_attribute_text(
     format!(in alloc; "Item \"{item}\" of \"{whole}\" has no attribute \"{name}\"")
 }
 
-/// Tells that an item of a union has no such attribute, and answers Any. The only error is that memory runs out.
+/// Reports that an item of a union has no such attribute, and answers Any. The only error is that memory runs out.
 #[tactic(auto, using(crate::proofs::Steps::performing), unfolding(crate::specs::AttributeValues::no_item_attribute))]
-pub fn no_item_attribute<N: Judge>(
+pub fn no_item_attribute<N: AskTypes>(
     alloc: Global,
-    notes: &mut N,
+    recorder: &mut N,
     at: Position,
     whole: &Ty,
     item: &Ty,
     name: &str,
 ) -> Result<Ty, AllocError>
     ensures { Performs ty_of (spec.no_item_attribute at (ty_of whole.now) (ty_of item.now) name.now)
-        (N.desk notes.old) result (N.desk notes.new) }
+        (N.trace recorder.old) result (N.trace recorder.new) }
 {
     let item = show(alloc, item)?;
     let whole = show(alloc, whole)?;
     let text = no_item_attribute_text(alloc, item.as_str(), whole.as_str(), name)?;
-    tell_error(notes, at, Code::UnionAttr, text)?;
+    report_error(recorder, at, Code::UnionAttr, text)?;
     Ok(Ty::Any)
 }

@@ -7,7 +7,7 @@ use Rattle.pyc_ast.specs.Statements.{ClassDefinition, AnnotatedAssignment}
 use Rattle.pyc_ast.specs.Statements as plain
 use Rattle.pyc_ast.specs.Targets.{Target, target, TargetForm, name, attribute, subscript, unpacking, TargetElement}
 use Rattle.pyc_ast.specs.Targets.{target_element, TargetElements, no_target, another_target}
-use Rattle.pyc_bindings.specs.declared.place.Place.{Place}
+use Rattle.pyc_bindings.specs.declared.place.BindingSite.{BindingSite}
 use Rattle.pyc_bindings.specs.Scopes.{Part, PartForm, parts_of}
 use Rattle.pyc_bindings.specs.Scopes as part
 
@@ -28,33 +28,33 @@ pub data BindingForm : Type 0 where
 -- a binding: its name, where it stands, and what it binds the name to
 pub record Binding : Type 0 where
   pub name : List ℕ
-  pub place : Place
+  pub place : BindingSite
   pub form : BindingForm
 
-abbrev pub bound : Place → List ℕ → BindingForm → Binding
+abbrev pub bound : BindingSite → List ℕ → BindingForm → Binding
 bound place n form = record { name = n; place = place; form = form }
 
 -- ---- targets
 
 abbrev mutual
   -- the bindings of a target, each of a name in it
-  pub target_bindings : Target → Place → List Binding
+  pub target_bindings : Target → BindingSite → List Binding
   target_bindings (target at inside form) place = form_bindings form place
 
   -- an attribute and a subscript bind nothing
-  pub form_bindings : TargetForm → Place → List Binding
+  pub form_bindings : TargetForm → BindingSite → List Binding
   form_bindings (name n) place = bound place n other ∷ []
   form_bindings (attribute value n) place = []
   form_bindings (subscript value _) place = []
   form_bindings (unpacking elements) place = elements_bindings elements place
 
-  pub elements_bindings : TargetElements → Place → List Binding
+  pub elements_bindings : TargetElements → BindingSite → List Binding
   elements_bindings no_target place = []
   elements_bindings (another_target (target_element is_starred to) rest) place =
       target_bindings to place ++ elements_bindings rest place
 
 -- the bindings of a target by a form that a name by itself is bound to
-abbrev pub single_bindings : Place → BindingForm → Target → List Binding
+abbrev pub single_bindings : BindingSite → BindingForm → Target → List Binding
 single_bindings place form (target at inside (name n)) = bound place n form ∷ []
 single_bindings place form to = target_bindings to place
 
@@ -62,12 +62,12 @@ single_bindings place form to = target_bindings to place
 
 -- what a module with this name binds: the name after `as` to the module, else the first part of its name to the module
 -- that has that name alone
-abbrev pub path_bindings : Place → List (List ℕ) → Option (List ℕ) → List Binding
+abbrev pub path_bindings : BindingSite → List (List ℕ) → Option (List ℕ) → List Binding
 path_bindings place path (Some alias) = bound place alias (import path) ∷ []
 path_bindings place (first ∷ rest) None = bound place first (import (first ∷ [])) ∷ []
 path_bindings place [] None = []
 
-abbrev pub module_bindings : Place → ImportedModule → List Binding
+abbrev pub module_bindings : BindingSite → ImportedModule → List Binding
 module_bindings place m = path_bindings place m.path m.alias
 
 -- the name that a from-import binds: the one after `as`, else the one that is imported
@@ -75,14 +75,14 @@ abbrev pub bound_name : List ℕ → Option (List ℕ) → List ℕ
 bound_name imported (Some alias) = alias
 bound_name imported None = imported
 
-abbrev pub imported_binding : Place → ImportFrom → Alias → Binding
+abbrev pub imported_binding : BindingSite → ImportFrom → Alias → Binding
 imported_binding place from found =
     bound place (bound_name found.name found.alias) (import_from from.dots from.path found.name)
 
 -- ---- statements
 
 -- the bindings of a simple statement or a definition; a function and a class bind their names
-abbrev pub statement_bindings : Place → StmtForm → List Binding
+abbrev pub statement_bindings : BindingSite → StmtForm → List Binding
 statement_bindings place (plain.assign targets value) = flat_map (single_bindings place (assigned value)) targets
 statement_bindings place (plain.annotate found) = single_bindings place (annotated found) found.target
 statement_bindings place (plain.augment found) = target_bindings found.target place
@@ -97,7 +97,7 @@ statement_bindings place _ = []
 abbrev pub form_of : Stmt → StmtForm
 form_of (stmt at form) = form
 
-abbrev pub part_bindings : Place → PartForm → List Binding
+abbrev pub part_bindings : BindingSite → PartForm → List Binding
 part_bindings place (part.statement found) = statement_bindings place (form_of found)
 part_bindings place (part.target to) = target_bindings to place
 part_bindings place (part.caught n) = bound place n other ∷ []

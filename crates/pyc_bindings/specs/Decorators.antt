@@ -1,4 +1,4 @@
--- What the decorators of a function or a class are, told by their spelling (Python reference 3.13, "Function
+-- What the decorators of a function or a class are, reported by their spelling (Python reference 3.13, "Function
 -- definitions"; the library reference, "Built-in Functions" and "abc").
 use Rattle.std.specs.Prelude.{ℕ, Bool, true, false, ◌&&◌, List, bytes_eq, codes, if◌then◌else◌}
 use Rattle.std.specs.List.{list_any}

@@ -7,7 +7,7 @@ use Rattle.pyc_ast.specs.Statements.{Stmt, stmt, Stmts, no_stmt, another_stmt, i
 use Rattle.pyc_ast.specs.Statements.{Branches, no_branch, another_branch, handler, Handlers, no_handler}
 use Rattle.pyc_ast.specs.Statements.{another_handler, WithItem}
 use Rattle.pyc_ast.specs.Targets.{Target}
-use Rattle.pyc_bindings.specs.declared.place.Place.{Place}
+use Rattle.pyc_bindings.specs.declared.place.BindingSite.{BindingSite}
 
 -- what a part of a scope is
 pub data PartForm : Type 0 where
@@ -20,11 +20,11 @@ pub data PartForm : Type 0 where
 
 -- a part of a scope, and where it stands
 pub record Part : Type 0 where
-  pub place : Place
+  pub place : BindingSite
   pub form : PartForm
 
 -- where a part stands that begins at a position; it is guarded inside an `if` or a `try`
-abbrev pub placed : Position → Bool → Place
+abbrev pub placed : Position → Bool → BindingSite
 placed at is_guarded = record { at = at; is_guarded = is_guarded }
 
 abbrev pub part : Position → Bool → PartForm → Part

@@ -1,6 +1,6 @@
 //! The bindings of a scope.
 
-use crate::place::Place;
+use crate::place::BindingSite;
 use pyc_ast::{
     AnnotatedAssignment, ClassDefinition, Expr, FunctionDefinition, ImportFrom, ImportedModule,
     Text,
@@ -10,7 +10,7 @@ use std::rc::Rc;
 /// A binding: its name, where it stands, and what it binds the name to. Its parts of the tree are shared with it.
 pub struct Binding {
     pub name: Text,
-    pub place: Place,
+    pub place: BindingSite,
     pub form: BindingForm,
 }
 

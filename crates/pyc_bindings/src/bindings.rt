@@ -12,7 +12,7 @@ ghost use Rattle.pyc_bindings.specs.BindingView.{binding_of, binding_form_of};
 ghost use Rattle.pyc_bindings.specs.ScopeView.{part_of};
 
 use crate::binding::{Binding, BindingForm};
-use crate::place::Place;
+use crate::place::BindingSite;
 use crate::scope::{Part, PartForm, scope_parts};
 use pyc_ast::{
     Alias, Expr, ImportFrom, ImportedModule, Stmt, StmtForm, Target, TargetElement, TargetForm,
@@ -48,7 +48,7 @@ fn push_part(part: &Part<'_>, found: &mut Vec<Binding>) -> Result<(), AllocError
 
 /// Adds a binding.
 fn push_bound(
-    place: Place,
+    place: BindingSite,
     name: &Text,
     form: BindingForm,
     found: &mut Vec<Binding>,
@@ -62,7 +62,11 @@ fn push_bound(
 }
 
 /// Adds the bindings of a simple statement or a definition.
-fn push_statement(place: Place, form: &StmtForm, found: &mut Vec<Binding>) -> Result<(), AllocError>
+fn push_statement(
+    place: BindingSite,
+    form: &StmtForm,
+    found: &mut Vec<Binding>,
+) -> Result<(), AllocError>
     ensures { OnOk result (map binding_of found.new.items
         ≡ map binding_of found.old.items ++ spec.statement_bindings place (stmt_form_of form.now)) }
 {
@@ -93,7 +97,7 @@ fn push_statement(place: Place, form: &StmtForm, found: &mut Vec<Binding>) -> Re
 
 /// Adds the bindings of the targets of an assignment.
 fn push_assigned(
-    place: Place,
+    place: BindingSite,
     targets: &[Target],
     value: &Rc<Expr>,
     found: &mut Vec<Binding>,
@@ -111,7 +115,7 @@ fn push_assigned(
 
 /// Adds the bindings of a target, by the form that a name by itself is bound to.
 fn push_single(
-    place: Place,
+    place: BindingSite,
     target: &Target,
     form: BindingForm,
     found: &mut Vec<Binding>,
@@ -127,7 +131,11 @@ fn push_single(
 
 /// Adds the bindings of a target, each of a name in it.
 #[cycle(targets)]
-fn push_target(target: &Target, place: Place, found: &mut Vec<Binding>) -> Result<(), AllocError>
+fn push_target(
+    target: &Target,
+    place: BindingSite,
+    found: &mut Vec<Binding>,
+) -> Result<(), AllocError>
     ensures { OnOk result (map binding_of found.new.items
         ≡ map binding_of found.old.items ++ spec.target_bindings (target_of target.now) place) }
 {
@@ -142,7 +150,7 @@ fn push_target(target: &Target, place: Place, found: &mut Vec<Binding>) -> Resul
 #[cycle(targets)]
 fn push_elements(
     elements: &[TargetElement],
-    place: Place,
+    place: BindingSite,
     found: &mut Vec<Binding>,
 ) -> Result<(), AllocError>
     ensures { OnOk result (map binding_of found.new.items
@@ -157,7 +165,7 @@ fn push_elements(
 
 /// Adds the bindings of an `import`.
 fn push_modules(
-    place: Place,
+    place: BindingSite,
     modules: &[Rc<ImportedModule>],
     found: &mut Vec<Binding>,
 ) -> Result<(), AllocError>
@@ -172,7 +180,7 @@ fn push_modules(
 
 /// Adds the binding of a module.
 fn push_module(
-    place: Place,
+    place: BindingSite,
     imported: &Rc<ImportedModule>,
     found: &mut Vec<Binding>,
 ) -> Result<(), AllocError>
@@ -195,7 +203,7 @@ fn push_module(
 
 /// Adds the bindings of a from-import.
 fn push_imported(
-    place: Place,
+    place: BindingSite,
     from: &Rc<ImportFrom>,
     found: &mut Vec<Binding>,
 ) -> Result<(), AllocError>
@@ -211,7 +219,7 @@ fn push_imported(
 
 /// Adds the binding of a name that is imported.
 fn push_alias(
-    place: Place,
+    place: BindingSite,
     from: &Rc<ImportFrom>,
     alias: &Alias,
     found: &mut Vec<Binding>,

@@ -6,7 +6,7 @@ ghost use Rattle.pyc_bindings.specs.Decorators as spec;
 
 use pyc_ast::{Expr, Form};
 
-/// A decorator, told by its spelling.
+/// A decorator, reported by its spelling.
 #[derive(Clone, Copy, Debug, PartialEq, Eq)]
 pub enum Decorator {
     /// `@property`

@@ -14,5 +14,5 @@ pub use bindings::scope_bindings;
 pub use decorators::{Decorator, decorator_of, has_other, has_setter};
 pub use defined_again::{Redefinition, declaration, is_decorated, redefinitions, redefinitions_at};
 pub use first_bindings::{declaration_at, declaration_before, first_places};
-pub use place::Place;
+pub use place::BindingSite;
 pub use scope::{Part, PartForm, scope_parts};

@@ -7,14 +7,14 @@ ghost use Rattle.pyc_ast.specs.StatementView.{stmt_of, branch_of, handler_of, bl
 ghost use Rattle.pyc_bindings.specs.Scopes as spec;
 ghost use Rattle.pyc_bindings.specs.ScopeView.{part_of, part_form_of};
 
-use crate::place::Place;
+use crate::place::BindingSite;
 use pyc_ast::{Block, Branch, Handler, Position, Stmt, StmtForm, Target, Text, WithItem};
 use std::alloc::{AllocError, Global};
 
 /// A part of a scope, and where it stands.
 #[derive(Clone, Copy, Drop)]
 pub struct Part<'a> {
-    pub place: Place,
+    pub place: BindingSite,
     pub form: PartForm<'a>,
 }
 
@@ -51,7 +51,7 @@ fn push_part<'a>(
     ensures { OnOk result (map part_of parts.new.items
         ≡ map part_of parts.old.items ++ (spec.part at is_guarded (part_form_of form.entry) ∷ [])) }
 {
-    let place = Place { at, is_guarded };
+    let place = BindingSite { at, is_guarded };
     parts.push(Part { place, form })?;
     Ok(())
 }

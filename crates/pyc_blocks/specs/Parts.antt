@@ -3,21 +3,21 @@ use Rattle.std.specs.Prelude.{ℕ, List, Option}
 use Rattle.pyc_ast.specs.declared.position.Position.{Position}
 use Rattle.pyc_ast.specs.Exprs.{Expr}
 use Rattle.pyc_ast.specs.Statements.{StmtForm, For, WithItem}
-use Rattle.pyc_locals.specs.Points.{Point}
-use Rattle.pyc_narrowing.specs.SplitStates.{States}
+use Rattle.pyc_locals.specs.FlowStates.{FlowState}
+use Rattle.pyc_narrowing.specs.SplitStates.{SplitStates}
 use Rattle.pyc_places.specs.Places.{Place}
-use Rattle.pyc_reading.specs.Desks.{Step}
+use Rattle.pyc_reading.specs.Traces.{Step}
 
 pub record PartReads : Type 0 where
   -- a simple statement or a definition that begins at a position
-  pub simple : Position → StmtForm → Point → Step Point
+  pub simple : Position → StmtForm → FlowState → Step FlowState
   -- a condition: the states where it is true, and where it is not
-  pub tested : Expr → Point → Step States
+  pub check_test : Expr → FlowState → Step SplitStates
   -- the beginning of each turn of a `for` that assigns these places: from the point before the loop to that at which
   -- its block begins
-  pub turn : For → List Place → Point → Step Point
+  pub turn : For → List Place → FlowState → Step FlowState
   -- what a handler catches, and the name that it binds: from the point at which the handler begins to that at which its
   -- block does
-  pub caught : Option Expr → Option (List ℕ) → Point → Step Point
+  pub caught : Option Expr → Option (List ℕ) → FlowState → Step FlowState
   -- the items of a `with`
-  pub items : List WithItem → Point → Step Point
+  pub items : List WithItem → FlowState → Step FlowState

@@ -9,12 +9,12 @@ use Rattle.pyc_blocks.specs.declared.rules.Blocks.{Blocks as BlocksOf}
 use Rattle.pyc_blocks.specs.declared.trying.BegunTry.{BegunTry as BegunTryOf}
 use Rattle.pyc_blocks.specs.Flows.{Flow, Handled}
 use Rattle.pyc_blocks.specs.Parts.{PartReads}
-use Rattle.pyc_locals.specs.Views.{point_in}
+use Rattle.pyc_locals.specs.Views.{flow_state_in}
 use Rattle.pyc_places.specs.declared.states.State.{State as StateOf}
 use Rattle.pyc_places.specs.StateView.{state_of}
 
 abbrev pub flow_in : FlowOf → Flow
-flow_in f = record { point = point_in f.point; left = map state_of f.left.items }
+flow_in f = record { flow_state = flow_state_in f.flow_state; left = map state_of f.left.items }
 
 -- a flow, and the states in which blocks ended before it
 abbrev pub handled_in : FlowOf → Vec StateOf Global → Handled

@@ -1,7 +1,7 @@
 //! The statements of blocks, in turn.
 
 ghost use Rattle.std.specs.Prelude.{map, option_map};
-ghost use Rattle.pyc_assigned_places.specs.AssignedPlaces.{assigned_places};
+ghost use Rattle.pyc_locals.specs.AssignedPlaces.{assigned_places};
 ghost use Rattle.pyc_ast.specs.ExprView.{expr_of};
 ghost use Rattle.pyc_ast.specs.Statements.{branches, handlers, stmts};
 ghost use Rattle.pyc_ast.specs.StatementView.{block_of, branch_of, for_of, handler_of, stmt_form_of, stmt_of};
@@ -9,34 +9,34 @@ ghost use Rattle.pyc_ast.specs.StatementView.{with_item_of};
 ghost use Rattle.pyc_blocks.specs.Blocks as spec;
 ghost use Rattle.pyc_blocks.specs.Views.{begun_in, flow_in, handled_in, rules_of, try_places_in};
 ghost use Rattle.pyc_places.specs.StateView.{state_of};
-ghost use Rattle.pyc_reading.specs.Desks.{Performs};
+ghost use Rattle.pyc_reading.specs.Traces.{Performs};
 
 use crate::flows::Flow;
 use crate::parts::PartReader;
 use crate::rules::{Begun, Blocks};
 use crate::trying::{BegunTry, Try, begin_try};
 use pyc_ast::{Block, Branch, Expr, For, Handler, Position, Stmt, StmtForm, WithItem};
-use pyc_obligations::Judge;
+use pyc_obligations::AskTypes;
 use pyc_places::State;
 use std::alloc::AllocError;
 
-impl<N: Judge, P: PartReader<N>> Blocks<'_, N, P> {
+impl<N: AskTypes, P: PartReader<N>> Blocks<'_, N, P> {
     /// Checks the statements of a block in turn, as far as a run comes.
     #[cycle(flow)]
     #[tactic(auto, using(pyc_obligations::proofs::Steps::performing))]
     pub(crate) fn read_block(
         &self,
-        notes: &mut N,
+        recorder: &mut N,
         statements: &[Stmt],
         flow: &mut Flow,
     ) -> Result<(), AllocError>
         requires { P.ready self.now.parts.now }
         ensures { Performs (λ u. flow_in flow.new)
             (spec.block_read (rules_of P.parts self.now) (stmts (map stmt_of statements.now)) (flow_in flow.old))
-            (N.desk notes.old) result (N.desk notes.new) }
+            (N.trace recorder.old) result (N.trace recorder.new) }
     {
         for statement in statements {
-            self.read_reached(notes, statement, flow)?;
+            self.read_reached(recorder, statement, flow)?;
         }
         Ok(())
     }
@@ -46,19 +46,19 @@ impl<N: Judge, P: PartReader<N>> Blocks<'_, N, P> {
     #[tactic(auto, using(pyc_obligations::proofs::Steps::performing))]
     fn read_reached(
         &self,
-        notes: &mut N,
+        recorder: &mut N,
         statement: &Stmt,
         flow: &mut Flow,
     ) -> Result<(), AllocError>
         requires { P.ready self.now.parts.now }
         ensures { Performs (λ u. flow_in flow.new)
-            (spec.reached (flow_in flow.old).point.state
+            (spec.reached (flow_in flow.old).flow_state.state
             (spec.statement_read (rules_of P.parts self.now) (stmt_of statement.now)) (flow_in flow.old))
-            (N.desk notes.old) result (N.desk notes.new) }
+            (N.trace recorder.old) result (N.trace recorder.new) }
     {
-        match &flow.point.state {
+        match &flow.flow_state.state {
             State::Unreachable => Ok(()),
-            State::Reachable(_) => self.read_form(notes, statement.at, &statement.form, flow),
+            State::Reachable(_) => self.read_form(recorder, statement.at, &statement.form, flow),
         }
     }
 
@@ -67,7 +67,7 @@ impl<N: Judge, P: PartReader<N>> Blocks<'_, N, P> {
     #[tactic(auto, using(pyc_obligations::proofs::Steps::performing))]
     fn read_form(
         &self,
-        notes: &mut N,
+        recorder: &mut N,
         at: Position,
         form: &StmtForm,
         flow: &mut Flow,
@@ -75,21 +75,23 @@ impl<N: Judge, P: PartReader<N>> Blocks<'_, N, P> {
         requires { P.ready self.now.parts.now }
         ensures { Performs (λ u. flow_in flow.new)
             (spec.form_read (rules_of P.parts self.now) at (stmt_form_of form.now) (flow_in flow.old))
-            (N.desk notes.old) result (N.desk notes.new) }
+            (N.trace recorder.old) result (N.trace recorder.new) }
     {
         match form {
-            StmtForm::If { branches, orelse } => self.read_if(notes, branches, orelse, flow),
+            StmtForm::If { branches, orelse } => self.read_if(recorder, branches, orelse, flow),
             StmtForm::While { test, body, orelse } => {
-                self.read_while(notes, test, body, orelse, flow)
+                self.read_while(recorder, test, body, orelse, flow)
             }
-            StmtForm::For { head, body, orelse } => self.read_for(notes, head, body, orelse, flow),
+            StmtForm::For { head, body, orelse } => self.read_for(
+                recorder, head, body, orelse, flow,
+            ),
             StmtForm::Try {
                 body,
                 handlers,
                 orelse,
                 finally,
             } => self.read_try(
-                notes,
+                recorder,
                 Try {
                     inside: body,
                     handlers,
@@ -98,24 +100,29 @@ impl<N: Judge, P: PartReader<N>> Blocks<'_, N, P> {
                 },
                 flow,
             ),
-            StmtForm::With { items, body, .. } => self.read_with(notes, items, body, flow),
+            StmtForm::With { items, body, .. } => self.read_with(recorder, items, body, flow),
             StmtForm::Break => flow.leave(self.alloc, self.on_the_way_out),
             StmtForm::Continue => Ok(flow.end()),
-            _ => self.read_simple(notes, at, form, flow),
+            _ => self.read_simple(recorder, at, form, flow),
         }
     }
 
     /// Checks the statements of a block.
     #[cycle(flow)]
     #[tactic(auto, using(pyc_obligations::proofs::Steps::performing))]
-    fn read_inside(&self, notes: &mut N, block: &Block, flow: &mut Flow) -> Result<(), AllocError>
+    fn read_inside(
+        &self,
+        recorder: &mut N,
+        block: &Block,
+        flow: &mut Flow,
+    ) -> Result<(), AllocError>
         requires { P.ready self.now.parts.now }
         ensures { Performs (λ u. flow_in flow.new)
-            (spec.block_read (rules_of P.parts self.now) (block_of block.now) (flow_in flow.old)) (N.desk notes.old)
-            result (N.desk notes.new) }
+            (spec.block_read (rules_of P.parts self.now) (block_of block.now) (flow_in flow.old)) (N.trace recorder.old)
+            result (N.trace recorder.new) }
     {
         let Block::Of(statements) = block;
-        self.read_block(notes, statements, flow)
+        self.read_block(recorder, statements, flow)
     }
 
     /// Checks an `if`.
@@ -123,7 +130,7 @@ impl<N: Judge, P: PartReader<N>> Blocks<'_, N, P> {
     #[tactic(auto, using(pyc_obligations::proofs::Steps::performing), unfolding(crate::specs::Blocks::if_by))]
     fn read_if(
         &self,
-        notes: &mut N,
+        recorder: &mut N,
         row: &[Branch],
         orelse: &Block,
         flow: &mut Flow,
@@ -132,11 +139,11 @@ impl<N: Judge, P: PartReader<N>> Blocks<'_, N, P> {
         ensures { Performs (λ u. flow_in flow.new)
             (spec.if_by (spec.branches_read (rules_of P.parts self.now) (branches (map branch_of row.now)))
             (spec.block_read (rules_of P.parts self.now) (block_of orelse.now)) (flow_in flow.old))
-            (N.desk notes.old) result (N.desk notes.new) }
+            (N.trace recorder.old) result (N.trace recorder.new) }
     {
         let mut ends = Vec::new(self.alloc);
-        self.read_branches(notes, row, &mut ends, flow)?;
-        self.read_inside(notes, orelse, flow)?;
+        self.read_branches(recorder, row, &mut ends, flow)?;
+        self.read_inside(recorder, orelse, flow)?;
         flow.join_ends(self.alloc, ends)?;
         Ok(())
     }
@@ -146,7 +153,7 @@ impl<N: Judge, P: PartReader<N>> Blocks<'_, N, P> {
     #[tactic(auto, using(pyc_obligations::proofs::Steps::performing))]
     fn read_branches(
         &self,
-        notes: &mut N,
+        recorder: &mut N,
         row: &[Branch],
         ends: &mut Vec<State>,
         flow: &mut Flow,
@@ -154,10 +161,10 @@ impl<N: Judge, P: PartReader<N>> Blocks<'_, N, P> {
         requires { P.ready self.now.parts.now }
         ensures { Performs (λ u. handled_in flow.new ends.new)
             (spec.branches_read (rules_of P.parts self.now) (branches (map branch_of row.now))
-            (handled_in flow.old ends.old)) (N.desk notes.old) result (N.desk notes.new) }
+            (handled_in flow.old ends.old)) (N.trace recorder.old) result (N.trace recorder.new) }
     {
         for branch in row {
-            self.read_branch(notes, branch, ends, flow)?;
+            self.read_branch(recorder, branch, ends, flow)?;
         }
         Ok(())
     }
@@ -167,7 +174,7 @@ impl<N: Judge, P: PartReader<N>> Blocks<'_, N, P> {
     #[tactic(auto, using(pyc_obligations::proofs::Steps::performing), unfolding(crate::specs::Blocks::branch_by))]
     fn read_branch(
         &self,
-        notes: &mut N,
+        recorder: &mut N,
         branch: &Branch,
         ends: &mut Vec<State>,
         flow: &mut Flow,
@@ -176,13 +183,13 @@ impl<N: Judge, P: PartReader<N>> Blocks<'_, N, P> {
         ensures { Performs (λ u. handled_in flow.new ends.new)
             (spec.branch_by (P.parts self.now.parts.now) (expr_of branch.now.test)
             (spec.block_read (rules_of P.parts self.now) (block_of branch.now.body)) (handled_in flow.old ends.old))
-            (N.desk notes.old) result (N.desk notes.new) }
+            (N.trace recorder.old) result (N.trace recorder.new) }
     {
         let states = self
             .parts
-            .tested(self.alloc, notes, &branch.test, &flow.point)?;
+            .check_test(self.alloc, recorder, &branch.test, &flow.flow_state)?;
         flow.set(states.if_true);
-        self.read_inside(notes, &branch.body, flow)?;
+        self.read_inside(recorder, &branch.body, flow)?;
         flow.end_block(ends, states.if_false)?;
         Ok(())
     }
@@ -192,7 +199,7 @@ impl<N: Judge, P: PartReader<N>> Blocks<'_, N, P> {
     #[tactic(auto, using(pyc_obligations::proofs::Steps::performing), unfolding(crate::specs::Blocks::while_by))]
     fn read_while(
         &self,
-        notes: &mut N,
+        recorder: &mut N,
         test: &Expr,
         inside: &Block,
         orelse: &Block,
@@ -203,10 +210,10 @@ impl<N: Judge, P: PartReader<N>> Blocks<'_, N, P> {
             (spec.while_by (P.parts self.now.parts.now) (expr_of test.now) (assigned_places (block_of inside.now))
             (spec.block_read (spec.within_loop (rules_of P.parts self.now)) (block_of inside.now))
             (spec.block_read (rules_of P.parts self.now) (block_of orelse.now)) (flow_in flow.old))
-            (N.desk notes.old) result (N.desk notes.new) }
+            (N.trace recorder.old) result (N.trace recorder.new) }
     {
-        let begun = self.begin_while(notes, test, inside, flow)?;
-        self.read_loop(notes, begun, inside, orelse, flow)
+        let begun = self.begin_while(recorder, test, inside, flow)?;
+        self.read_loop(recorder, begun, inside, orelse, flow)
     }
 
     /// Checks a `for`.
@@ -214,7 +221,7 @@ impl<N: Judge, P: PartReader<N>> Blocks<'_, N, P> {
     #[tactic(auto, using(pyc_obligations::proofs::Steps::performing), unfolding(crate::specs::Blocks::for_by))]
     fn read_for(
         &self,
-        notes: &mut N,
+        recorder: &mut N,
         head: &For,
         inside: &Block,
         orelse: &Block,
@@ -226,10 +233,10 @@ impl<N: Judge, P: PartReader<N>> Blocks<'_, N, P> {
             (spec.turn_places (for_of head.now) (block_of inside.now))
             (spec.block_read (spec.within_loop (rules_of P.parts self.now)) (block_of inside.now))
             (spec.block_read (rules_of P.parts self.now) (block_of orelse.now)) (flow_in flow.old))
-            (N.desk notes.old) result (N.desk notes.new) }
+            (N.trace recorder.old) result (N.trace recorder.new) }
     {
-        let begun = self.begin_for(notes, head, inside, flow)?;
-        self.read_loop(notes, begun, inside, orelse, flow)
+        let begun = self.begin_for(recorder, head, inside, flow)?;
+        self.read_loop(recorder, begun, inside, orelse, flow)
     }
 
     /// Checks the block of a loop that has begun, and its `else`.
@@ -237,7 +244,7 @@ impl<N: Judge, P: PartReader<N>> Blocks<'_, N, P> {
     #[tactic(auto, using(pyc_obligations::proofs::Steps::performing), unfolding(crate::specs::Blocks::loop_by))]
     fn read_loop(
         &self,
-        notes: &mut N,
+        recorder: &mut N,
         begun: Begun,
         inside: &Block,
         orelse: &Block,
@@ -247,7 +254,7 @@ impl<N: Judge, P: PartReader<N>> Blocks<'_, N, P> {
         ensures { Performs (λ u. flow_in flow.new)
             (spec.loop_by (spec.block_read (spec.within_loop (rules_of P.parts self.now)) (block_of inside.now))
             (spec.block_read (rules_of P.parts self.now) (block_of orelse.now)) (begun_in begun flow.old))
-            (N.desk notes.old) result (N.desk notes.new) }
+            (N.trace recorder.old) result (N.trace recorder.new) }
     {
         let turn = Blocks {
             alloc: self.alloc,
@@ -255,9 +262,9 @@ impl<N: Judge, P: PartReader<N>> Blocks<'_, N, P> {
             on_the_way_out: &[],
             of: self.of,
         };
-        turn.read_inside(notes, inside, flow)?;
+        turn.read_inside(recorder, inside, flow)?;
         let left = flow.exhaust(begun.exit, begun.around);
-        self.read_inside(notes, orelse, flow)?;
+        self.read_inside(recorder, orelse, flow)?;
         flow.end_loop(self.alloc, &left)?;
         Ok(())
     }
@@ -265,7 +272,7 @@ impl<N: Judge, P: PartReader<N>> Blocks<'_, N, P> {
     /// Checks a `try`.
     #[cycle(flow)]
     #[tactic(auto, using(pyc_obligations::proofs::Steps::performing), unfolding(crate::specs::Blocks::try_by))]
-    fn read_try(&self, notes: &mut N, found: Try<'_>, flow: &mut Flow) -> Result<(), AllocError>
+    fn read_try(&self, recorder: &mut N, found: Try<'_>, flow: &mut Flow) -> Result<(), AllocError>
         requires { P.ready self.now.parts.now }
         ensures { Performs (λ u. flow_in flow.new)
             (spec.try_by
@@ -281,11 +288,11 @@ impl<N: Judge, P: PartReader<N>> Blocks<'_, N, P> {
             (spec.within_try (rules_of P.parts self.now) (assigned_places (block_of found.entry.finally.now)))
             (block_of found.entry.orelse.now))
             (spec.block_read (rules_of P.parts self.now) (block_of found.entry.finally.now)) (flow_in flow.old))
-            (N.desk notes.old) result (N.desk notes.new) }
+            (N.trace recorder.old) result (N.trace recorder.new) }
     {
-        let begun = begin_try(self.alloc, found, &flow.point.state)?;
-        let ends = self.read_within(notes, found, &begun, flow)?;
-        self.read_finally(notes, found.finally, &begun, ends, flow)
+        let begun = begin_try(self.alloc, found, &flow.flow_state.state)?;
+        let ends = self.read_within(recorder, found, &begun, flow)?;
+        self.read_finally(recorder, found.finally, &begun, ends, flow)
     }
 
     /// Checks the block of a `try` that has begun, its handlers and its `else`, out of which each `break` passes its
@@ -294,7 +301,7 @@ impl<N: Judge, P: PartReader<N>> Blocks<'_, N, P> {
     #[tactic(auto, using(pyc_obligations::proofs::Steps::performing))]
     fn read_within(
         &self,
-        notes: &mut N,
+        recorder: &mut N,
         found: Try<'_>,
         begun: &BegunTry,
         flow: &mut Flow,
@@ -307,7 +314,8 @@ impl<N: Judge, P: PartReader<N>> Blocks<'_, N, P> {
             (spec.handlers_read (spec.within_try (rules_of P.parts self.now) begun.now.finally.items)
             (handlers (map handler_of found.entry.handlers.now)) (state_of begun.now.raised))
             (spec.block_read (spec.within_try (rules_of P.parts self.now) begun.now.finally.items)
-            (block_of found.entry.orelse.now)) (flow_in flow.old)) (N.desk notes.old) result (N.desk notes.new) }
+            (block_of found.entry.orelse.now)) (flow_in flow.old)) (N.trace recorder.old) result
+            (N.trace recorder.new) }
     {
         let on_the_way_out = begun.on_the_way_out(self.alloc, self.on_the_way_out)?;
         let within = Blocks {
@@ -316,7 +324,7 @@ impl<N: Judge, P: PartReader<N>> Blocks<'_, N, P> {
             on_the_way_out: &on_the_way_out,
             of: self.of,
         };
-        within.read_clauses(notes, found, &begun.raised, flow)
+        within.read_clauses(recorder, found, &begun.raised, flow)
     }
 
     /// Checks the block of a `try`, its handlers, which begin in one state, and its `else`; answers the states in which
@@ -325,7 +333,7 @@ impl<N: Judge, P: PartReader<N>> Blocks<'_, N, P> {
     #[tactic(auto, using(pyc_obligations::proofs::Steps::performing), unfolding(crate::specs::Blocks::clauses_by))]
     fn read_clauses(
         &self,
-        notes: &mut N,
+        recorder: &mut N,
         found: Try<'_>,
         raised: &State,
         flow: &mut Flow,
@@ -335,14 +343,14 @@ impl<N: Judge, P: PartReader<N>> Blocks<'_, N, P> {
             (spec.clauses_by (spec.block_read (rules_of P.parts self.now) (block_of found.entry.inside.now))
             (spec.handlers_read (rules_of P.parts self.now) (handlers (map handler_of found.entry.handlers.now))
             (state_of raised.now)) (spec.block_read (rules_of P.parts self.now) (block_of found.entry.orelse.now))
-            (flow_in flow.old)) (N.desk notes.old) result (N.desk notes.new) }
+            (flow_in flow.old)) (N.trace recorder.old) result (N.trace recorder.new) }
     {
         let mut ends = Vec::new(self.alloc);
-        self.read_inside(notes, found.inside, flow)?;
+        self.read_inside(recorder, found.inside, flow)?;
         let end = flow.take_state();
-        self.read_handlers(notes, found.handlers, raised, &mut ends, flow)?;
+        self.read_handlers(recorder, found.handlers, raised, &mut ends, flow)?;
         flow.set(end);
-        self.read_inside(notes, found.orelse, flow)?;
+        self.read_inside(recorder, found.orelse, flow)?;
         Ok(ends)
     }
 
@@ -351,7 +359,7 @@ impl<N: Judge, P: PartReader<N>> Blocks<'_, N, P> {
     #[tactic(auto, using(pyc_obligations::proofs::Steps::performing))]
     fn read_handlers(
         &self,
-        notes: &mut N,
+        recorder: &mut N,
         row: &[Handler],
         raised: &State,
         ends: &mut Vec<State>,
@@ -360,10 +368,10 @@ impl<N: Judge, P: PartReader<N>> Blocks<'_, N, P> {
         requires { P.ready self.now.parts.now }
         ensures { Performs (λ u. handled_in flow.new ends.new)
             (spec.handlers_read (rules_of P.parts self.now) (handlers (map handler_of row.now)) (state_of raised.now)
-            (handled_in flow.old ends.old)) (N.desk notes.old) result (N.desk notes.new) }
+            (handled_in flow.old ends.old)) (N.trace recorder.old) result (N.trace recorder.new) }
     {
         for handler in row {
-            self.read_handler(notes, handler, raised, ends, flow)?;
+            self.read_handler(recorder, handler, raised, ends, flow)?;
         }
         Ok(())
     }
@@ -373,7 +381,7 @@ impl<N: Judge, P: PartReader<N>> Blocks<'_, N, P> {
     #[tactic(auto, using(pyc_obligations::proofs::Steps::performing), unfolding(crate::specs::Blocks::handler_by))]
     fn read_handler(
         &self,
-        notes: &mut N,
+        recorder: &mut N,
         handler: &Handler,
         raised: &State,
         ends: &mut Vec<State>,
@@ -384,12 +392,12 @@ impl<N: Judge, P: PartReader<N>> Blocks<'_, N, P> {
             (spec.handler_by (P.parts self.now.parts.now) (state_of raised.now)
             (option_map expr_of handler.now.caught) handler.now.name
             (spec.block_read (rules_of P.parts self.now) (block_of handler.now.body)) (handled_in flow.old ends.old))
-            (N.desk notes.old) result (N.desk notes.new) }
+            (N.trace recorder.old) result (N.trace recorder.new) }
     {
         flow.set(raised.clone()?);
         self.parts
-            .caught(self.alloc, notes, handler, &mut flow.point)?;
-        self.read_inside(notes, &handler.body, flow)?;
+            .caught(self.alloc, recorder, handler, &mut flow.flow_state)?;
+        self.read_inside(recorder, &handler.body, flow)?;
         flow.end_block(ends, State::Unreachable)?;
         Ok(())
     }
@@ -399,7 +407,7 @@ impl<N: Judge, P: PartReader<N>> Blocks<'_, N, P> {
     #[tactic(auto, using(pyc_obligations::proofs::Steps::performing), unfolding(crate::specs::Blocks::finally_by))]
     fn read_finally(
         &self,
-        notes: &mut N,
+        recorder: &mut N,
         finally: &Block,
         begun: &BegunTry,
         ends: Vec<State>,
@@ -409,11 +417,11 @@ impl<N: Judge, P: PartReader<N>> Blocks<'_, N, P> {
         ensures { Performs (λ u. flow_in flow.new)
             (spec.finally_by (try_places_in begun.now) (state_of begun.now.raised)
             (spec.block_read (rules_of P.parts self.now) (block_of finally.now)) (handled_in flow.old ends))
-            (N.desk notes.old) result (N.desk notes.new) }
+            (N.trace recorder.old) result (N.trace recorder.new) }
     {
-        let after = begun.tried_state(self.alloc, &flow.point.state, &ends)?;
+        let after = begun.tried_state(self.alloc, &flow.flow_state.state, &ends)?;
         flow.set(begun.finally_state(self.alloc)?);
-        self.read_inside(notes, finally, flow)?;
+        self.read_inside(recorder, finally, flow)?;
         flow.end_finally(after);
         Ok(())
     }
@@ -423,7 +431,7 @@ impl<N: Judge, P: PartReader<N>> Blocks<'_, N, P> {
     #[tactic(auto, using(pyc_obligations::proofs::Steps::performing), unfolding(crate::specs::Blocks::with_by))]
     fn read_with(
         &self,
-        notes: &mut N,
+        recorder: &mut N,
         items: &[WithItem],
         inside: &Block,
         flow: &mut Flow,
@@ -431,18 +439,20 @@ impl<N: Judge, P: PartReader<N>> Blocks<'_, N, P> {
         requires { P.ready self.now.parts.now }
         ensures { Performs (λ u. flow_in flow.new)
             (spec.with_by (P.parts self.now.parts.now) (map with_item_of items.now)
-            (spec.block_read (rules_of P.parts self.now) (block_of inside.now)) (flow_in flow.old)) (N.desk notes.old)
-            result (N.desk notes.new) }
+            (spec.block_read (rules_of P.parts self.now) (block_of inside.now)) (flow_in flow.old))
+            (N.trace recorder.old)
+            result (N.trace recorder.new) }
     {
-        self.parts.items(self.alloc, notes, items, &mut flow.point)?;
-        self.read_inside(notes, inside, flow)
+        self.parts
+            .items(self.alloc, recorder, items, &mut flow.flow_state)?;
+        self.read_inside(recorder, inside, flow)
     }
 
     /// Checks a simple statement or a definition that begins at a position.
     #[tactic(auto, using(pyc_obligations::proofs::Steps::performing), unfolding(crate::specs::Blocks::simple_by))]
     fn read_simple(
         &self,
-        notes: &mut N,
+        recorder: &mut N,
         at: Position,
         form: &StmtForm,
         flow: &mut Flow,
@@ -450,9 +460,9 @@ impl<N: Judge, P: PartReader<N>> Blocks<'_, N, P> {
         requires { P.ready self.now.parts.now }
         ensures { Performs (λ u. flow_in flow.new)
             (spec.simple_by (P.parts self.now.parts.now) at (stmt_form_of form.now) (flow_in flow.old))
-            (N.desk notes.old) result (N.desk notes.new) }
+            (N.trace recorder.old) result (N.trace recorder.new) }
     {
         self.parts
-            .simple(self.alloc, notes, at, form, &mut flow.point)
+            .simple(self.alloc, recorder, at, form, &mut flow.flow_state)
     }
 }

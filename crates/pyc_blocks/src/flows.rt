@@ -3,11 +3,10 @@
 ghost use Rattle.std.specs.Prelude.{◌≡◌, [], map, IfOk, OnOk};
 ghost use Rattle.pyc_blocks.specs.Flows as spec;
 ghost use Rattle.pyc_blocks.specs.Views.{flow_in, handled_in};
-ghost use Rattle.pyc_locals.specs.Views.{point_in};
+ghost use Rattle.pyc_locals.specs.Views.{flow_state_in};
 ghost use Rattle.pyc_places.specs.StateView.{state_of};
 
-use pyc_assigned_places::dropped_all;
-use pyc_locals::Point;
+use pyc_locals::{FlowState, drop_places};
 use pyc_places::{Place, State, join};
 use std::alloc::{AllocError, Global};
 use std::mem;
@@ -15,7 +14,7 @@ use std::mem;
 /// The point after what was checked, and the states in which the innermost loop was left by a `break`.
 #[derive(Drop)]
 pub(crate) struct Flow {
-    pub point: Point,
+    pub flow_state: FlowState,
     pub left: Vec<State>,
 }
 
@@ -24,22 +23,22 @@ impl Flow {
     pub(crate) fn set(&mut self, state: State)
         ensures { flow_in self.new ≡ spec.with_state (flow_in self.old) (state_of state) }
     {
-        self.point.state = state;
+        self.flow_state.state = state;
     }
 
     /// No run goes on.
     pub(crate) fn end(&mut self)
-        ensures { flow_in self.new ≡ spec.ended (flow_in self.old) }
+        ensures { flow_in self.new ≡ spec.make_unreachable (flow_in self.old) }
     {
-        self.point.state = State::Unreachable;
+        self.flow_state.state = State::Unreachable;
     }
 
     /// No run goes on; answers the state from before.
     pub(crate) fn take_state(&mut self) -> State
-        ensures flow { flow_in self.new ≡ spec.ended (flow_in self.old) }
-        ensures state { state_of result ≡ (flow_in self.old).point.state }
+        ensures flow { flow_in self.new ≡ spec.make_unreachable (flow_in self.old) }
+        ensures state { state_of result ≡ (flow_in self.old).flow_state.state }
     {
-        mem::replace(&mut self.point.state, State::Unreachable)
+        mem::replace(&mut self.flow_state.state, State::Unreachable)
     }
 
     /// Leaves the innermost loop, past each `finally` that assigns some places.
@@ -50,9 +49,9 @@ impl Flow {
     ) -> Result<(), AllocError>
         ensures { OnOk result (flow_in self.new ≡ spec.broken on_the_way_out.now (flow_in self.old)) }
     {
-        let state = dropped_all(alloc, on_the_way_out, &self.point.state)?;
+        let state = drop_places(alloc, on_the_way_out, &self.flow_state.state)?;
         self.left.push(state)?;
-        self.point.state = State::Unreachable;
+        self.flow_state.state = State::Unreachable;
         Ok(())
     }
 
@@ -65,13 +64,13 @@ impl Flow {
         ensures flow { OnOk result (flow_in self.new ≡ spec.entered places.now (flow_in self.old)) }
         ensures around { IfOk result (λ around. map state_of around.items ≡ (flow_in self.old).left) }
     {
-        self.point.state = dropped_all(alloc, places, &self.point.state)?;
+        self.flow_state.state = drop_places(alloc, places, &self.flow_state.state)?;
         Ok(mem::replace(&mut self.left, Vec::new(alloc)))
     }
 
     /// Takes out the states in which the loop around was left, at the beginning of a loop.
     pub(crate) fn take_left(&mut self, alloc: Global) -> Vec<State>
-        ensures flow { flow_in self.new ≡ spec.flow_at (flow_in self.old).point }
+        ensures flow { flow_in self.new ≡ spec.flow_at (flow_in self.old).flow_state }
         ensures around { map state_of result.items ≡ (flow_in self.old).left }
     {
         mem::replace(&mut self.left, Vec::new(alloc))
@@ -84,7 +83,7 @@ impl Flow {
             ≡ spec.exhausted (flow_in self.old) (state_of exit) (map state_of around.items) }
         ensures left { map state_of result.items ≡ (flow_in self.old).left }
     {
-        self.point.state = exit;
+        self.flow_state.state = exit;
         mem::replace(&mut self.left, around)
     }
 
@@ -92,7 +91,7 @@ impl Flow {
     pub(crate) fn end_loop(&mut self, alloc: Global, left: &[State]) -> Result<(), AllocError>
         ensures { OnOk result (flow_in self.new ≡ spec.after_loop (flow_in self.old) (map state_of left.now)) }
     {
-        self.point.state = joined_all(alloc, &self.point.state, left)?;
+        self.flow_state.state = join_states(alloc, &self.flow_state.state, left)?;
         Ok(())
     }
 
@@ -101,7 +100,7 @@ impl Flow {
         ensures { OnOk result (handled_in self.new ends.new
             ≡ spec.block_ended (handled_in self.old ends.old) (state_of next) (flow_in self.old)) }
     {
-        let end = mem::replace(&mut self.point.state, next);
+        let end = mem::replace(&mut self.flow_state.state, next);
         ends.push(end)?;
         Ok(())
     }
@@ -110,10 +109,10 @@ impl Flow {
     pub(crate) fn join_ends(&mut self, alloc: Global, ends: Vec<State>) -> Result<(), AllocError>
         ensures { OnOk result (flow_in self.new
             ≡ spec.with_state (flow_in self.old)
-            (spec.ends_joined (map state_of ends.items) (flow_in self.old).point.state)) }
+            (spec.join_branch_ends (map state_of ends.items) (flow_in self.old).flow_state.state)) }
     {
         let last = self.take_state();
-        self.point.state = ends_joined(alloc, ends, last)?;
+        self.flow_state.state = join_branch_ends(alloc, ends, last)?;
         Ok(())
     }
 
@@ -121,9 +120,9 @@ impl Flow {
     pub(crate) fn end_finally(&mut self, after: State)
         ensures { flow_in self.new
             ≡ spec.with_state (flow_in self.old)
-            (spec.after_finally (flow_in self.old).point.state (state_of after)) }
+            (spec.after_finally (flow_in self.old).flow_state.state (state_of after)) }
     {
-        match &self.point.state {
+        match &self.flow_state.state {
             State::Unreachable => {}
             State::Reachable(_) => self.set(after),
         }
@@ -131,13 +130,13 @@ impl Flow {
 }
 
 /// What is known where one of some states holds: the first, and those of a list in turn.
-pub(crate) fn joined_all(
+pub(crate) fn join_states(
     alloc: Global,
     state: &State,
     others: &[State],
 ) -> Result<State, AllocError>
     ensures { IfOk result (λ joined. state_of joined
-        ≡ spec.joined_all (state_of state.now) (map state_of others.now)) }
+        ≡ spec.join_states (state_of state.now) (map state_of others.now)) }
 {
     let mut joined = state.clone()?;
     for other in others {
@@ -147,8 +146,9 @@ pub(crate) fn joined_all(
 }
 
 /// What is known where a block of an `if` ended, the last of them in a state.
-fn ends_joined(alloc: Global, ends: Vec<State>, last: State) -> Result<State, AllocError>
-    ensures { IfOk result (λ joined. state_of joined ≡ spec.ends_joined (map state_of ends.items) (state_of last)) }
+fn join_branch_ends(alloc: Global, ends: Vec<State>, last: State) -> Result<State, AllocError>
+    ensures { IfOk result (λ joined. state_of joined ≡ spec.join_branch_ends (map state_of ends.items)
+        (state_of last)) }
 {
     let mut joined = last;
     let mut ends = ends;

@@ -1,18 +1,18 @@
 //! What checks blocks, and how loops begin.
 
 ghost use Rattle.std.specs.Prelude.{◌≡◌, IfOk};
-ghost use Rattle.pyc_assigned_places.specs.AssignedPlaces.{assigned_places};
+ghost use Rattle.pyc_locals.specs.AssignedPlaces.{assigned_places};
 ghost use Rattle.pyc_ast.specs.ExprView.{expr_of};
 ghost use Rattle.pyc_ast.specs.StatementView.{block_of, for_of};
 ghost use Rattle.pyc_blocks.specs.Blocks as spec;
 ghost use Rattle.pyc_blocks.specs.Views.{begun_in, flow_in};
-ghost use Rattle.pyc_reading.specs.Desks.{Performs};
+ghost use Rattle.pyc_reading.specs.Traces.{Performs};
 
 use crate::flows::Flow;
 use crate::parts::PartReader;
-use pyc_assigned_places::{assigned_places, dropped_all, push_target};
 use pyc_ast::{Block, Expr, For};
-use pyc_obligations::Judge;
+use pyc_locals::{assigned_places, drop_places, push_target};
+use pyc_obligations::AskTypes;
 use pyc_places::{Place, State};
 use std::alloc::{AllocError, Global};
 use std::marker::PhantomData;
@@ -33,12 +33,12 @@ pub(crate) struct Begun {
     pub around: Vec<State>,
 }
 
-impl<N: Judge, P: PartReader<N>> Blocks<'_, N, P> {
+impl<N: AskTypes, P: PartReader<N>> Blocks<'_, N, P> {
     /// Begins a turn of a `while`: it checks its condition at the entry of the loop.
     #[tactic(auto, using(pyc_obligations::proofs::Steps::performing), unfolding(crate::specs::Blocks::while_begun))]
     pub(crate) fn begin_while(
         &self,
-        notes: &mut N,
+        recorder: &mut N,
         test: &Expr,
         inside: &Block,
         flow: &mut Flow,
@@ -46,11 +46,13 @@ impl<N: Judge, P: PartReader<N>> Blocks<'_, N, P> {
         requires { P.ready self.now.parts.now }
         ensures { Performs (λ begun. begun_in begun flow.new)
             (spec.while_begun (P.parts self.now.parts.now) (expr_of test.now) (assigned_places (block_of inside.now))
-            (flow_in flow.old)) (N.desk notes.old) result (N.desk notes.new) }
+            (flow_in flow.old)) (N.trace recorder.old) result (N.trace recorder.new) }
     {
         let places = places_of(self.alloc, inside)?;
         let around = flow.enter(self.alloc, &places)?;
-        let states = self.parts.tested(self.alloc, notes, test, &flow.point)?;
+        let states = self
+            .parts
+            .check_test(self.alloc, recorder, test, &flow.flow_state)?;
         flow.set(states.if_true);
         Ok(Begun {
             exit: states.if_false,
@@ -62,7 +64,7 @@ impl<N: Judge, P: PartReader<N>> Blocks<'_, N, P> {
     #[tactic(auto, using(pyc_obligations::proofs::Steps::performing), unfolding(crate::specs::Blocks::for_begun))]
     pub(crate) fn begin_for(
         &self,
-        notes: &mut N,
+        recorder: &mut N,
         head: &For,
         inside: &Block,
         flow: &mut Flow,
@@ -70,14 +72,14 @@ impl<N: Judge, P: PartReader<N>> Blocks<'_, N, P> {
         requires { P.ready self.now.parts.now }
         ensures { Performs (λ begun. begun_in begun flow.new)
             (spec.for_begun (P.parts self.now.parts.now) (for_of head.now)
-            (spec.turn_places (for_of head.now) (block_of inside.now)) (flow_in flow.old)) (N.desk notes.old) result
-            (N.desk notes.new) }
+            (spec.turn_places (for_of head.now) (block_of inside.now)) (flow_in flow.old)) (N.trace recorder.old) result
+            (N.trace recorder.new) }
     {
         let places = turn_places(self.alloc, head, inside)?;
-        let exit = dropped_all(self.alloc, &places, &flow.point.state)?;
+        let exit = drop_places(self.alloc, &places, &flow.flow_state.state)?;
         let around = flow.take_left(self.alloc);
         self.parts
-            .turn(self.alloc, notes, head, &places, &mut flow.point)?;
+            .turn(self.alloc, recorder, head, &places, &mut flow.flow_state)?;
         Ok(Begun { exit, around })
     }
 }

@@ -4,15 +4,15 @@ ghost use Rattle.std.specs.Prelude.{map};
 ghost use Rattle.pyc_ast.specs.Statements.{stmts};
 ghost use Rattle.pyc_ast.specs.StatementView.{stmt_of};
 ghost use Rattle.pyc_blocks.specs.Blocks as spec;
-ghost use Rattle.pyc_locals.specs.Views.{point_in};
-ghost use Rattle.pyc_reading.specs.Desks.{Performs};
+ghost use Rattle.pyc_locals.specs.Views.{flow_state_in};
+ghost use Rattle.pyc_reading.specs.Traces.{Performs};
 
 use crate::flows::Flow;
 use crate::parts::PartReader;
 use crate::rules::Blocks;
 use pyc_ast::Stmt;
-use pyc_locals::{Locals, Point};
-use pyc_obligations::Judge;
+use pyc_locals::{FlowState, Locals};
+use pyc_obligations::AskTypes;
 use pyc_places::State;
 use std::alloc::{AllocError, Global};
 use std::marker::PhantomData;
@@ -21,24 +21,24 @@ use std::mem;
 /// Checks the statements of a body in turn, as far as a run comes, from a point to that after them. The only error is
 /// that memory runs out; the point is lost then.
 #[tactic(auto, using(pyc_obligations::proofs::Steps::performing))]
-pub fn read_statements<N: Judge, P: PartReader<N>>(
+pub fn read_statements<N: AskTypes, P: PartReader<N>>(
     alloc: Global,
-    notes: &mut N,
+    recorder: &mut N,
     parts: &P,
     statements: &[Stmt],
-    point: &mut Point,
+    flow_state: &mut FlowState,
 ) -> Result<(), AllocError>
     requires { P.ready parts.now }
-    ensures { Performs (λ u. point_in point.new)
-        (spec.statements_read (P.parts parts.now) (stmts (map stmt_of statements.now)) (point_in point.old))
-        (N.desk notes.old) result (N.desk notes.new) }
+    ensures { Performs (λ u. flow_state_in flow_state.new)
+        (spec.statements_read (P.parts parts.now) (stmts (map stmt_of statements.now)) (flow_state_in flow_state.old))
+        (N.trace recorder.old) result (N.trace recorder.new) }
 {
-    let lost = Point {
+    let lost = FlowState {
         locals: Locals::none(alloc),
         state: State::Unreachable,
     };
     let mut flow = Flow {
-        point: mem::replace(point, lost),
+        flow_state: mem::replace(flow_state, lost),
         left: Vec::new(alloc),
     };
     let blocks = Blocks {
@@ -47,9 +47,12 @@ pub fn read_statements<N: Judge, P: PartReader<N>>(
         on_the_way_out: &[],
         of: PhantomData::<N>,
     };
-    blocks.read_block(notes, statements, &mut flow)?;
-    let Flow { point: after, left } = flow;
+    blocks.read_block(recorder, statements, &mut flow)?;
+    let Flow {
+        flow_state: after,
+        left,
+    } = flow;
     drop(left);
-    *point = after;
+    *flow_state = after;
     Ok(())
 }

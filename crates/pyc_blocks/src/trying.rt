@@ -1,17 +1,17 @@
 //! The parts of a `try`, and how it begins and ends.
 
 ghost use Rattle.std.specs.Prelude.{◌≡◌, ◌++◌, map, IfOk, OnOk};
-ghost use Rattle.pyc_assigned_places.specs.AssignedPlaces.{assigned_places, handlers_places};
+ghost use Rattle.pyc_locals.specs.AssignedPlaces.{assigned_places, handlers_places};
 ghost use Rattle.pyc_ast.specs.Statements.{handlers};
 ghost use Rattle.pyc_ast.specs.StatementView.{block_of, handler_of};
 ghost use Rattle.pyc_blocks.specs.Blocks as spec;
 ghost use Rattle.pyc_blocks.specs.Views.{try_places_in};
 ghost use Rattle.pyc_places.specs.StateView.{state_of};
 
-use crate::flows::joined_all;
+use crate::flows::join_states;
 use crate::rules::places_of;
-use pyc_assigned_places::{dropped_all, push_assigned, push_handlers};
 use pyc_ast::{Block, Handler};
+use pyc_locals::{drop_places, push_assigned, push_handlers};
 use pyc_places::{Place, State};
 use std::alloc::{AllocError, Global};
 
@@ -54,7 +54,7 @@ pub(crate) fn begin_try(
     let inside = places_of(alloc, found.inside)?;
     let others = places_of_others(alloc, found.handlers, found.orelse)?;
     let finally = places_of(alloc, found.finally)?;
-    let raised = dropped_all(alloc, &inside, before)?;
+    let raised = drop_places(alloc, &inside, before)?;
     Ok(BegunTry {
         inside,
         others,
@@ -85,7 +85,7 @@ impl BegunTry {
         ensures { IfOk result (λ state. state_of state
             ≡ spec.finally_state (try_places_in self.now) (state_of self.now.raised)) }
     {
-        dropped_all(alloc, &self.others, &self.raised)
+        drop_places(alloc, &self.others, &self.raised)
     }
 
     /// The state after the `try`, by the state in which its block with its `else` ends, and those in which handlers do.
@@ -98,9 +98,9 @@ impl BegunTry {
         ensures { IfOk result (λ state. state_of state
             ≡ spec.tried_state (try_places_in self.now) (state_of end.now) (map state_of ends.now)) }
     {
-        let joined = joined_all(alloc, end, ends)?;
-        let dropped = dropped_all(alloc, &self.inside, &joined)?;
-        dropped_all(alloc, &self.finally, &dropped)
+        let joined = join_states(alloc, end, ends)?;
+        let dropped = drop_places(alloc, &self.inside, &joined)?;
+        drop_places(alloc, &self.finally, &dropped)
     }
 
     /// The places that are assigned on the way out of the innermost loop inside the `try`: those on the way out of

@@ -1,4 +1,4 @@
--- What was asked and told at a desk where nothing was before, and what depends on that.
+-- What was asked and reported at a trace where nothing was before, and what depends on that.
 use Rattle.std.proofs.Common.{◌≡◌, Bool, true, false, ◌||◌, List, [], ◌∷◌, ◌++◌, if◌then◌else◌, refl, sym, ap, ◌∙◌}
 use Rattle.std.specs.List.{list_any}
 use Rattle.std.proofs.lemmas.Bool.{false≢true}
@@ -6,28 +6,28 @@ use Rattle.pyc_body.specs.FoundLaws.{AlikeAnswersFindAlike, AlikeInterfacesFindA
 use Rattle.pyc_body.specs.FileUnits.{FileUnit}
 use Rattle.pyc_body.specs.FoundMessages.{checked_by, reads}
 use Rattle.pyc_units.specs.UnitReadings.{unit_reading}
-use Rattle.pyc_examiner.proofs.ReadListLemmas.{asked_are_the_list, one_list_alone}
-use Rattle.pyc_examiner.specs.CheckedView.{check_of}
+use Rattle.pyc_recorder.proofs.ReadListLemmas.{asked_are_the_list, one_list_alone}
+use Rattle.pyc_recorder.specs.CheckedView.{check_of}
 use Rattle.pyc_keys.specs.KeyEquality.{keys_are}
-use Rattle.pyc_found.specs.FoundOrder.{in_order}
+use Rattle.pyc_report.specs.FoundOrder.{in_order}
 use Rattle.pyc_iface.specs.Answers.{answer_by, answer_of}
 use Rattle.pyc_iface.specs.declared.options.Options.{Options}
 use Rattle.pyc_names.specs.Interfaces.{Interface}
 use Rattle.pyc_reading.proofs.RunLemmas.{frame, runs_are_folds}
 use Rattle.pyc_reading.specs.Answers.{Answer}
-use Rattle.pyc_reading.specs.Desks.{Step, Desk, run, desk_after, with_key, with_keys}
+use Rattle.pyc_reading.specs.Traces.{Step, Trace, run, trace_after, with_key, with_keys}
 use Rattle.pyc_reading.specs.Frames.{Agree, nothing_asked, one_more}
 use Rattle.pyc_reading.specs.Keys.{Key, same_key}
-use Rattle.pyc_reading.specs.Readings.{asked, told}
+use Rattle.pyc_reading.specs.Readings.{asked, reported}
 
--- ---- a desk where nothing was before
+-- ---- a trace where nothing was before
 
-module _ (r : Step (Unit {0})) (desk after : Desk) (answers : Key → Answer) (u : Unit {0}) (new : desk ≡ record { answers = answers; keys = []; messages = [] })
-    (done : run r desk ≡ (u, after)) where
-  pub is_after : after ≡ record { answers = answers; keys = with_keys [] (asked answers r); messages = told answers r }
+module _ (r : Step (Unit {0})) (trace after : Trace) (answers : Key → Answer) (u : Unit {0}) (new : trace ≡ record { answers = answers; keys = []; messages = [] })
+    (done : run r trace ≡ (u, after)) where
+  pub is_after : after ≡ record { answers = answers; keys = with_keys [] (asked answers r); messages = reported answers r }
   is_after =
-      sym (ap (λ (found : Unit {0} × Desk). found.1) done) ∙ ap (λ (found : Unit {0} × Desk). found.1) (runs_are_folds r desk)
-      ∙ ap (desk_after r) new
+      sym (ap (λ (found : Unit {0} × Trace). found.1) done) ∙ ap (λ (found : Unit {0} × Trace). found.1) (runs_are_folds r trace)
+      ∙ ap (trace_after r) new
 
 -- ---- keys, each once
 
@@ -93,7 +93,7 @@ pub over_alike : (options : Options) (interfaces others : List Interface) (unit 
     → checked_by options interfaces unit ≡ checked_by options others unit
 over_alike options interfaces others unit same =
     ap (λ (answers : Key → Answer). check_of (with_keys [] (asked answers (unit_reading options unit.file unit.unit)))
-    (in_order (told answers (unit_reading options unit.file unit.unit)))) (λ t key. same key t)
+    (in_order (reported answers (unit_reading options unit.file unit.unit)))) (λ t key. same key t)
 
 -- files with the same interfaces
 pub alike_interfaces : AlikeInterfacesFindAlike

@@ -11,13 +11,14 @@ pub record FileUnit : Type 0 where
   pub unit : Unit
 
 -- some units of a file, the first with this number
-abbrev pub numbered : SourceFile → ℕ → List Unit → List FileUnit
-numbered file from [] = []
-numbered file from (unit ∷ more) = record { file = file; index = from; unit = unit } ∷ numbered file (from + 1) more
+abbrev pub number_units : SourceFile → ℕ → List Unit → List FileUnit
+number_units file from [] = []
+number_units file from (unit ∷ more) = record { file = file; index = from; unit = unit } ∷ number_units file
+    (from + 1) more
 
 -- the units of a file
 abbrev pub file_units : SourceFile → List FileUnit
-file_units file = numbered file 0 (units.file_units file.outcome)
+file_units file = number_units file 0 (units.file_units file.outcome)
 
 -- the units of files, in order
 abbrev pub units_of : List SourceFile → List FileUnit

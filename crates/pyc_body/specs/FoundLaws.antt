@@ -3,37 +3,38 @@ use Rattle.std.specs.Prelude.{◌≡◌, List, map}
 use Rattle.std.specs.List.{Contains, list_any}
 use Rattle.pyc_body.specs.FoundMessages.{found, reads}
 use Rattle.pyc_units.specs.UnitReadings.{unit_reading}
-use Rattle.pyc_class.specs.Class.{Id}
-use Rattle.pyc_examiner.specs.ReadLists.{IsListOf}
-use Rattle.pyc_found.specs.FoundOrder.{in_order, is_alike}
+use Rattle.pyc_class_ids.specs.Class.{Id}
+use Rattle.pyc_recorder.specs.ReadLists.{IsListOf}
+use Rattle.pyc_report.specs.FoundOrder.{in_order, is_alike}
 use Rattle.pyc_iface.specs.Answers.{answer_of, class_orders}
 use Rattle.pyc_iface.specs.declared.options.Options.{Options}
 use Rattle.pyc_names.specs.Interfaces.{interface_of}
 use Rattle.pyc_names.specs.SourceFiles.{SourceFile}
 use Rattle.pyc_reading.specs.Frames.{Agree}
 use Rattle.pyc_reading.specs.Keys.{Key}
-use Rattle.pyc_reading.specs.Listings.{Tells, listed}
+use Rattle.pyc_reading.specs.Listings.{Reports, listed}
 use Rattle.pyc_reading.specs.Owing.{orders_by}
 use Rattle.pyc_report.specs.Message.{Message}
 use Rattle.pyc_units.specs.Units.{Unit}
 
 -- ---- what is found
 
--- what the reading of a unit lists tells these messages: each remark, and of each row of obligations that it owes the
--- message of the first whose type is not assignable by the written rules, over the orders that the files answer
+-- what the reading of a unit lists reports these messages: each diagnostic, and of each row of obligations that it
+-- requires the message of the first whose type is not assignable by the written rules, over the orders that the files
+-- answer
 abbrev pub AreListed : Options → List SourceFile → SourceFile → Unit → List Message → Type 0
 AreListed options files file unit messages =
-    Tells (answer_of files) (listed (answer_of files) (unit_reading options file unit)) messages
+    Reports (answer_of files) (listed (answer_of files) (unit_reading options file unit)) messages
 
--- what is found in a unit is what its listing tells, in order
+-- what is found in a unit is what its listing reports, in order
 abbrev pub FoundIsListed : Type 0
 FoundIsListed =
     (options : Options) (files : List SourceFile) (file : SourceFile) (unit : Unit)
     → (messages : List Message) × AreListed options files file unit messages
     × (found options files file unit ≡ in_order messages)
 
--- no other messages are told by the listing: a line, code and text is found where these have it, and nowhere else, and
--- each message that is found is one of these
+-- no other messages are reported by the listing: a line, code and text is found where these have it, and nowhere else,
+-- and each message that is found is one of these
 abbrev pub FoundWhereListed : Type 0
 FoundWhereListed =
     (options : Options) (files : List SourceFile) (file : SourceFile) (unit : Unit) (messages : List Message)
@@ -42,14 +43,14 @@ FoundWhereListed =
     × (Contains (found options files file unit) message → Contains messages message)
 
 -- the orders over which obligations hold or not are those of the classes that the files declare
-abbrev pub OrdersAreTheFiles : Type 0
-OrdersAreTheFiles =
+abbrev pub MrosAreTheFiles : Type 0
+MrosAreTheFiles =
     (files : List SourceFile) (c : Id) → orders_by (answer_of files) c ≡ class_orders files c
 
 -- ---- reads
 
 -- the reads of a unit are its list: each is the key that is lacking over the answers to those before it, and over the
--- answers to all of them its reading comes to what it tells
+-- answers to all of them its reading comes to what it reports
 abbrev pub ReadsAreTheList : Type 0
 ReadsAreTheList =
     (options : Options) (files : List SourceFile) (file : SourceFile) (unit : Unit)
@@ -69,8 +70,7 @@ IsAlike options files others file unit =
     (found options files file unit ≡ found options others file unit)
     × (reads options files file unit ≡ reads options others file unit)
 
--- where other files give the same answers to the reads of a unit, the same is found in it among them, and its reads are
--- the same
+-- what is found in a unit, and its reads, are alike among files that give the same answers to the reads of the unit
 abbrev pub UnitsHaveTheirReads : Type 0
 UnitsHaveTheirReads =
     (options : Options) (files others : List SourceFile) (file : SourceFile) (unit : Unit)

@@ -1,15 +1,15 @@
-//! What is found in a file: its messages, unit by unit, with those that no ignore comment silences.
+//! What is found in a file: its messages, unit by unit, with those that no ignore comment suppresses.
 #![tactic(auto)]
 
 mod checker;
 pub mod laws;
 mod meter;
 mod numbering;
-mod silencing;
+mod suppressing;
 
 pub use checker::Checker;
 pub use meter::Meter;
 pub use numbering::{FileUnit, numbered_units};
-pub use pyc_examiner::Checked;
+pub use pyc_recorder::Checked;
 pub use pyc_units::{Unit, UnitId, count_units, file_units, unit_definitions};
-pub use silencing::{drop_ignored, push_copies, unsilenced};
+pub use suppressing::{drop_ignored, push_copies, unsuppressed};

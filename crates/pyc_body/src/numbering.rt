@@ -2,14 +2,14 @@
 
 ghost use Rattle.std.specs.Prelude.{◌≡◌, map, IfOk};
 ghost use Rattle.pyc_body.specs.FileUnits as spec;
-ghost use Rattle.pyc_body.specs.FileUnits.{numbered};
+ghost use Rattle.pyc_body.specs.FileUnits.{number_units};
 ghost use Rattle.pyc_body.specs.FileUnitView.{file_unit_in, metered_in};
 ghost use Rattle.pyc_names.specs.SourceFileView.{source_in};
 ghost use Rattle.pyc_units.specs.UnitView.{unit_of};
 
 use crate::meter::MeteredUnit;
 use pyc_names::SourceFile;
-use pyc_units::{Unit, UnitId, file_units};
+use pyc_units::{Unit, file_units};
 use std::alloc::{AllocError, Global};
 use std::rc::Rc;
 
@@ -23,17 +23,6 @@ pub struct FileUnit<'a> {
 
 impl FileUnit<'_> {
     ghost use Rattle.pyc_body.specs.FileUnits.{id_of};
-    ghost use Rattle.pyc_body.specs.FileUnitView.{unit_id_in};
-
-    /// The path of the file, and which of its units it is.
-    pub fn id(&self) -> UnitId<'_>
-        ensures { unit_id_in result ≡ id_of (file_unit_in self.now) }
-    {
-        UnitId {
-            path: self.file.path(),
-            index: self.index,
-        }
-    }
 
     /// The unit as a meter counts it. The only error is that the file is shared too often.
     pub(crate) fn metered(&self) -> Result<MeteredUnit, AllocError>
@@ -51,17 +40,17 @@ pub fn numbered_units(alloc: Global, file: &Rc<SourceFile>) -> Result<Vec<FileUn
     ensures { IfOk result (λ units. map file_unit_in units.items ≡ spec.file_units (source_in file.now.value)) }
 {
     let units = file_units(alloc, file.outcome())?;
-    numbered(alloc, file, &units)
+    number_units(alloc, file, &units)
 }
 
 /// These units of a file, the first with the number 0.
-fn numbered<'a>(
+fn number_units<'a>(
     alloc: Global,
     file: &'a Rc<SourceFile>,
     units: &[Unit<'a>],
 ) -> Result<Vec<FileUnit<'a>>, AllocError>
     ensures { IfOk result (λ all. map file_unit_in all.items
-        ≡ numbered (source_in file.now.value) 0 (map unit_of units.now)) }
+        ≡ number_units (source_in file.now.value) 0 (map unit_of units.now)) }
 {
     let mut all = Vec::with_capacity(alloc, units.len())?;
     for unit in units {

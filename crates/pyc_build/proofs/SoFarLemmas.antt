@@ -45,29 +45,29 @@ comma_on (q ∷ front) items p is end = ap (λ (some : List Piece). has_comma (p
 
 -- ---- the items that are held in the end
 
-pub ended_height : (front : List Piece) (so : ℕ) (all : Pieces) → all ≡ pieces_before front tree.none → ((end : Pieces) → pieces_height (pieces_before front end) ≡ max so (pieces_height end))
+pub finish_list_height : (front : List Piece) (so : ℕ) (all : Pieces) → all ≡ pieces_before front tree.none → ((end : Pieces) → pieces_height (pieces_before front end) ≡ max so (pieces_height end))
     → so ≡ pieces_height all
 unfolding pieces_height
-ended_height front so all is heights = sym (ap pieces_height is ∙ (heights tree.none ∙ max_zero so))
+finish_list_height front so all is heights = sym (ap pieces_height is ∙ (heights tree.none ∙ max_zero so))
   where
     max_zero : (a : ℕ) → max a 0 ≡ a
     max_zero a = omega arith
 
-pub closed_height : (front : List Piece) (so after : ℕ) (t : Tree) (all : Pieces) → all ≡ pieces_before front (tree.last t)
+pub finish_list_with_height : (front : List Piece) (so after : ℕ) (t : Tree) (all : Pieces) → all ≡ pieces_before front (tree.last t)
     → ((end : Pieces) → pieces_height (pieces_before front end) ≡ max so (pieces_height end)) → after ≡ max so (height t) → after ≡ pieces_height all
 unfolding pieces_height
-closed_height front so after t all is heights more = more ∙ sym (ap pieces_height is ∙ heights (tree.last t))
+finish_list_with_height front so after t all is heights more = more ∙ sym (ap pieces_height is ∙ heights (tree.last t))
 
-pub ended_targets : (front : List Piece) (so was : Bool) (all : Pieces) → all ≡ pieces_before front tree.none
+pub finish_list_targets : (front : List Piece) (so was : Bool) (all : Pieces) → all ≡ pieces_before front tree.none
     → ((end : Pieces) → are_targets false (pieces_before front end) ≡ so && are_targets was end) → so ≡ are_targets false all
 unfolding are_targets
-ended_targets front so was all is targets = sym (ap (are_targets false) is ∙ (targets tree.none ∙ and-true so))
+finish_list_targets front so was all is targets = sym (ap (are_targets false) is ∙ (targets tree.none ∙ and-true so))
 
-pub closed_targets : (front : List Piece) (so was after : Bool) (t : Tree) (all : Pieces) → all ≡ pieces_before front (tree.last t)
+pub finish_list_with_targets : (front : List Piece) (so was after : Bool) (t : Tree) (all : Pieces) → all ≡ pieces_before front (tree.last t)
     → ((end : Pieces) → are_targets false (pieces_before front end) ≡ so && are_targets was end) → after ≡ so && (is_item_target t && not (was && is_starred t))
     → after ≡ are_targets false all
 unfolding are_targets
-closed_targets front so was after t all is targets more = more ∙ sym (ap (are_targets false) is ∙ targets (tree.last t))
+finish_list_with_targets front so was after t all is targets more = more ∙ sym (ap (are_targets false) is ∙ targets (tree.last t))
 
 pub held_comma : (front : List Piece) (so : Bool) (end all : Pieces) → all ≡ pieces_before front end
     → ((end : Pieces) → has_comma (pieces_before front end) ≡ so || has_comma end) → has_comma end ≡ false → so ≡ has_comma all

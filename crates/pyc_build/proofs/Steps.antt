@@ -18,7 +18,7 @@ ReadsTokens_made X view t o (Err Refused) new h e = e ∙ ap (λ b. if b then So
 
 -- what a part refuses, the rule refuses, and a want of memory is passed on
 pub ReadsTokens_err : {X Y A B : Type 0} (view : X → A) (own : Y → B) (o : Parsed A) (whole : Parsed B) (fault : ParseError) (r : Result Y ParseError) (new later : List Token)
-    → ReadsTokens view o (Err fault) new → IsErrAnd r (λ told. told ≡ fault) → (o ≡ None → whole ≡ None) → ReadsTokens own whole r later
+    → ReadsTokens view o (Err fault) new → IsErrAnd r (λ reported. reported ≡ fault) → (o ≡ None → whole ≡ None) → ReadsTokens own whole r later
 ReadsTokens_err view own o whole fault (Ok y) new later part is refuses = absurd is
-ReadsTokens_err view own o whole Memory (Err told) new later part is refuses = subst (λ x. ReadsTokens own whole (Err x) later) (sym is) tt
-ReadsTokens_err view own o whole Refused (Err told) new later part is refuses = subst (λ x. ReadsTokens own whole (Err x) later) (sym is) (refuses part)
+ReadsTokens_err view own o whole Memory (Err reported) new later part is refuses = subst (λ x. ReadsTokens own whole (Err x) later) (sym is) tt
+ReadsTokens_err view own o whole Refused (Err reported) new later part is refuses = subst (λ x. ReadsTokens own whole (Err x) later) (sym is) (refuses part)

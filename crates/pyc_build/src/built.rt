@@ -87,7 +87,7 @@ pub struct BuiltTail {
     pub ghost low: { height ≤ 1000 },
 }
 
-/// The same value on the heap.
+/// Puts `value` on the heap.
 pub fn boxed<T: Drop>(alloc: Global, value: T) -> Result<Box<T>, ParseError>
     ensures same { IfOk result (λ b. b.value ≡ value) }
     ensures memory { IfErr result (λ e. e ≡ Memory) }
@@ -127,7 +127,8 @@ fn made_with(
     })
 }
 
-/// The same for a tree that is a target as an item of a list where it is one by itself.
+/// A tree of height `height`, unless that passes the limit. `is_target` says whether the tree is a target by itself,
+/// and also whether it is one as an item of a list.
 fn made(alloc: Global, expr: Expr, height: usize, is_target: bool) -> Result<Built, ParseError>
     requires height_is { height ≡ height_of (tree_of expr) }
     requires target_is { is_target ≡ targets.is_target (tree_of expr) }
@@ -327,7 +328,7 @@ pub fn subscript(
 }
 
 /// `await` and its operand.
-pub fn awaited(alloc: Global, word: Token, operand: Built) -> Result<Built, ParseError>
+pub fn await_expression(alloc: Global, word: Token, operand: Built) -> Result<Built, ParseError>
     ensures { Makes (λ b. tree_of b.expr.value) (tree.await word (tree_of operand.expr.value)) result }
 {
     let height = operand.height + 1;
@@ -422,7 +423,7 @@ pub fn bare(alloc: Global, items: BuiltPieces) -> Result<Built, ParseError>
 }
 
 /// `yield`, perhaps with a value.
-pub fn yielded(alloc: Global, word: Token, value: BuiltOption) -> Result<Built, ParseError>
+pub fn yield_expression(alloc: Global, word: Token, value: BuiltOption) -> Result<Built, ParseError>
     ensures { Makes (λ b. tree_of b.expr.value) (tree.yield word (perhaps_of value.expr)) result }
 {
     let height = value.height + 1;

@@ -64,7 +64,7 @@ impl BuiltLinks {
 }
 
 /// The clause as a part of a tree.
-fn part_of(comprehension: BuiltComprehension) -> (Comprehension, usize)
+fn clause_and_height(comprehension: BuiltComprehension) -> (Comprehension, usize)
     ensures part { (rest : tree.Comprehensions) → comprehension_before result.0 rest
         ≡ turns.comprehension_of comprehension rest }
     ensures height { (rest : tree.Comprehensions) → comprehensions_height (turns.comprehension_of comprehension rest)
@@ -108,7 +108,7 @@ impl BuiltComprehensions {
             ≡ comprehensions_before self.old.comprehensions.items (turns.comprehension_of comprehension end)) }
         ensures memory { IfErr result (λ e. e ≡ Memory) }
     {
-        let (part, own) = part_of(comprehension);
+        let (part, own) = clause_and_height(comprehension);
         let height = taller(self.height, own);
         append(&mut self.comprehensions, part)?;
         self.height = height;

@@ -17,5 +17,5 @@ pub use chains::{BuiltComprehension, BuiltLink};
 pub use error::ParseError;
 pub use growth::append;
 pub use pieces::ends_without_comma;
-pub use pieces_so_far::{Listed, PiecesSoFar, parted};
+pub use pieces_so_far::{Listed, PiecesSoFar, separate_single};
 pub use target::is_single_target;

@@ -84,7 +84,7 @@ impl PiecesSoFar {
     }
 
     /// These items alone.
-    pub fn ended(self) -> BuiltPieces
+    pub fn finish_list(self) -> BuiltPieces
         ensures { pieces_of result.pieces ≡ pieces_before self.each.items tree.none }
     {
         BuiltPieces {
@@ -99,7 +99,7 @@ impl PiecesSoFar {
     }
 
     /// These items and a last one without a comma.
-    pub fn closed(self, item: Built) -> BuiltPieces
+    pub fn finish_list_with(self, item: Built) -> BuiltPieces
         ensures { pieces_of result.pieces ≡ pieces_before self.each.items (tree.last (tree_of item.expr.value)) }
     {
         let height = taller(self.height, item.height);
@@ -131,7 +131,7 @@ fn is_alone_target(is_item_target: bool, expr: &Expr) -> bool
 }
 
 /// The only item, where there is just one and no comma.
-pub fn parted(found: BuiltPieces) -> Listed
+pub fn separate_single(found: BuiltPieces) -> Listed
     ensures { IsParted (pieces_of found.pieces) result }
 {
     if found.has_comma {

@@ -126,7 +126,7 @@ pub fn with(
     made(alloc, Header::With(word_async, word, items.pieces), height)
 }
 
-/// The same with the items in parentheses.
+/// Perhaps `async`, then `with` and items in parentheses.
 #[tactic(auto, unfolding(pyc_tree::specs::Lines::header_height))]
 pub fn with_enclosed(
     alloc: Global,
@@ -191,7 +191,7 @@ pub fn class(alloc: Global, word: Token, name: Token) -> Result<BuiltHeader, Par
     made(alloc, Header::Class(word, name), 1)
 }
 
-/// The same with bases and keywords in parentheses.
+/// `class`, a name, and bases and keywords in parentheses.
 #[tactic(auto, unfolding(pyc_tree::specs::Lines::header_height))]
 pub fn class_of(
     alloc: Global,

@@ -1,4 +1,4 @@
 pub mod MemberLemmas
 pub mod NameLemmas
-pub mod OrderLemmas
+pub mod MroLemmas
 pub mod TableLemmas

@@ -28,7 +28,7 @@ lookup-of_length (entry ∷ table) name =
       | false ↦ λ e. rw (bytes_eq-apart entry.0 name (apart_from_test _ _ e)) (lookup-of_length table name)
     ] refl
 
--- the same where the length is known
+-- a name whose length is `n` is found among the entries of length `n`
 pub lookup-among : {V : Type 0} (table : List (List ℕ × V)) (n : ℕ) (name : List ℕ) → length name ≡ n → lookup table name ≡ lookup (of_length n table) name
 lookup-among table n name e = lookup-of_length table name ∙ ap (λ m. lookup (of_length m table) name) e
 

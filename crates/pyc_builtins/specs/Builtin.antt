@@ -1,6 +1,6 @@
 -- The types of literals (Python standard library, "Built-in Types").
-use Rattle.pyc_class.specs.declared.builtin_class.BuiltinClass.TheVariants as class
-use Rattle.pyc_class.specs.Class.{builtin}
+use Rattle.pyc_class_ids.specs.declared.builtin_class.BuiltinClass.TheVariants as class
+use Rattle.pyc_class_ids.specs.Class.{builtin}
 use Rattle.pyc_type_forms.specs.Types.{Ty, instance, none}
 use Rattle.pyc_builtins.specs.declared.builtin.Builtin.{Builtin}
 use Rattle.pyc_builtins.specs.declared.builtin.Builtin.TheVariants.{Int, Str, Bool, Float, Bytes, None}

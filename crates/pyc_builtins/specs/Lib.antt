@@ -2,5 +2,5 @@ pub mod Builtin
 pub mod MemberTypes
 pub mod Members
 pub mod Names
-pub mod Orders
+pub mod MroTable
 pub mod Tables

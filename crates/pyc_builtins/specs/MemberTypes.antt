@@ -1,7 +1,7 @@
 -- The types of the members of the builtin classes (Python standard library, "Built-in Types").
 use Rattle.std.specs.Prelude.{None, false}
-use Rattle.pyc_class.specs.declared.builtin_class.BuiltinClass.TheVariants as class
-use Rattle.pyc_class.specs.Class.{builtin}
+use Rattle.pyc_class_ids.specs.declared.builtin_class.BuiltinClass.TheVariants as class
+use Rattle.pyc_class_ids.specs.Class.{builtin}
 use Rattle.pyc_type_forms.specs.Types.{plain, Ty, any, none, instance, list, dict, tuple, callable, nil, cons, dots}
 use Rattle.pyc_type_forms.specs.Types.{listed, no_param, param}
 use Rattle.pyc_builtins.specs.declared.members.Member.{Member}

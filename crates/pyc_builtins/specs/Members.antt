@@ -2,9 +2,9 @@
 use Rattle.std.specs.Prelude.{ℕ, List, [], ◌∷◌, codes, Option, None, Some, Bool, ◌&&◌, if◌then◌else◌, length, nat_eq}
 use Rattle.std.specs.Prelude.{nat_le}
 use Rattle.std.specs.List.{starts_with, ends_with}
-use Rattle.pyc_class.specs.declared.builtin_class.BuiltinClass.{BuiltinClass}
-use Rattle.pyc_class.specs.declared.builtin_class.BuiltinClass.TheVariants as class
-use Rattle.pyc_builtins.specs.Orders.{builtin_order}
+use Rattle.pyc_class_ids.specs.declared.builtin_class.BuiltinClass.{BuiltinClass}
+use Rattle.pyc_class_ids.specs.declared.builtin_class.BuiltinClass.TheVariants as class
+use Rattle.pyc_builtins.specs.MroTable.{builtin_order}
 use Rattle.pyc_builtins.specs.Tables.{lookup}
 use Rattle.pyc_builtins.specs.declared.members.FoundMember.{FoundMember}
 use Rattle.pyc_builtins.specs.declared.members.Member.{Member}

@@ -1,7 +1,7 @@
 -- What the names of Python's builtins stand for (Python standard library, "Built-in Functions", "Built-in Constants"
 -- and "Built-in Exceptions").
 use Rattle.std.specs.Prelude.{ℕ, List, [], ◌∷◌, codes, Option}
-use Rattle.pyc_class.specs.declared.builtin_class.BuiltinClass.TheVariants as class
+use Rattle.pyc_class_ids.specs.declared.builtin_class.BuiltinClass.TheVariants as class
 use Rattle.pyc_builtins.specs.Tables.{lookup}
 use Rattle.pyc_builtins.specs.declared.names.BuiltinName.{BuiltinName}
 use Rattle.pyc_builtins.specs.declared.names.BuiltinName.TheVariants as name

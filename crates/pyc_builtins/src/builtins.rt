@@ -1,65 +1,28 @@
 //! The builtin classes, with their orders.
 
 ghost use Rattle.std.specs.Prelude.{◌≡◌, IfOk, map};
-ghost use Rattle.pyc_class.specs.Class.{builtin};
-ghost use Rattle.pyc_class.specs.declared.builtin_class.BuiltinClass.TheVariants as class;
+ghost use Rattle.pyc_class_ids.specs.Class.{builtin};
 ghost use Rattle.pyc_type_forms.specs.declared.types.Ty.TheVariants as form;
-ghost use Rattle.pyc_type_forms.specs.TypeView.{ty_of};
-ghost use Rattle.pyc_builtins.specs.Orders.{builtin_order, chains};
+ghost use Rattle.pyc_builtins.specs.MroTable.{builtin_order, chains};
 
-use crate::Builtin;
 use crate::chains::{CHAINS, place_of};
-use pyc_class::{BuiltinClass, ClassId, Lin, Lins, UnknownOrder};
+use pyc_class_ids::{BuiltinClass, ClassId, Lin, Lins, UnknownMro};
 use pyc_type_forms::Ty;
 use std::alloc::{AllocError, Global};
 
-/// The orders of the builtin classes, and the types of literals. No other class is known.
+/// The orders of the builtin classes. No other class is known.
 #[derive(Drop)]
 pub struct Builtins {
-    int_type: Ty,
-    str_type: Ty,
-    bool_type: Ty,
-    float_type: Ty,
-    bytes_type: Ty,
-    none_type: Ty,
     classes: Vec<ClassId>,
-    ghost int_is: { int_type ≡ form.Instance (builtin class.Int) },
-    ghost str_is: { str_type ≡ form.Instance (builtin class.Str) },
-    ghost bool_is: { bool_type ≡ form.Instance (builtin class.Bool) },
-    ghost float_is: { float_type ≡ form.Instance (builtin class.Float) },
-    ghost bytes_is: { bytes_type ≡ form.Instance (builtin class.Bytes) },
-    ghost none_is: { none_type ≡ form.None },
     ghost classes_are: { classes.items ≡ map builtin chains },
 }
 
 impl Builtins {
-    ghost use Rattle.pyc_builtins.specs.Builtin.{builtin_type};
-
     /// Makes the table of the builtin classes. The only error is that memory runs out.
     pub fn new(alloc: Global) -> Result<Builtins, AllocError> {
         Ok(Builtins {
-            int_type: instance_of(BuiltinClass::Int),
-            str_type: instance_of(BuiltinClass::Str),
-            bool_type: instance_of(BuiltinClass::Bool),
-            float_type: instance_of(BuiltinClass::Float),
-            bytes_type: instance_of(BuiltinClass::Bytes),
-            none_type: Ty::None,
             classes: classes_of(alloc, &CHAINS)?,
         })
-    }
-
-    /// Lends the type of that name. Takes no memory.
-    pub fn ty(&self, builtin: Builtin) -> &Ty
-        ensures { ty_of result.now ≡ builtin_type builtin }
-    {
-        match builtin {
-            Builtin::Int => &self.int_type,
-            Builtin::Str => &self.str_type,
-            Builtin::Bool => &self.bool_type,
-            Builtin::Float => &self.float_type,
-            Builtin::Bytes => &self.bytes_type,
-            Builtin::None => &self.none_type,
-        }
     }
 
     /// The order of a builtin class: itself, then its base, and so on.
@@ -72,7 +35,7 @@ impl Builtins {
 }
 
 impl Lins for Builtins {
-    ghost use Rattle.pyc_builtins.specs.Orders.{builtin_orders};
+    ghost use Rattle.pyc_builtins.specs.MroTable.{builtin_orders};
 
     ghost orders = { λ _. builtin_orders };
 
@@ -86,7 +49,7 @@ impl Lins for Builtins {
             },
             None => Lin {
                 classes: &[],
-                unknown: Some(UnknownOrder::Base),
+                unknown: Some(UnknownMro::Base),
                 has_call: false,
             },
         }

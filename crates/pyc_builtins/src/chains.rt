@@ -1,9 +1,9 @@
 //! The chains of the builtin classes, from each class that is no base up to `object`.
 
 ghost use Rattle.std.specs.Prelude.{◌≡◌, ◌≤◌, ◌-◌, take, drop};
-ghost use Rattle.pyc_builtins.specs.Orders.{builtin_order, chains};
+ghost use Rattle.pyc_builtins.specs.MroTable.{builtin_order, chains};
 
-use pyc_class::BuiltinClass;
+use pyc_class_ids::BuiltinClass;
 
 /// The chains, one after another.
 pub(crate) const CHAINS: [BuiltinClass; 57] = [

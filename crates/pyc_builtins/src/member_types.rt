@@ -7,7 +7,7 @@ ghost use Rattle.pyc_builtins.specs.MemberTypes as spec;
 
 use crate::builtins::instance_of;
 use crate::{Member, MethodResult};
-use pyc_class::BuiltinClass;
+use pyc_class_ids::BuiltinClass;
 use pyc_type_forms::{DictTypes, Param, ParamKind, Params, Signature, Ty};
 use std::alloc::{AllocError, Global};
 use std::rc::Rc;

@@ -6,7 +6,7 @@ ghost use Rattle.pyc_builtins.specs.Members as spec;
 
 use crate::chains::{CHAINS, place_of};
 use crate::tables::value_in;
-use pyc_class::BuiltinClass;
+use pyc_class_ids::BuiltinClass;
 
 /// A member of a builtin class.
 #[derive(Clone, Copy, Debug, PartialEq, Eq)]

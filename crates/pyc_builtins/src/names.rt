@@ -4,7 +4,7 @@ ghost use Rattle.std.specs.Prelude.{◌≡◌};
 ghost use Rattle.pyc_builtins.specs.Names as spec;
 
 use crate::tables::value_in;
-use pyc_class::BuiltinClass;
+use pyc_class_ids::BuiltinClass;
 
 /// What a name of Python's builtins stands for.
 #[derive(Clone, Copy, Debug, PartialEq, Eq)]

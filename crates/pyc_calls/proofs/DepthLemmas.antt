@@ -3,19 +3,19 @@ use Rattle.std.proofs.Common.{◌≡◌, ◌<◌, ◌≤◌, ℕ, zero, suc, Boo
 use Rattle.std.proofs.lemmas.Bool.{false≢true}
 use Rattle.std.specs.Prelude.{Contains, slice_index_or}
 use Rattle.pyc_arguments.specs.Arguments.{Arg, read_once}
-use Rattle.pyc_arguments.specs.Telling.{Call}
-use Rattle.pyc_calls.specs.Called.{Called, Calls, ItemsCalled, given_called, any_called, plainly_called, refused, without_call, remembering_same, call_given, member_called, by_progress, by_member, source_called, joined, called_by, items_called, called_to, called, most_calls}
+use Rattle.pyc_arguments.specs.Reporting.{Call}
+use Rattle.pyc_calls.specs.Called.{Called, Calls, ItemsCalled, infer_given_call, infer_any_call, infer_plain_call, report_refused, without_call, remembering_same, call_given, infer_member_call, by_progress, by_member, source_called, joined, called_by, items_called, called_to, call_result, most_calls}
 use Rattle.pyc_calls.specs.Laws.{ComesToSame, call_of, AllCallable, DeeperGivesTheSame, IsDeepEnough}
 use Rattle.pyc_calls.specs.Remembered.{Memory, Progress, fresh, under_way, gave, nothing_met, progress_of, remembering}
-use Rattle.pyc_class.specs.Class.{Id, builtin, user, same_class}
-use Rattle.pyc_class.specs.ClassEquality.{same_class_equiv}
-use Rattle.pyc_obligations.specs.Asking.{asked_member}
+use Rattle.pyc_class_ids.specs.Class.{Id, builtin, user, same_class}
+use Rattle.pyc_class_ids.specs.ClassEquality.{same_class_equiv}
+use Rattle.pyc_obligations.specs.Asking.{ask_member}
 use Rattle.pyc_reading.specs.Answers.{Answer, MemberAnswer}
-use Rattle.pyc_reading.specs.Desks.{Step}
+use Rattle.pyc_reading.specs.Traces.{Step}
 use Rattle.pyc_reading.specs.Keys.{Key}
-use Rattle.pyc_reading.specs.Owing.{row_keys, row_told}
-use Rattle.pyc_reading.specs.Readings.{Done, Ask, Tell, Owe, and_then, result_of, told, asked, obligations}
-use Rattle.pyc_report.specs.Message.{remarked}
+use Rattle.pyc_reading.specs.Owing.{row_keys, row_reported}
+use Rattle.pyc_reading.specs.Readings.{Done, Ask, Report, Require, and_then, result_of, reported, asked, obligations}
+use Rattle.pyc_report.specs.Message.{diagnostic_message}
 use Rattle.pyc_type_forms.specs.Types.{Ty, Tys, any, none, module_type, instance, class_object, list, dict, tuple, tuple_of, union, callable, nil, cons}
 
 -- ---- classes that were not met
@@ -87,38 +87,38 @@ module _ (answers : Key → Answer) where
   abbrev fixed : {A : Type 0} → Step A → Step A
   fixed (Done a) = Done a
   fixed (Ask key go) = Ask key (λ answer. fixed (go (answers key)))
-  fixed (Tell remark rest) = Tell remark (fixed rest)
-  fixed (Owe row rest) = Owe row (fixed rest)
+  fixed (Report diagnostic rest) = Report diagnostic (fixed rest)
+  fixed (Require row rest) = Require row (fixed rest)
 
   fixed_result : {A : Type 0} (r : Step A) → result_of answers (fixed r) ≡ result_of answers r
   fixed_result (Done a) = refl
   fixed_result (Ask key go) = fixed_result (go (answers key))
-  fixed_result (Tell remark rest) = fixed_result rest
-  fixed_result (Owe row rest) = fixed_result rest
+  fixed_result (Report diagnostic rest) = fixed_result rest
+  fixed_result (Require row rest) = fixed_result rest
 
-  fixed_told : {A : Type 0} (r : Step A) → told answers (fixed r) ≡ told answers r
-  fixed_told (Done a) = refl
-  fixed_told (Ask key go) = fixed_told (go (answers key))
-  fixed_told (Tell remark rest) = ap (λ l. remarked remark ∷ l) (fixed_told rest)
-  fixed_told (Owe row rest) = ap (λ l. row_told answers row ++ l) (fixed_told rest)
+  fixed_reported : {A : Type 0} (r : Step A) → reported answers (fixed r) ≡ reported answers r
+  fixed_reported (Done a) = refl
+  fixed_reported (Ask key go) = fixed_reported (go (answers key))
+  fixed_reported (Report diagnostic rest) = ap (λ l. diagnostic_message diagnostic ∷ l) (fixed_reported rest)
+  fixed_reported (Require row rest) = ap (λ l. row_reported answers row ++ l) (fixed_reported rest)
 
   fixed_asked : {A : Type 0} (r : Step A) → asked answers (fixed r) ≡ asked answers r
   fixed_asked (Done a) = refl
   fixed_asked (Ask key go) = ap (λ l. key ∷ l) (fixed_asked (go (answers key)))
-  fixed_asked (Tell remark rest) = fixed_asked rest
-  fixed_asked (Owe row rest) = ap (λ l. row_keys row ++ l) (fixed_asked rest)
+  fixed_asked (Report diagnostic rest) = fixed_asked rest
+  fixed_asked (Require row rest) = ap (λ l. row_keys row ++ l) (fixed_asked rest)
 
   fixed_obligations : {A : Type 0} (r : Step A) → obligations answers (fixed r) ≡ obligations answers r
   fixed_obligations (Done a) = refl
   fixed_obligations (Ask key go) = fixed_obligations (go (answers key))
-  fixed_obligations (Tell remark rest) = fixed_obligations rest
-  fixed_obligations (Owe row rest) = ap (λ l. row ++ l) (fixed_obligations rest)
+  fixed_obligations (Report diagnostic rest) = fixed_obligations rest
+  fixed_obligations (Require row rest) = ap (λ l. row ++ l) (fixed_obligations rest)
 
   -- readings that are the same over these answers come to the same
   same_comes : {A : Type 0} (r s : Step A) → fixed r ≡ fixed s → ComesToSame answers r s
   same_comes r s same = record {
     result = sym (fixed_result r) ∙ ap (result_of answers) same ∙ fixed_result s;
-    told = sym (fixed_told r) ∙ ap (told answers) same ∙ fixed_told s;
+    reported = sym (fixed_reported r) ∙ ap (reported answers) same ∙ fixed_reported s;
     asked = sym (fixed_asked r) ∙ ap (asked answers) same ∙ fixed_asked s;
     obligations = sym (fixed_obligations r) ∙ ap (obligations answers) same ∙ fixed_obligations s;
   }
@@ -128,15 +128,15 @@ module _ (answers : Key → Answer) where
   unfolding and_then
   then_same (Done a) f g same = same
   then_same (Ask key go) f g same = ap (λ rest. Ask key (λ answer. rest)) (then_same (go (answers key)) f g same)
-  then_same (Tell remark rest) f g same = ap (Tell remark) (then_same rest f g same)
-  then_same (Owe row rest) f g same = ap (Owe row) (then_same rest f g same)
+  then_same (Report diagnostic rest) f g same = ap (Report diagnostic) (then_same rest f g same)
+  then_same (Require row rest) f g same = ap (Require row) (then_same rest f g same)
 
   fixed_then : {A B : Type 0} (r : Step A) (f : A → Step B) → fixed (and_then r f) ≡ and_then (fixed r) (λ a. fixed (f a))
   unfolding and_then
   fixed_then (Done a) f = refl
   fixed_then (Ask key go) f = ap (λ rest. Ask key (λ answer. rest)) (fixed_then (go (answers key)) f)
-  fixed_then (Tell remark rest) f = ap (Tell remark) (fixed_then rest f)
-  fixed_then (Owe row rest) f = ap (Owe row) (fixed_then rest f)
+  fixed_then (Report diagnostic rest) f = ap (Report diagnostic) (fixed_then rest f)
+  fixed_then (Require row rest) f = ap (Require row) (fixed_then rest f)
 
   -- the first may differ
   first_same : {A B : Type 0} (r s : Step A) (f : A → Step B) → fixed r ≡ fixed s → fixed (and_then r f) ≡ fixed (and_then s f)
@@ -154,8 +154,8 @@ module _ (answers : Key → Answer) where
   unfolding and_then
   then_comes holds other (Done a) f h goes = goes a h
   then_comes holds other (Ask key go) f h goes = then_comes holds other (go (answers key)) f h goes
-  then_comes holds other (Tell remark rest) f h goes = then_comes holds other rest f h goes
-  then_comes holds other (Owe row rest) f h goes = then_comes holds other rest f h goes
+  then_comes holds other (Report diagnostic rest) f h goes = then_comes holds other rest f h goes
+  then_comes holds other (Require row rest) f h goes = then_comes holds other rest f h goes
 
   abbrev Whatever : {A : Type 0} → A → Type 0
   Whatever a = Unit {0}
@@ -166,7 +166,7 @@ module _ (answers : Key → Answer) where
   -- ---- what was met stays so
 
   abbrev Kept : Memory → Called → Type 0
-  Kept memory called = Keeps memory called.memory
+  Kept memory call_result = Keeps memory call_result.memory
 
   same_kept : (memory : Memory) (call : Step Ty) → Comes (Kept memory) (remembering_same memory call)
   unfolding remembering_same
@@ -178,12 +178,12 @@ module _ (answers : Key → Answer) where
 
   module _ (deeper : Calls) (keeping : AreKeeping deeper) (call : Call) where
     progress_kept : (memory : Memory) (args : List Arg) (c : Id) (progress : Progress) (found : MemberAnswer) → Comes (Kept memory) (by_progress deeper memory args c progress found)
-    unfolding member_called
+    unfolding infer_member_call
     progress_kept memory args c fresh found =
-        then_comes (Kept (remembering memory c under_way)) (Kept memory) (deeper (remembering memory c under_way) args _) (λ called. Done (call_given c called)) (keeping (remembering memory c under_way) args _)
-        (λ called kept other h. remembering_kept memory c under_way refl other (kept other (remembering_kept called.memory c (gave called.ty) refl other h)))
-    progress_kept memory args c under_way found = same_kept memory (any_called args)
-    progress_kept memory args c (gave ty) found = same_kept memory (given_called args ty)
+        then_comes (Kept (remembering memory c under_way)) (Kept memory) (deeper (remembering memory c under_way) args _) (λ call_result. Done (call_given c call_result)) (keeping (remembering memory c under_way) args _)
+        (λ call_result kept other h. remembering_kept memory c under_way refl other (kept other (remembering_kept call_result.memory c (gave call_result.ty) refl other h)))
+    progress_kept memory args c under_way found = same_kept memory (infer_any_call args)
+    progress_kept memory args c (gave ty) found = same_kept memory (infer_given_call args ty)
 
     member_kept : (memory : Memory) (args : List Arg) (c : Id) (found : Option MemberAnswer) → Comes (Kept memory) (by_member deeper call memory args c (progress_of memory c) found)
     member_kept memory args c (Some found) = progress_kept memory args c (progress_of memory c) found
@@ -192,36 +192,36 @@ module _ (answers : Key → Answer) where
     source_kept : (memory : Memory) (args : List Arg) (c : Id) → Comes (Kept memory) (source_called deeper call memory args c)
     unfolding source_called
     source_kept memory args c =
-        then_comes Whatever (Kept memory) (asked_member c (codes "__call__")) (by_member deeper call memory args c (progress_of memory c)) tt (λ found u. member_kept memory args c found)
+        then_comes Whatever (Kept memory) (ask_member c (codes "__call__")) (by_member deeper call memory args c (progress_of memory c)) tt (λ found u. member_kept memory args c found)
 
     abbrev ItemsKept : Memory → ItemsCalled → Type 0
-    ItemsKept memory called = Keeps memory called.memory
+    ItemsKept memory call_result = Keeps memory call_result.memory
 
     mutual
       by_kept : (memory : Memory) (args : List Arg) (ty : Ty) → Comes (Kept memory) (called_by deeper call memory args ty)
-      by_kept memory args (instance (builtin c)) = same_kept memory (refused call args (instance (builtin c)))
+      by_kept memory args (instance (builtin c)) = same_kept memory (report_refused call args (instance (builtin c)))
       by_kept memory args (instance (user m x)) = source_kept memory args (user m x)
       by_kept memory args (union items) =
-          then_comes Whatever (Kept memory) (read_once args) (λ read. and_then (items_called deeper call [] memory read items) (λ called. Done (joined called))) tt
-          (λ read u. then_comes (ItemsKept memory) (Kept memory) (items_called deeper call [] memory read items) (λ called. Done (joined called)) (items_kept [] memory read items) (λ called kept. kept))
-      by_kept memory args any = same_kept memory (plainly_called call args any)
-      by_kept memory args none = same_kept memory (plainly_called call args none)
-      by_kept memory args (module_type m) = same_kept memory (plainly_called call args (module_type m))
-      by_kept memory args (class_object c) = same_kept memory (plainly_called call args (class_object c))
-      by_kept memory args (list x) = same_kept memory (plainly_called call args (list x))
-      by_kept memory args (dict k v) = same_kept memory (plainly_called call args (dict k v))
-      by_kept memory args (tuple xs) = same_kept memory (plainly_called call args (tuple xs))
-      by_kept memory args (tuple_of x) = same_kept memory (plainly_called call args (tuple_of x))
-      by_kept memory args (callable ps r) = same_kept memory (plainly_called call args (callable ps r))
+          then_comes Whatever (Kept memory) (read_once args) (λ read. and_then (items_called deeper call [] memory read items) (λ call_result. Done (joined call_result))) tt
+          (λ read u. then_comes (ItemsKept memory) (Kept memory) (items_called deeper call [] memory read items) (λ call_result. Done (joined call_result)) (items_kept [] memory read items) (λ call_result kept. kept))
+      by_kept memory args any = same_kept memory (infer_plain_call call args any)
+      by_kept memory args none = same_kept memory (infer_plain_call call args none)
+      by_kept memory args (module_type m) = same_kept memory (infer_plain_call call args (module_type m))
+      by_kept memory args (class_object c) = same_kept memory (infer_plain_call call args (class_object c))
+      by_kept memory args (list x) = same_kept memory (infer_plain_call call args (list x))
+      by_kept memory args (dict k v) = same_kept memory (infer_plain_call call args (dict k v))
+      by_kept memory args (tuple xs) = same_kept memory (infer_plain_call call args (tuple xs))
+      by_kept memory args (tuple_of x) = same_kept memory (infer_plain_call call args (tuple_of x))
+      by_kept memory args (callable ps r) = same_kept memory (infer_plain_call call args (callable ps r))
 
       items_kept : (before : List Ty) (memory : Memory) (args : List Arg) (items : Tys) → Comes (ItemsKept memory) (items_called deeper call before memory args items)
       items_kept before memory args nil = λ c h. h
       items_kept before memory args (cons item items) =
-          then_comes (Kept memory) (ItemsKept memory) (called_by deeper call memory args item) (λ called. items_called deeper call (before ++ (called.ty ∷ [])) called.memory args items) (by_kept memory args item)
+          then_comes (Kept memory) (ItemsKept memory) (called_by deeper call memory args item) (λ call_result. items_called deeper call (before ++ (call_result.ty ∷ [])) call_result.memory args items) (by_kept memory args item)
           (λ got kept c h. kept c (items_kept (before ++ (got.ty ∷ [])) got.memory args items c h))
 
   to_kept : (depth : ℕ) (call : Call) → AreKeeping (called_to depth call)
-  to_kept zero call memory args ty = same_kept memory (any_called args)
+  to_kept zero call memory args ty = same_kept memory (infer_any_call args)
   to_kept (suc depth) call memory args ty = by_kept (called_to depth call) (to_kept depth call) call memory args ty
 
   -- ---- going deeper
@@ -234,10 +234,10 @@ module _ (answers : Key → Answer) where
     module _ (most : ℕ) (deeper other : Calls) (keeping : AreKeeping deeper) (same : AreSame most deeper other) where
       progress_same : (memory : Memory) (args : List Arg) (c : Id) (progress : Progress) (found : MemberAnswer) → memory c ≡ progress → Contains classes c → unmet memory classes < suc most
           → fixed (by_progress deeper memory args c progress found) ≡ fixed (by_progress other memory args c progress found)
-      unfolding member_called
+      unfolding infer_member_call
       progress_same memory args c fresh found is among within =
           let fewer = unmet_fewer memory c (ap is_fresh is) classes among.0 among.1 among.2 in
-          first_same _ _ (λ called. Done (call_given c called)) (same (remembering memory c under_way) args _ (omega (arith, within, fewer)))
+          first_same _ _ (λ call_result. Done (call_given c call_result)) (same (remembering memory c under_way) args _ (omega (arith, within, fewer)))
       progress_same memory args c under_way found is among within = refl
       progress_same memory args c (gave ty) found is among within = refl
 
@@ -249,15 +249,15 @@ module _ (answers : Key → Answer) where
       source_same : (memory : Memory) (args : List Arg) (c : Id) → unmet memory classes < suc most → fixed (source_called deeper call memory args c) ≡ fixed (source_called other call memory args c)
       unfolding source_called
       source_same memory args c within =
-          then_same (asked_member c (codes "__call__")) (by_member deeper call memory args c (progress_of memory c)) (by_member other call memory args c (progress_of memory c)) (member_same memory args c (call_of answers c) refl within)
+          then_same (ask_member c (codes "__call__")) (by_member deeper call memory args c (progress_of memory c)) (by_member other call memory args c (progress_of memory c)) (member_same memory args c (call_of answers c) refl within)
 
       mutual
         by_same : (memory : Memory) (args : List Arg) (ty : Ty) → unmet memory classes < suc most → fixed (called_by deeper call memory args ty) ≡ fixed (called_by other call memory args ty)
         by_same memory args (instance (builtin c)) within = refl
         by_same memory args (instance (user m x)) within = source_same memory args (user m x) within
         by_same memory args (union items) within =
-            then_same (read_once args) (λ read. and_then (items_called deeper call [] memory read items) (λ called. Done (joined called))) (λ read. and_then (items_called other call [] memory read items) (λ called. Done (joined called)))
-            (first_same _ _ (λ called. Done (joined called)) (items_same [] memory (result_of answers (read_once args)) items within))
+            then_same (read_once args) (λ read. and_then (items_called deeper call [] memory read items) (λ call_result. Done (joined call_result))) (λ read. and_then (items_called other call [] memory read items) (λ call_result. Done (joined call_result)))
+            (first_same _ _ (λ call_result. Done (joined call_result)) (items_same [] memory (result_of answers (read_once args)) items within))
         by_same memory args any within = refl
         by_same memory args none within = refl
         by_same memory args (module_type m) within = refl
@@ -274,7 +274,7 @@ module _ (answers : Key → Answer) where
             let first = result_of answers (called_by deeper call memory args item) in
             let fewer = unmet_kept memory first.memory classes (by_kept deeper keeping call memory args item) in
             both_same (called_by deeper call memory args item) (called_by other call memory args item)
-            (λ called. items_called deeper call (before ++ (called.ty ∷ [])) called.memory args items) (λ called. items_called other call (before ++ (called.ty ∷ [])) called.memory args items)
+            (λ call_result. items_called deeper call (before ++ (call_result.ty ∷ [])) call_result.memory args items) (λ call_result. items_called other call (before ++ (call_result.ty ∷ [])) call_result.memory args items)
             (by_same memory args item within)
             (items_same (before ++ (first.ty ∷ [])) first.memory args items (omega (arith, within, fewer)))
 
@@ -290,8 +290,8 @@ pub deeper_gives_the_same : DeeperGivesTheSame
 deeper_gives_the_same answers classes all call args callee depth deeper h k =
     let most = suc (length classes) in
     let within : unmet nothing_met classes < most = subst (λ n. n < most) (sym (unmet_all classes)) (omega arith) in
-    same_comes answers _ _ (first_same answers _ _ (λ called. Done called.ty) (to_same answers classes all call depth deeper most (omega (arith, h)) (omega (arith, k)) nothing_met args callee within))
+    same_comes answers _ _ (first_same answers _ _ (λ call_result. Done call_result.ty) (to_same answers classes all call depth deeper most (omega (arith, h)) (omega (arith, k)) nothing_met args callee within))
 
 pub is_deep_enough : IsDeepEnough
-unfolding called
+unfolding call_result
 is_deep_enough answers classes all call args callee depth h k = deeper_gives_the_same answers classes all call args callee most_calls depth k h

@@ -2,16 +2,16 @@
 use Rattle.std.proofs.Common.{◌≡◌, ◌<◌, ◌≤◌, ◌-◌, ℕ, suc, true, false, List, [], ◌∷◌, ◌++◌, Option, None, Some, refl, sym, ap, ◌∙◌, codes, arith}
 use Rattle.std.proofs.lemmas.Bool.{false≢true}
 use Rattle.pyc_arguments.specs.Arguments.{Arg, read_once}
-use Rattle.pyc_arguments.specs.Telling.{Call}
-use Rattle.pyc_calls.specs.Called.{given_called, any_called, plainly_called, refused, without_call, Called, Calls, ItemsCalled, remembering_same, call_given, member_called, by_progress, by_member, source_called, instance_called, joined, called_by, items_called, called_to, typed}
+use Rattle.pyc_arguments.specs.Reporting.{Call}
+use Rattle.pyc_calls.specs.Called.{infer_given_call, infer_any_call, infer_plain_call, report_refused, without_call, Called, Calls, ItemsCalled, remembering_same, call_given, infer_member_call, by_progress, by_member, source_called, instance_called, joined, called_by, items_called, called_to, typed}
 use Rattle.pyc_calls.specs.Remembered.{Memory, Progress, fresh, under_way, gave, progress_of, remembering}
-use Rattle.pyc_calls.specs.Walks.{Met, came, met_new, coming, progress_met, member_met, source_met, instance_met, callee_form, CalleeForm, an_instance, another_callee, is_union, form_met, Waiting, class_waits, union_waits, Walk, calls, gives, meets, Stood, standing_met, next_item, opened, waiting_given, form_stepped, begun, union_after, classes_waiting, resumed, depth_left, left, first_left, called_in, IsRead}
-use Rattle.pyc_class.specs.Class.{Id, builtin, user}
-use Rattle.pyc_obligations.specs.Asking.{asked_member}
+use Rattle.pyc_calls.specs.Walks.{CallOutcome, came, met_new, coming, progress_met, member_met, source_met, instance_met, callee_form, CalleeForm, an_instance, another_callee, is_union, form_met, Waiting, class_waits, union_waits, Walk, calls, gives, meets, Stood, standing_met, next_item, opened, waiting_given, form_stepped, begun, union_after, classes_waiting, resumed, depth_left, left, first_left, called_in, IsRead}
+use Rattle.pyc_class_ids.specs.Class.{Id, builtin, user}
+use Rattle.pyc_obligations.specs.Asking.{ask_member}
 use Rattle.pyc_reading.proofs.RunLemmas.{after, run_then}
 use Rattle.pyc_reading.specs.Answers.{MemberAnswer}
-use Rattle.pyc_reading.specs.Desks.{Step, Desk, run}
-use Rattle.pyc_reading.specs.Readings.{Done, Ask, Tell, Owe, and_then}
+use Rattle.pyc_reading.specs.Traces.{Step, Trace, run}
+use Rattle.pyc_reading.specs.Readings.{Done, Ask, Report, Require, and_then}
 use Rattle.pyc_type_forms.specs.Types.{Ty, Tys, any, none, module_type, instance, class_object, list, dict, tuple, tuple_of, union, callable, nil, cons}
 
 -- readings one after another, however they are grouped
@@ -19,26 +19,26 @@ pub then_then : {A B C : Type 0} (r : Step A) (f : A → Step B) (g : B → Step
 unfolding and_then
 then_then (Done a) f g = refl
 then_then (Ask key go) f g = λ i. Ask key (λ answer. then_then (go answer) f g i)
-then_then (Tell remark rest) f g = ap (Tell remark) (then_then rest f g)
-then_then (Owe row rest) f g = ap (Owe row) (then_then rest f g)
+then_then (Report diagnostic rest) f g = ap (Report diagnostic) (then_then rest f g)
+then_then (Require row rest) f g = ap (Require row) (then_then rest f g)
 
 -- ---- one class
 
 module _ (deeper : Calls) (memory : Memory) (args : List Arg) where
   -- after a call of an instance of a class came to this
-  abbrev met_called : Met → Step Called
+  abbrev met_called : CallOutcome → Step Called
   met_called (came ty) = Done (record { ty = ty; memory = memory })
-  met_called (met_new c bound) = and_then (deeper (remembering memory c under_way) args bound) (λ called. Done (call_given c called))
+  met_called (met_new c bound) = and_then (deeper (remembering memory c under_way) args bound) (λ call_result. Done (call_given c call_result))
 
   coming_is : (call : Step Ty) → remembering_same memory call ≡ and_then (coming call) met_called
   unfolding remembering_same coming and_then
   coming_is call = sym (then_then call (λ ty. Done (came ty)) met_called)
 
   progress_is : (c : Id) (progress : Progress) (found : MemberAnswer) → by_progress deeper memory args c progress found ≡ and_then (progress_met args c progress found) met_called
-  unfolding member_called and_then
+  unfolding infer_member_call and_then
   progress_is c fresh found = refl
-  progress_is c under_way found = coming_is (any_called args)
-  progress_is c (gave ty) found = coming_is (given_called args ty)
+  progress_is c under_way found = coming_is (infer_any_call args)
+  progress_is c (gave ty) found = coming_is (infer_given_call args ty)
 
   member_is : (call : Call) (c : Id) (progress : Progress) (found : Option MemberAnswer) → by_member deeper call memory args c progress found ≡ and_then (member_met call args c progress found) met_called
   member_is call c progress (Some found) = progress_is c progress found
@@ -47,60 +47,60 @@ module _ (deeper : Calls) (memory : Memory) (args : List Arg) where
   source_is : (call : Call) (c : Id) → source_called deeper call memory args c ≡ and_then (source_met call memory args c) met_called
   unfolding source_called source_met
   source_is call c =
-      let asked = asked_member c (codes "__call__") in
+      let asked = ask_member c (codes "__call__") in
       (λ i. and_then asked (λ found. member_is call c (progress_of memory c) found i))
       ∙ sym (then_then asked (member_met call args c (progress_of memory c)) met_called)
 
   instance_is : (call : Call) (c : Id) → instance_called deeper call memory args c ≡ and_then (instance_met call memory args c) met_called
-  instance_is call (builtin c) = coming_is (refused call args (instance (builtin c)))
+  instance_is call (builtin c) = coming_is (report_refused call args (instance (builtin c)))
   instance_is call (user m x) = source_is call (user m x)
 
   -- what is no union is called
   form_is : (call : Call) (ty : Ty) → is_union ty ≡ false → called_by deeper call memory args ty ≡ and_then (form_met call memory args ty (callee_form ty)) met_called
-  form_is call any h = coming_is (plainly_called call args any)
-  form_is call none h = coming_is (plainly_called call args none)
-  form_is call (module_type m) h = coming_is (plainly_called call args (module_type m))
+  form_is call any h = coming_is (infer_plain_call call args any)
+  form_is call none h = coming_is (infer_plain_call call args none)
+  form_is call (module_type m) h = coming_is (infer_plain_call call args (module_type m))
   form_is call (instance c) h = instance_is call c
-  form_is call (class_object c) h = coming_is (plainly_called call args (class_object c))
-  form_is call (list x) h = coming_is (plainly_called call args (list x))
-  form_is call (dict k v) h = coming_is (plainly_called call args (dict k v))
-  form_is call (tuple xs) h = coming_is (plainly_called call args (tuple xs))
-  form_is call (tuple_of x) h = coming_is (plainly_called call args (tuple_of x))
+  form_is call (class_object c) h = coming_is (infer_plain_call call args (class_object c))
+  form_is call (list x) h = coming_is (infer_plain_call call args (list x))
+  form_is call (dict k v) h = coming_is (infer_plain_call call args (dict k v))
+  form_is call (tuple xs) h = coming_is (infer_plain_call call args (tuple xs))
+  form_is call (tuple_of x) h = coming_is (infer_plain_call call args (tuple_of x))
   form_is call (union xs) h = absurd (false≢true (sym h))
-  form_is call (callable ps r) h = coming_is (plainly_called call args (callable ps r))
+  form_is call (callable ps r) h = coming_is (infer_plain_call call args (callable ps r))
 
 -- ---- before any union
 
 module _ (depth : ℕ) (call : Call) (memory : Memory) (args : List Arg) where
-  met_typed : (met : Met) → typed (met_called (called_to depth call) memory args met) ≡ first_left depth call args memory met
+  met_typed : (met : CallOutcome) → typed (met_called (called_to depth call) memory args met) ≡ first_left depth call args memory met
   unfolding and_then
   met_typed (came ty) = refl
-  met_typed (met_new c bound) = then_then (called_to depth call (remembering memory c under_way) args bound) (λ called. Done (call_given c called)) (λ called. Done called.ty)
+  met_typed (met_new c bound) = then_then (called_to depth call (remembering memory c under_way) args bound) (λ call_result. Done (call_given c call_result)) (λ call_result. Done call_result.ty)
 
   first_is : (ty : Ty) → is_union ty ≡ false → typed (called_in depth call memory args ty) ≡ and_then (form_met call memory args ty (callee_form ty)) (first_left depth call args memory)
   first_is ty h =
       let met = form_met call memory args ty (callee_form ty) in
       ap typed (form_is (called_to depth call) memory args call ty h)
-      ∙ then_then met (met_called (called_to depth call) memory args) (λ called. Done called.ty)
+      ∙ then_then met (met_called (called_to depth call) memory args) (λ call_result. Done call_result.ty)
       ∙ (λ i. and_then met (λ found. met_typed found i))
 
   -- what is no union comes to what it meets first
-  pub first_runs : (ty : Ty) (old new : Desk) (met : Met) → is_union ty ≡ false → run (form_met call memory args ty (callee_form ty)) old ≡ (met, new)
+  pub first_runs : (ty : Ty) (old new : Trace) (met : CallOutcome) → is_union ty ≡ false → run (form_met call memory args ty (callee_form ty)) old ≡ (met, new)
       → run (typed (called_in depth call memory args ty)) old ≡ run (first_left depth call args memory met) new
   first_runs ty old new met h first =
       ap (λ r. run r old) (first_is ty h)
       ∙ run_then (form_met call memory args ty (callee_form ty)) (first_left depth call args memory) old
-      ∙ ap (λ (found : Met × Desk). run (first_left depth call args memory found.0) found.1) first
+      ∙ ap (λ (found : CallOutcome × Trace). run (first_left depth call args memory found.0) found.1) first
 
   -- the arguments of a union are read once
-  pub union_runs : (ty : Ty) (read : List Arg) (old new : Desk) → is_union ty ≡ true → IsRead read → run (read_once args) old ≡ (read, new)
+  pub union_runs : (ty : Ty) (read : List Arg) (old new : Trace) → is_union ty ≡ true → IsRead read → run (read_once args) old ≡ (read, new)
       → run (typed (called_in depth call memory args ty)) old ≡ run (typed (called_in depth call memory read ty)) new
   unfolding and_then
   union_runs (union items) read old new h again first =
-      let rest = λ (xs : List Arg). and_then (items_called (called_to depth call) call [] memory xs items) (λ called. Done (joined called)) in
-      ap (λ r. run r old) (then_then (read_once args) rest (λ called. Done called.ty))
+      let rest = λ (xs : List Arg). and_then (items_called (called_to depth call) call [] memory xs items) (λ call_result. Done (joined call_result)) in
+      ap (λ r. run r old) (then_then (read_once args) rest (λ call_result. Done call_result.ty))
       ∙ run_then (read_once args) (λ xs. typed (rest xs)) old
-      ∙ ap (λ (found : List Arg × Desk). run (typed (rest found.0)) found.1) first
+      ∙ ap (λ (found : List Arg × Trace). run (typed (rest found.0)) found.1) first
       ∙ ap (λ r. run (typed (and_then r rest)) new) (sym again)
   union_runs any read old new h again first = absurd (false≢true h)
   union_runs none read old new h again first = absurd (false≢true h)
@@ -115,7 +115,7 @@ module _ (depth : ℕ) (call : Call) (memory : Memory) (args : List Arg) where
 
 -- ---- a walk
 
-abbrev stood_met : Walk → Met → Stood
+abbrev stood_met : Walk → CallOutcome → Stood
 stood_met walk met = record { walk = walk; standing = standing_met met }
 
 module _ (top : ℕ) (call : Call) (args : List Arg) where
@@ -132,10 +132,10 @@ module _ (top : ℕ) (call : Call) (args : List Arg) where
       let depth = depth_left top walk in
       let deeper = called_to depth call in
       let first = called_by deeper call walk.memory args item in
-      let rest = λ (called : Called). items_called deeper call (before ++ (called.ty ∷ [])) called.memory args items in
-      let join = λ (called : ItemsCalled). Done (joined called) in
+      let rest = λ (call_result : Called). items_called deeper call (before ++ (call_result.ty ∷ [])) call_result.memory args items in
+      let join = λ (call_result : ItemsCalled). Done (joined call_result) in
       sym (ap (λ r. and_then r (resumed depth call args walk.waiting)) (then_then first rest join)
-      ∙ then_then first (λ called. and_then (rest called) join) (resumed depth call args walk.waiting))
+      ∙ then_then first (λ call_result. and_then (rest call_result) join) (resumed depth call args walk.waiting))
 
   -- a call gave a type
   pub given_left : (memory : Memory) (waiting : List Waiting) (ty : Ty) → classes_waiting waiting ≤ top
@@ -151,18 +151,18 @@ module _ (top : ℕ) (call : Call) (args : List Arg) where
       → left top call args walk (meets c bound) ≡ left top call args (begun walk c) (calls bound)
   begun_left walk c bound within =
       let e : top - classes_waiting walk.waiting ≡ suc (top - suc (classes_waiting walk.waiting)) = omega (arith, within) in
-      ap (λ depth. and_then (called_to depth call (remembering walk.memory c under_way) args bound) (λ called. resumed depth call args walk.waiting (call_given c called))) e
+      ap (λ depth. and_then (called_to depth call (remembering walk.memory c under_way) args bound) (λ call_result. resumed depth call args walk.waiting (call_given c call_result))) e
 
   module _ (walk : Walk) where
     abbrev depth : ℕ
     depth = depth_left top walk
 
-    met_left : (met : Met) → and_then (met_called (called_to depth call) walk.memory args met) (resumed depth call args walk.waiting) ≡ left_of (stood_met walk met)
+    met_left : (met : CallOutcome) → and_then (met_called (called_to depth call) walk.memory args met) (resumed depth call args walk.waiting) ≡ left_of (stood_met walk met)
     unfolding and_then
     met_left (came ty) = refl
-    met_left (met_new c bound) = then_then (called_to depth call (remembering walk.memory c under_way) args bound) (λ called. Done (call_given c called)) (resumed depth call args walk.waiting)
+    met_left (met_new c bound) = then_then (called_to depth call (remembering walk.memory c under_way) args bound) (λ call_result. Done (call_given c call_result)) (resumed depth call args walk.waiting)
 
-    other_left : (ty : Ty) (met : Step Met) → called_by (called_to depth call) call walk.memory args ty ≡ and_then met (met_called (called_to depth call) walk.memory args)
+    other_left : (ty : Ty) (met : Step CallOutcome) → called_by (called_to depth call) call walk.memory args ty ≡ and_then met (met_called (called_to depth call) walk.memory args)
         → left top call args walk (calls ty) ≡ and_then (and_then met (λ found. Done (stood_met walk found))) left_of
     unfolding and_then
     other_left ty met is =
@@ -191,20 +191,20 @@ module _ (top : ℕ) (call : Call) (args : List Arg) where
     stepped_left read (tuple_of x) = other_left (tuple_of x) _ (form_is (called_to depth call) walk.memory args call (tuple_of x) refl)
     stepped_left read (callable ps r) = other_left (callable ps r) _ (form_is (called_to depth call) walk.memory args call (callable ps r) refl)
 
-    pub stepped_runs : IsRead args → (ty : Ty) (stood : Stood) (old new : Desk) → run (step ty) old ≡ (stood, new)
+    pub stepped_runs : IsRead args → (ty : Ty) (stood : Stood) (old new : Trace) → run (step ty) old ≡ (stood, new)
         → run (left top call args walk (calls ty)) old ≡ run (left_of stood) new
     stepped_runs read ty stood old new first =
         ap (λ r. run r old) (stepped_left read ty)
         ∙ run_then (step ty) left_of old
-        ∙ ap (λ (found : Stood × Desk). run (left_of found.0) found.1) first
+        ∙ ap (λ (found : Stood × Trace). run (left_of found.0) found.1) first
 
 module _ (call : Call) (args : List Arg) (walk : Walk) where
-  form_runs : (ty : Ty) (form : CalleeForm) (met : Met) (old new : Desk) → run (form_met call walk.memory args ty form) old ≡ (met, new)
+  form_runs : (ty : Ty) (form : CalleeForm) (met : CallOutcome) (old new : Trace) → run (form_met call walk.memory args ty form) old ≡ (met, new)
       → run (and_then (form_met call walk.memory args ty form) (λ found. Done (stood_met walk found))) old ≡ (stood_met walk met, new)
   form_runs ty form met old new first = after (form_met call walk.memory args ty form) (λ found. Done (stood_met walk found)) old new new met (stood_met walk met) first refl
 
   -- a step of what is no union
-  pub other_runs : (ty : Ty) (met : Met) (old new : Desk) → is_union ty ≡ false → run (form_met call walk.memory args ty (callee_form ty)) old ≡ (met, new)
+  pub other_runs : (ty : Ty) (met : CallOutcome) (old new : Trace) → is_union ty ≡ false → run (form_met call walk.memory args ty (callee_form ty)) old ≡ (met, new)
       → run (form_stepped call args walk ty (callee_form ty)) old ≡ (record { walk = walk; standing = standing_met met }, new)
   unfolding form_stepped
   other_runs (union items) met old new h first = absurd (false≢true (sym h))

@@ -4,14 +4,14 @@ use Rattle.std.specs.Prelude.{Bool, codes, false, true, if◌then◌else◌, Lis
 use Rattle.pyc_attributes.specs.Binding.{through_instance}
 use Rattle.pyc_calls.specs.declared.constructors.FirstInitializer.{FirstInitializer}
 use Rattle.pyc_calls.specs.declared.constructors.FirstInitializer.TheVariants as first
-use Rattle.pyc_class.specs.declared.builtin_class.BuiltinClass.{BuiltinClass}
-use Rattle.pyc_class.specs.declared.builtin_class.BuiltinClass.TheVariants as class
-use Rattle.pyc_class.specs.Class.{Id, builtin, user, same_class}
-use Rattle.pyc_class.specs.Order.{Order, is_unknown}
-use Rattle.pyc_obligations.specs.Asking.{asked_member}
+use Rattle.pyc_class_ids.specs.declared.builtin_class.BuiltinClass.{BuiltinClass}
+use Rattle.pyc_class_ids.specs.declared.builtin_class.BuiltinClass.TheVariants as class
+use Rattle.pyc_class_ids.specs.Class.{Id, builtin, user, same_class}
+use Rattle.pyc_class_ids.specs.Mro.{Mro, is_unknown}
+use Rattle.pyc_obligations.specs.Asking.{ask_member}
 use Rattle.pyc_reading.specs.Owing.{order_in}
 use Rattle.pyc_reading.specs.Answers.{MemberAnswer}
-use Rattle.pyc_reading.specs.Desks.{Step}
+use Rattle.pyc_reading.specs.Traces.{Step}
 use Rattle.pyc_reading.specs.Keys as key
 use Rattle.pyc_reading.specs.Readings.{Done, Ask, and_then}
 use Rattle.pyc_type_forms.specs.Types.{Ty, Params, dots, listed, no_param, callable}
@@ -65,21 +65,21 @@ abbrev pub initializer : List Id → Option MemberAnswer → Params
 initializer order found = initializer_params (first_initializer order found) found
 
 -- a class without a `__new__`
-unfoldable pub by_initializer : Id → Order → Step Params
-by_initializer c order =
-    and_then (asked_member c (codes "__init__")) (λ found. Done (initializer order.classes found))
+unfoldable pub constructor_by_initializer : Id → Mro → Step Params
+constructor_by_initializer c order =
+    and_then (ask_member c (codes "__init__")) (λ found. Done (initializer order.classes found))
 
 -- a class with a `__new__` takes any arguments
-abbrev pub without_new : Id → Order → Option MemberAnswer → Step Params
+abbrev pub without_new : Id → Mro → Option MemberAnswer → Step Params
 without_new c order (Some found) = Done dots
-without_new c order None = by_initializer c order
+without_new c order None = constructor_by_initializer c order
 
-unfoldable pub by_order : Id → Order → Step Params
-by_order c order = and_then (asked_member c (codes "__new__")) (without_new c order)
+unfoldable pub constructor_by_order : Id → Mro → Step Params
+constructor_by_order c order = and_then (ask_member c (codes "__new__")) (without_new c order)
 
 -- a class whose order is not known takes any arguments
-abbrev pub if_known : Id → Order → Step Params
-if_known c order = if is_unknown order then Done dots else by_order c order
+abbrev pub if_known : Id → Mro → Step Params
+if_known c order = if is_unknown order then Done dots else constructor_by_order c order
 
 -- what a class of a source takes
 abbrev pub source_constructor : Id → Step Params

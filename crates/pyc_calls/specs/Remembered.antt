@@ -1,7 +1,7 @@
 -- What is remembered in a call of the `__call__` of classes that it came by (Python reference 3.13, "Emulating callable
 -- objects"): each is gone through once.
 use Rattle.std.specs.Prelude.{if◌then◌else◌}
-use Rattle.pyc_class.specs.Class.{Id, same_class}
+use Rattle.pyc_class_ids.specs.Class.{Id, same_class}
 use Rattle.pyc_type_forms.specs.Types.{Ty}
 
 -- how far the `__call__` of a class is

@@ -8,17 +8,28 @@ use Rattle.pyc_calls.specs.declared.constructors.ClassParams.{ClassParams}
 use Rattle.pyc_calls.specs.declared.constructors.ClassParams.TheVariants as c
 use Rattle.pyc_calls.specs.declared.remembered.Progress.{Progress as ProgressOf}
 use Rattle.pyc_calls.specs.declared.remembered.Progress.TheVariants as p
-use Rattle.pyc_calls.specs.declared.walks.Met.{Met as MetOf}
-use Rattle.pyc_calls.specs.declared.walks.Met.TheVariants as m
+use Rattle.pyc_calls.specs.declared.walks.CallOutcome.{CallOutcome as CallOutcomeOf}
+use Rattle.pyc_calls.specs.declared.walks.CallOutcome.TheVariants as m
 use Rattle.pyc_calls.specs.declared.walks.Standing.{Standing as StandingOf}
 use Rattle.pyc_calls.specs.declared.walks.Standing.TheVariants as s
 use Rattle.pyc_calls.specs.declared.walks.Waiting.{Waiting as WaitingOf}
 use Rattle.pyc_calls.specs.declared.walks.Waiting.TheVariants as w
 use Rattle.pyc_calls.specs.declared.walks.Walk.{Walk as WalkOf}
 use Rattle.pyc_calls.specs.Remembered.{Memory, Progress, fresh, under_way, gave}
-use Rattle.pyc_calls.specs.Walks.{Met, came, met_new, Waiting, class_waits, union_waits, Walk, Standing, calls, gives}
+use Rattle.pyc_calls.specs.Walks.{
+  CallOutcome,
+  came,
+  met_new,
+  Waiting,
+  class_waits,
+  union_waits,
+  Walk,
+  Standing,
+  calls,
+  gives,
+}
 use Rattle.pyc_calls.specs.Walks.{meets, ends, Stood}
-use Rattle.pyc_class.specs.Class.{Id, same_class}
+use Rattle.pyc_class_ids.specs.Class.{Id, same_class}
 use Rattle.pyc_type_forms.specs.declared.types.Ty.{Ty}
 use Rattle.pyc_type_forms.specs.Types.{Params, dots}
 use Rattle.pyc_type_forms.specs.TypeView.{row, ty_of}
@@ -54,7 +65,7 @@ how_far p.UnderWay = under_way
 how_far (p.Gave ty) = gave (ty_of ty)
 
 -- what a call of an instance of a class comes to
-abbrev pub met_in : MetOf → Met
+abbrev pub met_in : CallOutcomeOf → CallOutcome
 met_in (m.Came ty) = came (ty_of ty)
 met_in (m.New class bound) = met_new class (ty_of bound)
 

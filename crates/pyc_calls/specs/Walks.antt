@@ -5,15 +5,23 @@ use Rattle.std.specs.Prelude.{List, [], ◌∷◌, ◌++◌, ◌≡◌, Option, 
 use Rattle.std.specs.declared.alloc.AllocError.{AllocError}
 use Rattle.std.specs.declared.result.Result.{Result}
 use Rattle.pyc_arguments.specs.Arguments.{Arg, read_once}
-use Rattle.pyc_arguments.specs.Telling.{Call}
+use Rattle.pyc_arguments.specs.Reporting.{Call}
 use Rattle.pyc_attributes.specs.Binding.{through_instance}
-use Rattle.pyc_calls.specs.Called.{any_called, given_called, refused, without_call, plainly_called, Called, Calls}
+use Rattle.pyc_calls.specs.Called.{
+  infer_any_call,
+  infer_given_call,
+  report_refused,
+  without_call,
+  infer_plain_call,
+  Called,
+  Calls,
+}
 use Rattle.pyc_calls.specs.Called.{call_given, joined, called_by, items_called, called_to, typed}
 use Rattle.pyc_calls.specs.Remembered.{Memory, Progress, fresh, under_way, gave, progress_of, remembering}
-use Rattle.pyc_class.specs.Class.{Id, builtin, user}
-use Rattle.pyc_obligations.specs.Asking.{asked_member}
+use Rattle.pyc_class_ids.specs.Class.{Id, builtin, user}
+use Rattle.pyc_obligations.specs.Asking.{ask_member}
 use Rattle.pyc_reading.specs.Answers.{MemberAnswer}
-use Rattle.pyc_reading.specs.Desks.{Step, Desk, Grown, run}
+use Rattle.pyc_reading.specs.Traces.{Step, Trace, Grown, run}
 use Rattle.pyc_reading.specs.Readings.{Done, and_then, ◌>>=◌}
 use Rattle.pyc_type_forms.specs.Types.{Ty, Tys, instance, union, nil, cons}
 use Rattle.pyc_type_forms.specs.Unions.{union_of}
@@ -22,35 +30,35 @@ use Rattle.pyc_type_forms.specs.Unions.{union_of}
 
 -- what a call of an instance of a class comes to: a type, or a `__call__` that was not met before, by its class and its
 -- type through an instance
-pub data Met : Type 0 where
-  came : Ty → Met
-  met_new : Id → Ty → Met
+pub data CallOutcome : Type 0 where
+  came : Ty → CallOutcome
+  met_new : Id → Ty → CallOutcome
 
-unfoldable pub coming : Step Ty → Step Met
+unfoldable pub coming : Step Ty → Step CallOutcome
 coming call = and_then call (λ ty. Done (came ty))
 
 -- the `__call__` of a class, by how far it is
-abbrev pub progress_met : List Arg → Id → Progress → MemberAnswer → Step Met
+abbrev pub progress_met : List Arg → Id → Progress → MemberAnswer → Step CallOutcome
 progress_met args c fresh found = Done (met_new c (through_instance found))
-progress_met args c under_way found = coming (any_called args)
-progress_met args c (gave ty) found = coming (given_called args ty)
+progress_met args c under_way found = coming (infer_any_call args)
+progress_met args c (gave ty) found = coming (infer_given_call args ty)
 
 -- an instance of a class of a source, by its `__call__`
-abbrev pub member_met : Call → List Arg → Id → Progress → Option MemberAnswer → Step Met
+abbrev pub member_met : Call → List Arg → Id → Progress → Option MemberAnswer → Step CallOutcome
 member_met call args c progress (Some found) = progress_met args c progress found
 member_met call args c progress None = coming (without_call call args c)
 
-unfoldable pub source_met : Call → Memory → List Arg → Id → Step Met
+unfoldable pub source_met : Call → Memory → List Arg → Id → Step CallOutcome
 source_met call memory args c =
-    and_then (asked_member c (codes "__call__")) (member_met call args c (progress_of memory c))
+    and_then (ask_member c (codes "__call__")) (member_met call args c (progress_of memory c))
 
 -- an instance of a class
-abbrev pub instance_met : Call → Memory → List Arg → Id → Step Met
-instance_met call memory args (builtin c) = coming (refused call args (instance (builtin c)))
+abbrev pub instance_met : Call → Memory → List Arg → Id → Step CallOutcome
+instance_met call memory args (builtin c) = coming (report_refused call args (instance (builtin c)))
 instance_met call memory args (user m x) = source_met call memory args (user m x)
 
 -- whether a `__call__` that is met is new
-abbrev pub IsNew : Memory → Met → Type 0
+abbrev pub IsNew : Memory → CallOutcome → Type 0
 IsNew memory (came ty) = Unit {0}
 IsNew memory (met_new c bound) = progress_of memory c ≡ fresh
 
@@ -70,9 +78,9 @@ is_union (union items) = true
 is_union ty = false
 
 -- what a call of something comes to that is no union
-abbrev pub form_met : Call → Memory → List Arg → Ty → CalleeForm → Step Met
+abbrev pub form_met : Call → Memory → List Arg → Ty → CalleeForm → Step CallOutcome
 form_met call memory args ty (an_instance c) = instance_met call memory args c
-form_met call memory args ty form = coming (plainly_called call args ty)
+form_met call memory args ty form = coming (infer_plain_call call args ty)
 
 -- ---- a walk
 
@@ -105,7 +113,7 @@ abbrev pub IsNewStanding : Memory → Standing → Type 0
 IsNewStanding memory (meets c bound) = progress_of memory c ≡ fresh
 IsNewStanding memory standing = Unit {0}
 
-abbrev pub standing_met : Met → Standing
+abbrev pub standing_met : CallOutcome → Standing
 standing_met (came ty) = gives ty
 standing_met (met_new c bound) = meets c bound
 
@@ -151,8 +159,8 @@ begun walk c =
 -- the items of a union are called after these types, and their union is the type
 abbrev pub union_after : Calls → Call → List Ty → Memory → List Arg → Tys → Step Called
 union_after deeper call before memory args items = do
-  called ← items_called deeper call before memory args items
-  Done (joined called)
+  call_result ← items_called deeper call before memory args items
+  Done (joined call_result)
 
 -- how many classes wait
 abbrev pub classes_waiting : List Waiting → ℕ
@@ -162,10 +170,11 @@ classes_waiting (union_waits before items ∷ waiting) = classes_waiting waiting
 
 -- after a call, what waits for it goes on, where the `__call__` of so many classes may lie in it
 abbrev pub resumed : ℕ → Call → List Arg → List Waiting → Called → Step Called
-resumed depth call args [] called = Done called
-resumed depth call args (class_waits c ∷ waiting) called = resumed (suc depth) call args waiting (call_given c called)
-resumed depth call args (union_waits before items ∷ waiting) called = do
-  found ← union_after (called_to depth call) call (before ++ (called.ty ∷ [])) called.memory args items
+resumed depth call args [] call_result = Done call_result
+resumed depth call args (class_waits c ∷ waiting) call_result = resumed (suc depth) call args waiting
+    (call_given c call_result)
+resumed depth call args (union_waits before items ∷ waiting) call_result = do
+  found ← union_after (called_to depth call) call (before ++ (call_result.ty ∷ [])) call_result.memory args items
   resumed depth call args waiting found
 
 -- how many may lie in the call at hand, where so many may in the first one
@@ -175,13 +184,13 @@ depth_left top walk = top - classes_waiting walk.waiting
 -- what is left of a walk at whose beginning the `__call__` of so many classes may lie in one another
 abbrev pub left : ℕ → Call → List Arg → Walk → Standing → Step Called
 left top call args walk (calls ty) = do
-  called ← called_by (called_to (depth_left top walk) call) call walk.memory args ty
-  resumed (depth_left top walk) call args walk.waiting called
+  call_result ← called_by (called_to (depth_left top walk) call) call walk.memory args ty
+  resumed (depth_left top walk) call args walk.waiting call_result
 left top call args walk (gives ty) =
     resumed (depth_left top walk) call args walk.waiting (record { ty = ty; memory = walk.memory })
 left top call args walk (meets c bound) = do
-  called ← called_to (depth_left top walk) call (remembering walk.memory c under_way) args bound
-  resumed (depth_left top walk) call args walk.waiting (call_given c called)
+  call_result ← called_to (depth_left top walk) call (remembering walk.memory c under_way) args bound
+  resumed (depth_left top walk) call args walk.waiting (call_given c call_result)
 left top call args walk (ends ty) = Done (record { ty = ty; memory = walk.memory })
 
 -- something of a type is called, where the `__call__` of so many classes may lie in the call
@@ -189,23 +198,23 @@ abbrev pub called_in : ℕ → Call → Calls
 called_in depth call = called_by (called_to depth call) call
 
 -- what is left where a call before any union came to this
-abbrev pub first_left : ℕ → Call → List Arg → Memory → Met → Step Ty
+abbrev pub first_left : ℕ → Call → List Arg → Memory → CallOutcome → Step Ty
 first_left depth call args memory (came ty) = Done ty
 first_left depth call args memory (met_new c bound) =
     typed (called_to depth call (remembering memory c under_way) args bound)
 
 -- what is left where a call of an instance of a class came to this
-abbrev pub left_met : ℕ → Call → List Arg → Walk → Met → Step Called
+abbrev pub left_met : ℕ → Call → List Arg → Walk → CallOutcome → Step Called
 left_met top call args walk (came ty) = Done (record { ty = ty; memory = walk.memory })
 left_met top call args walk (met_new c bound) = left top call args walk (meets c bound)
 
--- arguments that were read: to read them once more asks and tells nothing
+-- arguments that were read: to read them once more asks and reports nothing
 abbrev pub IsRead : List Arg → Type 0
 IsRead args = read_once args ≡ Done args
 
 -- a call went on with a reading: what is left to do after it comes to the same as all before
-pub record GoesOn {X A : Type 0} (left : X → Step A) (whole : Step A) (old : Desk) (result : Result X AllocError)
-    (new : Desk) : Type 0 where
+pub record GoesOn {X A : Type 0} (left : X → Step A) (whole : Step A) (old : Trace) (result : Result X AllocError)
+    (new : Trace) : Type 0 where
   pub done : IfOk result (λ x. run (left x) new ≡ run whole old)
   pub grown : Grown old new
 

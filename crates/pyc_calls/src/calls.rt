@@ -4,25 +4,25 @@ ghost use Rattle.std.specs.Prelude.{map};
 ghost use Rattle.pyc_arguments.specs.Views.{args_in, call_in, shown_in};
 ghost use Rattle.pyc_ast.specs.ExprView.{argument_of};
 ghost use Rattle.pyc_calls.specs.Called as spec;
-ghost use Rattle.pyc_reading.specs.Desks.{Performs};
+ghost use Rattle.pyc_reading.specs.Traces.{Performs};
 ghost use Rattle.pyc_type_forms.specs.TypeView.{ty_of};
 
 use crate::caller::Caller;
-use pyc_arguments::{Arguments, Call, Shown};
+use pyc_arguments::{Arguments, Call, CalleeName};
 use pyc_ast::{Argument, Position};
-use pyc_obligations::{Judge, Reader};
+use pyc_obligations::{AskTypes, InferType};
 use pyc_type_forms::Ty;
 use std::alloc::{AllocError, Global};
 use std::marker::PhantomData;
 
 /// The type of a call that begins at a position, of something of a type that messages show so, with these arguments:
-/// they are read, and where they do not fit, or where it cannot be called, that is told. The only error is that memory
-/// runs out.
-pub fn call<N: Judge, R: Reader<N>>(
+/// they are read, and where they do not fit, or where it cannot be called, that is reported. The only error is that
+/// memory runs out.
+pub fn call<N: AskTypes, R: InferType<N>>(
     alloc: Global,
-    notes: &mut N,
+    recorder: &mut N,
     reader: &R,
-    shown: Shown<'_>,
+    shown: CalleeName<'_>,
     at: Position,
     arguments: &[Argument],
     callee: &Ty,
@@ -30,17 +30,17 @@ pub fn call<N: Judge, R: Reader<N>>(
     requires { R.ready reader.now }
     ensures { Performs ty_of
         (spec.call (R.reads reader.now) (shown_in shown.entry) at (map argument_of arguments.now) (ty_of callee.now))
-        (N.desk notes.old) result (N.desk notes.new) }
+        (N.trace recorder.old) result (N.trace recorder.new) }
 {
     let call = Call { at, shown };
     let arguments = Arguments::Unread(arguments);
-    called(alloc, notes, reader, &call, &arguments, callee)
+    call_result(alloc, recorder, reader, &call, &arguments, callee)
 }
 
 /// The type of a call of something of a type with these arguments. The only error is that memory runs out.
-pub(crate) fn called<N: Judge, R: Reader<N>>(
+pub(crate) fn call_result<N: AskTypes, R: InferType<N>>(
     alloc: Global,
-    notes: &mut N,
+    recorder: &mut N,
     reader: &R,
     call: &Call<'_>,
     arguments: &Arguments<'_>,
@@ -48,8 +48,8 @@ pub(crate) fn called<N: Judge, R: Reader<N>>(
 ) -> Result<Ty, AllocError>
     requires { R.ready reader.now }
     ensures { Performs ty_of
-        (spec.called (call_in call.now) (args_in (R.reads reader.now) arguments.now) (ty_of callee.now))
-        (N.desk notes.old) result (N.desk notes.new) }
+        (spec.call_result (call_in call.now) (args_in (R.reads reader.now) arguments.now) (ty_of callee.now))
+        (N.trace recorder.old) result (N.trace recorder.new) }
 {
     let caller = Caller {
         alloc,
@@ -58,5 +58,5 @@ pub(crate) fn called<N: Judge, R: Reader<N>>(
         arguments,
         of: PhantomData,
     };
-    caller.call(notes, callee)
+    caller.call(recorder, callee)
 }

@@ -6,12 +6,12 @@ ghost use Rattle.pyc_calls.specs.Views.{class_params_in};
 ghost use Rattle.pyc_obligations.specs.Asking as asking;
 ghost use Rattle.pyc_reading.specs.AnswerView.{answer_in, class_order_of, member_answer_of};
 ghost use Rattle.pyc_reading.specs.Owing.{order_in};
-ghost use Rattle.pyc_reading.specs.Desks.{Performs};
+ghost use Rattle.pyc_reading.specs.Traces.{Performs};
 
 use pyc_attributes::through_instance;
-use pyc_class::{BuiltinClass, ClassId};
-use pyc_obligations::{Judge, asked_member};
-use pyc_reading::{Answer, ClassOrder, Key, MemberAnswer};
+use pyc_class_ids::{BuiltinClass, ClassId};
+use pyc_obligations::{AskTypes, ask_member};
+use pyc_reading::{Answer, Key, MemberAnswer, MroAnswer};
 use pyc_type_forms::Ty;
 use std::alloc::{AllocError, Global};
 
@@ -37,16 +37,17 @@ pub(crate) enum FirstInitializer {
 }
 
 /// What a class takes that is called. The only error is that memory runs out.
-pub(crate) fn constructor<N: Judge>(
+pub(crate) fn constructor<N: AskTypes>(
     alloc: Global,
-    notes: &mut N,
+    recorder: &mut N,
     class: &ClassId,
 ) -> Result<ClassParams, AllocError>
-    ensures { Performs class_params_in (spec.constructor class.now) (N.desk notes.old) result (N.desk notes.new) }
+    ensures { Performs class_params_in (spec.constructor class.now) (N.trace recorder.old) result
+        (N.trace recorder.new) }
 {
     match class.as_builtin() {
         Some(builtin) => Ok(builtin_constructor(builtin)),
-        None => source_constructor(alloc, notes, class),
+        None => source_constructor(alloc, recorder, class),
     }
 }
 
@@ -62,123 +63,126 @@ fn builtin_constructor(class: BuiltinClass) -> ClassParams
 
 /// What a class of a source takes.
 #[tactic(auto, using(pyc_obligations::proofs::Steps::performing))]
-fn source_constructor<N: Judge>(
+fn source_constructor<N: AskTypes>(
     alloc: Global,
-    notes: &mut N,
+    recorder: &mut N,
     class: &ClassId,
 ) -> Result<ClassParams, AllocError>
-    ensures { Performs class_params_in (spec.source_constructor class.now) (N.desk notes.old) result
-        (N.desk notes.new) }
+    ensures { Performs class_params_in (spec.source_constructor class.now) (N.trace recorder.old) result
+        (N.trace recorder.new) }
 {
     let key = Key::Class(class.clone()?);
-    let answer = notes.ask(alloc, key)?;
-    answered_constructor(alloc, notes, class, &answer)
+    let answer = recorder.ask(alloc, key)?;
+    answered_constructor(alloc, recorder, class, &answer)
 }
 
-/// The same, by the order that an answer tells.
-fn answered_constructor<N: Judge>(
+/// What `class` takes, by the order that `answer` gives.
+fn answered_constructor<N: AskTypes>(
     alloc: Global,
-    notes: &mut N,
+    recorder: &mut N,
     class: &ClassId,
     answer: &Answer,
 ) -> Result<ClassParams, AllocError>
     ensures { Performs class_params_in (spec.if_known class.now (order_in (answer_in answer.now)))
-        (N.desk notes.old) result (N.desk notes.new) }
+        (N.trace recorder.old) result (N.trace recorder.new) }
 {
     match answer {
-        Answer::Order(order) => ordered_constructor(alloc, notes, class, order),
+        Answer::Mro(order) => ordered_constructor(alloc, recorder, class, order),
         _ => Ok(ClassParams::Unmatched),
     }
 }
 
-/// The same, by its order.
-fn ordered_constructor<N: Judge>(
+/// What `class` takes, by `order`, which may be unknown.
+fn ordered_constructor<N: AskTypes>(
     alloc: Global,
-    notes: &mut N,
+    recorder: &mut N,
     class: &ClassId,
-    order: &ClassOrder,
+    order: &MroAnswer,
 ) -> Result<ClassParams, AllocError>
-    ensures { Performs class_params_in (spec.if_known class.now (class_order_of order.now)) (N.desk notes.old) result
-        (N.desk notes.new) }
+    ensures { Performs class_params_in (spec.if_known class.now (class_order_of order.now)) (N.trace recorder.old)
+        result
+        (N.trace recorder.new) }
 {
     if order.unknown.is_some() {
         Ok(ClassParams::Unmatched)
     } else {
-        by_order(alloc, notes, class, order)
+        constructor_by_order(alloc, recorder, class, order)
     }
 }
 
-/// The same where the order is known.
-#[tactic(auto, using(pyc_obligations::proofs::Steps::performing), unfolding(crate::specs::Constructors::by_order))]
-fn by_order<N: Judge>(
+/// What `class` takes, where `order` is known.
+#[tactic(auto, using(pyc_obligations::proofs::Steps::performing), unfolding(crate::specs::Constructors::constructor_by_order))]
+fn constructor_by_order<N: AskTypes>(
     alloc: Global,
-    notes: &mut N,
+    recorder: &mut N,
     class: &ClassId,
-    order: &ClassOrder,
+    order: &MroAnswer,
 ) -> Result<ClassParams, AllocError>
-    ensures { Performs class_params_in (spec.by_order class.now (class_order_of order.now)) (N.desk notes.old) result
-        (N.desk notes.new) }
+    ensures { Performs class_params_in (spec.constructor_by_order class.now (class_order_of order.now))
+        (N.trace recorder.old) result
+        (N.trace recorder.new) }
 {
-    let found = new_member(alloc, notes, class)?;
-    without_new(alloc, notes, class, order, &found)
+    let found = new_member(alloc, recorder, class)?;
+    without_new(alloc, recorder, class, order, &found)
 }
 
-/// The same, where this is the `__new__` of the class.
-fn without_new<N: Judge>(
+/// What `class` takes, where `order` is known and `found` is some `__new__` of the class.
+fn without_new<N: AskTypes>(
     alloc: Global,
-    notes: &mut N,
+    recorder: &mut N,
     class: &ClassId,
-    order: &ClassOrder,
+    order: &MroAnswer,
     found: &Option<MemberAnswer>,
 ) -> Result<ClassParams, AllocError>
     ensures { Performs class_params_in
         (spec.without_new class.now (class_order_of order.now) (option_map member_answer_of found.now))
-        (N.desk notes.old) result (N.desk notes.new) }
+        (N.trace recorder.old) result (N.trace recorder.new) }
 {
     match found {
         Some(_) => Ok(ClassParams::Unmatched),
-        None => by_initializer(alloc, notes, class, order),
+        None => constructor_by_initializer(alloc, recorder, class, order),
     }
 }
 
-/// The same of a class without a `__new__`.
-#[tactic(auto, using(pyc_obligations::proofs::Steps::performing), unfolding(crate::specs::Constructors::by_initializer))]
-fn by_initializer<N: Judge>(
+/// What `class` takes, where `order` is known and the class has no `__new__`.
+#[tactic(auto, using(pyc_obligations::proofs::Steps::performing), unfolding(crate::specs::Constructors::constructor_by_initializer))]
+fn constructor_by_initializer<N: AskTypes>(
     alloc: Global,
-    notes: &mut N,
+    recorder: &mut N,
     class: &ClassId,
-    order: &ClassOrder,
+    order: &MroAnswer,
 ) -> Result<ClassParams, AllocError>
-    ensures { Performs class_params_in (spec.by_initializer class.now (class_order_of order.now)) (N.desk notes.old)
-        result (N.desk notes.new) }
+    ensures { Performs class_params_in (spec.constructor_by_initializer class.now (class_order_of order.now))
+        (N.trace recorder.old)
+        result (N.trace recorder.new) }
 {
-    let found = initializer_member(alloc, notes, class)?;
+    let found = initializer_member(alloc, recorder, class)?;
     let first = first_initializer(&order.classes, &found);
     initializer_params(alloc, first, found)
 }
 
 /// The `__new__` of a class.
-fn new_member<N: Judge>(
+fn new_member<N: AskTypes>(
     alloc: Global,
-    notes: &mut N,
+    recorder: &mut N,
     class: &ClassId,
 ) -> Result<Option<MemberAnswer>, AllocError>
-    ensures { Performs (option_map member_answer_of) (asking.asked_member class.now (codes "__new__"))
-        (N.desk notes.old) result (N.desk notes.new) }
+    ensures { Performs (option_map member_answer_of) (asking.ask_member class.now (codes "__new__"))
+        (N.trace recorder.old) result (N.trace recorder.new) }
 {
-    asked_member(alloc, notes, class, "__new__")
+    ask_member(alloc, recorder, class, "__new__")
 }
 
 /// The `__init__` of a class.
-fn initializer_member<N: Judge>(
+fn initializer_member<N: AskTypes>(
     alloc: Global,
-    notes: &mut N,
+    recorder: &mut N,
     class: &ClassId,
 ) -> Result<Option<MemberAnswer>, AllocError>
-    ensures { Performs (option_map member_answer_of) (asking.asked_member class.now (codes "__init__"))
-        (N.desk notes.old) result (N.desk notes.new) }
+    ensures { Performs (option_map member_answer_of) (asking.ask_member class.now (codes "__init__"))
+        (N.trace recorder.old) result (N.trace recorder.new) }
 {
-    asked_member(alloc, notes, class, "__init__")
+    ask_member(alloc, recorder, class, "__init__")
 }
 
 /// Which `__init__` comes first along an order.

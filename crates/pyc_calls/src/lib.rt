@@ -1,4 +1,4 @@
-//! The type of a call by the type of what is called, and what is told where that cannot be called.
+//! The type of a call by the type of what is called, and what is reported where that cannot be called.
 #![tactic(auto)]
 
 mod caller;
@@ -12,4 +12,4 @@ mod remembered;
 mod walks;
 
 pub use calls::call;
-pub use methods::method_called;
+pub use methods::infer_method_call;

@@ -5,27 +5,27 @@ ghost use Rattle.pyc_arguments.specs.Views.{read_in};
 ghost use Rattle.pyc_calls.specs.Called as spec_called;
 ghost use Rattle.pyc_calls.specs.Methods as spec;
 ghost use Rattle.pyc_reading.specs.AnswerView.{member_answer_of};
-ghost use Rattle.pyc_reading.specs.Desks.{Performs};
+ghost use Rattle.pyc_reading.specs.Traces.{Performs};
 ghost use Rattle.pyc_reading.specs.Readings.{Done};
 ghost use Rattle.pyc_type_forms.specs.Types.{any};
 ghost use Rattle.pyc_type_forms.specs.TypeView.{ty_of};
 
-use crate::calls::called;
-use pyc_arguments::{Arguments, Call, ReadArgument, Shown, push_read};
+use crate::calls::call_result;
+use pyc_arguments::{Arguments, Call, CalleeName, ReadArgument, push_read};
 use pyc_ast::{ArgumentKind, Expr, Position};
 use pyc_attributes::through_instance;
-use pyc_obligations::{Judge, Reader, quieten};
+use pyc_obligations::{AskTypes, InferType, quieten};
 use pyc_reading::MemberAnswer;
 use pyc_type_forms::Ty;
 use std::alloc::{AllocError, Global};
 
-/// A position of a call of which nothing is told.
+/// A position of a call of which nothing is reported.
 const NOWHERE: Position = Position { line: 1, column: 1 };
 
-/// Who reads nothing, since all arguments were read.
+/// Reads nothing, since all arguments were read.
 struct NoReader;
 
-impl<N: Judge> Reader<N> for NoReader {
+impl<N: AskTypes> InferType<N> for NoReader {
     ghost ready = { λ reader. Unit };
 
     ghost reads = { λ reader part want. Done any };
@@ -33,7 +33,7 @@ impl<N: Judge> Reader<N> for NoReader {
     fn read(
         &self,
         _alloc: Global,
-        _notes: &mut N,
+        _recorder: &mut N,
         _part: &Expr,
         _want: Option<&Ty>,
     ) -> Result<Ty, AllocError> {
@@ -42,60 +42,60 @@ impl<N: Judge> Reader<N> for NoReader {
 }
 
 /// What a member gives that is called through an instance with arguments by place of these types; none where something
-/// would be told of the call.
+/// would be reported of the call.
 #[tactic(auto, using(pyc_obligations::proofs::Steps::performing))]
-pub fn method_called<N: Judge>(
+pub fn infer_method_call<N: AskTypes>(
     alloc: Global,
-    notes: &mut N,
+    recorder: &mut N,
     member: MemberAnswer,
     types: &[Ty],
 ) -> Result<Option<Ty>, AllocError>
-    ensures { Performs (option_map ty_of) (spec.method_called (member_answer_of member) (map ty_of types.now))
-        (N.desk notes.old) result (N.desk notes.new) }
+    ensures { Performs (option_map ty_of) (spec.infer_method_call (member_answer_of member) (map ty_of types.now))
+        (N.trace recorder.old) result (N.trace recorder.new) }
 {
     let callee = through_instance(alloc, member)?;
-    let arguments = placed(alloc, types)?;
-    quietly_called(alloc, notes, &arguments, &callee)
+    let arguments = arguments_by_place(alloc, types)?;
+    infer_call_quietly(alloc, recorder, &arguments, &callee)
 }
 
-/// What is given by a call of which nothing is told, where nothing would be told.
-fn quietly_called<N: Judge>(
+/// What is given by a call of which nothing is reported, where nothing would be reported.
+fn infer_call_quietly<N: AskTypes>(
     alloc: Global,
-    notes: &mut N,
+    recorder: &mut N,
     arguments: &[ReadArgument],
     callee: &Ty,
 ) -> Result<Option<Ty>, AllocError>
     ensures { Performs (option_map ty_of)
-        (spec.quietly_called (map read_in arguments.now) (ty_of callee.now)) (N.desk notes.old) result
-        (N.desk notes.new) }
+        (spec.infer_call_quietly (map read_in arguments.now) (ty_of callee.now)) (N.trace recorder.old) result
+        (N.trace recorder.new) }
 {
-    let count = notes.told_count();
-    let ty = placed_called(alloc, notes, arguments, callee)?;
-    let is_told = quieten(notes, count);
-    Ok(unless_told(is_told, ty))
+    let count = recorder.reported_count();
+    let ty = infer_placed_call(alloc, recorder, arguments, callee)?;
+    let is_reported = quieten(recorder, count);
+    Ok(unless_reported(is_reported, ty))
 }
 
 /// What is called with arguments by place gives.
-fn placed_called<N: Judge>(
+fn infer_placed_call<N: AskTypes>(
     alloc: Global,
-    notes: &mut N,
+    recorder: &mut N,
     arguments: &[ReadArgument],
     callee: &Ty,
 ) -> Result<Ty, AllocError>
-    ensures { Performs ty_of (spec_called.called spec.method_call (map read_in arguments.now) (ty_of callee.now))
-        (N.desk notes.old) result (N.desk notes.new) }
+    ensures { Performs ty_of (spec_called.call_result spec.method_call (map read_in arguments.now) (ty_of callee.now))
+        (N.trace recorder.old) result (N.trace recorder.new) }
 {
     let call = Call {
         at: NOWHERE,
-        shown: Shown::Nameless,
+        shown: CalleeName::Nameless,
     };
     let arguments = Arguments::Read(arguments);
-    called(alloc, notes, &NoReader, &call, &arguments, callee)
+    call_result(alloc, recorder, &NoReader, &call, &arguments, callee)
 }
 
 /// Arguments by place of these types.
-fn placed(alloc: Global, types: &[Ty]) -> Result<Vec<ReadArgument>, AllocError>
-    ensures { IfOk result (λ arguments. map read_in arguments.items ≡ spec.placed (map ty_of types.now)) }
+fn arguments_by_place(alloc: Global, types: &[Ty]) -> Result<Vec<ReadArgument>, AllocError>
+    ensures { IfOk result (λ arguments. map read_in arguments.items ≡ spec.arguments_by_place (map ty_of types.now)) }
 {
     let mut arguments = Vec::with_capacity(alloc, types.len())?;
     for ty in types {
@@ -112,9 +112,9 @@ fn push_placed(arguments: &mut Vec<ReadArgument>, ty: &Ty) -> Result<(), AllocEr
     push_read(arguments, NOWHERE, &ArgumentKind::Positional, ty.clone()?)
 }
 
-/// What a call came to, by whether something was told of it.
-fn unless_told(is_told: bool, ty: Ty) -> Option<Ty>
-    ensures { option_map ty_of result ≡ spec.unless_told is_told (ty_of ty) }
+/// What a call came to, by whether something was reported of it.
+fn unless_reported(is_reported: bool, ty: Ty) -> Option<Ty>
+    ensures { option_map ty_of result ≡ spec.unless_reported is_reported (ty_of ty) }
 {
-    if is_told { None } else { Some(ty) }
+    if is_reported { None } else { Some(ty) }
 }

@@ -5,7 +5,7 @@ ghost use Rattle.pyc_arguments.specs.Views.{args_in, call_in};
 ghost use Rattle.pyc_calls.specs.Called as spec;
 ghost use Rattle.pyc_calls.specs.Constructors.{params_in};
 ghost use Rattle.pyc_calls.specs.Views.{class_params_in};
-ghost use Rattle.pyc_reading.specs.Desks.{Performs};
+ghost use Rattle.pyc_reading.specs.Traces.{Performs};
 ghost use Rattle.pyc_type_forms.specs.Instances.{instance_of};
 ghost use Rattle.pyc_type_forms.specs.Types as plain;
 ghost use Rattle.pyc_type_forms.specs.TypeView.{params_of, ty_of};
@@ -13,49 +13,50 @@ ghost use Rattle.pyc_type_forms.specs.TypeView.{params_of, ty_of};
 use crate::constructors::{ClassParams, constructor};
 use crate::refusals::not_callable;
 use pyc_arguments::{Arguments, Call, match_arguments, match_listed, read_all};
-use pyc_class::ClassId;
-use pyc_obligations::{Judge, Reader, is_unknown_class};
+use pyc_class_ids::ClassId;
+use pyc_obligations::{AskTypes, InferType, is_unknown_class};
 use pyc_type_forms::{Signature, Ty, instance_of};
 use std::alloc::{AllocError, Global};
 
 /// Reads arguments, if they are to be read: nothing is known of what is called.
-#[tactic(auto, using(pyc_obligations::proofs::Steps::performing), unfolding(crate::specs::Called::given_called))]
-pub(crate) fn any_called<N: Judge, R: Reader<N>>(
+#[tactic(auto, using(pyc_obligations::proofs::Steps::performing), unfolding(crate::specs::Called::infer_given_call))]
+pub(crate) fn infer_any_call<N: AskTypes, R: InferType<N>>(
     alloc: Global,
-    notes: &mut N,
+    recorder: &mut N,
     reader: &R,
     arguments: &Arguments<'_>,
 ) -> Result<Ty, AllocError>
     requires { R.ready reader.now }
-    ensures { Performs ty_of (spec.any_called (args_in (R.reads reader.now) arguments.now)) (N.desk notes.old) result
-        (N.desk notes.new) }
+    ensures { Performs ty_of (spec.infer_any_call (args_in (R.reads reader.now) arguments.now)) (N.trace recorder.old)
+        result
+        (N.trace recorder.new) }
 {
-    read_all(alloc, notes, reader, arguments)?;
+    read_all(alloc, recorder, reader, arguments)?;
     Ok(Ty::Any)
 }
 
 /// Reads arguments, if they are to be read: the call gives this.
-#[tactic(auto, using(pyc_obligations::proofs::Steps::performing), unfolding(crate::specs::Called::given_called))]
-pub(crate) fn given_called<N: Judge, R: Reader<N>>(
+#[tactic(auto, using(pyc_obligations::proofs::Steps::performing), unfolding(crate::specs::Called::infer_given_call))]
+pub(crate) fn infer_given_call<N: AskTypes, R: InferType<N>>(
     alloc: Global,
-    notes: &mut N,
+    recorder: &mut N,
     reader: &R,
     arguments: &Arguments<'_>,
     given: Ty,
 ) -> Result<Ty, AllocError>
     requires { R.ready reader.now }
-    ensures { Performs ty_of (spec.given_called (args_in (R.reads reader.now) arguments.now) (ty_of given))
-        (N.desk notes.old) result (N.desk notes.new) }
+    ensures { Performs ty_of (spec.infer_given_call (args_in (R.reads reader.now) arguments.now) (ty_of given))
+        (N.trace recorder.old) result (N.trace recorder.new) }
 {
-    read_all(alloc, notes, reader, arguments)?;
+    read_all(alloc, recorder, reader, arguments)?;
     Ok(given)
 }
 
-/// Tells that a value of a type cannot be called.
-#[tactic(auto, using(pyc_obligations::proofs::Steps::performing), unfolding(crate::specs::Called::refused))]
-pub(crate) fn refused<N: Judge, R: Reader<N>>(
+/// Reports that a value of a type cannot be called.
+#[tactic(auto, using(pyc_obligations::proofs::Steps::performing), unfolding(crate::specs::Called::report_refused))]
+pub(crate) fn report_refused<N: AskTypes, R: InferType<N>>(
     alloc: Global,
-    notes: &mut N,
+    recorder: &mut N,
     reader: &R,
     call: &Call<'_>,
     arguments: &Arguments<'_>,
@@ -63,17 +64,17 @@ pub(crate) fn refused<N: Judge, R: Reader<N>>(
 ) -> Result<Ty, AllocError>
     requires { R.ready reader.now }
     ensures { Performs ty_of
-        (spec.refused (call_in call.now) (args_in (R.reads reader.now) arguments.now) (ty_of ty.now))
-        (N.desk notes.old) result (N.desk notes.new) }
+        (spec.report_refused (call_in call.now) (args_in (R.reads reader.now) arguments.now) (ty_of ty.now))
+        (N.trace recorder.old) result (N.trace recorder.new) }
 {
-    read_all(alloc, notes, reader, arguments)?;
-    not_callable(alloc, notes, call, ty)
+    read_all(alloc, recorder, reader, arguments)?;
+    not_callable(alloc, recorder, call, ty)
 }
 
 /// What is no union and no instance of a class is called.
-pub(crate) fn plainly_called<N: Judge, R: Reader<N>>(
+pub(crate) fn infer_plain_call<N: AskTypes, R: InferType<N>>(
     alloc: Global,
-    notes: &mut N,
+    recorder: &mut N,
     reader: &R,
     call: &Call<'_>,
     arguments: &Arguments<'_>,
@@ -81,24 +82,24 @@ pub(crate) fn plainly_called<N: Judge, R: Reader<N>>(
 ) -> Result<Ty, AllocError>
     requires { R.ready reader.now }
     ensures { Performs ty_of
-        (spec.plainly_called (call_in call.now) (args_in (R.reads reader.now) arguments.now) (ty_of callee.now))
-        (N.desk notes.old) result (N.desk notes.new) }
+        (spec.infer_plain_call (call_in call.now) (args_in (R.reads reader.now) arguments.now) (ty_of callee.now))
+        (N.trace recorder.old) result (N.trace recorder.new) }
 {
     match callee {
-        Ty::Any => any_called(alloc, notes, reader, arguments),
-        Ty::Class(class) => class_called(alloc, notes, reader, call, arguments, class),
+        Ty::Any => infer_any_call(alloc, recorder, reader, arguments),
+        Ty::Class(class) => infer_class_call(alloc, recorder, reader, call, arguments, class),
         Ty::Callable(signature) => {
-            signature_called(alloc, notes, reader, call, arguments, signature)
+            infer_signature_call(alloc, recorder, reader, call, arguments, signature)
         }
-        _ => refused(alloc, notes, reader, call, arguments, callee),
+        _ => report_refused(alloc, recorder, reader, call, arguments, callee),
     }
 }
 
 /// What has this signature is called.
-#[tactic(auto, using(pyc_obligations::proofs::Steps::performing), unfolding(crate::specs::Called::signature_called))]
-fn signature_called<N: Judge, R: Reader<N>>(
+#[tactic(auto, using(pyc_obligations::proofs::Steps::performing), unfolding(crate::specs::Called::infer_signature_call))]
+fn infer_signature_call<N: AskTypes, R: InferType<N>>(
     alloc: Global,
-    notes: &mut N,
+    recorder: &mut N,
     reader: &R,
     call: &Call<'_>,
     arguments: &Arguments<'_>,
@@ -106,19 +107,19 @@ fn signature_called<N: Judge, R: Reader<N>>(
 ) -> Result<Ty, AllocError>
     requires { R.ready reader.now }
     ensures { Performs ty_of
-        (spec.signature_called (call_in call.now) (args_in (R.reads reader.now) arguments.now)
+        (spec.infer_signature_call (call_in call.now) (args_in (R.reads reader.now) arguments.now)
         (params_of signature.now.params) (ty_of signature.now.result))
-        (N.desk notes.old) result (N.desk notes.new) }
+        (N.trace recorder.old) result (N.trace recorder.new) }
 {
-    match_arguments(alloc, notes, reader, call, arguments, &signature.params)?;
+    match_arguments(alloc, recorder, reader, call, arguments, &signature.params)?;
     signature.result.clone()
 }
 
 /// A class is called.
-#[tactic(auto, using(pyc_obligations::proofs::Steps::performing), unfolding(crate::specs::Called::class_called))]
-fn class_called<N: Judge, R: Reader<N>>(
+#[tactic(auto, using(pyc_obligations::proofs::Steps::performing), unfolding(crate::specs::Called::infer_class_call))]
+fn infer_class_call<N: AskTypes, R: InferType<N>>(
     alloc: Global,
-    notes: &mut N,
+    recorder: &mut N,
     reader: &R,
     call: &Call<'_>,
     arguments: &Arguments<'_>,
@@ -126,18 +127,18 @@ fn class_called<N: Judge, R: Reader<N>>(
 ) -> Result<Ty, AllocError>
     requires { R.ready reader.now }
     ensures { Performs ty_of
-        (spec.class_called (call_in call.now) (args_in (R.reads reader.now) arguments.now) class.now)
-        (N.desk notes.old) result (N.desk notes.new) }
+        (spec.infer_class_call (call_in call.now) (args_in (R.reads reader.now) arguments.now) class.now)
+        (N.trace recorder.old) result (N.trace recorder.new) }
 {
-    let found = constructor(alloc, notes, class)?;
-    constructed(alloc, notes, reader, call, arguments, class, found)
+    let found = constructor(alloc, recorder, class)?;
+    infer_construction(alloc, recorder, reader, call, arguments, class, found)
 }
 
 /// A class is called that takes this.
-#[tactic(auto, using(pyc_obligations::proofs::Steps::performing), unfolding(crate::specs::Called::signature_called))]
-fn constructed<N: Judge, R: Reader<N>>(
+#[tactic(auto, using(pyc_obligations::proofs::Steps::performing), unfolding(crate::specs::Called::infer_signature_call))]
+fn infer_construction<N: AskTypes, R: InferType<N>>(
     alloc: Global,
-    notes: &mut N,
+    recorder: &mut N,
     reader: &R,
     call: &Call<'_>,
     arguments: &Arguments<'_>,
@@ -146,18 +147,18 @@ fn constructed<N: Judge, R: Reader<N>>(
 ) -> Result<Ty, AllocError>
     requires { R.ready reader.now }
     ensures { Performs ty_of
-        (spec.signature_called (call_in call.now) (args_in (R.reads reader.now) arguments.now)
+        (spec.infer_signature_call (call_in call.now) (args_in (R.reads reader.now) arguments.now)
         (class_params_in found) (instance_of class.now))
-        (N.desk notes.old) result (N.desk notes.new) }
+        (N.trace recorder.old) result (N.trace recorder.new) }
 {
-    match_constructor(alloc, notes, reader, call, arguments, &found)?;
+    match_constructor(alloc, recorder, reader, call, arguments, &found)?;
     instance_of(alloc, class)
 }
 
 /// Matches arguments to what a class takes.
-fn match_constructor<N: Judge, R: Reader<N>>(
+fn match_constructor<N: AskTypes, R: InferType<N>>(
     alloc: Global,
-    notes: &mut N,
+    recorder: &mut N,
     reader: &R,
     call: &Call<'_>,
     arguments: &Arguments<'_>,
@@ -167,19 +168,19 @@ fn match_constructor<N: Judge, R: Reader<N>>(
     ensures { Performs (λ u. u)
         (matching.matched (call_in call.now) (class_params_in found.now)
         (args_in (R.reads reader.now) arguments.now))
-        (N.desk notes.old) result (N.desk notes.new) }
+        (N.trace recorder.old) result (N.trace recorder.new) }
 {
     match found {
-        ClassParams::Unmatched => read_all(alloc, notes, reader, arguments),
-        ClassParams::Bare => match_listed(alloc, notes, reader, call, arguments, &[]),
-        ClassParams::Typed(ty) => match_bound(alloc, notes, reader, call, arguments, ty),
+        ClassParams::Unmatched => read_all(alloc, recorder, reader, arguments),
+        ClassParams::Bare => match_listed(alloc, recorder, reader, call, arguments, &[]),
+        ClassParams::Typed(ty) => match_bound(alloc, recorder, reader, call, arguments, ty),
     }
 }
 
 /// Matches arguments to what something of a type takes: any, if it is no callable.
-fn match_bound<N: Judge, R: Reader<N>>(
+fn match_bound<N: AskTypes, R: InferType<N>>(
     alloc: Global,
-    notes: &mut N,
+    recorder: &mut N,
     reader: &R,
     call: &Call<'_>,
     arguments: &Arguments<'_>,
@@ -189,21 +190,21 @@ fn match_bound<N: Judge, R: Reader<N>>(
     ensures { Performs (λ u. u)
         (matching.matched (call_in call.now) (params_in (ty_of ty.now))
         (args_in (R.reads reader.now) arguments.now))
-        (N.desk notes.old) result (N.desk notes.new) }
+        (N.trace recorder.old) result (N.trace recorder.new) }
 {
     match ty {
         Ty::Callable(signature) => {
-            match_arguments(alloc, notes, reader, call, arguments, &signature.params)
+            match_arguments(alloc, recorder, reader, call, arguments, &signature.params)
         }
-        _ => read_all(alloc, notes, reader, arguments),
+        _ => read_all(alloc, recorder, reader, arguments),
     }
 }
 
 /// An instance of a class of a source without `__call__` is called.
 #[tactic(auto, using(pyc_obligations::proofs::Steps::performing), unfolding(crate::specs::Called::without_call))]
-pub(crate) fn without_call<N: Judge, R: Reader<N>>(
+pub(crate) fn without_call<N: AskTypes, R: InferType<N>>(
     alloc: Global,
-    notes: &mut N,
+    recorder: &mut N,
     reader: &R,
     call: &Call<'_>,
     arguments: &Arguments<'_>,
@@ -212,16 +213,16 @@ pub(crate) fn without_call<N: Judge, R: Reader<N>>(
     requires { R.ready reader.now }
     ensures { Performs ty_of
         (spec.without_call (call_in call.now) (args_in (R.reads reader.now) arguments.now) class.now)
-        (N.desk notes.old) result (N.desk notes.new) }
+        (N.trace recorder.old) result (N.trace recorder.new) }
 {
-    let is_unknown = is_unknown_class(alloc, notes, class)?;
-    refused_unless(alloc, notes, reader, is_unknown, call, arguments, class)
+    let is_unknown = is_unknown_class(alloc, recorder, class)?;
+    report_refused_unless(alloc, recorder, reader, is_unknown, call, arguments, class)
 }
 
-/// The same, by whether the order of the class is not known.
-fn refused_unless<N: Judge, R: Reader<N>>(
+/// An instance of `class` without `__call__` is called. The checker reports that, unless the order is unknown.
+fn report_refused_unless<N: AskTypes, R: InferType<N>>(
     alloc: Global,
-    notes: &mut N,
+    recorder: &mut N,
     reader: &R,
     is_unknown: bool,
     call: &Call<'_>,
@@ -230,21 +231,22 @@ fn refused_unless<N: Judge, R: Reader<N>>(
 ) -> Result<Ty, AllocError>
     requires { R.ready reader.now }
     ensures { Performs ty_of
-        (spec.refused_unless is_unknown (call_in call.now) (args_in (R.reads reader.now) arguments.now) class.now)
-        (N.desk notes.old) result (N.desk notes.new) }
+        (spec.report_refused_unless is_unknown (call_in call.now) (args_in (R.reads reader.now) arguments.now)
+        class.now)
+        (N.trace recorder.old) result (N.trace recorder.new) }
 {
     if is_unknown {
-        any_called(alloc, notes, reader, arguments)
+        infer_any_call(alloc, recorder, reader, arguments)
     } else {
-        refused_instance(alloc, notes, reader, call, arguments, class)
+        report_refused_instance(alloc, recorder, reader, call, arguments, class)
     }
 }
 
-/// Tells that an instance of a class cannot be called.
+/// Reports that an instance of a class cannot be called.
 #[tactic(auto, using(pyc_obligations::proofs::Steps::performing))]
-pub(crate) fn refused_instance<N: Judge, R: Reader<N>>(
+pub(crate) fn report_refused_instance<N: AskTypes, R: InferType<N>>(
     alloc: Global,
-    notes: &mut N,
+    recorder: &mut N,
     reader: &R,
     call: &Call<'_>,
     arguments: &Arguments<'_>,
@@ -252,9 +254,9 @@ pub(crate) fn refused_instance<N: Judge, R: Reader<N>>(
 ) -> Result<Ty, AllocError>
     requires { R.ready reader.now }
     ensures { Performs ty_of
-        (spec.refused (call_in call.now) (args_in (R.reads reader.now) arguments.now) (plain.instance class.now))
-        (N.desk notes.old) result (N.desk notes.new) }
+        (spec.report_refused (call_in call.now) (args_in (R.reads reader.now) arguments.now) (plain.instance class.now))
+        (N.trace recorder.old) result (N.trace recorder.new) }
 {
     let ty = Ty::Instance(class.clone()?);
-    refused(alloc, notes, reader, call, arguments, &ty)
+    report_refused(alloc, recorder, reader, call, arguments, &ty)
 }

@@ -6,7 +6,7 @@ ghost use Rattle.pyc_calls.specs.Views.{count_of, given_in, how_far, memory_in};
 ghost use Rattle.pyc_type_forms.specs.TypeView.{ty_of};
 
 use indexmap::IndexMap;
-use pyc_class::ClassId;
+use pyc_class_ids::ClassId;
 use pyc_type_forms::Ty;
 use std::alloc::{AllocError, Global};
 

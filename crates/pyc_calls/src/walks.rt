@@ -8,14 +8,14 @@ ghost use Rattle.pyc_calls.specs.Walks as spec;
 ghost use Rattle.pyc_type_forms.specs.TypeView.{row, ty_of};
 
 use crate::remembered::{Memory, begin, finish};
-use pyc_class::ClassId;
+use pyc_class_ids::ClassId;
 use pyc_type_forms::{Ty, union_of};
 use std::alloc::{AllocError, Global};
 use std::rc::Rc;
 
 /// What a call of an instance of a class comes to.
 #[derive(Drop)]
-pub(crate) enum Met {
+pub(crate) enum CallOutcome {
     /// A type.
     Came(Ty),
     /// A `__call__` that was not met before, by its class and its type through an instance.
@@ -52,12 +52,12 @@ pub(crate) enum Standing {
 }
 
 /// How a walk stands after a call of an instance of a class.
-pub(crate) fn standing_met(met: Met) -> Standing
+pub(crate) fn standing_met(met: CallOutcome) -> Standing
     ensures { standing_in result ≡ spec.standing_met (met_in met) }
 {
     match met {
-        Met::Came(ty) => Standing::Gives(ty),
-        Met::New(class, bound) => Standing::Meets(class, bound),
+        CallOutcome::Came(ty) => Standing::Gives(ty),
+        CallOutcome::New(class, bound) => Standing::Meets(class, bound),
     }
 }
 

@@ -3,21 +3,21 @@ use Rattle.std.proofs.Common.{◌≡◌, ℕ, suc, Bool, true, false, cond, List
 use Rattle.std.specs.List.{list_any}
 use Rattle.std.proofs.lemmas.Bool.{or_parts, true≢false}
 use Rattle.std.proofs.lemmas.Option.{none-some, same_Some}
-use Rattle.pyc_class.specs.declared.class_id.InstanceForm.{InstanceForm}
-use Rattle.pyc_class.specs.declared.class_id.InstanceForm.TheVariants as form
-use Rattle.pyc_class.specs.declared.order.UnknownOrder.TheVariants as unknown
-use Rattle.pyc_class.specs.Class.{Id, form_of}
+use Rattle.pyc_class_ids.specs.declared.class_id.InstanceForm.{InstanceForm}
+use Rattle.pyc_class_ids.specs.declared.class_id.InstanceForm.TheVariants as form
+use Rattle.pyc_class_ids.specs.declared.order.UnknownMro.TheVariants as unknown
+use Rattle.pyc_class_ids.specs.Class.{Id, form_of}
 use Rattle.pyc_mro.specs.declared.table.Base.{Base}
 use Rattle.pyc_mro.specs.declared.table.Base.TheVariants as base
 use Rattle.pyc_mro.specs.Merge.{merge}
-use Rattle.pyc_mro.specs.Orders.{Order, is_unknown, alone, no_order, base_order, base_orders, merged_rows, merged_order, order_within, order_below}
-use Rattle.pyc_mro.specs.OrderLaws.{IsKnown}
+use Rattle.pyc_mro.specs.MroTable.{Mro, is_unknown, unknown_of, no_order, base_order, base_orders, merged_rows, merged_order, order_within, order_below}
+use Rattle.pyc_mro.specs.MroLaws.{IsKnown}
 use Rattle.pyc_mro.specs.Tables.{Table, classes_among as numbers_among, bases_of as numbered_bases, is_own_ancestor}
 use Rattle.pyc_mro.proofs.LawLemmas.{known_are_of_the_table}
-use Rattle.pyc_mro.proofs.OrderLemmas.{with_order-parts, bases-made, order_of-within}
-use Rattle.pyc_classes.specs.declared.class_entry.WrittenBase.{WrittenBase}
-use Rattle.pyc_classes.specs.declared.class_entry.WrittenBase.TheVariants as written
-use Rattle.pyc_classes.specs.Numbers.{base_by, numbered_base}
+use Rattle.pyc_mro.proofs.MroLemmas.{with_order-parts, bases-made, order_of-within}
+use Rattle.pyc_class_table.specs.declared.class_entry.WrittenBase.{WrittenBase}
+use Rattle.pyc_class_table.specs.declared.class_entry.WrittenBase.TheVariants as written
+use Rattle.pyc_class_table.specs.Numbers.{base_by, numbered_base}
 use Rattle.pyc_class_laws.specs.ClassLaws.{classes_among}
 
 -- ---- bases by number
@@ -32,7 +32,7 @@ numbers_among-classes [] = refl
 numbers_among-classes (n ∷ row) = ap (λ l. n ∷ l) (numbers_among-classes row)
 
 -- bases whose orders are all known are classes
-are_classes : (count : ℕ) (f : ℕ → Option Order) (bases : List Base) (orders : List Order) → base_orders count f bases ≡ Some orders
+are_classes : (count : ℕ) (f : ℕ → Option Mro) (bases : List Base) (orders : List Mro) → base_orders count f bases ≡ Some orders
     → list_any is_unknown orders ≡ false → (row : List ℕ) × AreClasses bases row
 are_classes count f [] orders is all = ([], refl)
 are_classes count f (base.Unknown ∷ bases) orders is all =
@@ -58,15 +58,15 @@ known_bases table c known =
     bases : List Base
     bases = numbered_bases table c
 
-    by_bases : (orders : List Order) → base_orders (length table) (order_within table (length table)) bases ≡ Some orders
+    by_bases : (orders : List Mro) → base_orders (length table) (order_within table (length table)) bases ≡ Some orders
         → (b : Bool) → list_any is_unknown orders ≡ b
-        → (cond b (alone c unknown.Base) (merged_order c (merge (merged_rows bases orders)))).unknown ≡ None
+        → (cond b (unknown_of c unknown.Base) (merged_order c (merge (merged_rows bases orders)))).unknown ≡ None
         → (row : List ℕ) × AreClasses bases row
     by_bases orders made true some is = absurd (none-some unknown.Base (sym is))
     by_bases orders made false all is = are_classes (length table) (order_within table (length table)) bases orders made all
 
-    by_order : (b : Bool) (o : Option Order) → order_within table (suc (length table)) c ≡ o
-        → (cond b (alone c unknown.Cycle) (order_below c o)).unknown ≡ None → (row : List ℕ) × AreClasses bases row
+    by_order : (b : Bool) (o : Option Mro) → order_within table (suc (length table)) c ≡ o
+        → (cond b (unknown_of c unknown.Cycle) (order_below c o)).unknown ≡ None → (row : List ℕ) × AreClasses bases row
     by_order true o e is = absurd (none-some unknown.Cycle (sym is))
     by_order false None e is = absurd (none-some unknown.Base (sym is))
     by_order false (Some order) e is =

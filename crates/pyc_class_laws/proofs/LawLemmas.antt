@@ -5,24 +5,24 @@ use Rattle.std.specs.Option.{option_map_or}
 use Rattle.std.proofs.lemmas.Bool.{or_cases, or_left, or_right, eqb-true, false≢true}
 use Rattle.std.proofs.lemmas.List.Elements.{All-cons, All-map, All-nil}
 use Rattle.std.proofs.lemmas.Option.{slice_get-map}
-use Rattle.pyc_class.specs.declared.class_id.InstanceForm.TheVariants as form
-use Rattle.pyc_class.specs.Class.{Id, same_class, form_of}
-use Rattle.pyc_class.specs.ClassEquality.{same_class_equiv}
-use Rattle.pyc_class.specs.Order.{Orders, is_unknown, leads}
+use Rattle.pyc_class_ids.specs.declared.class_id.InstanceForm.TheVariants as form
+use Rattle.pyc_class_ids.specs.Class.{Id, same_class, form_of}
+use Rattle.pyc_class_ids.specs.ClassEquality.{same_class_equiv}
+use Rattle.pyc_class_ids.specs.Mro.{MroTable, is_unknown, leads}
 use Rattle.pyc_mro.specs.Merge.{contains}
-use Rattle.pyc_mro.specs.OrderLaws.{classes_of}
-use Rattle.pyc_mro.specs.OrderLaws as numbered
+use Rattle.pyc_mro.specs.MroLaws.{classes_of}
+use Rattle.pyc_mro.specs.MroLaws as numbered
 use Rattle.pyc_mro.specs.Tables.{Table, classes_among as numbers_among, bases_of as numbered_bases, parents, reaches}
 use Rattle.pyc_mro.proofs.LawLemmas.{holds_ancestors, keeps_orders, keeps_written_bases}
 use Rattle.pyc_mro.proofs.TableLemmas.{any-found, any-from, reaches-base, reaches-parts}
-use Rattle.pyc_classes.specs.declared.class_entry.WrittenBase.TheVariants as written
-use Rattle.pyc_classes.specs.ClassOrders.{order_at, orders_of}
-use Rattle.pyc_classes.specs.Entries.{Entry, all_entries}
-use Rattle.pyc_classes.specs.Numbers.{number_in, id_at, numbered_base, table_of}
-use Rattle.pyc_classes.specs.OrderLaws.{IsKnown, Sublist, ended, kept, left_out}
-use Rattle.pyc_classes.proofs.BuiltinLemmas.{same_class-is, builtins_follow_the_rule}
-use Rattle.pyc_classes.proofs.LawLemmas.{orders_kept, orders_orderly}
-use Rattle.pyc_classes.proofs.NumberLemmas.{number_from}
+use Rattle.pyc_class_table.specs.declared.class_entry.WrittenBase.TheVariants as written
+use Rattle.pyc_class_table.specs.ClassMros.{order_at, orders_of}
+use Rattle.pyc_class_table.specs.Entries.{Entry, all_entries}
+use Rattle.pyc_class_table.specs.Numbers.{number_in, id_at, numbered_base, table_of}
+use Rattle.pyc_class_table.specs.MroLaws.{IsKnown, Sublist, ended, kept, left_out}
+use Rattle.pyc_class_table.proofs.BuiltinLemmas.{same_class-is, builtins_follow_the_rule}
+use Rattle.pyc_class_table.proofs.LawLemmas.{orders_kept, orders_orderly}
+use Rattle.pyc_class_table.proofs.NumberLemmas.{number_from}
 use Rattle.pyc_class_laws.specs.ClassLaws.{written_bases, classes_among, bases_of, has_base, IsAncestor, at_once, by_base, IsKnownBase, KeepsWrittenBases, KnowsWrittenBases, HoldsAncestors}
 use Rattle.pyc_class_laws.proofs.BaseLemmas.{numbers_among-classes, known_bases, HaveNumbers, none, one_more, written-numbers, among-classes}
 
@@ -102,7 +102,7 @@ module _ (declared : List Entry) where
   all = all_entries declared
 
   -- the order of each class by one rule
-  abbrev order : Orders
+  abbrev order : MroTable
   order c = order_at all (number_in all c)
 
   abbrev table : Table
@@ -261,7 +261,7 @@ leads-base : (declared : List Entry) (c d : Id) → IsKnown (orders_of declared)
 leads-base declared c d known base = Sublist-any (λ other. same_class other d) (written_bases_kept declared c known) base
 
 -- classes of the plain form are known bases, where the order of each is known
-known-each : (orders : Orders) (classes : List Id) → All IsPlain classes
+known-each : (orders : MroTable) (classes : List Id) → All IsPlain classes
     → ((d : Id) → list_any (λ base. same_class base d) classes ≡ true → IsKnown orders d)
     → All (λ class. IsKnownBase orders (written.Class class)) classes
 known-each orders classes plain known k d below =

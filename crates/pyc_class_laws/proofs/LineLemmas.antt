@@ -2,16 +2,16 @@
 use Rattle.std.proofs.Common.{◌≡◌, ◌≤◌, ◌⊎◌, ◌||◌, Bool, true, false, is_some, not, List, [], ◌∷◌, length, inl, inr, refl, sym, ap, ◌∙◌, subst, arith}
 use Rattle.std.specs.List.{list_any}
 use Rattle.std.proofs.lemmas.Bool.{false≢true, or_cases, or_left, or_right}
-use Rattle.pyc_class.specs.Class.{Id, same_class}
-use Rattle.pyc_class.specs.ClassEquality.{same_class_equiv}
-use Rattle.pyc_class.specs.Order.{Orders, is_unknown, leads}
+use Rattle.pyc_class_ids.specs.Class.{Id, same_class}
+use Rattle.pyc_class_ids.specs.ClassEquality.{same_class_equiv}
+use Rattle.pyc_class_ids.specs.Mro.{MroTable, is_unknown, leads}
 use Rattle.pyc_class_laws.specs.ClassLaws.{bases_of, has_base, IsAncestor, at_once, by_base, HasSingleBases, SingleBasesMakeALine}
 use Rattle.pyc_class_laws.proofs.LawLemmas.{ancestors_held}
-use Rattle.pyc_classes.specs.ClassOrders.{orders_of}
-use Rattle.pyc_classes.specs.Entries.{Entry}
-use Rattle.pyc_classes.specs.OrderLaws.{IsKnown}
-use Rattle.pyc_classes.proofs.BuiltinLemmas.{same_class-is}
-use Rattle.pyc_classes.proofs.LawLemmas.{orders_kept, orders_orderly}
+use Rattle.pyc_class_table.specs.ClassMros.{orders_of}
+use Rattle.pyc_class_table.specs.Entries.{Entry}
+use Rattle.pyc_class_table.specs.MroLaws.{IsKnown}
+use Rattle.pyc_class_table.proofs.BuiltinLemmas.{same_class-is}
+use Rattle.pyc_class_table.proofs.LawLemmas.{orders_kept, orders_orderly}
 
 -- two classes of a row of at most one are one
 one_of : (row : List Id) (d e : Id) → length row ≤ 1 → list_any (λ base. same_class base d) row ≡ true → list_any (λ base. same_class base e) row ≡ true
@@ -27,7 +27,7 @@ one_of (c ∷ []) d e few one other = elim (or_cases (same_class c d) false one)
 one_of (b ∷ c ∷ row) d e few one other = absurd (omega (arith, few))
 
 module _ (declared : List Entry) where
-  abbrev orders : Orders
+  abbrev orders : MroTable
   orders = orders_of declared
 
   abbrev in_order : Id → Id → Bool

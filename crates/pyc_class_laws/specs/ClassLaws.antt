@@ -3,14 +3,14 @@
 use Rattle.std.specs.Prelude.{◌≡◌, ◌⊎◌, ◌↔◌, ◌≤◌, ◌||◌, Bool, IsTrue, List, [], ◌∷◌, length, Option}
 use Rattle.std.specs.List.{All, find, list_any}
 use Rattle.std.specs.Option.{option_map_or}
-use Rattle.pyc_class.specs.declared.class_id.InstanceForm.TheVariants as form
-use Rattle.pyc_class.specs.Class.{Id, same_class, form_of}
-use Rattle.pyc_class.specs.Order.{Orders, leads}
-use Rattle.pyc_classes.specs.declared.class_entry.WrittenBase.{WrittenBase}
-use Rattle.pyc_classes.specs.declared.class_entry.WrittenBase.TheVariants as written
-use Rattle.pyc_classes.specs.ClassOrders.{orders_of}
-use Rattle.pyc_classes.specs.Entries.{Entry, all_entries}
-use Rattle.pyc_classes.specs.OrderLaws.{IsKnown, Sublist}
+use Rattle.pyc_class_ids.specs.declared.class_id.InstanceForm.TheVariants as form
+use Rattle.pyc_class_ids.specs.Class.{Id, same_class, form_of}
+use Rattle.pyc_class_ids.specs.Mro.{MroTable, leads}
+use Rattle.pyc_class_table.specs.declared.class_entry.WrittenBase.{WrittenBase}
+use Rattle.pyc_class_table.specs.declared.class_entry.WrittenBase.TheVariants as written
+use Rattle.pyc_class_table.specs.ClassMros.{orders_of}
+use Rattle.pyc_class_table.specs.Entries.{Entry, all_entries}
+use Rattle.pyc_class_table.specs.MroLaws.{IsKnown, Sublist}
 
 -- ---- written bases
 
@@ -47,7 +47,7 @@ pub data IsAncestor (declared : List Entry) : Id → Id → Type 0 where
 -- ---- the laws
 
 -- a base that is a class, whose instances have the plain form and whose order is known
-abbrev pub IsKnownBase : Orders → WrittenBase → Type 0
+abbrev pub IsKnownBase : MroTable → WrittenBase → Type 0
 IsKnownBase orders (written.Class class) = (form_of class ≡ form.Plain) × IsKnown orders class
 IsKnownBase orders written.Unknown = ⊥
 

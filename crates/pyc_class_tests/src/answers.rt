@@ -3,8 +3,8 @@
 use crate::sources::{class_of, world_of};
 use pyc_ast::Text;
 use pyc_iface::{Key, MemberName};
+use pyc_known_answers::is_same;
 use pyc_names::{ModuleName, QualifiedName};
-use pyc_same_answers::is_same;
 use std::alloc::{AllocError, Global};
 use std::test::Fail;
 
@@ -13,12 +13,12 @@ use std::test::Fail;
 fn are_same(alloc: Global, source: &str, other: &str) -> Result<Vec<bool>, AllocError> {
     let world = world_of(alloc, &[("m.py", source)])?;
     let changed = world_of(alloc, &[("m.py", other)])?;
-    let mut told = Vec::new(alloc);
+    let mut reported = Vec::new(alloc);
     for key in &keys(alloc)? {
         let answer = world.ask(alloc, key)?;
-        told.push(is_same(&answer, &changed.ask(alloc, key)?))?;
+        reported.push(is_same(&answer, &changed.ask(alloc, key)?))?;
     }
-    Ok(told)
+    Ok(reported)
 }
 
 /// The four keys.
@@ -36,7 +36,7 @@ fn keys(alloc: Global) -> Result<Vec<Key>, AllocError> {
 /// The name `x` of `m`.
 fn name_in_m(alloc: Global) -> Result<QualifiedName, AllocError> {
     Ok(QualifiedName {
-        home: ModuleName::of_path(alloc, "m.py")?,
+        module_path: ModuleName::of_path(alloc, "m.py")?,
         name: Text::new(alloc, "x")?,
     })
 }

@@ -75,8 +75,8 @@ const ATTRIBUTES: &[(&str, &str)] = &[
     ("@classmethod\ndef f(self):\n    self.a = 1\n", ""),
 ];
 
-/// Attributes are told in text order. One that is a target by itself keeps the value of the assignment, any other does
-/// not.
+/// Attributes are reported in text order. One that is a target by itself keeps the value of the assignment, any other
+/// does not.
 #[test]
 fn attributes_in_text_order(rt: HostRuntime) -> Result<(), Fail> {
     for (body, want) in ATTRIBUTES {

@@ -47,7 +47,7 @@ fn shown(alloc: Global, body: &ClassBody, name: &str) -> Result<String, Fail> {
     Ok(shown)
 }
 
-/// The same in the class statement with this body.
+/// Shows what decides of `name` in the class statement with this body, and whether it is a settable property there.
 fn decided(alloc: Global, body: &str, name: &str) -> Result<String, Fail> {
     let body = body_of(alloc, body)?;
     shown(alloc, &body, name)

@@ -53,7 +53,8 @@ const DECLARED: &[(&str, &str)] = &[
     ("def f():\n    A = 1\nclass A: ...\n", "A 3 0; "),
 ];
 
-/// Classes are told in text order. A class statement declares a class only where it is the first that binds its name.
+/// Classes are reported in text order. A class statement declares a class only where it is the first that binds its
+/// name.
 #[test]
 fn classes_that_are_declared(rt: HostRuntime) -> Result<(), Fail> {
     for (source, want) in DECLARED {

@@ -25,7 +25,7 @@ pub(crate) fn keys_of(alloc: Global, path: &str, name: &str) -> Result<Vec<Key>,
 /// A name in the module of a path.
 fn name_in(alloc: Global, path: &str, name: &str) -> Result<QualifiedName, AllocError> {
     Ok(QualifiedName {
-        home: ModuleName::of_path(alloc, path)?,
+        module_path: ModuleName::of_path(alloc, path)?,
         name: Text::new(alloc, name)?,
     })
 }
@@ -124,30 +124,6 @@ fn what_nobody_reads_is_let_go(rt: HostRuntime) -> Result<(), Fail> {
     Ok(())
 }
 
-/// Where a growth is refused, each number stands for what it did. By itself no growth is refused: `rt try --test` with
-/// `--fail-alloc` refuses each in turn.
-#[test]
-fn refused_growths_leave_all(rt: HostRuntime) -> Result<(), Fail> {
-    let alloc = rt.alloc();
-    let first = keys_of(alloc, "m.py", "x")?;
-    let more = keys_of(alloc, "p/m.py", "y")?;
-    let mut keys = Keys::new(alloc);
-    let ids = keys.intern_all(alloc, &first)?;
-    if keys.intern_all(alloc, &more).is_err() {
-        assert_eq!(rt;
-            held(alloc, &keys, &more)?.as_slice(),
-            [false; 5].as_slice()
-        );
-    }
-    for key in &more {
-        if keys.intern(key).is_err() {
-            assert!(rt; keys.find(key).is_none());
-        }
-    }
-    assert!(rt; known(&keys, &first, &ids) == 5);
-    Ok(())
-}
-
 /// A text has its own number however often it is interned.
 #[test]
 fn names_have_numbers(rt: HostRuntime) -> Result<(), Fail> {
@@ -160,7 +136,6 @@ fn names_have_numbers(rt: HostRuntime) -> Result<(), Fail> {
     assert!(rt; names.find("y") == Some(y));
     assert!(rt; names.text(x) == "x");
     assert!(rt; names.text(y) == "y");
-    assert!(rt; names.bound() == 2);
     assert!(rt; x.number() == 0);
     Ok(())
 }

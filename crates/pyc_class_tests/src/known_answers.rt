@@ -2,9 +2,9 @@
 
 use crate::keys::keys_of;
 use crate::sources::world_of;
+use pyc_iface::Answer;
 use pyc_keys::{KeyId, Keys};
-use pyc_known_answers::KnownAnswers;
-use pyc_same_answers::is_same;
+use pyc_known_answers::{KnownAnswers, is_same};
 use std::alloc::{AllocError, Global};
 use std::rc::Rc;
 use std::test::Fail;
@@ -13,6 +13,13 @@ use std::test::Fail;
 fn answers_of(alloc: Global, source: &str) -> Result<KnownAnswers, AllocError> {
     let world = world_of(alloc, &[("m.py", source)])?;
     Ok(KnownAnswers::new(alloc, Rc::new(alloc, world)?))
+}
+
+/// The answer of a number, which is known from then on.
+fn known(answers: &mut KnownAnswers, keys: &Keys, id: KeyId) -> Result<Rc<Answer>, AllocError> {
+    let found = answers.find_or_form(keys, id)?;
+    answers.keep(id, found.clone()?)?;
+    Ok(found)
 }
 
 /// How many of these numbers have the answer that the world gives to their keys.
@@ -24,8 +31,8 @@ fn right(
 ) -> Result<usize, AllocError> {
     let mut count = 0;
     for id in ids {
-        let known = answers.ask(keys, *id)?;
-        if is_same(&known, &answers.world().ask(alloc, keys.key(*id))?) {
+        let found = known(answers, keys, *id)?;
+        if is_same(&found, &answers.world().ask(alloc, keys.key(*id))?) {
             count += 1;
         }
     }
@@ -40,13 +47,13 @@ fn same(
     keys: &Keys,
     ids: &[KeyId],
 ) -> Result<Vec<bool>, AllocError> {
-    let mut told = Vec::new(alloc);
+    let mut reported = Vec::new(alloc);
     for id in ids {
-        let own = first.ask(keys, *id)?;
-        let other = second.ask(keys, *id)?;
-        told.push(is_same(&own, &other))?;
+        let own = known(first, keys, *id)?;
+        let other = known(second, keys, *id)?;
+        reported.push(is_same(&own, &other))?;
     }
-    Ok(told)
+    Ok(reported)
 }
 
 const SOURCE: &str = "class C:\n    C: int\nclass D(C): ...\n";
@@ -58,9 +65,9 @@ fn answers_are_known(rt: HostRuntime) -> Result<(), Fail> {
     let mut keys = Keys::new(alloc);
     let ids = keys.intern_all(alloc, &keys_of(alloc, "m.py", "C")?)?;
     let mut answers = answers_of(alloc, SOURCE)?;
-    let last = answers.ask(&keys, ids[4])?;
+    let last = known(&mut answers, &keys, ids[4])?;
     assert!(rt; right(alloc, &mut answers, &keys, &ids)? == 5);
-    assert!(rt; Rc::ptr_eq(&last, &answers.ask(&keys, ids[4])?));
+    assert!(rt; Rc::ptr_eq(&last, &known(&mut answers, &keys, ids[4])?));
     let more = keys.intern_all(alloc, &keys_of(alloc, "m.py", "D")?)?;
     assert!(rt; right(alloc, &mut answers, &keys, &more)? == 5);
     assert!(rt; right(alloc, &mut answers, &keys, &ids)? == 5);
@@ -84,7 +91,7 @@ fn answers_formed_elsewhere_are_kept(rt: HostRuntime) -> Result<(), Fail> {
             .find(ids[3])
             .is_some_and(|known| Rc::ptr_eq(known, &formed))
     );
-    assert!(rt; Rc::ptr_eq(&formed, &answers.ask(&keys, ids[3])?));
+    assert!(rt; Rc::ptr_eq(&formed, &known(&mut answers, &keys, ids[3])?));
     assert!(rt; right(alloc, &mut answers, &keys, &ids)? == 5);
     Ok(())
 }
@@ -97,14 +104,14 @@ fn other_worlds_have_other_answers(rt: HostRuntime) -> Result<(), Fail> {
     let ids = keys.intern_all(alloc, &keys_of(alloc, "m.py", "C")?)?;
     let mut first = answers_of(alloc, SOURCE)?;
     let mut second = answers_of(alloc, "class C(int):\n    C: str\n")?;
-    let known = first.ask(&keys, ids[3])?;
+    let own = known(&mut first, &keys, ids[3])?;
     for _ in 0..2 {
         assert_eq!(rt;
             same(alloc, &mut first, &mut second, &keys, &ids)?.as_slice(),
             [true, true, true, false, false].as_slice()
         );
     }
-    assert!(rt; Rc::ptr_eq(&known, &first.ask(&keys, ids[3])?));
+    assert!(rt; Rc::ptr_eq(&own, &known(&mut first, &keys, ids[3])?));
     assert!(rt; right(alloc, &mut first, &keys, &ids)? == 5);
     assert!(rt; right(alloc, &mut second, &keys, &ids)? == 5);
     Ok(())
@@ -115,18 +122,17 @@ fn other_worlds_have_other_answers(rt: HostRuntime) -> Result<(), Fail> {
 fn forgotten_answers_are_formed_anew(rt: HostRuntime) -> Result<(), Fail> {
     let alloc = rt.alloc();
     let mut keys = Keys::new(alloc);
-    let mut ids = keys.intern_all(alloc, &keys_of(alloc, "m.py", "C")?)?;
+    let ids = keys.intern_all(alloc, &keys_of(alloc, "m.py", "C")?)?;
     let mut answers = answers_of(alloc, SOURCE)?;
     assert!(rt; right(alloc, &mut answers, &keys, &ids)? == 5);
     keys.forget(ids[3]);
-    answers.forget(ids[3]);
+    answers.keep_held(&keys);
     let id = keys.intern(&keys_of(alloc, "m.py", "D")?[3])?;
     assert!(rt; id == ids[3]);
     assert!(rt; right(alloc, &mut answers, &keys, &ids)? == 5);
     keys.forget(id);
-    answers.forget(id);
-    let _ = ids.pop();
-    answers.forget(id);
+    answers.keep_held(&keys);
+    assert!(rt; answers.find(id).is_none());
     assert!(rt; right(alloc, &mut answers, &keys, &ids[..3])? == 3);
     Ok(())
 }
@@ -139,33 +145,15 @@ fn answers_go_with_their_numbers(rt: HostRuntime) -> Result<(), Fail> {
     let ids = keys.intern_all(alloc, &keys_of(alloc, "m.py", "C")?)?;
     let mut answers = answers_of(alloc, SOURCE)?;
     assert!(rt; right(alloc, &mut answers, &keys, &ids)? == 5);
-    let kept = answers.ask(&keys, ids[1])?;
+    let kept = known(&mut answers, &keys, ids[1])?;
     let mut read = Vec::new(alloc);
     read.push(ids[1])?;
     keys.keep_only(&[read]);
     answers.keep_held(&keys);
-    assert!(rt; Rc::ptr_eq(&kept, &answers.ask(&keys, ids[1])?));
+    assert!(rt; Rc::ptr_eq(&kept, &known(&mut answers, &keys, ids[1])?));
     let more = keys.intern_all(alloc, &keys_of(alloc, "m.py", "D")?)?;
     assert!(rt; keys.bound() == 6);
     assert!(rt; right(alloc, &mut answers, &keys, &more)? == 5);
     assert!(rt; right(alloc, &mut answers, &keys, &ids[1..2])? == 1);
-    Ok(())
-}
-
-/// Where a growth is refused, what was known is known. By itself no growth is refused: `rt try --test` with
-/// `--fail-alloc` refuses each in turn.
-#[test]
-fn refused_growths_leave_answers(rt: HostRuntime) -> Result<(), Fail> {
-    let alloc = rt.alloc();
-    let mut keys = Keys::new(alloc);
-    let ids = keys.intern_all(alloc, &keys_of(alloc, "m.py", "C")?)?;
-    let mut answers = answers_of(alloc, SOURCE)?;
-    let first = answers.ask(&keys, ids[0])?;
-    for id in &ids {
-        if answers.ask(&keys, *id).is_err() {
-            assert!(rt; Rc::ptr_eq(&first, &answers.ask(&keys, ids[0])?));
-        }
-    }
-    assert!(rt; right(alloc, &mut answers, &keys, &ids)? == 5);
     Ok(())
 }

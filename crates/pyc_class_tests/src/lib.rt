@@ -3,8 +3,6 @@
 #![tactic(auto)]
 
 #[cfg(test)]
-mod answered_keys;
-#[cfg(test)]
 mod answers;
 #[cfg(test)]
 mod attributes;
@@ -26,3 +24,5 @@ mod methods;
 mod orders;
 #[cfg(test)]
 mod sources;
+#[cfg(test)]
+mod world;

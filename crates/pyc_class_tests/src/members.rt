@@ -2,7 +2,7 @@
 
 use crate::sources::{answered, class_of};
 use pyc_ast::Text;
-use pyc_class::ClassId;
+use pyc_class_ids::ClassId;
 use pyc_iface::{Key, MemberName};
 use std::alloc::Global;
 use std::test::Fail;
@@ -57,8 +57,8 @@ fn member_of(alloc: Global, class: ClassId, name: &str) -> Result<String, Fail> 
 }
 
 /// What the class of this name in a module has under another name.
-fn member_at(alloc: Global, home: &str, class: &str, name: &str) -> Result<String, Fail> {
-    member_of(alloc, class_of(alloc, home, class)?, name)
+fn member_at(alloc: Global, module_path: &str, class: &str, name: &str) -> Result<String, Fail> {
+    member_of(alloc, class_of(alloc, module_path, class)?, name)
 }
 
 /// Modules, classes and names, with the members of those names.
@@ -154,9 +154,9 @@ const TABLES: &[&[(&str, &str, &str, &str)]] = &[MEMBERS, OF_BUILTIN_CLASSES];
 #[test]
 fn members_of_classes(rt: HostRuntime) -> Result<(), Fail> {
     for table in TABLES {
-        for (home, class, name, want) in *table {
-            let member = member_at(rt.alloc(), home, class, name)?;
-            assert_eq!(rt; member.as_str(), *want, "{home}:{class}:{name}");
+        for (module_path, class, name, want) in *table {
+            let member = member_at(rt.alloc(), module_path, class, name)?;
+            assert_eq!(rt; member.as_str(), *want, "{module_path}:{class}:{name}");
         }
     }
     Ok(())

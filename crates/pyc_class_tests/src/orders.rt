@@ -1,7 +1,7 @@
 //! Classes, with their orders and whether their instances can be called.
 
 use crate::sources::{answered, class_of, order_shown, world_of};
-use pyc_class::{ClassId, Lins};
+use pyc_class_ids::{ClassId, Lins};
 use pyc_iface::Key;
 use std::alloc::Global;
 use std::test::Fail;
@@ -42,8 +42,8 @@ fn order_of(alloc: Global, is_asked: bool, class: ClassId) -> Result<String, Fai
 }
 
 /// The order of the class of this name in a module, as the world answers it or knows it.
-fn order_at(alloc: Global, is_asked: bool, home: &str, class: &str) -> Result<String, Fail> {
-    order_of(alloc, is_asked, class_of(alloc, home, class)?)
+fn order_at(alloc: Global, is_asked: bool, module_path: &str, class: &str) -> Result<String, Fail> {
+    order_of(alloc, is_asked, class_of(alloc, module_path, class)?)
 }
 
 /// Modules and classes, builtin ones without a module, with their orders or why these are not known, and whether their
@@ -86,9 +86,9 @@ const ORDERS: &[(&str, &str, &str)] = &[
 #[test]
 fn orders_of_classes(rt: HostRuntime) -> Result<(), Fail> {
     for is_asked in [false, true] {
-        for (home, class, want) in ORDERS {
-            let order = order_at(rt.alloc(), is_asked, home, class)?;
-            assert_eq!(rt; order.as_str(), *want, "{home}:{class}");
+        for (module_path, class, want) in ORDERS {
+            let order = order_at(rt.alloc(), is_asked, module_path, class)?;
+            assert_eq!(rt; order.as_str(), *want, "{module_path}:{class}");
         }
     }
     Ok(())

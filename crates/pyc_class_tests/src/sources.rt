@@ -1,8 +1,8 @@
 //! Trees, worlds and classes for the tests, and what worlds answer of classes.
 
 use pyc_ast::{Module, Outcome, Text};
-use pyc_class::{ClassId, UnknownOrder};
-use pyc_iface::{Answer, Key, MemberAnswer, World};
+use pyc_class_ids::{ClassId, UnknownMro};
+use pyc_iface::{Answer, Key, MemberAnswer, PlainWorld};
 use pyc_lower::read;
 use pyc_names::{Interface, ModuleName, SourceFile};
 use pyc_types::{BuiltinName, builtin_name, show};
@@ -43,8 +43,8 @@ fn interfaces_of(
 }
 
 /// The world of files, each of its path and source.
-pub(crate) fn world_of(alloc: Global, sources: &[(&str, &str)]) -> Result<World, AllocError> {
-    World::build(alloc, &interfaces_of(alloc, sources)?)
+pub(crate) fn world_of(alloc: Global, sources: &[(&str, &str)]) -> Result<PlainWorld, AllocError> {
+    PlainWorld::build(alloc, &interfaces_of(alloc, sources)?)
 }
 
 /// The one part of the name of a module.
@@ -53,10 +53,14 @@ fn parts(alloc: Global, name: &str) -> Result<Vec<Text>, AllocError> {
 }
 
 /// The class of this name in the module of one name, or the builtin class of this name where no module is given.
-pub(crate) fn class_of(alloc: Global, home: &str, name: &str) -> Result<ClassId, AllocError> {
+pub(crate) fn class_of(
+    alloc: Global,
+    module_path: &str,
+    name: &str,
+) -> Result<ClassId, AllocError> {
     match builtin_name(name) {
-        Some(BuiltinName::Class(class)) if home.is_empty() => Ok(ClassId::builtin(class)),
-        _ => ClassId::user(alloc, parts(alloc, home)?, Text::new(alloc, name)?),
+        Some(BuiltinName::Class(class)) if module_path.is_empty() => Ok(ClassId::builtin(class)),
+        _ => ClassId::user(alloc, parts(alloc, module_path)?, Text::new(alloc, name)?),
     }
 }
 
@@ -66,18 +70,16 @@ fn answer(alloc: Global, sources: &[(&str, &str)], key: &Key) -> Result<Answer, 
     world.ask(alloc, key)
 }
 
-/// What the world of these files tells of a class or of what it has under a name.
+/// What the world of these files says of a class or of what it has under a name.
 pub(crate) fn answered(alloc: Global, sources: &[(&str, &str)], key: &Key) -> Result<String, Fail> {
     let answer = answer(alloc, sources, key)?;
-    told(alloc, &answer)
+    reported(alloc, &answer)
 }
 
-/// What an answer tells: the order of a class, a member, or `absent` for none.
-fn told(alloc: Global, answer: &Answer) -> Result<String, Fail> {
+/// What an answer gives: the order of a class, a member, or `absent` for none.
+fn reported(alloc: Global, answer: &Answer) -> Result<String, Fail> {
     match answer {
-        Answer::Order(order) => {
-            order_shown(alloc, &order.classes, order.unknown, order.has_call)
-        }
+        Answer::Mro(order) => { order_shown(alloc, &order.classes, order.unknown, order.has_call) }
         Answer::Member(Some(found)) => member_shown(alloc, found),
         Answer::Member(None) => Ok(String::from_str(alloc, "absent")?),
         _ => Err("no answer of a class".into()),
@@ -88,7 +90,7 @@ fn told(alloc: Global, answer: &Answer) -> Result<String, Fail> {
 pub(crate) fn order_shown(
     alloc: Global,
     classes: &[ClassId],
-    unknown: Option<UnknownOrder>,
+    unknown: Option<UnknownMro>,
     has_call: bool,
 ) -> Result<String, Fail> {
     let mut shown = String::new(alloc);
@@ -97,9 +99,9 @@ pub(crate) fn order_shown(
         shown.push_str(" ")?;
     }
     shown.push_str(match unknown {
-        Some(UnknownOrder::Base) => "base",
-        Some(UnknownOrder::Cycle) => "cycle",
-        Some(UnknownOrder::Merge) => "merge",
+        Some(UnknownMro::Base) => "base",
+        Some(UnknownMro::Cycle) => "cycle",
+        Some(UnknownMro::Merge) => "merge",
         None => "known",
     })?;
     shown.push_str(if has_call { " called" } else { "" })?;

@@ -46,7 +46,7 @@ any_append : (a b : List RefusedFile) → is_any (a ++ b) ≡ (is_any a || is_an
 any_append [] b = refl
 any_append (file ∷ files) b = refl
 
-any_file : (path : List ℕ) (told : Option Refusal) → is_any (refused_file path told) ≡ is_some told
+any_file : (path : List ℕ) (reported : Option Refusal) → is_any (refused_file path reported) ≡ is_some reported
 any_file path None = refl
 any_file path (Some why) = refl
 
@@ -57,15 +57,15 @@ module _ (event : Event) (path : List ℕ) (o : Outcome) (u : UpdatedFiles) wher
   abbrev With : UpdatedFiles → Option UpdatedFiles
   With v = Some (record { refused = v.refused ++ refused_file path o.refusal; state = o.state })
 
-  more_by_progress : (first : List ℕ) (told : Option Refusal) (known : Option UpdatedFiles) (later : Option UpdatedFiles)
+  more_by_progress : (first : List ℕ) (reported : Option Refusal) (known : Option UpdatedFiles) (later : Option UpdatedFiles)
       → ((v : UpdatedFiles) → known ≡ Some v → updated v.state path event ≡ Some o → later ≡ With v)
-      → option_map (before_others first told) known ≡ Some u → updated u.state path event ≡ Some o
-      → option_map (before_others first told) later ≡ With u
-  more_by_progress first told None later steps e is = cc
-  more_by_progress first told (Some v) later steps e is =
-      let same : before_others first told v ≡ u = cc in
+      → option_map (before_others first reported) known ≡ Some u → updated u.state path event ≡ Some o
+      → option_map (before_others first reported) later ≡ With u
+  more_by_progress first reported None later steps e is = cc
+  more_by_progress first reported (Some v) later steps e is =
+      let same : before_others first reported v ≡ u = cc in
       let from : later ≡ With v = steps v refl (ap (λ (x : UpdatedFiles). updated x.state path event) same ∙ is) in
-      rw (from, ← same) (ap (λ fs. Some (record { refused = fs; state = o.state })) (files_assoc (refused_file first told) v.refused (refused_file path o.refusal)))
+      rw (from, ← same) (ap (λ fs. Some (record { refused = fs; state = o.state })) (files_assoc (refused_file first reported) v.refused (refused_file path o.refusal)))
 
   more_by_outcome : (first : List ℕ) (paths : List (List ℕ)) (events : List Event) (known : Option Outcome)
       → ((s : State) (v : UpdatedFiles) → updated_files s paths events ≡ Some v → updated v.state path event ≡ Some o
@@ -112,30 +112,30 @@ none_before [] ys some e = some e
 none_before (x ∷ xs) ys some e = cc
 
 -- more after a text that was written
-more_after : {W : Type 0} (first writer writer' : Counted W) (told told' told'' : Option (List ℕ)) (text later : List ℕ) (failed : Bool)
-    → Writes false first writer told told' text → Writes failed writer writer' told' told'' later → Writes failed first writer' told told'' (text ++ later)
-more_after first writer writer' told told' told'' text later false w m = (sound_trans first writer writer' w.0 m.0, appends_trans told told' told'' text later w.1 m.1)
-more_after first writer writer' told told' told'' text later true w m = record {
+more_after : {W : Type 0} (first writer writer' : Counted W) (reported reported' reported'' : Option (List ℕ)) (text later : List ℕ) (failed : Bool)
+    → Writes false first writer reported reported' text → Writes failed writer writer' reported' reported'' later → Writes failed first writer' reported reported'' (text ++ later)
+more_after first writer writer' reported reported' reported'' text later false w m = (sound_trans first writer writer' w.0 m.0, appends_trans reported reported' reported'' text later w.1 m.1)
+more_after first writer writer' reported reported' reported'' text later true w m = record {
   fails = write_fault first writer writer' w.0 m.fails;
-  part = part_after told told' told'' text later w.1 m.part;
+  part = part_after reported reported' reported'' text later w.1 m.part;
   some = none_before text later m.some;
 }
 
 -- what is written of two texts, where the second is written unless the first was not
-pub writes_on : {W : Type 0} (first writer writer' : Counted W) (told told' told'' : Option (List ℕ)) (text later : List ℕ) (failed : Bool)
-    → faults_of first ≡ 0 → zeros_of first ≡ 0 → Writes failed first writer told told' text → WritesOn writer writer' told' told'' later
-    → (failed' : Bool) × Writes failed' first writer' told told'' (text ++ later)
-writes_on first writer writer' told told' told'' text later false faults zeros w (more f z failed m) =
-    (failed, more_after first writer writer' told told' told'' text later failed w m)
-writes_on first writer writer' told told' told'' text later false faults zeros w (none has same_writer same_told) =
+pub writes_on : {W : Type 0} (first writer writer' : Counted W) (reported reported' reported'' : Option (List ℕ)) (text later : List ℕ) (failed : Bool)
+    → faults_of first ≡ 0 → zeros_of first ≡ 0 → Writes failed first writer reported reported' text → WritesOn writer writer' reported' reported'' later
+    → (failed' : Bool) × Writes failed' first writer' reported reported'' (text ++ later)
+writes_on first writer writer' reported reported' reported'' text later false faults zeros w (more f z failed m) =
+    (failed, more_after first writer writer' reported reported' reported'' text later failed w m)
+writes_on first writer writer' reported reported' reported'' text later false faults zeros w (none has same_writer same_reported) =
     absurd (true≢false (sym has ∙ never_failed first writer faults zeros w.0))
-writes_on first writer writer' told told' told'' text later true faults zeros w (more f z failed m) =
+writes_on first writer writer' reported reported' reported'' text later true faults zeros w (more f z failed m) =
     absurd (failed_once first writer faults zeros w.fails f z)
-writes_on first writer writer' told told' told'' text later true faults zeros w (none has same_writer same_told) = (
+writes_on first writer writer' reported reported' reported'' text later true faults zeros w (none has same_writer same_reported) = (
   true,
   record {
     fails = subst (λ x. FailsOnce first x) (sym same_writer) w.fails;
-    part = subst (λ x. WritesPart told x (text ++ later)) (sym same_told) (part_before told told' text later w.part);
+    part = subst (λ x. WritesPart reported x (text ++ later)) (sym same_reported) (part_before reported reported' text later w.part);
     some = none_after text later w.some;
   },
 )
@@ -146,37 +146,37 @@ both_true true false e = cc
 both_true false b e = cc
 
 -- no text, where nothing is done
-nothing_by : {W : Type 0} (writer : Counted W) (told : Option (List ℕ)) (has : Bool) → has_failed writer ≡ has → WritesOn writer writer told told []
-nothing_by writer told true is = none is refl refl
-nothing_by writer told false is =
+nothing_by : {W : Type 0} (writer : Counted W) (reported : Option (List ℕ)) (has : Bool) → has_failed writer ≡ has → WritesOn writer writer reported reported []
+nothing_by writer reported true is = none is refl refl
+nothing_by writer reported false is =
     let zeros = both_true (faults_of writer == 0) (zeros_of writer == 0) is in
-    more (eqb-true _ _ zeros.0) (eqb-true _ _ zeros.1) false (sound_none writer, appends_none told)
+    more (eqb-true _ _ zeros.0) (eqb-true _ _ zeros.1) false (sound_none writer, appends_none reported)
 
-pub writes_nothing : {W : Type 0} (writer : Counted W) (told : Option (List ℕ)) → WritesOn writer writer told told []
-writes_nothing writer told = nothing_by writer told (has_failed writer) refl
+pub writes_nothing : {W : Type 0} (writer : Counted W) (reported : Option (List ℕ)) → WritesOn writer writer reported reported []
+writes_nothing writer reported = nothing_by writer reported (has_failed writer) refl
 
 -- a program's line is not empty
 pub some_line : (text : List ℕ) → program_line text ≡ [] → ⊥
 some_line text e = cc
 
 -- what was written of a text, as `write_parts` and `write_bytes` tell it
-pub writes_by : {W T : Type 0} (writer writer' : Counted W) (told told' : Option (List ℕ)) (text : List ℕ) (answer : Result T RunFault)
-    → OnOk answer (Appends told told' text) → OnErr answer (WritesPart told told' text) → OnOk answer (IsSound writer writer') → OnErr answer (FailsOnce writer writer') → (text ≡ [] → ⊥)
-    → (failed : Bool) × Writes failed writer writer' told told' text
-writes_by writer writer' told told' text (Ok x) whole part sound fails some = (false, (sound, whole))
-writes_by writer writer' told told' text (Err why) whole part sound fails some = (true, record { fails = fails; part = part; some = some })
+pub writes_by : {W T : Type 0} (writer writer' : Counted W) (reported reported' : Option (List ℕ)) (text : List ℕ) (answer : Result T RunFault)
+    → OnOk answer (Appends reported reported' text) → OnErr answer (WritesPart reported reported' text) → OnOk answer (IsSound writer writer') → OnErr answer (FailsOnce writer writer') → (text ≡ [] → ⊥)
+    → (failed : Bool) × Writes failed writer writer' reported reported' text
+writes_by writer writer' reported reported' text (Ok x) whole part sound fails some = (false, (sound, whole))
+writes_by writer writer' reported reported' text (Err why) whole part sound fails some = (true, record { fails = fails; part = part; some = some })
 
-pub writes_more : {W T : Type 0} (writer writer' : Counted W) (told told' : Option (List ℕ)) (text : List ℕ) (answer : Result T RunFault)
+pub writes_more : {W T : Type 0} (writer writer' : Counted W) (reported reported' : Option (List ℕ)) (text : List ℕ) (answer : Result T RunFault)
     → faults_of writer ≡ 0 → zeros_of writer ≡ 0
-    → OnOk answer (Appends told told' text) → OnErr answer (WritesPart told told' text) → OnOk answer (IsSound writer writer') → OnErr answer (FailsOnce writer writer') → (text ≡ [] → ⊥)
-    → WritesOn writer writer' told told' text
-writes_more writer writer' told told' text answer faults zeros whole part sound fails some =
-    let w = writes_by writer writer' told told' text answer whole part sound fails some in more faults zeros w.0 w.1
+    → OnOk answer (Appends reported reported' text) → OnErr answer (WritesPart reported reported' text) → OnOk answer (IsSound writer writer') → OnErr answer (FailsOnce writer writer') → (text ≡ [] → ⊥)
+    → WritesOn writer writer' reported reported' text
+writes_more writer writer' reported reported' text answer faults zeros whole part sound fails some =
+    let w = writes_by writer writer' reported reported' text answer whole part sound fails some in more faults zeros w.0 w.1
 
 -- the line on a refused file, from its texts
-pub refusal_told : {W : Type 0} (writer writer' : Counted W) (told told' : Option (List ℕ)) (path text : List ℕ)
-    → WritesOn writer writer' told told' (codes "dmypy: " ++ (path ++ (codes ": " ++ (text ++ [])))) → WritesOn writer writer' told told' (program_line (path ++ (codes ": " ++ text)))
-refusal_told writer writer' told told' path text w = subst (λ zs. WritesOn writer writer' told told' (codes "dmypy: " ++ (path ++ (codes ": " ++ zs)))) (append_nil text) w
+pub refusal_reported : {W : Type 0} (writer writer' : Counted W) (reported reported' : Option (List ℕ)) (path text : List ℕ)
+    → WritesOn writer writer' reported reported' (codes "dmypy: " ++ (path ++ (codes ": " ++ (text ++ [])))) → WritesOn writer writer' reported reported' (program_line (path ++ (codes ": " ++ text)))
+refusal_reported writer writer' reported reported' path text w = subst (λ zs. WritesOn writer writer' reported reported' (codes "dmypy: " ++ (path ++ (codes ": " ++ zs)))) (append_nil text) w
 
 -- ---- reports
 
@@ -203,26 +203,26 @@ prints_part out out' printed printed' options files report refused same fails pa
 -- ---- updates
 
 -- no file is updated yet
-pub updates_none : {S E : Type 0} (step : S → List ℕ → Entry → S → Type 0) (source : S) (err : Counted E) (told : Option (List ℕ)) (s : State)
-    → (failed : Bool) × UpdatesAll step source source err err told told s s [] false failed
-updates_none step source err told s = (false, record { events = []; files = []; reaches = refl; links = refl; tells = (sound_none err, appends_none told); is = refl })
+pub updates_none : {S E : Type 0} (step : S → List ℕ → Entry → S → Type 0) (source : S) (err : Counted E) (reported : Option (List ℕ)) (s : State)
+    → (failed : Bool) × UpdatesAll step source source err err reported reported s s [] false failed
+updates_none step source err reported s = (false, record { events = []; files = []; reaches = refl; links = refl; reports = (sound_none err, appends_none reported); is = refl })
 
 -- one more is
-pub updates_on : {S E : Type 0} (step : S → List ℕ → Entry → S → Type 0) (source source' source'' : S) (err err' err'' : Counted E) (told told' told'' : Option (List ℕ)) (s s' s'' : State) (paths : List (List ℕ)) (path : List ℕ) (refused more_refused : Bool) (event : Event)
+pub updates_on : {S E : Type 0} (step : S → List ℕ → Entry → S → Type 0) (source source' source'' : S) (err err' err'' : Counted E) (reported reported' reported'' : Option (List ℕ)) (s s' s'' : State) (paths : List (List ℕ)) (path : List ℕ) (refused more_refused : Bool) (event : Event)
     → faults_of err ≡ 0 → zeros_of err ≡ 0
-    → (failed : Bool) × UpdatesAll step source source' err err' told told' s s' paths refused failed
-    → FetchStep step source' event.fetched source'' → UpdatesOne err' err'' told' told'' path s' s'' event more_refused
-    → (failed : Bool) × UpdatesAll step source source'' err err'' told told'' s s'' (paths ++ path ∷ []) (refused || more_refused) failed
-updates_on step source source' source'' err err' err'' told told' told'' s s' s'' paths path refused more_refused event faults zeros (failed, u) fetched one =
+    → (failed : Bool) × UpdatesAll step source source' err err' reported reported' s s' paths refused failed
+    → FetchStep step source' event.fetched source'' → UpdatesOne err' err'' reported' reported'' path s' s'' event more_refused
+    → (failed : Bool) × UpdatesAll step source source'' err err'' reported reported'' s s'' (paths ++ path ∷ []) (refused || more_refused) failed
+updates_on step source source' source'' err err' err'' reported reported' reported'' s s' s'' paths path refused more_refused event faults zeros (failed, u) fetched one =
     let files = refused_file path one.refusal in
-    let w = writes_on err err' err'' told told' told'' (refusal_lines u.files) (refusal_lines files) failed faults zeros u.tells one.tells in (
+    let w = writes_on err err' err'' reported reported' reported'' (refusal_lines u.files) (refusal_lines files) failed faults zeros u.reports one.reports in (
       w.0,
       record {
         events = u.events ++ event ∷ [];
         files = u.files ++ files;
         reaches = one_more s paths u.events event path (record { refusal = one.refusal; state = s'' }) (record { refused = u.files; state = s' }) u.reaches one.reaches;
         links = links_push step source source' source'' u.events u.links event fetched;
-        tells = subst (λ zs. Writes w.0 err err'' told told'' zs) (sym (lines_append u.files files)) w.1;
+        reports = subst (λ zs. Writes w.0 err err'' reported reported'' zs) (sym (lines_append u.files files)) w.1;
         is = rw (u.is, one.is) (sym (any_append u.files files ∙ ap (λ b. is_any u.files || b) (any_file path one.refusal)));
       },
     )
@@ -240,34 +240,34 @@ paths_all files i past = ap (λ fs. map string_bytes fs) (take_all i files past)
 -- ---- one update
 
 -- how a call refused
-pub told_result : (s' : State) (answer answer' : Result (Unit {0}) Refusal) (o : Option Outcome) → o ≡ Some (record { refusal = refusal_in answer; state = s' }) → answer ≡ answer'
+pub reported_result : (s' : State) (answer answer' : Result (Unit {0}) Refusal) (o : Option Outcome) → o ≡ Some (record { refusal = refusal_in answer; state = s' }) → answer ≡ answer'
     → o ≡ Some (record { refusal = refusal_in answer'; state = s' })
-told_result s' answer answer' o e same = e ∙ ap (λ r. Some (record { refusal = refusal_in r; state = s' })) same
+reported_result s' answer answer' o e same = e ∙ ap (λ r. Some (record { refusal = refusal_in r; state = s' })) same
 
 -- the file is accepted
-pub one_accepted : {E : Type 0} (err : Counted E) (told : Option (List ℕ)) (path : List ℕ) (s s' : State) (event : Event) → updated s path event ≡ Some (record { refusal = None; state = s' })
-    → UpdatesOne err err told told path s s' event false
-one_accepted err told path s s' event e = record { refusal = None; reaches = e; tells = writes_nothing err told; is = refl }
+pub one_accepted : {E : Type 0} (err : Counted E) (reported : Option (List ℕ)) (path : List ℕ) (s s' : State) (event : Event) → updated s path event ≡ Some (record { refusal = None; state = s' })
+    → UpdatesOne err err reported reported path s s' event false
+one_accepted err reported path s s' event e = record { refusal = None; reaches = e; reports = writes_nothing err reported; is = refl }
 
 -- it is refused
-pub one_refused : {E : Type 0} (err err' : Counted E) (told told' : Option (List ℕ)) (path : List ℕ) (s s' : State) (event : Event) (why : Refusal) → updated s path event ≡ Some (record { refusal = Some why; state = s' })
-    → WritesOn err err' told told' (refusal_line path why) → UpdatesOne err err' told told' path s s' event true
-one_refused err err' told told' path s s' event why e w = record {
+pub one_refused : {E : Type 0} (err err' : Counted E) (reported reported' : Option (List ℕ)) (path : List ℕ) (s s' : State) (event : Event) (why : Refusal) → updated s path event ≡ Some (record { refusal = Some why; state = s' })
+    → WritesOn err err' reported reported' (refusal_line path why) → UpdatesOne err err' reported reported' path s s' event true
+one_refused err err' reported reported' path s s' event why e w = record {
   refusal = Some why;
   reaches = e;
-  tells = subst (λ zs. WritesOn err err' told told' zs) (sym (append_nil (refusal_line path why))) w;
+  reports = subst (λ zs. WritesOn err err' reported reported' zs) (sym (append_nil (refusal_line path why))) w;
   is = refl;
 }
 
 -- ---- the whole check
 
-pub checks : {S O E : Type 0} (step : S → List ℕ → Entry → S → Type 0) (options : Options) (source source' : S) (out out' : Counted O) (err err' err'' : Counted E) (printed printed' told told' told'' : Option (List ℕ)) (s' : State) (paths : List (List ℕ)) (refused : Bool) (result : Result ℕ CheckFault)
+pub checks : {S O E : Type 0} (step : S → List ℕ → Entry → S → Type 0) (options : Options) (source source' : S) (out out' : Counted O) (err err' err'' : Counted E) (printed printed' reported reported' reported'' : Option (List ℕ)) (s' : State) (paths : List (List ℕ)) (refused : Bool) (result : Result ℕ CheckFault)
     → faults_of err ≡ 0 → zeros_of err ≡ 0
-    → (failed : Bool) × UpdatesAll step source source' err err' told told' (start options) s' paths refused failed
-    → Prints result (fresh s'.options s'.present) refused out out' printed printed' → WritesOn err' err'' told' told'' (end_line result)
-    → (failed : Bool) × Checks step options (outside source out err printed told) (outside source' out' err'' printed' told'') paths result failed
-checks step options source source' out out' err err' err'' printed printed' told told' told'' s' paths refused result faults zeros (failed, u) p end =
-    let w = writes_on err err' err'' told told' told'' (refusal_lines u.files) (end_line result) failed faults zeros u.tells end in (
+    → (failed : Bool) × UpdatesAll step source source' err err' reported reported' (start options) s' paths refused failed
+    → Prints result (fresh s'.options s'.present) refused out out' printed printed' → WritesOn err' err'' reported' reported'' (end_line result)
+    → (failed : Bool) × Checks step options (outside source out err printed reported) (outside source' out' err'' printed' reported'') paths result failed
+checks step options source source' out out' err err' err'' printed printed' reported reported' reported'' s' paths refused result faults zeros (failed, u) p end =
+    let w = writes_on err err' err'' reported reported' reported'' (refusal_lines u.files) (end_line result) failed faults zeros u.reports end in (
       w.0,
       record {
         events = u.events;
@@ -275,30 +275,30 @@ checks step options source source' out out' err err' err'' printed printed' told
         reaches = u.reaches;
         links = u.links;
         prints = subst (λ t. Prints result (fresh s'.options s'.present) t out out' printed printed') u.is p;
-        tells = w.1;
+        reports = w.1;
       },
     )
 
--- where no write to the error output failed, what is told is whole
+-- where no write to the error output failed, what is reported is whole
 pub checks_whole : {S O E : Type 0} (step : S → List ℕ → Entry → S → Type 0) (options : Options) (before after : Outside S O E) (paths : List (List ℕ)) (result : Result ℕ CheckFault)
     → faults_of before.err ≡ 0 → zeros_of before.err ≡ 0 → (failed : Bool) × Checks step options before after paths result failed
     → IsSound before.err after.err → Checks step options before after paths result false
 checks_whole step options before after paths result faults zeros (false, c) sound = c
 checks_whole step options before after paths result faults zeros (true, c) sound =
-    absurd (failed_once before.err after.err faults zeros c.tells.fails (sound.faults ∙ faults) (sound.zeros ∙ zeros))
+    absurd (failed_once before.err after.err faults zeros c.reports.fails (sound.faults ∙ faults) (sound.zeros ∙ zeros))
 
--- nothing is told of a check whose status is 0 or 1
-nothing_told : (report : Report) (files : List RefusedFile) (status : ℕ) → status ≡ report_status report (is_any files) → status < 2 → files ≡ []
-nothing_told report [] status e low = refl
-nothing_told report (file ∷ files) status e low = absurd (omega (arith, e, low))
+-- nothing is reported of a check whose status is 0 or 1
+nothing_reported : (report : Report) (files : List RefusedFile) (status : ℕ) → status ≡ report_status report (is_any files) → status < 2 → files ≡ []
+nothing_reported report [] status e low = refl
+nothing_reported report (file ∷ files) status e low = absurd (omega (arith, e, low))
 
 -- a check whose status is 0 or 1 met no fault
 sound_below : {S O E : Type 0} (step : S → List ℕ → Entry → S → Type 0) (options : Options) (before after : Outside S O E) (paths : List (List ℕ)) (status : ℕ) (failed : Bool)
     → Checks step options before after paths (Ok status) failed → status < 2 → IsSound before.out after.out × IsSound before.err after.err
-sound_below step options before after paths status false c low = (c.prints.1.0, c.tells.0)
+sound_below step options before after paths status false c low = (c.prints.1.0, c.reports.0)
 sound_below step options before after paths status true c low =
-    let no_file = nothing_told (fresh c.reached.state.options c.reached.state.present) c.reached.refused status c.prints.0 low in
-    absurd (c.tells.some (ap (λ files. refusal_lines files ++ []) no_file))
+    let no_file = nothing_reported (fresh c.reached.state.options c.reached.state.present) c.reached.refused status c.prints.0 low in
+    absurd (c.reports.some (ap (λ files. refusal_lines files ++ []) no_file))
 
 pub sound_after : {S O E : Type 0} (step : S → List ℕ → Entry → S → Type 0) (options : Options) (before after : Outside S O E) (paths : List (List ℕ)) (result : Result ℕ CheckFault)
     → (failed : Bool) × Checks step options before after paths result failed → IfOk result (λ status. status < 2 → IsSound before.out after.out × IsSound before.err after.err)

@@ -1,2 +1,4 @@
 pub mod CheckFilesLemmas
 pub mod FirstBytes
+pub mod CommandLine
+pub mod TextLemmas

@@ -1,4 +1,4 @@
--- What a check of files prints, what it tells on standard error, and the status that it ends with.
+-- What a check of files prints, what it reports on standard error, and the status that it ends with.
 use Rattle.std.specs.Prelude.{◌≡◌, ℕ, Bool, true, false, if◌then◌else◌, List, [], ◌∷◌, ◌++◌}
 use Rattle.std.specs.Prelude.{Option, None, Some, option_map, option_and_then, Result, Ok, Err}
 use Rattle.pyc_daemon.specs.declared.counted.Counted.{Counted}
@@ -34,7 +34,7 @@ pub record UpdatedFiles : Type 0 where
 
 -- a file that is refused, if it is, comes before those after it
 abbrev pub before_others : List ℕ → Option Refusal → UpdatedFiles → UpdatedFiles
-before_others path told later = record later { refused = refused_file path told ++ later.refused }
+before_others path reported later = record later { refused = refused_file path reported ++ later.refused }
 
 -- the updates of these files, one for each event; absent where an event does not fit its update, or where there are not
 -- as many events as files
@@ -94,12 +94,12 @@ pub record Outside (S O E : Type 0) : Type 0 where
   pub out : Counted O
   pub err : Counted E
   pub printed : Option (List ℕ)
-  pub told : Option (List ℕ)
+  pub reported : Option (List ℕ)
 
 abbrev pub outside :
     {S O E : Type 0} → S → Counted O → Counted E → Option (List ℕ) → Option (List ℕ) → Outside S O E
-outside source out err printed told =
-    record { source = source; out = out; err = err; printed = printed; told = told }
+outside source out err printed reported =
+    record { source = source; out = out; err = err; printed = printed; reported = reported }
 
 -- A check of files, by what a fetch does to a source (`step`): `events` is what the updates met, one event a file. All
 -- files are updated and the report is printed, also where a write to the error output failed (`failed`).
@@ -112,7 +112,7 @@ pub record Checks {S O E : Type 0} (step : S → List ℕ → Entry → S → Ty
   pub links : Links step before.source events after.source
   pub prints :
       Prints result (accepted_report reached) (is_any reached.refused) before.out after.out before.printed after.printed
-  pub tells : Writes failed before.err after.err before.told after.told (err_text reached result)
+  pub reports : Writes failed before.err after.err before.reported after.reported (err_text reached result)
 
 -- the status that the program ends with: 2 also where the report was not printed, or in part alone
 abbrev pub exit_status : Result ℕ CheckFault → ℕ

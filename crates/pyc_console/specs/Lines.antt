@@ -22,13 +22,13 @@ abbrev pub fault_line : RunFault → List ℕ
 fault_line why = program_line (run_fault_text why ++ codes "\n")
 
 -- a text was written in part: just one write failed, and what was written begins the text, which is not empty
-pub record BreaksOff {W : Type 0} (writer writer' : Counted W) (told told' : Option (List ℕ)) (text : List ℕ)
+pub record BreaksOff {W : Type 0} (writer writer' : Counted W) (reported reported' : Option (List ℕ)) (text : List ℕ)
     : Type 0 where
   pub fails : FailsOnce writer writer'
-  pub part : WritesPart told told' text
+  pub part : WritesPart reported reported' text
   pub some : text ≡ [] → ⊥
 
 -- what was written of a text, by whether a write failed: a part of it, or else the whole text
 abbrev pub Writes : {W : Type 0} → Bool → Counted W → Counted W → Option (List ℕ) → Option (List ℕ) → List ℕ → Type 0
-Writes false writer writer' told told' text = IsSound writer writer' × Appends told told' text
-Writes true writer writer' told told' text = BreaksOff writer writer' told told' text
+Writes false writer writer' reported reported' text = IsSound writer writer' × Appends reported reported' text
+Writes true writer writer' reported reported' text = BreaksOff writer writer' reported reported' text

@@ -1,4 +1,4 @@
--- The status with which the program ends after a session, and what it tells of the session's end.
+-- The status with which the program ends after a session, and what it reports of the session's end.
 use Rattle.std.specs.Prelude.{ℕ, List, [], Result, Ok, Err}
 use Rattle.pyc_session.specs.declared.ending.End.{End}
 use Rattle.pyc_session.specs.declared.ending.End.TheVariants.{Stopped, EndOfInput, Broken}

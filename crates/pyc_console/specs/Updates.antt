@@ -15,28 +15,32 @@ abbrev pub has_failed : {W : Type 0} → Counted W → Bool
 has_failed writer = not ((faults_of writer == 0) && (zeros_of writer == 0))
 
 -- one text more: where a write has failed nothing is done
-pub data WritesOn {W : Type 0} (writer writer' : Counted W) (told told' : Option (List ℕ)) (text : List ℕ)
+pub data WritesOn {W : Type 0} (writer writer' : Counted W) (reported reported' : Option (List ℕ)) (text : List ℕ)
     : Type 0 where
-  more : faults_of writer ≡ 0 → zeros_of writer ≡ 0 → (failed : Bool) → Writes failed writer writer' told told' text
-      → WritesOn writer writer' told told' text
-  none : has_failed writer ≡ true → writer' ≡ writer → told' ≡ told → WritesOn writer writer' told told' text
+  more : faults_of writer ≡ 0 → zeros_of writer ≡ 0 → (failed : Bool) → Writes failed writer writer' reported
+      reported' text
+      → WritesOn writer writer' reported reported' text
+  none : has_failed writer ≡ true → writer' ≡ writer → reported' ≡ reported → WritesOn writer writer' reported
+      reported' text
 
 -- the update of one file, from a state to a state: `refused` is whether it was refused
-pub record UpdatesOne {E : Type 0} (err err' : Counted E) (told told' : Option (List ℕ)) (path : List ℕ) (s s' : State)
+pub record UpdatesOne {E : Type 0} (err err' : Counted E) (reported reported' : Option (List ℕ)) (path : List ℕ)
+    (s s' : State)
     (event : Event) (refused : Bool) : Type 0 where
   pub refusal : Option Refusal
   pub reaches : updated s path event ≡ Some (record { refusal = refusal; state = s' })
-  pub tells : WritesOn err err' told told' (refusal_lines (refused_file path refusal))
+  pub reports : WritesOn err err' reported reported' (refusal_lines (refused_file path refusal))
   pub is : refused ≡ is_some refusal
 
 -- The updates of files, from a state to a state: `refused` is whether one of them was refused, and `failed` whether a
 -- write to the error output failed.
 pub record UpdatesAll {S E : Type 0} (step : S → List ℕ → Entry → S → Type 0) (source source' : S)
-    (err err' : Counted E) (told told' : Option (List ℕ)) (s s' : State) (paths : List (List ℕ)) (refused failed : Bool)
+    (err err' : Counted E) (reported reported' : Option (List ℕ)) (s s' : State) (paths : List (List ℕ))
+    (refused failed : Bool)
     : Type 0 where
   pub events : List Event
   pub files : List RefusedFile
   pub reaches : updated_files s paths events ≡ Some (record { refused = files; state = s' })
   pub links : Links step source events source'
-  pub tells : Writes failed err err' told told' (refusal_lines files)
+  pub reports : Writes failed err err' reported reported' (refusal_lines files)
   pub is : refused ≡ is_any files

@@ -25,8 +25,8 @@ pub enum CheckFault {
 
 /// Checks the files of these paths, whose bytes the source hands over, prints the report to `out`, and answers the
 /// status: 0 where all files are accepted and have no error, 1 where all are accepted and have one, else 2. Each file
-/// that is refused is told on a line of `err`, and so is a fault. Where a write to `err` fails, nothing more is written
-/// there, and the check goes on.
+/// that is refused is reported on a line of `err`, and so is a fault. Where a write to `err` fails, nothing more is
+/// written there, and the check goes on.
 pub fn check_files<S: Sources, O: Write, E: Write>(
     alloc: Global,
     sources: &mut S,
@@ -35,8 +35,9 @@ pub fn check_files<S: Sources, O: Write, E: Write>(
     options: &Options,
     files: &[String],
 ) -> Result<u8, CheckFault>
-    requires untold { (faults_of err.old ≡ 0) × (zeros_of err.old ≡ 0) }
-    // All files are updated and the report is printed; what is told on `err` is whole, or begins what is to be told.
+    requires unreported { (faults_of err.old ≡ 0) × (zeros_of err.old ≡ 0) }
+    // All files are updated and the report is printed; what is reported on `err` is whole, or begins what is to be
+    // reported.
     ensures checks { (failed : Bool) × Checks S.step options.now
         (outside sources.old out.old err.old (O.contents (inner_of out.old)) (E.contents (inner_of err.old)))
         (outside sources.new out.new err.new (O.contents (inner_of out.new)) (E.contents (inner_of err.new)))
@@ -53,7 +54,7 @@ pub fn check_files<S: Sources, O: Write, E: Write>(
     let mut daemon = Daemon::new(alloc, *options);
     let refused = update_all(&mut daemon, sources, err, files);
     let answer = print_report(&mut daemon, out, refused);
-    tell_end(err, &answer);
+    report_end(err, &answer);
     answer
 }
 
@@ -74,7 +75,7 @@ fn update_all<S: Sources, E: Write>(
     err: &mut Counted<E>,
     files: &[String],
 ) -> bool
-    requires untold { (faults_of err.old ≡ 0) × (zeros_of err.old ≡ 0) }
+    requires unreported { (faults_of err.old ≡ 0) × (zeros_of err.old ≡ 0) }
     ensures updates { (failed : Bool) × UpdatesAll S.step sources.old sources.new err.old err.new
         (E.contents (inner_of err.old)) (E.contents (inner_of err.new)) daemon.old daemon.new
         (map string_bytes files.now) result failed }
@@ -102,19 +103,19 @@ fn update_one<S: Sources, E: Write>(
     match daemon.update(sources, file.as_bytes()) {
         Ok(()) => false,
         Err(why) => {
-            tell_refusal(err, file, why.text());
+            report_refusal(err, file, why.text());
             true
         }
     }
 }
 
 // Writes the line on a file that is refused, from its path and the text of the refusal.
-fn tell_refusal<'a, E: Write>(err: &mut Counted<E>, file: &'a str, text: &'a str)
-    ensures tells { WritesOn err.old err.new (E.contents (inner_of err.old)) (E.contents (inner_of err.new))
+fn report_refusal<'a, E: Write>(err: &mut Counted<E>, file: &'a str, text: &'a str)
+    ensures reports { WritesOn err.old err.new (E.contents (inner_of err.old)) (E.contents (inner_of err.new))
         (program_line (file.now ++ (codes ": " ++ text.now))) }
     ensures buffers { GivesRoom err.old err.new }
 {
-    tell(err, &["dmypy: ", file, ": ", text]);
+    print_parts(err, &["dmypy: ", file, ": ", text]);
 }
 
 // Writes the report on the files that were accepted, and answers the status.
@@ -150,32 +151,32 @@ fn report_status(refused: bool, clean: bool) -> u8
 }
 
 // Writes the line on why the report was not printed, or in part alone.
-fn tell_end<E: Write>(err: &mut Counted<E>, answer: &Result<u8, CheckFault>)
-    ensures tells { WritesOn err.old err.new (E.contents (inner_of err.old)) (E.contents (inner_of err.new))
+fn report_end<E: Write>(err: &mut Counted<E>, answer: &Result<u8, CheckFault>)
+    ensures reports { WritesOn err.old err.new (E.contents (inner_of err.old)) (E.contents (inner_of err.new))
         (end_line answer.now) }
     ensures buffers { GivesRoom err.old err.new }
 {
     if let Err(fault) = answer {
-        tell_fault(err, *fault);
+        report_fault(err, *fault);
     }
 }
 
 // Writes the line on a fault of a check.
-fn tell_fault<E: Write>(err: &mut Counted<E>, fault: CheckFault)
-    ensures tells { WritesOn err.old err.new (E.contents (inner_of err.old)) (E.contents (inner_of err.new))
+fn report_fault<E: Write>(err: &mut Counted<E>, fault: CheckFault)
+    ensures reports { WritesOn err.old err.new (E.contents (inner_of err.old)) (E.contents (inner_of err.new))
         (check_fault_line fault) }
     ensures buffers { GivesRoom err.old err.new }
 {
     match fault {
-        CheckFault::Memory => tell(err, &["dmypy: ", Refusal::Memory.text()]),
-        CheckFault::Write => tell(err, &["dmypy: ", RunFault::Write.text(), "\n"]),
+        CheckFault::Memory => print_parts(err, &["dmypy: ", Refusal::Memory.text()]),
+        CheckFault::Write => print_parts(err, &["dmypy: ", RunFault::Write.text(), "\n"]),
     }
 }
 
 // Writes texts, unless a write has failed before.
-fn tell<E: Write>(err: &mut Counted<E>, parts: &[&str])
+fn print_parts<E: Write>(err: &mut Counted<E>, parts: &[&str])
     requires some { joined parts.now ≡ [] → ⊥ }
-    ensures tells { WritesOn err.old err.new (E.contents (inner_of err.old)) (E.contents (inner_of err.new))
+    ensures reports { WritesOn err.old err.new (E.contents (inner_of err.old)) (E.contents (inner_of err.new))
         (joined parts.now) }
     ensures buffers { GivesRoom err.old err.new }
 {

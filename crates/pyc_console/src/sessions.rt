@@ -1,4 +1,4 @@
-//! One session, its status and what is told of its end.
+//! One session, its status and what is reported of its end.
 
 ghost use Rattle.std.specs.Prelude.{◌≡◌, Bool, Result};
 ghost use Rattle.pyc_daemon.specs.Counted.{inner_of, calls_of, faults_of, zeros_of, IsSound};
@@ -13,7 +13,7 @@ use pyc_daemon::{Counted, End, Options, RunFault, Sources, run, write_parts};
 use std::alloc::Global;
 use std::io::{Read, Write};
 
-/// Runs a session over `reader` and `writer`, tells on `err` why it stopped if it stopped in the middle, and answers
+/// Runs a session over `reader` and `writer`, reports on `err` why it stopped if it stopped in the middle, and answers
 /// the program's status: 0 after `stop` or the end of the input, else 2.
 pub fn session<R: Read, W: Write, E: Write, S: Sources>(
     alloc: Global,
@@ -26,7 +26,7 @@ pub fn session<R: Read, W: Write, E: Write, S: Sources>(
     requires unread { (calls_of reader.old ≡ 0) × (faults_of reader.old ≡ 0) × (zeros_of reader.old ≡ 0) }
     requires unwritten { (calls_of writer.old ≡ 0) × (faults_of writer.old ≡ 0) × (zeros_of writer.old ≡ 0) }
     // The session ran, its answer comes of what its reader and its writer met, and its status and the line on why it
-    // stopped are told.
+    // stopped are reported.
     ensures session { (answer : Result End RunFault)
         × Runs S.step options.now
         (streams sources.old (R.remaining (inner_of reader.old)) (W.contents (inner_of writer.old)))
@@ -40,13 +40,13 @@ pub fn session<R: Read, W: Write, E: Write, S: Sources>(
     ensures buffers { GivesRoom reader.old reader.new × GivesRoom writer.old writer.new × GivesRoom err.old err.new }
 {
     let answer = run(alloc, reader, writer, sources, options);
-    tell_ending(err, &answer);
+    report_ending(err, &answer);
     session_status(&answer)
 }
 
 // Writes the line on why a session stopped in the middle, if it did.
-fn tell_ending<E: Write>(err: &mut Counted<E>, answer: &Result<End, RunFault>)
-    ensures tells { (failed : Bool) × Writes failed err.old err.new (E.contents (inner_of err.old))
+fn report_ending<E: Write>(err: &mut Counted<E>, answer: &Result<End, RunFault>)
+    ensures reports { (failed : Bool) × Writes failed err.old err.new (E.contents (inner_of err.old))
         (E.contents (inner_of err.new)) (ending_line answer.now) }
     ensures buffers { GivesRoom err.old err.new }
 {

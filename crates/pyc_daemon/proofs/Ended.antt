@@ -16,12 +16,12 @@ use Rattle.pyc_daemon.proofs.Moving.{append_nil}
 -- the bytes that came are not all, and nothing comes after them
 pub file_broken : (how : Keep) (s : State) (path : List ℕ) (size : ℕ) (wanting ended : Bool) (held rest : List ℕ) → length held < size → IsTrue ended → IsLast ended rest
     → file_turn how s path size wanting (held ++ rest) ≡ last_turn (refusal_text refusal.Truncated) s Broken
-file_broken how s path size wanting ended held rest few told last =
-    let none : rest ≡ [] = last told in
+file_broken how s path size wanting ended held rest few reported last =
+    let none : rest ≡ [] = last reported in
     file_short how s path size wanting (held ++ rest) (rw (none, append_nil held) few)
 
 -- the reply to `status`
-pub status_told : (s : State) (counts : Status) → counts.files ≡ length s.last → counts.bodies ≡ length (units_of s.last) → counts.rechecked ≡ length s.examined
+pub status_reported : (s : State) (counts : Status) → counts.files ≡ length s.last → counts.bodies ≡ length (units_of s.last) → counts.rechecked ≡ length s.examined
     → status_text counts ≡ status_reply s
 unfolding status_reply
-status_told s counts files bodies rechecked = rw (files, bodies, rechecked) refl
+status_reported s counts files bodies rechecked = rw (files, bodies, rechecked) refl

@@ -12,20 +12,20 @@ use Rattle.std.proofs.Math.Seq.{drop-cons}
 use Rattle.std.proofs.Math.ListN.{drop_of_length-le}
 use denote.Ref.{Bor}
 use Rattle.pyc_daemon.specs.Replies.{joined, WritesPart, Serves, turn_of, turn_after, reply_bytes}
-use Rattle.pyc_daemon.specs.Runs.{Runs, Work, Tells, AwaitsCommand, IsLast, streams}
+use Rattle.pyc_daemon.specs.Runs.{Runs, Work, Reports, AwaitsCommand, IsLast, streams}
 use Rattle.pyc_session.specs.Session.{Session, Turn, goes_on, ends, has_command, turn, progress, session_from, session_of}
-use Rattle.pyc_daemon.specs.Window.{held_of, ended_of}
+use Rattle.pyc_daemon.specs.ReadBuffer.{held_of, ended_of}
 use Rattle.pyc_session.specs.State.{State, start}
 use Rattle.pyc_session.specs.declared.ending.End.{End}
 use Rattle.pyc_session.specs.declared.ending.End.TheVariants.{EndOfInput}
 use Rattle.pyc_session.specs.declared.ending.RunFault.{RunFault}
 use Rattle.pyc_session.specs.declared.ending.RunFault.TheVariants as fault
 use Rattle.pyc_daemon.specs.declared.reply.Answer.{Answer}
-use Rattle.pyc_daemon.specs.declared.window.Window.{Window}
+use Rattle.pyc_daemon.specs.declared.read_buffer.ReadBuffer.{ReadBuffer}
 use Rattle.pyc_session.proofs.Turns.{progress_on, session_over, session_ended, commands_first, turn_first}
 use Rattle.pyc_daemon.proofs.Moving.{append_nil, consumes_none, advances_none, advances_trans}
 
-pub appends_none : (told : Option (List ℕ)) → Appends told told []
+pub appends_none : (reported : Option (List ℕ)) → Appends reported reported []
 appends_none None = tt
 appends_none (Some xs) = sym (append_nil xs)
 
@@ -36,47 +36,47 @@ appends_trans (Some xs') (Some ys') None xs ys p q = q
 appends_trans (Some xs') (Some ys') (Some zs') xs ys p q = q ∙ ap (λ zs. zs ++ ys) p ∙ append_assoc xs' xs ys
 
 -- some of the bytes are written, and the rest is to be
-pub record WrittenSoFar (told told' : Option (List ℕ)) (bytes rest : List ℕ) : Type 0 where
+pub record WrittenSoFar (reported reported' : Option (List ℕ)) (bytes rest : List ℕ) : Type 0 where
   pub written : List ℕ
-  pub appends : Appends told told' written
+  pub appends : Appends reported reported' written
   pub seam : bytes ≡ written ++ rest
 
-pub written_none : (told : Option (List ℕ)) (bytes : List ℕ) → WrittenSoFar told told bytes bytes
-written_none told bytes = record { written = []; appends = appends_none told; seam = refl }
+pub written_none : (reported : Option (List ℕ)) (bytes : List ℕ) → WrittenSoFar reported reported bytes bytes
+written_none reported bytes = record { written = []; appends = appends_none reported; seam = refl }
 
-pub written_on : (told told' told'' : Option (List ℕ)) (bytes rest rest' part : List ℕ) → WrittenSoFar told told' bytes rest
-    → Appends told' told'' part → rest ≡ part ++ rest' → WrittenSoFar told told'' bytes rest'
-written_on told told' told'' bytes rest rest' part w a e = record {
+pub written_on : (reported reported' reported'' : Option (List ℕ)) (bytes rest rest' part : List ℕ) → WrittenSoFar reported reported' bytes rest
+    → Appends reported' reported'' part → rest ≡ part ++ rest' → WrittenSoFar reported reported'' bytes rest'
+written_on reported reported' reported'' bytes rest rest' part w a e = record {
   written = w.written ++ part;
-  appends = appends_trans told told' told'' w.written part w.appends a;
+  appends = appends_trans reported reported' reported'' w.written part w.appends a;
   seam = w.seam ∙ ap (λ zs. w.written ++ zs) e ∙ sym (append_assoc w.written part rest');
 }
 
-pub written_part : (told told' told'' : Option (List ℕ)) (bytes rest : List ℕ) → WrittenSoFar told told' bytes rest
-    → Appends told' told'' [] → WritesPart told told'' bytes
-written_part told told' told'' bytes rest w a = record {
+pub written_part : (reported reported' reported'' : Option (List ℕ)) (bytes rest : List ℕ) → WrittenSoFar reported reported' bytes rest
+    → Appends reported' reported'' [] → WritesPart reported reported'' bytes
+written_part reported reported' reported'' bytes rest w a = record {
   written = w.written;
   later = rest;
-  appends = subst (λ zs. Appends told told'' zs) (append_nil w.written) (appends_trans told told' told'' w.written [] w.appends a);
+  appends = subst (λ zs. Appends reported reported'' zs) (append_nil w.written) (appends_trans reported reported' reported'' w.written [] w.appends a);
   seam = w.seam;
 }
 
-pub written_all : (told told' : Option (List ℕ)) (bytes rest : List ℕ) → WrittenSoFar told told' bytes rest → rest ≡ [] → Appends told told' bytes
-written_all told told' bytes rest w e =
-    subst (λ zs. Appends told told' zs) (sym (w.seam ∙ ap (λ zs. w.written ++ zs) e ∙ append_nil w.written)) w.appends
+pub written_all : (reported reported' : Option (List ℕ)) (bytes rest : List ℕ) → WrittenSoFar reported reported' bytes rest → rest ≡ [] → Appends reported reported' bytes
+written_all reported reported' bytes rest w e =
+    subst (λ zs. Appends reported reported' zs) (sym (w.seam ∙ ap (λ zs. w.written ++ zs) e ∙ append_nil w.written)) w.appends
 
 -- a part of a reply's second half
-pub part_after : (told told' told'' : Option (List ℕ)) (xs ys : List ℕ) → Appends told told' xs → WritesPart told' told'' ys → WritesPart told told'' (xs ++ ys)
-part_after told told' told'' xs ys a p = record {
+pub part_after : (reported reported' reported'' : Option (List ℕ)) (xs ys : List ℕ) → Appends reported reported' xs → WritesPart reported' reported'' ys → WritesPart reported reported'' (xs ++ ys)
+part_after reported reported' reported'' xs ys a p = record {
   written = xs ++ p.written;
   later = p.later;
-  appends = appends_trans told told' told'' xs p.written a p.appends;
+  appends = appends_trans reported reported' reported'' xs p.written a p.appends;
   seam = ap (λ zs. xs ++ zs) p.seam ∙ sym (append_assoc xs p.written p.later);
 }
 
 -- a part of its first half
-pub part_before : (told told' : Option (List ℕ)) (xs ys : List ℕ) → WritesPart told told' xs → WritesPart told told' (xs ++ ys)
-part_before told told' xs ys p = record {
+pub part_before : (reported reported' : Option (List ℕ)) (xs ys : List ℕ) → WritesPart reported reported' xs → WritesPart reported reported' (xs ++ ys)
+part_before reported reported' xs ys p = record {
   written = p.written;
   later = p.later ++ ys;
   appends = p.appends;
@@ -84,41 +84,41 @@ part_before told told' xs ys p = record {
 }
 
 -- the first of some texts are written
-pub record JoinedSoFar (told told' : Option (List ℕ)) (texts : List (Bor (List ℕ))) (count : ℕ) : Type 0 where
+pub record JoinedSoFar (reported reported' : Option (List ℕ)) (texts : List (Bor (List ℕ))) (count : ℕ) : Type 0 where
   pub written : List ℕ
-  pub appends : Appends told told' written
+  pub appends : Appends reported reported' written
   pub seam : joined texts ≡ written ++ joined (drop count texts)
 
-pub joined_none : (told : Option (List ℕ)) (texts : List (Bor (List ℕ))) → JoinedSoFar told told texts 0
-joined_none told texts = record { written = []; appends = appends_none told; seam = refl }
+pub joined_none : (reported : Option (List ℕ)) (texts : List (Bor (List ℕ))) → JoinedSoFar reported reported texts 0
+joined_none reported texts = record { written = []; appends = appends_none reported; seam = refl }
 
 joined_at : (texts : List (Bor (List ℕ))) (count : ℕ) (d : Bor (List ℕ)) → count < length texts
     → joined (drop count texts) ≡ (get_or texts count d).now ++ joined (drop (count + 1) texts)
 joined_at texts count d within = rw (add-one, drop-cons texts count d within) refl
 
-pub joined_on : (told told' told'' : Option (List ℕ)) (texts : List (Bor (List ℕ))) (count : ℕ) (d : Bor (List ℕ)) (part : List ℕ)
-    → JoinedSoFar told told' texts count → count < length texts → part ≡ (get_or texts count d).now → Appends told' told'' part
-    → JoinedSoFar told told'' texts (count + 1)
-joined_on told told' told'' texts count d part w within e a = record {
+pub joined_on : (reported reported' reported'' : Option (List ℕ)) (texts : List (Bor (List ℕ))) (count : ℕ) (d : Bor (List ℕ)) (part : List ℕ)
+    → JoinedSoFar reported reported' texts count → count < length texts → part ≡ (get_or texts count d).now → Appends reported' reported'' part
+    → JoinedSoFar reported reported'' texts (count + 1)
+joined_on reported reported' reported'' texts count d part w within e a = record {
   written = w.written ++ part;
-  appends = appends_trans told told' told'' w.written part w.appends a;
+  appends = appends_trans reported reported' reported'' w.written part w.appends a;
   seam = w.seam ∙ ap (λ zs. w.written ++ zs) (joined_at texts count d within) ∙ rw e (sym (append_assoc w.written (get_or texts count d).now (joined (drop (count + 1) texts))));
 }
 
-pub joined_part : (told told' told'' : Option (List ℕ)) (texts : List (Bor (List ℕ))) (count : ℕ) (d : Bor (List ℕ)) (part : List ℕ)
-    → JoinedSoFar told told' texts count → count < length texts → part ≡ (get_or texts count d).now → WritesPart told' told'' part
-    → WritesPart told told'' (joined texts)
-joined_part told told' told'' texts count d part w within e p = record {
+pub joined_part : (reported reported' reported'' : Option (List ℕ)) (texts : List (Bor (List ℕ))) (count : ℕ) (d : Bor (List ℕ)) (part : List ℕ)
+    → JoinedSoFar reported reported' texts count → count < length texts → part ≡ (get_or texts count d).now → WritesPart reported' reported'' part
+    → WritesPart reported reported'' (joined texts)
+joined_part reported reported' reported'' texts count d part w within e p = record {
   written = w.written ++ p.written;
   later = p.later ++ joined (drop (count + 1) texts);
-  appends = appends_trans told told' told'' w.written p.written w.appends p.appends;
+  appends = appends_trans reported reported' reported'' w.written p.written w.appends p.appends;
   seam = w.seam ∙ ap (λ zs. w.written ++ zs) (joined_at texts count d within ∙ ap (λ zs. zs ++ joined (drop (count + 1) texts)) (sym e ∙ p.seam)) ∙ simp append_assoc;
 }
 
-pub joined_all : (told told' : Option (List ℕ)) (texts : List (Bor (List ℕ))) (count : ℕ) → JoinedSoFar told told' texts count → length texts ≤ count
-    → Appends told told' (joined texts)
-joined_all told told' texts count w over =
-    subst (λ zs. Appends told told' zs) (sym (w.seam ∙ ap (λ ts. w.written ++ joined ts) (drop_of_length-le texts over) ∙ append_nil w.written)) w.appends
+pub joined_all : (reported reported' : Option (List ℕ)) (texts : List (Bor (List ℕ))) (count : ℕ) → JoinedSoFar reported reported' texts count → length texts ≤ count
+    → Appends reported reported' (joined texts)
+joined_all reported reported' texts count w over =
+    subst (λ zs. Appends reported reported' zs) (sym (w.seam ∙ ap (λ ts. w.written ++ joined ts) (drop_of_length-le texts over) ∙ append_nil w.written)) w.appends
 
 -- what holds at a fault
 pub at_fault : {T E : Type 0} (r : Result T E) (P Q : Type 0) → (P → Q) → OnErr r P → OnErr r Q
@@ -137,34 +137,34 @@ links_push step before between after (first ∷ events) links event fetched =
     (links.0, links.1, links_push step links.0 between after events links.2 event fetched)
 
 -- A session that is going on: what was taken, met and written so far comes before what the rest of the input brings.
-pub record Going {S : Type 0} (step : S → List ℕ → Entry → S → Type 0) (options : Options) (source source' : S) (left left' : Option (List ℕ)) (held' : List ℕ) (told told' : Option (List ℕ)) (s : State) (ended : Bool) : Type 0 where
+pub record Going {S : Type 0} (step : S → List ℕ → Entry → S → Type 0) (options : Options) (source source' : S) (left left' : Option (List ℕ)) (held' : List ℕ) (reported reported' : Option (List ℕ)) (s : State) (ended : Bool) : Type 0 where
   pub taken : List ℕ
   pub events : List Event
   pub written : List ℕ
   pub moved : Advances left [] left' held' taken
-  pub appends : Appends told told' written
+  pub appends : Appends reported reported' written
   pub links : Links step source events source'
   pub onward : (rest : List ℕ) → IsLast ended rest
       → progress (start options) (taken ++ rest) events ≡ Some (record { text = written; state = s; rest = rest })
 
-pub going_none : {S : Type 0} (step : S → List ℕ → Entry → S → Type 0) (options : Options) (source : S) (left told : Option (List ℕ)) (held : List ℕ) (s : State) (ended : Bool) → held ≡ [] → s ≡ start options → Going step options source source left left held told told s ended
-going_none step options source left told held s ended e f = record {
+pub going_none : {S : Type 0} (step : S → List ℕ → Entry → S → Type 0) (options : Options) (source : S) (left reported : Option (List ℕ)) (held : List ℕ) (s : State) (ended : Bool) → held ≡ [] → s ≡ start options → Going step options source source left left held reported reported s ended
+going_none step options source left reported held s ended e f = record {
   taken = [];
   events = [];
   written = [];
   moved = subst (λ zs. Advances left [] left zs []) (sym e) (advances_none left []);
-  appends = appends_none told;
+  appends = appends_none reported;
   links = refl;
   onward = λ rest last. rw f refl;
 }
 
--- a window whose reader told its end holds nothing
-pub held_none : (w : Window) → ended_of w ≡ true → held_of w ≡ []
+-- a window whose reader reported its end holds nothing
+pub held_none : (w : ReadBuffer) → ended_of w ≡ true → held_of w ≡ []
 held_none w e = let same : w.end - w.start ≡ 0 = omega (arith, w.at_end e) in rw same refl
 
 -- where nothing comes after, nothing comes after what is held
 last_held : (ended : Bool) (held rest : List ℕ) → (IsTrue ended → held ≡ []) → IsLast ended rest → IsLast ended (held ++ rest)
-last_held ended held rest none last = λ told. rw (none told, last told) refl
+last_held ended held rest none last = λ reported. rw (none reported, last reported) refl
 
 still_going : {ended : Bool} {P : Type 0} → ended ≡ false → IsTrue ended → P
 still_going {ended} e t = cc
@@ -179,8 +179,8 @@ reply_is : (end : Option End) (s : State) (rest reply : List ℕ) → (turn_afte
 reply_is None s rest reply = refl
 reply_is (Some end) s rest reply = refl
 
-module _ {S : Type 0} (step : S → List ℕ → Entry → S → Type 0) (options : Options) (source source' source'' : S) (left left' left'' told told' told'' : Option (List ℕ)) (held' held'' : List ℕ) (s : State) (ended : Bool)
-    (g : Going step options source source' left left' held' told told' s ended) (unended : ended ≡ false) (bytes : List ℕ) (moved : Advances left' held' left'' held'' bytes) where
+module _ {S : Type 0} (step : S → List ℕ → Entry → S → Type 0) (options : Options) (source source' source'' : S) (left left' left'' reported reported' reported'' : Option (List ℕ)) (held' held'' : List ℕ) (s : State) (ended : Bool)
+    (g : Going step options source source' left left' held' reported reported' s ended) (unended : ended ≡ false) (bytes : List ℕ) (moved : Advances left' held' left'' held'' bytes) where
   -- where the commands before the next one came to
   before_next : (rest : List ℕ) → progress (start options) (g.taken ++ rest) g.events ≡ Some (record { text = g.written; state = s; rest = rest })
   before_next rest = g.onward rest (still_going unended)
@@ -203,9 +203,9 @@ module _ {S : Type 0} (step : S → List ℕ → Entry → S → Type 0) (option
       (before_next (bytes ++ (held'' ++ rest)))
       (ap (λ input. session_from (start options) input (g.events ++ more)) (sym (parted g.taken bytes held'' rest all_moved.got all_moved.seam)) ∙ e)
 
-  pub runs_unread : has_command bytes ≡ false → held'' ≡ [] → (why : RunFault) → ((work : Work) → AwaitsCommand options work → Tells options work (Err why)) → source'' ≡ source'
-      → Runs step options (streams source left told) (streams source'' left'' told') (Err why)
-  runs_unread less none why tells kept =
+  pub runs_unread : has_command bytes ≡ false → held'' ≡ [] → (why : RunFault) → ((work : Work) → AwaitsCommand options work → Reports options work (Err why)) → source'' ≡ source'
+      → Runs step options (streams source left reported) (streams source'' left'' reported') (Err why)
+  runs_unread less none why reports kept =
       let work : Work = record { taken = all_moved.got; ended = false; events = g.events; written = g.written } in
       record {
         work = work;
@@ -213,7 +213,7 @@ module _ {S : Type 0} (step : S → List ℕ → Entry → S → Type 0) (option
         at_end = λ never. cc;
         appends = g.appends;
         links = subst (λ x. Links step source g.events x) (sym kept) g.links;
-        tells = tells work (record { state = s; part = bytes; less = less; replied = awaits_command less none });
+        reports = reports work (record { state = s; part = bytes; less = less; replied = awaits_command less none });
         first = λ rest more session last e. first_before rest more session e;
       }
 
@@ -226,14 +226,14 @@ module _ {S : Type 0} (step : S → List ℕ → Entry → S → Type 0) (option
     linked = links_push step source source' source'' g.events g.links event fetched
 
     -- a reply is written, and the session goes on
-    pub going_on : answer.end ≡ None → Appends told' told'' (reply_bytes answer.reply)
-        → Going step options source source'' left left'' held'' told told'' s' ended'
+    pub going_on : answer.end ≡ None → Appends reported' reported'' (reply_bytes answer.reply)
+        → Going step options source source'' left left'' held'' reported reported'' s' ended'
     going_on end appends = record {
       taken = g.taken ++ bytes;
       events = g.events ++ event ∷ [];
       written = g.written ++ reply_bytes answer.reply;
       moved = all_moved;
-      appends = appends_trans told told' told'' g.written (reply_bytes answer.reply) g.appends appends;
+      appends = appends_trans reported reported' reported'' g.written (reply_bytes answer.reply) g.appends appends;
       links = linked;
       onward = λ rest last.
           let on : (turn_of answer s' rest) ≡ record { reply = reply_bytes answer.reply; state = s'; onward = goes_on; rest = rest } = rw end refl in
@@ -257,15 +257,15 @@ module _ {S : Type 0} (step : S → List ℕ → Entry → S → Type 0) (option
         (later ++ found.0, found.1 ∙ ap (λ zs. (g.written ++ zs) ++ found.0) (reply_is answer.end s' (held'' ++ rest) (reply_bytes answer.reply) ∙ parts) ∙ simp append_assoc)
 
     -- the session ends after a reply
-    pub runs_last : (end : End) → answer.end ≡ Some end → Appends told' told'' (reply_bytes answer.reply) → (IsTrue ended' → IsAtEnd left'') → (IsTrue ended' → held'' ≡ [])
-        → Runs step options (streams source left told) (streams source'' left'' told'') (Ok end)
+    pub runs_last : (end : End) → answer.end ≡ Some end → Appends reported' reported'' (reply_bytes answer.reply) → (IsTrue ended' → IsAtEnd left'') → (IsTrue ended' → held'' ≡ [])
+        → Runs step options (streams source left reported) (streams source'' left'' reported'') (Ok end)
     runs_last end is appends at_end none = record {
       work = record { taken = all_moved.got; ended = ended'; events = g.events ++ event ∷ []; written = g.written ++ reply_bytes answer.reply };
       consumes = all_moved.consumes;
       at_end = at_end;
-      appends = appends_trans told told' told'' g.written (reply_bytes answer.reply) g.appends appends;
+      appends = appends_trans reported reported' reported'' g.written (reply_bytes answer.reply) g.appends appends;
       links = linked;
-      tells = λ rest last.
+      reports = λ rest last.
           let t : Turn = record { reply = reply_bytes answer.reply; state = s'; onward = ends end; rest = [] } in
           let on : turn_of answer s' (held'' ++ rest) ≡ t = rw is refl in
           ap (λ input. session_from (start options) input (g.events ++ event ∷ [])) (input_is rest)
@@ -275,15 +275,15 @@ module _ {S : Type 0} (step : S → List ℕ → Entry → S → Type 0) (option
     }
 
     -- the writer fails
-    pub runs_unwritten : WritesPart told' told'' (reply_bytes answer.reply) → (IsTrue ended' → IsAtEnd left'') → (IsTrue ended' → held'' ≡ [])
-        → Runs step options (streams source left told) (streams source'' left'' told'') (Err fault.Write)
+    pub runs_unwritten : WritesPart reported' reported'' (reply_bytes answer.reply) → (IsTrue ended' → IsAtEnd left'') → (IsTrue ended' → held'' ≡ [])
+        → Runs step options (streams source left reported) (streams source'' left'' reported'') (Err fault.Write)
     runs_unwritten part at_end none = record {
       work = record { taken = all_moved.got; ended = ended'; events = g.events ++ event ∷ []; written = g.written ++ part.written };
       consumes = all_moved.consumes;
       at_end = at_end;
-      appends = appends_trans told told' told'' g.written part.written g.appends part.appends;
+      appends = appends_trans reported reported' reported'' g.written part.written g.appends part.appends;
       links = linked;
-      tells = record {
+      reports = record {
         events = g.events;
         event = event;
         replies = g.written;
@@ -304,22 +304,22 @@ module _ {S : Type 0} (step : S → List ℕ → Entry → S → Type 0) (option
     }
 
 -- a fault of reading
-pub runs_unread_by : {R S : Type 0} (step : S → List ℕ → Entry → S → Type 0) (options : Options) (source source' source'' : S) (left left' left'' told told' : Option (List ℕ)) (held' held'' : List ℕ) (s : State) (ended : Bool)
-    (g : Going step options source source' left left' held' told told' s ended) → ended ≡ false → (bytes : List ℕ) → Advances left' held' left'' held'' bytes
+pub runs_unread_by : {R S : Type 0} (step : S → List ℕ → Entry → S → Type 0) (options : Options) (source source' source'' : S) (left left' left'' reported reported' : Option (List ℕ)) (held' held'' : List ℕ) (s : State) (ended : Bool)
+    (g : Going step options source source' left left' held' reported reported' s ended) → ended ≡ false → (bytes : List ℕ) → Advances left' held' left'' held'' bytes
     → has_command bytes ≡ false → held'' ≡ [] → source'' ≡ source' → (why : RunFault) (reader reader' : Counted R) (turns : ℕ) → ComesOfReading why reader reader' turns
-    → Runs step options (streams source left told) (streams source'' left'' told') (Err why)
-runs_unread_by step options source source' source'' left left' left'' told told' held' held'' s ended g unended bytes moved less none kept fault.Read reader reader' turns e =
-    runs_unread step options source source' source'' left left' left'' told told' told' held' held'' s ended g unended bytes moved less none fault.Read (λ work is. is) kept
-runs_unread_by step options source source' source'' left left' left'' told told' held' held'' s ended g unended bytes moved less none kept fault.TooManyTurns reader reader' turns e =
-    runs_unread step options source source' source'' left left' left'' told told' told' held' held'' s ended g unended bytes moved less none fault.TooManyTurns (λ work is. is) kept
-runs_unread_by step options source source' source'' left left' left'' told told' held' held'' s ended g unended bytes moved less none kept fault.Write reader reader' turns e = absurd e
-runs_unread_by step options source source' source'' left left' left'' told told' held' held'' s ended g unended bytes moved less none kept fault.Memory reader reader' turns e = absurd e
+    → Runs step options (streams source left reported) (streams source'' left'' reported') (Err why)
+runs_unread_by step options source source' source'' left left' left'' reported reported' held' held'' s ended g unended bytes moved less none kept fault.Read reader reader' turns e =
+    runs_unread step options source source' source'' left left' left'' reported reported' reported' held' held'' s ended g unended bytes moved less none fault.Read (λ work is. is) kept
+runs_unread_by step options source source' source'' left left' left'' reported reported' held' held'' s ended g unended bytes moved less none kept fault.TooManyTurns reader reader' turns e =
+    runs_unread step options source source' source'' left left' left'' reported reported' reported' held' held'' s ended g unended bytes moved less none fault.TooManyTurns (λ work is. is) kept
+runs_unread_by step options source source' source'' left left' left'' reported reported' held' held'' s ended g unended bytes moved less none kept fault.Write reader reader' turns e = absurd e
+runs_unread_by step options source source' source'' left left' left'' reported reported' held' held'' s ended g unended bytes moved less none kept fault.Memory reader reader' turns e = absurd e
 
 -- the input ends where no command begins
-pub going_last : {S : Type 0} (step : S → List ℕ → Entry → S → Type 0) (options : Options) (source source' source'' : S) (left left' left'' told told' : Option (List ℕ)) (held' held'' : List ℕ) (s s' : State) (ended ended' : Bool) (bytes : List ℕ)
-    → Going step options source source' left left' held' told told' s ended → ended ≡ false → Advances left' held' left'' held'' bytes → bytes ≡ [] → s' ≡ s → source'' ≡ source'
-    → Going step options source source'' left left'' held'' told told' s' ended'
-going_last step options source source' source'' left left' left'' told told' held' held'' s s' ended ended' bytes g unended moved none same kept = record {
+pub going_last : {S : Type 0} (step : S → List ℕ → Entry → S → Type 0) (options : Options) (source source' source'' : S) (left left' left'' reported reported' : Option (List ℕ)) (held' held'' : List ℕ) (s s' : State) (ended ended' : Bool) (bytes : List ℕ)
+    → Going step options source source' left left' held' reported reported' s ended → ended ≡ false → Advances left' held' left'' held'' bytes → bytes ≡ [] → s' ≡ s → source'' ≡ source'
+    → Going step options source source'' left left'' held'' reported reported' s' ended'
+going_last step options source source' source'' left left' left'' reported reported' held' held'' s s' ended ended' bytes g unended moved none same kept = record {
   taken = g.taken ++ bytes;
   events = g.events;
   written = g.written;
@@ -330,10 +330,10 @@ going_last step options source source' source'' left left' left'' told told' hel
 }
 
 -- the input ends before another command
-pub runs_ended : {S : Type 0} (step : S → List ℕ → Entry → S → Type 0) (options : Options) (source source' : S) (left left' told told' : Option (List ℕ)) (held' : List ℕ) (s : State) (ended : Bool)
-    → Going step options source source' left left' held' told told' s ended → ended ≡ true → (IsTrue ended → IsAtEnd left') → held' ≡ []
-    → Runs step options (streams source left told) (streams source' left' told') (Ok EndOfInput)
-runs_ended step options source source' left left' told told' held' s ended g over at_end none =
+pub runs_ended : {S : Type 0} (step : S → List ℕ → Entry → S → Type 0) (options : Options) (source source' : S) (left left' reported reported' : Option (List ℕ)) (held' : List ℕ) (s : State) (ended : Bool)
+    → Going step options source source' left left' held' reported reported' s ended → ended ≡ true → (IsTrue ended → IsAtEnd left') → held' ≡ []
+    → Runs step options (streams source left reported) (streams source' left' reported') (Ok EndOfInput)
+runs_ended step options source source' left left' reported reported' held' s ended g over at_end none =
     let input_is : (rest : List ℕ) → g.moved.got ++ rest ≡ g.taken ++ (held' ++ rest) = λ rest. ap (λ zs. zs ++ rest) g.moved.seam ∙ append_assoc g.taken held' rest in
     let known : (rest : List ℕ) → IsLast ended rest → progress (start options) (g.moved.got ++ rest) g.events ≡ Some (record { text = g.written; state = s; rest = held' ++ rest }) =
     λ rest last. ap (λ input. progress (start options) input g.events) (input_is rest) ∙ g.onward (held' ++ rest) (last_held ended held' rest (λ _. none) last) in
@@ -343,7 +343,7 @@ runs_ended step options source source' left left' told told' held' s ended g ove
       at_end = at_end;
       appends = g.appends;
       links = g.links;
-      tells = λ rest last.
+      reports = λ rest last.
           let nothing : rest ≡ [] = last over in
           session_ended (start options) (g.moved.got ++ rest) g.events (record { text = g.written; state = s; rest = held' ++ rest }) (known rest last) (rw (none, nothing) refl);
       first = λ rest more session last e.
@@ -351,38 +351,38 @@ runs_ended step options source source' left left' told told' held' s ended g ove
     }
 
 -- nothing was done
-pub runs_none : {S : Type 0} (step : S → List ℕ → Entry → S → Type 0) (options : Options) (source : S) (left told : Option (List ℕ))
-    → Runs step options (streams source left told) (streams source left told) (Err fault.Memory)
-runs_none step options source left told = record {
+pub runs_none : {S : Type 0} (step : S → List ℕ → Entry → S → Type 0) (options : Options) (source : S) (left reported : Option (List ℕ))
+    → Runs step options (streams source left reported) (streams source left reported) (Err fault.Memory)
+runs_none step options source left reported = record {
   work = record { taken = []; ended = false; events = []; written = [] };
   consumes = consumes_none left;
   at_end = λ never. cc;
-  appends = appends_none told;
+  appends = appends_none reported;
   links = refl;
-  tells = (refl, refl, refl);
+  reports = (refl, refl, refl);
   first = λ rest more session last e. (session.text, refl);
 }
 
 -- what a run that ended wrote is the session of the whole input
 abbrev pub Replies : {S : Type 0} (step : S → List ℕ → Entry → S → Type 0) → Options → S → S → Option (List ℕ) → Option (List ℕ) → Option (List ℕ) → End → Type 0
-Replies step options source source' left told told' end =
+Replies step options source source' left reported reported' end =
     IfSome left (λ input. (events : List Event) × (session : Session) × Links step source events source' × (session_of options input events ≡ Some session)
-    × Appends told told' session.text × (session.ending ≡ end))
+    × Appends reported reported' session.text × (session.ending ≡ end))
 
-pub replies : {S : Type 0} (step : S → List ℕ → Entry → S → Type 0) (options : Options) (source source' : S) (left left' told told' : Option (List ℕ)) (end : End)
-    → Runs step options (streams source left told) (streams source' left' told') (Ok end) → Replies step options source source' left told told' end
-replies step options source source' None left' told told' end r = tt
-replies step options source source' (Some input) None told told' end r = absurd r.consumes
-replies step options source source' (Some input) (Some ys) told told' end r = (
+pub replies : {S : Type 0} (step : S → List ℕ → Entry → S → Type 0) (options : Options) (source source' : S) (left left' reported reported' : Option (List ℕ)) (end : End)
+    → Runs step options (streams source left reported) (streams source' left' reported') (Ok end) → Replies step options source source' left reported reported' end
+replies step options source source' None left' reported reported' end r = tt
+replies step options source source' (Some input) None reported reported' end r = absurd r.consumes
+replies step options source source' (Some input) (Some ys) reported reported' end r = (
   r.work.events,
   record { text = r.work.written; ending = end },
   r.links,
-  ap (λ zs. session_from (start options) zs r.work.events) r.consumes ∙ r.tells ys r.at_end,
+  ap (λ zs. session_from (start options) zs r.work.events) r.consumes ∙ r.reports ys r.at_end,
   r.appends,
   refl,
 )
 
-pub replies_ok : {S : Type 0} (step : S → List ℕ → Entry → S → Type 0) (options : Options) (source source' : S) (left left' told told' : Option (List ℕ)) (result : Result End RunFault)
-    → Runs step options (streams source left told) (streams source' left' told') result → IfOk result (λ end. Replies step options source source' left told told' end)
-replies_ok step options source source' left left' told told' (Ok end) r = replies step options source source' left left' told told' end r
-replies_ok step options source source' left left' told told' (Err why) r = tt
+pub replies_ok : {S : Type 0} (step : S → List ℕ → Entry → S → Type 0) (options : Options) (source source' : S) (left left' reported reported' : Option (List ℕ)) (result : Result End RunFault)
+    → Runs step options (streams source left reported) (streams source' left' reported') result → IfOk result (λ end. Replies step options source source' left reported reported' end)
+replies_ok step options source source' left left' reported reported' (Ok end) r = replies step options source source' left left' reported reported' end r
+replies_ok step options source source' left left' reported reported' (Err why) r = tt

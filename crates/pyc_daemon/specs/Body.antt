@@ -4,7 +4,7 @@ use Rattle.pyc_session.specs.declared.refusal.Refusal.{Refusal}
 use Rattle.pyc_daemon.specs.declared.input.Body.{Body}
 use Rattle.pyc_daemon.specs.declared.input.Body.TheVariants.{Whole, NotKept, Truncated}
 
--- What was told of the bytes that were used, of which `size` were announced.
+-- What was reported of the bytes that were used, of which `size` were announced.
 abbrev pub CameAs : Body → List ℕ → ℕ → Bool → Bool → Type 0
 CameAs (Whole kept) bytes size wanted ended = (kept.items ≡ bytes) × (length bytes ≡ size) × IsTrue wanted
 CameAs NotKept bytes size wanted ended = length bytes ≡ size

@@ -3,4 +3,4 @@ pub mod Counted
 pub mod Reading
 pub mod Replies
 pub mod Runs
-pub mod Window
+pub mod ReadBuffer

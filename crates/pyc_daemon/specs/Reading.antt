@@ -14,12 +14,12 @@ pub record Advances (left : Option (List ℕ)) (held : List ℕ) (left' : Option
   pub consumes : Consumes left left' got
   pub seam : held ++ got ≡ bytes ++ held'
 
--- The reader may still be called, and where it told its end nothing is left.
+-- The reader may still be called, and where it reported its end nothing is left.
 pub record IsReading (left : Option (List ℕ)) (ended : Bool) (calls turns : ℕ) : Type 0 where
   pub low : calls ≤ turns
   pub at_end : IsTrue ended → IsAtEnd left
 
--- What reading may still take, an upper bound that each step lowers: nothing once the reader told its end,
+-- What reading may still take, an upper bound that each step lowers: nothing once the reader reported its end,
 -- else one for the end, 4,097 for each read that is left, and one for each byte that is held.
 abbrev pub work_left : Bool → ℕ → ℕ → ℕ → ℕ
 work_left ended held calls turns = if ended then 0 else 1 + (turns - calls) * 4097 + held

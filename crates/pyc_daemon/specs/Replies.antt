@@ -47,8 +47,8 @@ Serves old new bytes event ended (Some answer) =
     (rest : List ℕ) → IsLast ended rest → turn old (bytes ++ rest) event ≡ Some (turn_of answer new rest)
 
 -- what was written before a fault: a part of these bytes
-pub record WritesPart (told told' : Option (List ℕ)) (bytes : List ℕ) : Type 0 where
+pub record WritesPart (reported reported' : Option (List ℕ)) (bytes : List ℕ) : Type 0 where
   pub written : List ℕ
   pub later : List ℕ
-  pub appends : Appends told told' written
+  pub appends : Appends reported reported' written
   pub seam : bytes ≡ written ++ later

@@ -12,7 +12,7 @@ use Rattle.pyc_session.specs.Event.{Event, Links}
 use Rattle.pyc_session.specs.Session.{Session, Progress, Turn, turn, has_command, progress, session_of}
 use Rattle.pyc_session.specs.State.{State, start}
 
--- where the input's end was told, nothing comes after
+-- where the input's end was reported, nothing comes after
 abbrev pub IsLast : Bool → List ℕ → Type 0
 IsLast ended rest = IsTrue ended → rest ≡ []
 
@@ -20,12 +20,12 @@ IsLast ended rest = IsTrue ended → rest ≡ []
 pub record Streams (S : Type 0) : Type 0 where
   pub source : S
   pub left : Option (List ℕ)
-  pub told : Option (List ℕ)
+  pub reported : Option (List ℕ)
 
 abbrev pub streams : {S : Type 0} → S → Option (List ℕ) → Option (List ℕ) → Streams S
-streams source left told = record { source = source; left = left; told = told }
+streams source left reported = record { source = source; left = left; reported = reported }
 
--- what was taken, and whether the end was told; what the commands met, one event a command; and what was written
+-- what was taken, and whether the end was reported; what the commands met, one event a command; and what was written
 pub record Work : Type 0 where
   pub taken : List ℕ
   pub ended : Bool
@@ -73,12 +73,12 @@ abbrev pub DidNothing : Work → Type 0
 DidNothing work = (work.taken ≡ []) × (work.events ≡ []) × (work.written ≡ [])
 
 -- what a run did that answered so
-abbrev pub Tells : Options → Work → Result End RunFault → Type 0
-Tells options work (Ok end) = WroteAll options work end
-Tells options work (Err fault.Read) = AwaitsCommand options work
-Tells options work (Err fault.TooManyTurns) = AwaitsCommand options work
-Tells options work (Err fault.Write) = BreaksReply options work
-Tells options work (Err fault.Memory) = DidNothing work
+abbrev pub Reports : Options → Work → Result End RunFault → Type 0
+Reports options work (Ok end) = WroteAll options work end
+Reports options work (Err fault.Read) = AwaitsCommand options work
+Reports options work (Err fault.TooManyTurns) = AwaitsCommand options work
+Reports options work (Err fault.Write) = BreaksReply options work
+Reports options work (Err fault.Memory) = DidNothing work
 
 -- what was written begins what a session writes for every input and events that go on from those of the run
 abbrev pub WroteFirst : Options → Work → Type 0
@@ -93,9 +93,9 @@ pub record Runs {S : Type 0} (step : S → List ℕ → Entry → S → Type 0) 
   pub work : Work
   pub consumes : Consumes before.left after.left work.taken
   pub at_end : IsTrue work.ended → IsAtEnd after.left
-  pub appends : Appends before.told after.told work.written
+  pub appends : Appends before.reported after.reported work.written
   pub links : Links step before.source work.events after.source
-  pub tells : Tells options work result
+  pub reports : Reports options work result
   pub first : WroteFirst options work
 
 -- what commands that were served until this answer did to the counts of their reader and their writer

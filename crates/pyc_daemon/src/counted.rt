@@ -59,6 +59,7 @@ impl<T> Counted<T> {
     }
 
     /// How many calls were given an empty buffer: such a call can move no byte, whatever the reader or the writer is.
+    /// The call is for users of the library: the program does not make it.
     pub fn empty_buffers(&self) -> u64
         ensures { result ≡ empty_buffers_of self.now }
     {

@@ -8,14 +8,14 @@ ghost use Rattle.pyc_session.specs.Event.{Event, Links};
 ghost use Rattle.pyc_daemon.specs.Reading.{IsReading};
 ghost use Rattle.pyc_daemon.specs.Runs.{Runs, ComesOfServing, streams};
 ghost use Rattle.pyc_session.specs.Session.{Session, session_of};
-ghost use Rattle.pyc_daemon.specs.Window.{held_of, ended_of};
+ghost use Rattle.pyc_daemon.specs.ReadBuffer.{held_of, ended_of};
 ghost use Rattle.pyc_session.specs.State.{start};
 
 use crate::counted::Counted;
 use crate::input::KEPT;
+use crate::read_buffer::ReadBuffer;
 use crate::reply::Answer;
 use crate::serving::serve;
-use crate::window::Window;
 use crate::writing::write_reply;
 use pyc_session::{Daemon, End, Options, RunFault, Sources};
 use std::alloc::Global;
@@ -55,7 +55,7 @@ pub fn run<R: Read, W: Write, S: Sources>(
     // No read was without room and no write without a byte, however it ended.
     ensures buffers { GivesRoom reader.old reader.new × GivesRoom writer.old writer.new }
 {
-    let Ok(mut window) = Window::new(alloc) else {
+    let Ok(mut read_buffer) = ReadBuffer::new(alloc) else {
         return Err(RunFault::Memory);
     };
     let Ok(mut line) = Vec::with_capacity(alloc, KEPT) else {
@@ -66,7 +66,7 @@ pub fn run<R: Read, W: Write, S: Sources>(
         alloc,
         reader,
         writer,
-        &mut window,
+        &mut read_buffer,
         &mut line,
         sources,
         &mut daemon,
@@ -79,25 +79,26 @@ fn serve_all<R: Read, W: Write, S: Sources>(
     alloc: Global,
     reader: &mut Counted<R>,
     writer: &mut Counted<W>,
-    window: &mut Window,
+    read_buffer: &mut ReadBuffer,
     line: &mut Vec<u8>,
     sources: &mut S,
     daemon: &mut Daemon,
     turns: u64,
 ) -> Result<End, RunFault>
     requires room { KEPT ≤ vec_capacity line.old }
-    requires empty { held_of window.old ≡ [] }
-    requires open { ended_of window.old ≡ false }
+    requires empty { held_of read_buffer.old ≡ [] }
+    requires open { ended_of read_buffer.old ≡ false }
     requires begun { daemon.old ≡ start daemon.old.options }
-    requires reading { IsReading (R.remaining (inner_of reader.old)) (ended_of window.old) (calls_of reader.old) turns }
+    requires reading { IsReading (R.remaining (inner_of reader.old)) (ended_of read_buffer.old) (calls_of reader.old)
+        turns }
     ensures runs { Runs S.step daemon.old.options (streams sources.old (R.remaining (inner_of reader.old))
         (W.contents (inner_of writer.old)))
         (streams sources.new (R.remaining (inner_of reader.new)) (W.contents (inner_of writer.new))) result }
     ensures fault { ComesOfServing result reader.old reader.new writer.old writer.new turns }
     ensures buffers { GivesRoom reader.old reader.new × GivesRoom writer.old writer.new }
 {
-    'commands: while !window.is_ended() {
-        let Some(answer) = serve(alloc, reader, window, line, sources, daemon, turns)? else {
+    'commands: while !read_buffer.is_ended() {
+        let Some(answer) = serve(alloc, reader, read_buffer, line, sources, daemon, turns)? else {
             break 'commands;
         };
         let Answer { reply, end } = answer;

@@ -4,9 +4,9 @@
 mod counted;
 mod engine;
 mod input;
+mod read_buffer;
 mod reply;
 mod serving;
-mod window;
 mod writing;
 
 pub use counted::Counted;

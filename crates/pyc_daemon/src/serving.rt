@@ -10,14 +10,14 @@ ghost use Rattle.pyc_daemon.specs.Reading.{Advances, IsReading, ComesOfReading, 
 ghost use Rattle.pyc_session.specs.Refusal.{early_refusal};
 ghost use Rattle.pyc_daemon.specs.Replies.{Serves, turn_of};
 ghost use Rattle.pyc_daemon.specs.Runs.{IsLast};
-ghost use Rattle.pyc_session.specs.Session.{act, has_command, check_turn, file_turn, told, refusal_in};
-ghost use Rattle.pyc_daemon.specs.Window.{held_of, ended_of};
+ghost use Rattle.pyc_session.specs.Session.{act, has_command, check_turn, file_turn, reported, refusal_in};
+ghost use Rattle.pyc_daemon.specs.ReadBuffer.{held_of, ended_of};
 ghost use Rattle.pyc_session.specs.State.{State};
 
 use crate::counted::Counted;
 use crate::input::{Body, KEPT, command_line, read_body, read_line};
+use crate::read_buffer::ReadBuffer;
 use crate::reply::{Answer, Reply};
-use crate::window::Window;
 use pyc_session::{Command, Daemon, End, Keep, Refusal, RunFault, Sources, parse};
 use std::alloc::Global;
 use std::io::Read;
@@ -26,42 +26,44 @@ use std::io::Read;
 pub fn serve<R: Read, S: Sources>(
     alloc: Global,
     reader: &mut Counted<R>,
-    window: &mut Window,
+    read_buffer: &mut ReadBuffer,
     line: &mut Vec<u8>,
     sources: &mut S,
     daemon: &mut Daemon,
     turns: u64,
 ) -> Result<Option<Answer>, RunFault>
     requires room { KEPT ≤ vec_capacity line.old }
-    requires open { ended_of window.old ≡ false }
-    requires reading { IsReading (R.remaining (inner_of reader.old)) (ended_of window.old) (calls_of reader.old) turns }
+    requires open { ended_of read_buffer.old ≡ false }
+    requires reading { IsReading (R.remaining (inner_of reader.old)) (ended_of read_buffer.old) (calls_of reader.old)
+        turns }
     ensures room { KEPT ≤ vec_capacity line.new }
-    ensures reading { IsReading (R.remaining (inner_of reader.new)) (ended_of window.new) (calls_of reader.new) turns }
+    ensures reading { IsReading (R.remaining (inner_of reader.new)) (ended_of read_buffer.new) (calls_of reader.new)
+        turns }
     ensures served { IfOk result (λ answer. (bytes : List ℕ) × (event : Event)
-        × Advances (R.remaining (inner_of reader.old)) (held_of window.old) (R.remaining (inner_of reader.new))
-        (held_of window.new) bytes
-        × Serves daemon.old daemon.new bytes event (ended_of window.new) answer
+        × Advances (R.remaining (inner_of reader.old)) (held_of read_buffer.old) (R.remaining (inner_of reader.new))
+        (held_of read_buffer.new) bytes
+        × Serves daemon.old daemon.new bytes event (ended_of read_buffer.new) answer
         × FetchStep S.step sources.old event.fetched sources.new) }
     ensures err { OnErr result ((bytes : List ℕ)
-        × Advances (R.remaining (inner_of reader.old)) (held_of window.old) (R.remaining (inner_of reader.new))
-        (held_of window.new) bytes
+        × Advances (R.remaining (inner_of reader.old)) (held_of read_buffer.old) (R.remaining (inner_of reader.new))
+        (held_of read_buffer.new) bytes
         × (has_command bytes ≡ false)) }
-    ensures empty { OnErr result (held_of window.new ≡ []) }
-    ensures stopped { OnErr result (ended_of window.new ≡ false) }
+    ensures empty { OnErr result (held_of read_buffer.new ≡ []) }
+    ensures stopped { OnErr result (ended_of read_buffer.new ≡ false) }
     ensures untouched { OnErr result (sources.new ≡ sources.old) }
     ensures work { OnOk result
-        (work_left (ended_of window.new) (length (held_of window.new)) (calls_of reader.new) turns
-        < work_left (ended_of window.old) (length (held_of window.old)) (calls_of reader.old) turns) }
+        (work_left (ended_of read_buffer.new) (length (held_of read_buffer.new)) (calls_of reader.new) turns
+        < work_left (ended_of read_buffer.old) (length (held_of read_buffer.old)) (calls_of reader.old) turns) }
     ensures sound { OnOk result (IsSound reader.old reader.new) }
     ensures fault { IfErr result (λ e. ComesOfReading e reader.old reader.new turns) }
     ensures buffers { GivesRoom reader.old reader.new }
 {
-    let fed = read_line(reader, window, line, turns)?;
+    let fed = read_line(reader, read_buffer, line, turns)?;
     if is_end(line, fed) {
         return Ok(None);
     }
     let command = parse(command_line(line, fed));
-    let answer = obey(alloc, reader, window, sources, daemon, command, turns)?;
+    let answer = obey(alloc, reader, read_buffer, sources, daemon, command, turns)?;
     Ok(Some(answer))
 }
 
@@ -76,45 +78,56 @@ fn is_end(line: &[u8], fed: bool) -> bool
 fn obey<R: Read, S: Sources>(
     alloc: Global,
     reader: &mut Counted<R>,
-    window: &mut Window,
+    read_buffer: &mut ReadBuffer,
     sources: &mut S,
     daemon: &mut Daemon,
     command: Command<'_>,
     turns: u64,
 ) -> Result<Answer, RunFault>
-    requires reading { IsReading (R.remaining (inner_of reader.old)) (ended_of window.old) (calls_of reader.old) turns }
-    ensures reading { IsReading (R.remaining (inner_of reader.new)) (ended_of window.new) (calls_of reader.new) turns }
+    requires reading { IsReading (R.remaining (inner_of reader.old)) (ended_of read_buffer.old) (calls_of reader.old)
+        turns }
+    ensures reading { IsReading (R.remaining (inner_of reader.new)) (ended_of read_buffer.new) (calls_of reader.new)
+        turns }
     ensures obeyed { IfOk result (λ answer. (bytes : List ℕ) × (event : Event)
-        × Advances (R.remaining (inner_of reader.old)) (held_of window.old) (R.remaining (inner_of reader.new))
-        (held_of window.new) bytes
-        × ((rest : List ℕ) → IsLast (ended_of window.new) rest
+        × Advances (R.remaining (inner_of reader.old)) (held_of read_buffer.old) (R.remaining (inner_of reader.new))
+        (held_of read_buffer.new) bytes
+        × ((rest : List ℕ) → IsLast (ended_of read_buffer.new) rest
         → act daemon.old (said command.entry) event (bytes ++ rest) ≡ Some (turn_of answer daemon.new rest))
-        × (ended_of window.old ≡ true → (bytes ≡ []) × (ended_of window.new ≡ true))
+        × (ended_of read_buffer.old ≡ true → (bytes ≡ []) × (ended_of read_buffer.new ≡ true))
         × FetchStep S.step sources.old event.fetched sources.new) }
     ensures err { OnErr result ((bytes : List ℕ)
-        × Advances (R.remaining (inner_of reader.old)) (held_of window.old) (R.remaining (inner_of reader.new))
-        (held_of window.new) bytes
+        × Advances (R.remaining (inner_of reader.old)) (held_of read_buffer.old) (R.remaining (inner_of reader.new))
+        (held_of read_buffer.new) bytes
         × (length bytes < bytes_after (said command.entry))) }
-    ensures begun { OnErr result (ended_of window.old ≡ false) }
-    ensures empty { OnErr result (held_of window.new ≡ []) }
-    ensures stopped { OnErr result (ended_of window.new ≡ false) }
+    ensures begun { OnErr result (ended_of read_buffer.old ≡ false) }
+    ensures empty { OnErr result (held_of read_buffer.new ≡ []) }
+    ensures stopped { OnErr result (ended_of read_buffer.new ≡ false) }
     ensures untouched { OnErr result (sources.new ≡ sources.old) }
     ensures work { OnOk result
-        (work_left (ended_of window.new) (length (held_of window.new)) (calls_of reader.new) turns
-        ≤ work_left (ended_of window.old) (length (held_of window.old)) (calls_of reader.old) turns) }
+        (work_left (ended_of read_buffer.new) (length (held_of read_buffer.new)) (calls_of reader.new) turns
+        ≤ work_left (ended_of read_buffer.old) (length (held_of read_buffer.old)) (calls_of reader.old) turns) }
     ensures sound { OnOk result (IsSound reader.old reader.new) }
     ensures fault { IfErr result (λ e. ComesOfReading e reader.old reader.new turns) }
     ensures buffers { GivesRoom reader.old reader.new }
 {
     match command {
         Command::Add { path, size } => {
-            keep_file(alloc, reader, window, daemon, Keep::Add, path, size, turns)
+            keep_file(
+                alloc,
+                reader,
+                read_buffer,
+                daemon,
+                Keep::Add,
+                path,
+                size,
+                turns,
+            )
         }
         Command::Change { path, size } => {
             keep_file(
                 alloc,
                 reader,
-                window,
+                read_buffer,
                 daemon,
                 Keep::Change,
                 path,
@@ -122,8 +135,8 @@ fn obey<R: Read, S: Sources>(
                 turns,
             )
         }
-        Command::Update { path } => Ok(tell(daemon.update(sources, path))),
-        Command::Remove { path } => Ok(tell(daemon.remove(path))),
+        Command::Update { path } => Ok(short_answer(daemon.update(sources, path))),
+        Command::Remove { path } => Ok(short_answer(daemon.remove(path))),
         Command::Check => Ok(check(daemon)),
         Command::Status => Ok(Answer::counts(daemon.status())),
         Command::Stop => Ok(Answer::last("ok\n", End::Stopped)),
@@ -133,9 +146,9 @@ fn obey<R: Read, S: Sources>(
 }
 
 /// The answer to a command that is done or refused.
-fn tell(answer: Result<(), Refusal>) -> Answer
+fn short_answer(answer: Result<(), Refusal>) -> Answer
     ensures { (s : State) (rest : List ℕ) → turn_of result s rest
-        ≡ told (record { refusal = refusal_in answer; state = s }) rest }
+        ≡ reported (record { refusal = refusal_in answer; state = s }) rest }
 {
     match answer {
         Ok(()) => Answer::line("ok\n"),
@@ -160,37 +173,39 @@ fn check(daemon: &mut Daemon) -> Answer
 fn keep_file<R: Read>(
     alloc: Global,
     reader: &mut Counted<R>,
-    window: &mut Window,
+    read_buffer: &mut ReadBuffer,
     daemon: &mut Daemon,
     keep: Keep,
     path: &[u8],
     size: usize,
     turns: u64,
 ) -> Result<Answer, RunFault>
-    requires reading { IsReading (R.remaining (inner_of reader.old)) (ended_of window.old) (calls_of reader.old) turns }
-    ensures reading { IsReading (R.remaining (inner_of reader.new)) (ended_of window.new) (calls_of reader.new) turns }
+    requires reading { IsReading (R.remaining (inner_of reader.old)) (ended_of read_buffer.old) (calls_of reader.old)
+        turns }
+    ensures reading { IsReading (R.remaining (inner_of reader.new)) (ended_of read_buffer.new) (calls_of reader.new)
+        turns }
     ensures kept { IfOk result (λ answer. (bytes : List ℕ) × (mark : Bool)
-        × Advances (R.remaining (inner_of reader.old)) (held_of window.old) (R.remaining (inner_of reader.new))
-        (held_of window.new) bytes
-        × ((rest : List ℕ) → IsLast (ended_of window.new) rest
+        × Advances (R.remaining (inner_of reader.old)) (held_of read_buffer.old) (R.remaining (inner_of reader.new))
+        (held_of read_buffer.new) bytes
+        × ((rest : List ℕ) → IsLast (ended_of read_buffer.new) rest
         → file_turn keep daemon.old path.now size mark (bytes ++ rest) ≡ turn_of answer daemon.new rest)
-        × (ended_of window.old ≡ true → (bytes ≡ []) × (ended_of window.new ≡ true))) }
+        × (ended_of read_buffer.old ≡ true → (bytes ≡ []) × (ended_of read_buffer.new ≡ true))) }
     ensures err { OnErr result ((bytes : List ℕ)
-        × Advances (R.remaining (inner_of reader.old)) (held_of window.old) (R.remaining (inner_of reader.new))
-        (held_of window.new) bytes
+        × Advances (R.remaining (inner_of reader.old)) (held_of read_buffer.old) (R.remaining (inner_of reader.new))
+        (held_of read_buffer.new) bytes
         × (length bytes < size)) }
-    ensures begun { OnErr result (ended_of window.old ≡ false) }
-    ensures empty { OnErr result (held_of window.new ≡ []) }
-    ensures stopped { OnErr result (ended_of window.new ≡ false) }
+    ensures begun { OnErr result (ended_of read_buffer.old ≡ false) }
+    ensures empty { OnErr result (held_of read_buffer.new ≡ []) }
+    ensures stopped { OnErr result (ended_of read_buffer.new ≡ false) }
     ensures work { OnOk result
-        (work_left (ended_of window.new) (length (held_of window.new)) (calls_of reader.new) turns
-        ≤ work_left (ended_of window.old) (length (held_of window.old)) (calls_of reader.old) turns) }
+        (work_left (ended_of read_buffer.new) (length (held_of read_buffer.new)) (calls_of reader.new) turns
+        ≤ work_left (ended_of read_buffer.old) (length (held_of read_buffer.old)) (calls_of reader.old) turns) }
     ensures sound { OnOk result (IsSound reader.old reader.new) }
     ensures fault { IfErr result (λ e. ComesOfReading e reader.old reader.new turns) }
     ensures buffers { GivesRoom reader.old reader.new }
 {
     let refusal = daemon.early_refusal(keep, path, size);
-    let body = read_body(alloc, reader, window, size, refusal.is_none(), turns)?;
+    let body = read_body(alloc, reader, read_buffer, size, refusal.is_none(), turns)?;
     Ok(answer_body(daemon, keep, path, size, refusal, body))
 }
 

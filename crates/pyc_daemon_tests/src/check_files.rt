@@ -51,7 +51,7 @@ const ERROR: &str =
 
 const UNREADABLE: &str = "dmypy: b.py: refused 10 unreadable\n";
 
-// Names of files, with what is printed, what is told, and the status.
+// Names of files, with what is printed, what is reported, and the status.
 const TEXTS: &[(&str, &str, &str, u8)] = &[
     (
         "b.py",
@@ -67,20 +67,20 @@ const TEXTS: &[(&str, &str, &str, u8)] = &[
 
 #[test]
 fn texts_and_statuses(rt: HostRuntime) -> Result<(), Fail> {
-    for (line, printed, told, expected) in TEXTS {
+    for (line, printed, reported, expected) in TEXTS {
         let mut out = Vec::new(rt.alloc());
         let mut err = Vec::new(rt.alloc());
         let answer = answer(rt.alloc(), line, &mut out, &mut err)?;
         assert_eq!(rt; answer, Ok(*expected), "at {line}");
         assert_eq!(rt; out.as_slice(), printed.as_bytes(), "at {line}");
-        assert_eq!(rt; err.as_slice(), told.as_bytes(), "at {line}");
+        assert_eq!(rt; err.as_slice(), reported.as_bytes(), "at {line}");
     }
     Ok(())
 }
 
 const FULL: &str = "dmypy: the output cannot be written\n";
 
-// Names of files, with how many bytes the output and the error output take, what is printed, what is told, and the
+// Names of files, with how many bytes the output and the error output take, what is printed, what is reported, and the
 // answer.
 const FAULTS: &[(&str, usize, usize, &str, &str, Result<u8, CheckFault>)] = &[
     ("a.py", 0, NEVER, "", FULL, Err(CheckFault::Write)),
@@ -102,7 +102,7 @@ const FAULTS: &[(&str, usize, usize, &str, &str, Result<u8, CheckFault>)] = &[
 
 #[test]
 fn failing_writes(rt: HostRuntime) -> Result<(), Fail> {
-    for (line, room, err_room, printed, told, expected) in FAULTS {
+    for (line, room, err_room, printed, reported, expected) in FAULTS {
         for stop in [Stop::Fault, Stop::Zero] {
             let mut kept = Vec::new(rt.alloc());
             let mut err_kept = Vec::new(rt.alloc());
@@ -119,7 +119,7 @@ fn failing_writes(rt: HostRuntime) -> Result<(), Fail> {
             let answer = answer(rt.alloc(), line, out, err)?;
             assert_eq!(rt; answer, *expected, "at {line}");
             assert_eq!(rt; kept.as_slice(), printed.as_bytes(), "at {line}");
-            assert_eq!(rt; err_kept.as_slice(), told.as_bytes(), "at {line}");
+            assert_eq!(rt; err_kept.as_slice(), reported.as_bytes(), "at {line}");
         }
     }
     Ok(())

@@ -62,7 +62,7 @@ fn reading_stops_at_the_limit(rt: HostRuntime) -> Result<(), Fail> {
 }
 
 #[test]
-fn fault_after_some_bytes_is_told(rt: HostRuntime) -> Result<(), Fail> {
+fn fault_after_some_bytes_is_reported(rt: HostRuntime) -> Result<(), Fail> {
     let reader = b"x = 1\n".as_slice().chain(Faulty(ErrorKind::BrokenPipe));
     let fault = first_bytes(rt.alloc(), reader)
         .err()

@@ -1,9 +1,9 @@
-//! Faults that stop a session, as they are told.
+//! Faults that stop a session, as they are reported.
 
 use pyc_daemon::RunFault;
 use std::test::Fail;
 
-// Faults, with how they are told.
+// Faults, with how they are reported.
 const FAULTS: &[(RunFault, &str)] = &[
     (RunFault::Read, "the input cannot be read"),
     (RunFault::Write, "the output cannot be written"),
@@ -12,7 +12,7 @@ const FAULTS: &[(RunFault, &str)] = &[
 ];
 
 #[test]
-fn faults_as_they_are_told(rt: HostRuntime) -> Result<(), Fail> {
+fn faults_as_they_are_reported(rt: HostRuntime) -> Result<(), Fail> {
     for (fault, text) in FAULTS {
         assert_eq!(rt; fault.to_string(rt.alloc())?.as_str(), *text);
     }

@@ -4,6 +4,8 @@
 #![tactic(auto)]
 
 #[cfg(test)]
+mod changed_keys;
+#[cfg(test)]
 mod check_files;
 #[cfg(test)]
 mod counted;
@@ -18,13 +20,13 @@ mod memory_source;
 #[cfg(test)]
 mod replies;
 #[cfg(test)]
+mod reports;
+#[cfg(test)]
 mod reuse;
 #[cfg(test)]
 mod session;
 #[cfg(test)]
 mod sources;
-#[cfg(test)]
-mod verdicts;
 #[cfg(test)]
 mod words;
 #[cfg(test)]

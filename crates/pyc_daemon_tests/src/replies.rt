@@ -116,22 +116,37 @@ fn a_writer_that_stops_at_each_byte(rt: HostRuntime) -> Result<(), Fail> {
 const TWO_CHECKS_REPLIES: &str =
     "Success: no issues found in 0 source files\nstatus 0\nSuccess: no issues found in 0 source files\nstatus 0\n";
 
-// How many reads there may be, with the answer of a session that has two checks.
-const TURNS: &[(u64, Result<End, RunFault>)] = &[
-    (4, Err(RunFault::TooManyTurns)),
-    (5, Ok(End::EndOfInput)),
+// Inputs, with the most bytes of a read, how many reads there may be, the answer of the session and its replies.
+const TURNS: &[(&str, usize, u64, Result<End, RunFault>, &str)] = &[
+    ("check\n", 1, 4, Err(RunFault::TooManyTurns), ""),
+    ("stop\n", 1, 4, Err(RunFault::TooManyTurns), ""),
+    ("stop\n", 1, 5, Ok(End::Stopped), "ok\n"),
+    (
+        "check\ncheck\n",
+        3,
+        4,
+        Err(RunFault::TooManyTurns),
+        TWO_CHECKS_REPLIES,
+    ),
+    (
+        "check\ncheck\n",
+        3,
+        5,
+        Ok(End::EndOfInput),
+        TWO_CHECKS_REPLIES,
+    ),
 ];
 
 #[test]
 fn as_many_reads_as_there_may_be(rt: HostRuntime) -> Result<(), Fail> {
-    for (turns, end) in TURNS {
-        let reader = ShortReads::new(b"check\ncheck\n", 3);
+    for (input, most, turns, end, replies) in TURNS {
+        let reader = ShortReads::new(input.as_bytes(), *most);
         let (answer, kept) = replied(rt.alloc(), reader, *turns);
-        assert!(rt; answer == *end, "{turns} reads");
+        assert!(rt; answer == *end, "{input:?}, {turns} reads");
         assert_eq!(rt;
             kept.as_slice(),
-            TWO_CHECKS_REPLIES.as_bytes(),
-            "{turns} reads"
+            replies.as_bytes(),
+            "{input:?}, {turns} reads"
         );
     }
     Ok(())

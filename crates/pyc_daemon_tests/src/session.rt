@@ -1,4 +1,4 @@
-//! What is told of the end of a session, and its status.
+//! What is reported of the end of a session, and its status.
 
 use pyc_console::{session, session_status};
 use pyc_daemon::{Counted, End, MemorySource, Options, RunFault};
@@ -24,10 +24,16 @@ impl Read for Commands {
 }
 
 // The status of a session of `stop` or of a fault, with at most so many reads, over a writer with room or without.
-fn ended(alloc: Global, is_faulty: bool, turns: u64, replies: &mut [u8], told: &mut Vec<u8>) -> u8 {
+fn ended(
+    alloc: Global,
+    is_faulty: bool,
+    turns: u64,
+    replies: &mut [u8],
+    reported: &mut Vec<u8>,
+) -> u8 {
     let mut reader = Counted::new(Commands { is_faulty });
     let mut writer = Counted::new(replies);
-    let mut err = Counted::new(told);
+    let mut err = Counted::new(reported);
     let mut sources = MemorySource::new(Vec::new(alloc));
     let options = Options {
         ignore_missing: false,
@@ -44,7 +50,7 @@ fn ended(alloc: Global, is_faulty: bool, turns: u64, replies: &mut [u8], told: &
     )
 }
 
-// Whether the input fails, and how often it may be read, with the status and what is told.
+// Whether the input fails, and how often it may be read, with the status and what is reported.
 const FAULTS: &[(bool, u64, u8, &str)] = &[
     (false, 9, 0, ""),
     (true, 9, 2, "dmypy: the input cannot be read\n"),
@@ -52,20 +58,20 @@ const FAULTS: &[(bool, u64, u8, &str)] = &[
 ];
 
 #[test]
-fn faults_are_told(rt: HostRuntime) -> Result<(), Fail> {
+fn faults_are_reported(rt: HostRuntime) -> Result<(), Fail> {
     let mut room = [0_u8; 8];
     let mut none: [u8; 0] = [];
     for (is_faulty, turns, expected, text) in FAULTS {
-        let mut told = Vec::new(rt.alloc());
-        let status = ended(rt.alloc(), *is_faulty, *turns, &mut room, &mut told);
+        let mut reported = Vec::new(rt.alloc());
+        let status = ended(rt.alloc(), *is_faulty, *turns, &mut room, &mut reported);
         assert_eq!(rt; status, *expected, "at {text:?}");
-        assert_eq!(rt; told.as_slice(), text.as_bytes(), "at {text:?}");
+        assert_eq!(rt; reported.as_slice(), text.as_bytes(), "at {text:?}");
     }
-    let mut told = Vec::new(rt.alloc());
-    let status = ended(rt.alloc(), false, 9, &mut none, &mut told);
+    let mut reported = Vec::new(rt.alloc());
+    let status = ended(rt.alloc(), false, 9, &mut none, &mut reported);
     assert_eq!(rt; status, 2);
     assert_eq!(rt;
-        told.as_slice(),
+        reported.as_slice(),
         b"dmypy: the output cannot be written\n".as_slice()
     );
     Ok(())

@@ -1,6 +1,6 @@
 //! Command lines, and what their words ask for.
 
-use pyc_command_line::{Job, Options, TURNS, Usage, read_words, word_text};
+use pyc_console::{Job, Options, TURNS, Usage, read_words, word_text};
 use std::alloc::{AllocError, Global};
 use std::test::Fail;
 
@@ -80,7 +80,7 @@ fn checks_with_their_files(rt: HostRuntime) -> Result<(), Fail> {
     Ok(())
 }
 
-// Lines that ask for nothing, with a part of what is told of each.
+// Lines that ask for nothing, with a part of what is reported of each.
 const NO_JOBS: &[(&str, &str)] = &[
     ("", "Usage: dmypy <COMMAND>"),
     ("dmypy", "Usage: dmypy <COMMAND>"),

@@ -2,10 +2,10 @@
 use Rattle.std.specs.Prelude.{is_some, codes, List, flat_map, map}
 use Rattle.pyc_annotations.specs.Bases.{Base, class_base, bases}
 use Rattle.pyc_ast.specs.Exprs.{Argument}
-use Rattle.pyc_class.specs.Class.{user}
-use Rattle.pyc_classes.specs.declared.class_entry.WrittenBase.{WrittenBase}
-use Rattle.pyc_classes.specs.declared.class_entry.WrittenBase.TheVariants as written
-use Rattle.pyc_classes.specs.Entries.{Entry}
+use Rattle.pyc_class_ids.specs.Class.{user}
+use Rattle.pyc_class_table.specs.declared.class_entry.WrittenBase.{WrittenBase}
+use Rattle.pyc_class_table.specs.declared.class_entry.WrittenBase.TheVariants as written
+use Rattle.pyc_class_table.specs.Entries.{Entry}
 use Rattle.pyc_declarations.specs.Declarations.{declared_answer}
 use Rattle.pyc_members.specs.ClassBodies.{own_member}
 use Rattle.pyc_members.specs.DeclaredClasses.{DeclaredClass}

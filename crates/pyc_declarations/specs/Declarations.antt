@@ -5,7 +5,7 @@ use Rattle.pyc_annotations.specs.Annotations.{read_type}
 use Rattle.pyc_ast.specs.Exprs.{Expr}
 use Rattle.pyc_ast.specs.Statements.{FunctionDefinition}
 use Rattle.pyc_bindings.specs.Bindings.{BindingForm, function, annotated}
-use Rattle.pyc_classes.specs.ClassOrders.{undeclared}
+use Rattle.pyc_class_table.specs.ClassMros.{undeclared}
 use Rattle.pyc_declarations.specs.Kinds.{Found, declared_in, answered, answer_with, found_name, is_alias}
 use Rattle.pyc_declarations.specs.Kinds.{variable_kind, form_kind, kind_answer}
 use Rattle.pyc_declarations.specs.Presences.{module_presence, name_presence}

@@ -7,8 +7,8 @@ use Rattle.pyc_ast.specs.Exprs.{Expr}
 use Rattle.pyc_bindings.specs.Bindings.{Binding, BindingForm, function, class, annotated, assigned}
 use Rattle.pyc_bindings.specs.Redefinitions.{declaration, is_decorated}
 use Rattle.pyc_builtins.specs.Members.{is_dunder}
-use Rattle.pyc_class.specs.Class.{user}
-use Rattle.pyc_classes.specs.ClassOrders.{undeclared}
+use Rattle.pyc_class_ids.specs.Class.{user}
+use Rattle.pyc_class_table.specs.ClassMros.{undeclared}
 use Rattle.pyc_declarations.specs.DeclaredTypes.{initialiser_type}
 use Rattle.pyc_declarations.specs.Presences.{module_presence, name_presence}
 use Rattle.pyc_names.specs.declared.fixed.FixedModule.{FixedModule}
@@ -60,7 +60,7 @@ fixed_found None = answered (of_kind kind.unknown)
 -- what is declared under a name
 abbrev pub found_declared : List Interface → QualifiedName → Option FixedModule → Found
 found_declared files q (Some found) = fixed_found (fixed_name found q.name)
-found_declared files q None = found_in_file q (file_of files q.home)
+found_declared files q None = found_in_file q (file_of files q.module_path)
 
 -- a name that leads to none: its module does not have it, or an import binds it there
 abbrev pub absent_name : Option Interface → List ℕ → NameKind
@@ -69,12 +69,12 @@ absent_name None x = kind.no_name
 
 -- what following a name came to
 abbrev pub found_referent : List Interface → QualifiedName → Referent → Found
-found_referent files q (names.declared r) = found_declared files r (fixed_module r.home)
+found_referent files q (names.declared r) = found_declared files r (fixed_module r.module_path)
 found_referent files q (names.module_itself m) = answered (module_answer m)
 found_referent files q names.opaque = answered (of_kind kind.unknown)
 found_referent files q names.fixed_any = answered (of_kind kind.unknown)
 found_referent files q names.no_module = answered (of_kind kind.no_module)
-found_referent files q names.no_name = answered (of_kind (absent_name (file_of files q.home) q.name))
+found_referent files q names.no_name = answered (of_kind (absent_name (file_of files q.module_path) q.name))
 found_referent files q names.cycle = answered (of_kind kind.cycle)
 
 unfoldable pub found_name : List Interface → QualifiedName → Found
@@ -89,7 +89,7 @@ is_looked_up m n = if is_dunder n then is_some (fixed_module m) else true
 -- an attribute of a module
 abbrev pub module_attribute : List Interface → List (List ℕ) → List ℕ → Referent
 module_attribute files m n =
-    if is_looked_up m n then follow files (record { home = m; name = n }) else names.no_name
+    if is_looked_up m n then follow files (record { module_path = m; name = n }) else names.no_name
 
 -- an attribute of what a name stands for: a module alone has one
 abbrev pub attribute_referent : List Interface → Referent → List ℕ → Referent
@@ -104,7 +104,7 @@ attributes_referent files found (n ∷ rest) = attributes_referent files (attrib
 -- a name that stands in a file, where the file binds it
 abbrev pub own_referent : List Interface → Interface → List ℕ → Referent
 own_referent files file x =
-    if is_some (declaration file.bindings x) then follow files (record { home = file.name; name = x })
+    if is_some (declaration file.bindings x) then follow files (record { module_path = file.name; name = x })
     else names.no_name
 
 -- names joined by dots that stand in a file

@@ -51,9 +51,10 @@ name_in_file files q None = submodule_presence files q
 -- a name of a module that is there: a fixed module has every name
 abbrev pub name_in_module : List Interface → QualifiedName → Option FixedModule → Presence
 name_in_module files q (Some fixed) = presence.There
-name_in_module files q None = name_in_file files q (file_of files q.home)
+name_in_module files q None = name_in_file files q (file_of files q.module_path)
 
 -- whether a module has a name
 unfoldable pub name_presence : List Interface → QualifiedName → Presence
 name_presence files q =
-    if names.has_module files q.home then name_in_module files q (fixed_module q.home) else presence.NoModule
+    if names.has_module files q.module_path then name_in_module files q (fixed_module q.module_path)
+    else presence.NoModule

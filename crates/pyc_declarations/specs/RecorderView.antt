@@ -1,24 +1,24 @@
--- The desk at which a recorder performs readings.
+-- The trace at which a recorder performs readings.
 use Rattle.std.specs.Prelude.{◌≡◌, List, [], ◌++◌, map}
-use Rattle.pyc_declarations.specs.declared.recorder.Recorder.{Recorder}
+use Rattle.pyc_declarations.specs.declared.declaration_recorder.DeclarationRecorder.{DeclarationRecorder}
 use Rattle.pyc_reading.specs.Answers.{Answer}
-use Rattle.pyc_reading.specs.Desks.{Desk}
+use Rattle.pyc_reading.specs.Traces.{Trace}
 use Rattle.pyc_reading.specs.Keys.{Key}
 use Rattle.pyc_reading.specs.KeyView.{key_of}
 use Rattle.pyc_report.specs.Message.{message_in}
 
--- the desk of a recorder, over what its answers answer
-abbrev pub desk_of : {A : Type 0} → (A → Key → Answer) → Recorder A → Desk
-desk_of answers recorder =
+-- the trace of a recorder, over what its answers answer
+abbrev pub trace_of : {A : Type 0} → (A → Key → Answer) → DeclarationRecorder A → Trace
+trace_of answers declaration_recorder =
     record {
-      answers = answers recorder.answers;
-      keys = map key_of recorder.keys.items;
-      messages = map message_in recorder.messages.items;
+      answers = answers declaration_recorder.answers;
+      keys = map key_of declaration_recorder.keys.items;
+      messages = map message_in declaration_recorder.messages.items;
     }
 
--- a desk with these answers at which nothing was asked or told
-abbrev pub new_desk : (Key → Answer) → Desk
-new_desk answers = record { answers = answers; keys = []; messages = [] }
+-- a trace with these answers at which nothing was asked or reported
+abbrev pub new_trace : (Key → Answer) → Trace
+new_trace answers = record { answers = answers; keys = []; messages = [] }
 
 -- some keys, and perhaps others behind them
 abbrev pub HasMore : List Key → List Key → Type 0

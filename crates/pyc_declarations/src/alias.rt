@@ -118,7 +118,7 @@ impl Kinds<'_> {
             ≡ spec.attribute_referent (kinds_in self.now) (referent_of found) name.now) }
     {
         match found {
-            Referent::Module(home) => self.module_attribute(alloc, &home, name),
+            Referent::Module(module_path) => self.module_attribute(alloc, &module_path, name),
             _ => Ok(Referent::NoName),
         }
     }
@@ -127,26 +127,31 @@ impl Kinds<'_> {
     fn module_attribute(
         &self,
         alloc: Global,
-        home: &ModuleName,
+        module_path: &ModuleName,
         name: &Text,
     ) -> Result<Referent, AllocError>
         ensures { IfOk result (λ end. referent_of end
-            ≡ spec.module_attribute (kinds_in self.now) home.now name.now) }
+            ≡ spec.module_attribute (kinds_in self.now) module_path.now name.now) }
     {
-        if is_looked_up(home, name) {
-            self.follow(alloc, home, name)
+        if is_looked_up(module_path, name) {
+            self.follow(alloc, module_path, name)
         } else {
             Ok(Referent::NoName)
         }
     }
 
     /// What a name of a module stands for.
-    fn follow(&self, alloc: Global, home: &ModuleName, name: &Text) -> Result<Referent, AllocError>
+    fn follow(
+        &self,
+        alloc: Global,
+        module_path: &ModuleName,
+        name: &Text,
+    ) -> Result<Referent, AllocError>
         ensures { IfOk result (λ found. referent_of found
-            ≡ follow (kinds_in self.now) (record { home = home.now; name = name.now })) }
+            ≡ follow (kinds_in self.now) (record { module_path = module_path.now; name = name.now })) }
     {
         let q = QualifiedName {
-            home: home.clone()?,
+            module_path: module_path.clone()?,
             name: name.clone()?,
         };
         self.table.follow(alloc, &q)
@@ -154,11 +159,11 @@ impl Kinds<'_> {
 }
 
 /// Whether a name of a module is looked up: one with two underscores at both ends is so in a fixed module alone.
-fn is_looked_up(home: &ModuleName, name: &Text) -> bool
-    ensures { result ≡ spec.is_looked_up home.now name.now }
+fn is_looked_up(module_path: &ModuleName, name: &Text) -> bool
+    ensures { result ≡ spec.is_looked_up module_path.now name.now }
 {
     if is_dunder(name.as_str()) {
-        fixed_module(home.parts()).is_some()
+        fixed_module(module_path.parts()).is_some()
     } else {
         true
     }

@@ -3,7 +3,7 @@
 ghost use Rattle.std.specs.Prelude.{◌≡◌, ◌++◌, map, IfOk, OnOk, is_some, codes};
 ghost use Rattle.pyc_annotations.specs.Views.{base_of};
 ghost use Rattle.pyc_ast.specs.ExprView.{argument_of};
-ghost use Rattle.pyc_classes.specs.EntryView.{entry_in};
+ghost use Rattle.pyc_class_table.specs.EntryView.{entry_in};
 ghost use Rattle.pyc_declarations.specs.ClassEntries as spec;
 ghost use Rattle.pyc_declarations.specs.KindsView.{declarations_in};
 ghost use Rattle.pyc_members.specs.ClassBodies.{own_member};
@@ -11,12 +11,12 @@ ghost use Rattle.pyc_members.specs.ClassBodyView.{class_body_of};
 ghost use Rattle.pyc_members.specs.DeclaredClassView.{declared_class_of, declared_class_in};
 ghost use Rattle.pyc_names.specs.InterfaceView.{interface_in};
 
+use crate::declaration_recorder::DeclarationRecorder;
 use crate::declarations::Declarations;
 use crate::kinds::own_class;
-use crate::recorder::Recorder;
 use pyc_annotations::{Base, read_bases};
 use pyc_ast::{Argument, Text};
-use pyc_classes::{ClassEntry, WrittenBase};
+use pyc_class_table::{ClassEntry, WrittenBase};
 use pyc_members::{ClassBody, DeclaredClass};
 use pyc_names::Interface;
 use std::alloc::{AllocError, Global};
@@ -85,8 +85,8 @@ impl Declarations<'_> {
         ensures { IfOk result (λ bases. bases.items
             ≡ spec.written_bases (declarations_in self.now) (interface_in file.now) (map argument_of arguments.now)) }
     {
-        let mut notes = Recorder::new(alloc, *self);
-        let found = read_bases(alloc, &mut notes, file, arguments)?;
+        let mut recorder = DeclarationRecorder::new(alloc, *self);
+        let found = read_bases(alloc, &mut recorder, file, arguments)?;
         let bases = all_written(alloc, found)?;
         Ok(bases)
     }

@@ -15,8 +15,8 @@ ghost use Rattle.pyc_type_forms.specs.TypeView.{ty_of};
 
 use crate::alias::variable_kind;
 use crate::answers::Answers;
+use crate::declaration_recorder::DeclarationRecorder;
 use crate::kinds::{Found, Kinds, unknown_order};
-use crate::recorder::Recorder;
 use pyc_annotations::{Annotation, read_annotation};
 use pyc_ast::{Expr, FunctionDefinition};
 use pyc_bindings::BindingForm;
@@ -44,7 +44,7 @@ impl Answers for Declarations<'_> {
             Key::HasModule(name) => Ok(Answer::Presence(self.kinds.module_presence(name))),
             Key::HasName(name) => Ok(Answer::Presence(self.kinds.name_presence(alloc, name)?)),
             Key::Name(name) => Ok(Answer::Name(self.name_answer(alloc, name)?)),
-            Key::Class(_) => Ok(Answer::Order(unknown_order(alloc))),
+            Key::Class(_) => Ok(Answer::Mro(unknown_order(alloc))),
             Key::Member(_) => Ok(Answer::Member(None)),
         }
     }
@@ -117,8 +117,8 @@ impl<'a> Declarations<'a> {
         ensures { IfOk result (λ ty. ty_of ty
             ≡ spec.annotated_type (declarations_in self.now) (interface_in file.now) (expr_of annotation.now)) }
     {
-        let mut notes = Recorder::new(alloc, self.kinds);
-        let found = read_annotation(alloc, &mut notes, file, annotation)?;
+        let mut recorder = DeclarationRecorder::new(alloc, self.kinds);
+        let found = read_annotation(alloc, &mut recorder, file, annotation)?;
         Ok(type_in(found))
     }
 
@@ -136,8 +136,8 @@ impl<'a> Declarations<'a> {
             ≡ spec.declared_function (declarations_in self.now) (interface_in file.now) (ty_of receiver)
             (function_of head.now)) }
     {
-        let mut notes = Recorder::new(alloc, self.kinds);
-        let ty = read_function(alloc, &mut notes, file, receiver, head)?;
+        let mut recorder = DeclarationRecorder::new(alloc, self.kinds);
+        let ty = read_function(alloc, &mut recorder, file, receiver, head)?;
         Ok(ty)
     }
 }

@@ -4,7 +4,7 @@ ghost use Rattle.std.specs.Prelude.{◌≡◌, map, OnOk};
 ghost use Rattle.std.specs.List.{list_any};
 ghost use Rattle.pyc_declarations.specs.RecorderView.{HasMore};
 ghost use Rattle.pyc_declarations.specs.SameKeys.{is_same};
-ghost use Rattle.pyc_reading.specs.Desks.{with_key};
+ghost use Rattle.pyc_reading.specs.Traces.{with_key};
 ghost use Rattle.pyc_reading.specs.KeyView.{key_of};
 
 use pyc_reading::Key;

@@ -3,13 +3,13 @@
 ghost use Rattle.std.specs.Prelude.{◌≡◌, IfOk, option_map};
 ghost use Rattle.pyc_ast.specs.ExprView.{expr_of};
 ghost use Rattle.pyc_bindings.specs.BindingView.{binding_of, binding_form_of};
-ghost use Rattle.pyc_class.specs.Class.{user};
+ghost use Rattle.pyc_class_ids.specs.Class.{user};
 ghost use Rattle.pyc_declarations.specs.Kinds as spec;
 ghost use Rattle.pyc_declarations.specs.KindsView.{found_in};
 ghost use Rattle.pyc_names.specs.FixedModules.{fixed_module as fixed_module_of};
 ghost use Rattle.pyc_names.specs.FollowingView.{qualified_of, referent_of};
 ghost use Rattle.pyc_names.specs.InterfaceView.{interface_in};
-ghost use Rattle.pyc_classes.specs.ClassOrders.{undeclared};
+ghost use Rattle.pyc_class_table.specs.ClassMros.{undeclared};
 ghost use Rattle.pyc_reading.specs.AnswerView.{answer_in, class_order_of, kind_of, name_answer_of};
 ghost use Rattle.pyc_reading.specs.KeyView.{key_of};
 
@@ -18,11 +18,11 @@ use crate::answers::Answers;
 use crate::declared_types::initialiser_type;
 use pyc_ast::{ClassDefinition, Text};
 use pyc_bindings::{Binding, BindingForm, is_decorated};
-use pyc_class::{ClassId, UnknownOrder};
+use pyc_class_ids::{ClassId, UnknownMro};
 use pyc_names::{
     FixedName, Interface, ModuleName, QualifiedName, Referent, Table, fixed_module, fixed_name,
 };
-use pyc_reading::{Answer, ClassOrder, Key, NameAnswer, NameKind};
+use pyc_reading::{Answer, Key, MroAnswer, NameAnswer, NameKind};
 use pyc_types::Ty;
 use std::alloc::{AllocError, Global};
 use std::rc::Rc;
@@ -53,7 +53,7 @@ impl Answers for Kinds<'_> {
             Key::HasModule(name) => Ok(Answer::Presence(self.module_presence(name))),
             Key::HasName(name) => Ok(Answer::Presence(self.name_presence(alloc, name)?)),
             Key::Name(name) => Ok(Answer::Name(self.name_kind(alloc, name)?)),
-            Key::Class(_) => Ok(Answer::Order(unknown_order(alloc))),
+            Key::Class(_) => Ok(Answer::Mro(unknown_order(alloc))),
             Key::Member(_) => Ok(Answer::Member(None)),
         }
     }
@@ -102,7 +102,7 @@ impl<'a> Kinds<'a> {
             Referent::Opaque | Referent::FixedAny => Found::Answered(of_kind(NameKind::Unknown)),
             Referent::NoModule => Found::Answered(of_kind(NameKind::NoModule)),
             Referent::NoName => {
-                let file = self.table.file(q.home.parts());
+                let file = self.table.file(q.module_path.parts());
                 Found::Answered(of_kind(absent_name(file, &q.name)))
             }
             Referent::Cycle => Found::Answered(of_kind(NameKind::Cycle)),
@@ -112,9 +112,9 @@ impl<'a> Kinds<'a> {
     /// What is declared under a name.
     fn found_declared(&self, q: &QualifiedName) -> Found<'a>
         ensures { found_in result ≡ spec.found_declared (kinds_in self.now) (qualified_of q.now)
-            (fixed_module_of q.now.home) }
+            (fixed_module_of q.now.module_path) }
     {
-        let parts = q.home.parts();
+        let parts = q.module_path.parts();
         match fixed_module(parts) {
             Some(found) => fixed_found(fixed_name(found, q.name.as_str())),
             None => found_in_file(q, self.table.file(parts)),
@@ -158,7 +158,7 @@ fn of_kind(kind: NameKind) -> NameAnswer
 fn module_answer(alloc: Global, name: ModuleName) -> Result<NameAnswer, AllocError>
     ensures { IfOk result (λ found. name_answer_of found ≡ spec.module_answer name) }
 {
-    let parts = Rc::new(alloc, copied(alloc, name.parts())?)?;
+    let parts = Rc::new(alloc, copy_parts(alloc, name.parts())?)?;
     Ok(NameAnswer {
         kind: NameKind::Module(name),
         ty: Ty::Module(parts),
@@ -235,12 +235,12 @@ fn class_kind(
 }
 
 /// The order of a class of which none is known.
-pub(crate) fn unknown_order(alloc: Global) -> ClassOrder
+pub(crate) fn unknown_order(alloc: Global) -> MroAnswer
     ensures { class_order_of result ≡ undeclared }
 {
-    ClassOrder {
+    MroAnswer {
         classes: Vec::new(alloc),
-        unknown: Some(UnknownOrder::Base),
+        unknown: Some(UnknownMro::Base),
         has_call: false,
     }
 }
@@ -249,12 +249,12 @@ pub(crate) fn unknown_order(alloc: Global) -> ClassOrder
 pub fn own_class(alloc: Global, file: &Interface, name: &Text) -> Result<ClassId, AllocError>
     ensures { IfOk result (λ class. class ≡ user (interface_in file.now).name name.now) }
 {
-    let home = copied(alloc, file.name().parts())?;
-    ClassId::user(alloc, home, name.clone()?)
+    let module_path = copy_parts(alloc, file.name().parts())?;
+    ClassId::user(alloc, module_path, name.clone()?)
 }
 
 /// These parts once more.
-fn copied(alloc: Global, parts: &[Text]) -> Result<Vec<Text>, AllocError>
+fn copy_parts(alloc: Global, parts: &[Text]) -> Result<Vec<Text>, AllocError>
     ensures { IfOk result (λ copy. copy.items ≡ parts.now) }
 {
     let mut copy = Vec::with_capacity(alloc, parts.len())?;

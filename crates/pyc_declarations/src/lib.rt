@@ -4,15 +4,15 @@
 mod alias;
 mod answers;
 mod class_entries;
+mod declaration_recorder;
 mod declarations;
 mod declared_types;
 mod keys;
 mod kinds;
 mod presence;
-mod recorder;
 
 pub use answers::Answers;
+pub use declaration_recorder::DeclarationRecorder;
 pub use declarations::Declarations;
-pub use declared_types::{annotation_builtin, initialiser_type, literal_type};
+pub use declared_types::{initialiser_type, literal_type};
 pub use kinds::own_class;
-pub use recorder::Recorder;

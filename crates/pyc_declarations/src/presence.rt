@@ -8,7 +8,7 @@ ghost use Rattle.pyc_names.specs.InterfaceView.{interface_in};
 
 use crate::kinds::Kinds;
 use pyc_bindings::Binding;
-use pyc_names::{Interface, ModuleName, QualifiedName, fixed_module, joined};
+use pyc_names::{Interface, ModuleName, QualifiedName, fixed_module, module_of_parts};
 use pyc_reading::Presence;
 use std::alloc::{AllocError, Global};
 use std::slice;
@@ -40,7 +40,7 @@ impl Kinds<'_> {
     ) -> Result<Presence, AllocError>
         ensures { IfOk result (λ found. found ≡ spec.name_presence (kinds_in self.now) (qualified_of q.now)) }
     {
-        let parts = q.home.parts();
+        let parts = q.module_path.parts();
         if !self.table.has_module(parts) {
             return Ok(Presence::NoModule);
         }
@@ -108,7 +108,7 @@ impl Kinds<'_> {
     fn submodule_presence(&self, alloc: Global, q: &QualifiedName) -> Result<Presence, AllocError>
         ensures { IfOk result (λ found. found ≡ spec.submodule_presence (kinds_in self.now) (qualified_of q.now)) }
     {
-        let under = joined(alloc, q.home.parts(), slice::from_ref(&q.name))?;
+        let under = module_of_parts(alloc, q.module_path.parts(), slice::from_ref(&q.name))?;
         if self.table.has_module(under.parts()) {
             Ok(Presence::There)
         } else {

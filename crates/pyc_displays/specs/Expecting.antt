@@ -52,13 +52,13 @@ expected_item want = item_of (expected kind.List want)
 -- ---- dictionaries
 
 -- the types of the entries of a dictionary
-abbrev pub dict_entry : Ty → Option Entry
-dict_entry (dict key value) = Some (record { key = key; value = value })
-dict_entry _ = None
+abbrev pub dict_entry_types : Ty → Option Entry
+dict_entry_types (dict key value) = Some (record { key = key; value = value })
+dict_entry_types _ = None
 
 abbrev pub entry_of : Option Ty → Option Entry
 entry_of None = None
-entry_of (Some ty) = dict_entry ty
+entry_of (Some ty) = dict_entry_types ty
 
 -- what is expected of each entry of a dict display
 abbrev pub expected_entry : Option Ty → Option Entry

@@ -5,7 +5,7 @@ ghost use Rattle.pyc_displays.specs.Displays as spec;
 ghost use Rattle.pyc_displays.specs.Views.{entry_in, entry_types_in};
 ghost use Rattle.pyc_type_forms.specs.TypeView.{ty_of, tys_of};
 ghost use Rattle.pyc_type_forms.specs.Types.{any, list, dict, tuple, tuple_of};
-ghost use Rattle.pyc_type_forms.specs.Unions.{limited, items_of};
+ghost use Rattle.pyc_type_forms.specs.Unions.{any_if_too_large, items_of};
 
 use crate::dicts::EntryTypes;
 use pyc_type_forms::{DictTypes, Ty, union_of};
@@ -27,7 +27,7 @@ pub(crate) fn list_type(alloc: Global, is_open: bool, types: &[Ty]) -> Result<Ty
         list_of(alloc, Ty::Any)
     } else {
         let list = list_of(alloc, union_of(alloc, types)?)?;
-        limited(alloc, list)
+        any_if_too_large(alloc, list)
     }
 }
 
@@ -69,7 +69,7 @@ fn joined_dict(alloc: Global, types: &EntryTypes) -> Result<Ty, AllocError>
         value: union_of(alloc, &types.values)?,
     };
     let dict = dict_of(alloc, joined)?;
-    limited(alloc, dict)
+    any_if_too_large(alloc, dict)
 }
 
 /// `tuple[..]` with these places
@@ -88,7 +88,7 @@ pub fn tuple_type(alloc: Global, is_starred: bool, types: Vec<Ty>) -> Result<Ty,
         any_tuple(alloc)
     } else {
         let tuple = tuple_with(alloc, types)?;
-        limited(alloc, tuple)
+        any_if_too_large(alloc, tuple)
     }
 }
 
@@ -100,9 +100,9 @@ fn any_tuple(alloc: Global) -> Result<Ty, AllocError>
 }
 
 /// A type that is no union, or Any where it is too large.
-fn limited(alloc: Global, ty: Ty) -> Result<Ty, AllocError>
+fn any_if_too_large(alloc: Global, ty: Ty) -> Result<Ty, AllocError>
     requires { items_of (ty_of ty) ≡ ty_of ty ∷ [] }
-    ensures { IfOk result (λ found. ty_of found ≡ limited (ty_of ty)) }
+    ensures { IfOk result (λ found. ty_of found ≡ any_if_too_large (ty_of ty)) }
 {
     let types = vec![in alloc; ty]?;
     union_of(alloc, &types)

@@ -5,17 +5,17 @@ ghost use Rattle.std.specs.List.{list_any};
 ghost use Rattle.pyc_ast.specs.ExprView.{expr_of, dict_item_of};
 ghost use Rattle.pyc_ast.specs.Exprs.{at_of};
 ghost use Rattle.pyc_displays.specs.Displays as spec;
-ghost use Rattle.pyc_displays.specs.Messages.{owed_entry};
+ghost use Rattle.pyc_displays.specs.Messages.{required_entry};
 ghost use Rattle.pyc_displays.specs.Views.{entry_in, entry_types_in};
-ghost use Rattle.pyc_reading.specs.Desks.{Performs, owing};
+ghost use Rattle.pyc_reading.specs.Traces.{Performs, owing};
 ghost use Rattle.pyc_type_forms.specs.TypeView.{ty_of};
 
 use crate::built::{dict_of, dict_type};
 use crate::expecting::expected_entry;
-use crate::items::only_read;
-use crate::messages::OwedPart;
+use crate::items::infer_freely;
+use crate::messages::RequiredPart;
 use pyc_ast::{DictItem, Expr};
-use pyc_obligations::{Judge, Reader, owe_row};
+use pyc_obligations::{AskTypes, InferType, require_row};
 use pyc_type_forms::{DictTypes, Ty};
 use std::alloc::{AllocError, Global};
 
@@ -27,11 +27,11 @@ pub(crate) struct EntryTypes {
 }
 
 /// The type of a dict display. Where a dictionary is expected each key and each value must be of its types, and what is
-/// not is told; else it is a dictionary of the unions of the keys and of the values. The only error is that memory runs
-/// out.
-pub fn dict_display<N: Judge, R: Reader<N>>(
+/// not is reported; else it is a dictionary of the unions of the keys and of the values. The only error is that memory
+/// runs out.
+pub fn dict_display<N: AskTypes, R: InferType<N>>(
     alloc: Global,
-    notes: &mut N,
+    recorder: &mut N,
     reader: &R,
     items: &[DictItem],
     want: Option<&Ty>,
@@ -39,45 +39,46 @@ pub fn dict_display<N: Judge, R: Reader<N>>(
     requires { R.ready reader.now }
     ensures { Performs ty_of
         (spec.dict_display (R.reads reader.now) (map dict_item_of items.now)
-        (option_map (λ ty. ty_of ty.now) want.entry)) (N.desk notes.old) result (N.desk notes.new) }
+        (option_map (λ ty. ty_of ty.now) want.entry)) (N.trace recorder.old) result (N.trace recorder.new) }
 {
     let entry = expected_entry(alloc, want)?;
-    dict_by(alloc, notes, reader, items, entry)
+    dict_by(alloc, recorder, reader, items, entry)
 }
 
 /// A dict display, by what is expected of its entries.
-fn dict_by<N: Judge, R: Reader<N>>(
+fn dict_by<N: AskTypes, R: InferType<N>>(
     alloc: Global,
-    notes: &mut N,
+    recorder: &mut N,
     reader: &R,
     items: &[DictItem],
     want: Option<DictTypes>,
 ) -> Result<Ty, AllocError>
     requires { R.ready reader.now }
     ensures { Performs ty_of
-        (spec.dict_by (R.reads reader.now) (map dict_item_of items.now) (option_map entry_in want)) (N.desk notes.old)
-        result (N.desk notes.new) }
+        (spec.dict_by (R.reads reader.now) (map dict_item_of items.now) (option_map entry_in want))
+        (N.trace recorder.old)
+        result (N.trace recorder.new) }
 {
     match want {
-        Some(entry) => dict_to(alloc, notes, reader, items, entry),
-        None => free_dict(alloc, notes, reader, items),
+        Some(entry) => check_dict_display(alloc, recorder, reader, items, entry),
+        None => free_dict(alloc, recorder, reader, items),
     }
 }
 
 /// A dict display of which nothing is expected.
 #[tactic(auto, using(pyc_obligations::proofs::Steps::performing), unfolding(crate::specs::Displays::free_dict))]
-fn free_dict<N: Judge, R: Reader<N>>(
+fn free_dict<N: AskTypes, R: InferType<N>>(
     alloc: Global,
-    notes: &mut N,
+    recorder: &mut N,
     reader: &R,
     items: &[DictItem],
 ) -> Result<Ty, AllocError>
     requires { R.ready reader.now }
-    ensures { Performs ty_of (spec.free_dict (R.reads reader.now) (map dict_item_of items.now)) (N.desk notes.old)
-        result (N.desk notes.new) }
+    ensures { Performs ty_of (spec.free_dict (R.reads reader.now) (map dict_item_of items.now)) (N.trace recorder.old)
+        result (N.trace recorder.new) }
 {
     let is_open = is_open_dict(items);
-    let types = read_entries(alloc, notes, reader, items)?;
+    let types = read_entries(alloc, recorder, reader, items)?;
     dict_type(alloc, is_open, &types)
 }
 
@@ -112,23 +113,23 @@ fn is_unpacking(item: &DictItem) -> bool
 
 /// The types of entries of which nothing is expected, in turn.
 #[tactic(auto, using(pyc_obligations::proofs::Steps::performing), unfolding(crate::specs::Displays::more_entries))]
-fn read_entries<N: Judge, R: Reader<N>>(
+fn read_entries<N: AskTypes, R: InferType<N>>(
     alloc: Global,
-    notes: &mut N,
+    recorder: &mut N,
     reader: &R,
     items: &[DictItem],
 ) -> Result<EntryTypes, AllocError>
     requires { R.ready reader.now }
     ensures { Performs entry_types_in
         (spec.more_entries (R.reads reader.now) (record { keys = []; values = [] }) (map dict_item_of items.now))
-        (N.desk notes.old) result (N.desk notes.new) }
+        (N.trace recorder.old) result (N.trace recorder.new) }
 {
     let mut types = EntryTypes {
         keys: Vec::with_capacity(alloc, items.len())?,
         values: Vec::with_capacity(alloc, items.len())?,
     };
     for item in items {
-        let found = free_entry(alloc, notes, reader, item)?;
+        let found = free_entry(alloc, recorder, reader, item)?;
         push_entry(&mut types, found)?;
     }
     Ok(types)
@@ -147,61 +148,61 @@ fn push_entry(types: &mut EntryTypes, found: Option<DictTypes>) -> Result<(), Al
 }
 
 /// The types of an entry of which nothing is expected.
-fn free_entry<N: Judge, R: Reader<N>>(
+fn free_entry<N: AskTypes, R: InferType<N>>(
     alloc: Global,
-    notes: &mut N,
+    recorder: &mut N,
     reader: &R,
     item: &DictItem,
 ) -> Result<Option<DictTypes>, AllocError>
     requires { R.ready reader.now }
     ensures { Performs (option_map entry_in) (spec.free_entry (R.reads reader.now) (dict_item_of item.now))
-        (N.desk notes.old) result (N.desk notes.new) }
+        (N.trace recorder.old) result (N.trace recorder.new) }
 {
     match item {
-        DictItem::Entry { key, value } => free_pair(alloc, notes, reader, key, value),
-        DictItem::Unpacking(part) => free_unpacking(alloc, notes, reader, part),
+        DictItem::Entry { key, value } => free_pair(alloc, recorder, reader, key, value),
+        DictItem::Unpacking(part) => free_unpacking(alloc, recorder, reader, part),
     }
 }
 
 /// The types of a key and its value of which nothing is expected.
 #[tactic(auto, using(pyc_obligations::proofs::Steps::performing), unfolding(crate::specs::Displays::free_pair))]
-fn free_pair<N: Judge, R: Reader<N>>(
+fn free_pair<N: AskTypes, R: InferType<N>>(
     alloc: Global,
-    notes: &mut N,
+    recorder: &mut N,
     reader: &R,
     key: &Expr,
     value: &Expr,
 ) -> Result<Option<DictTypes>, AllocError>
     requires { R.ready reader.now }
     ensures { Performs (option_map entry_in)
-        (spec.free_pair (R.reads reader.now) (expr_of key.now) (expr_of value.now)) (N.desk notes.old) result
-        (N.desk notes.new) }
+        (spec.free_pair (R.reads reader.now) (expr_of key.now) (expr_of value.now)) (N.trace recorder.old) result
+        (N.trace recorder.new) }
 {
-    let found = entry_types(alloc, notes, reader, key, value, None, None)?;
+    let found = entry_types(alloc, recorder, reader, key, value, None, None)?;
     Ok(Some(found))
 }
 
 /// What stands after `**` is read alone.
 #[tactic(auto, using(pyc_obligations::proofs::Steps::performing), unfolding(crate::specs::Displays::free_unpacking))]
-fn free_unpacking<N: Judge, R: Reader<N>>(
+fn free_unpacking<N: AskTypes, R: InferType<N>>(
     alloc: Global,
-    notes: &mut N,
+    recorder: &mut N,
     reader: &R,
     part: &Expr,
 ) -> Result<Option<DictTypes>, AllocError>
     requires { R.ready reader.now }
     ensures { Performs (option_map entry_in) (spec.free_unpacking (R.reads reader.now) (expr_of part.now))
-        (N.desk notes.old) result (N.desk notes.new) }
+        (N.trace recorder.old) result (N.trace recorder.new) }
 {
-    only_read(alloc, notes, reader, part)?;
+    infer_freely(alloc, recorder, reader, part)?;
     Ok(None)
 }
 
 /// The types of a key and its value, with what is expected of each.
 #[tactic(auto, using(pyc_obligations::proofs::Steps::performing), unfolding(crate::specs::Displays::entry_types))]
-fn entry_types<N: Judge, R: Reader<N>>(
+fn entry_types<N: AskTypes, R: InferType<N>>(
     alloc: Global,
-    notes: &mut N,
+    recorder: &mut N,
     reader: &R,
     key: &Expr,
     value: &Expr,
@@ -212,54 +213,54 @@ fn entry_types<N: Judge, R: Reader<N>>(
     ensures { Performs entry_in
         (spec.entry_types (R.reads reader.now) (expr_of key.now) (expr_of value.now)
         (option_map (λ ty. ty_of ty.now) want_key.entry) (option_map (λ ty. ty_of ty.now) want_value.entry))
-        (N.desk notes.old) result (N.desk notes.new) }
+        (N.trace recorder.old) result (N.trace recorder.new) }
 {
-    let key = reader.read(alloc, notes, key, want_key)?;
-    let value = reader.read(alloc, notes, value, want_value)?;
+    let key = reader.read(alloc, recorder, key, want_key)?;
+    let value = reader.read(alloc, recorder, value, want_value)?;
     Ok(DictTypes { key, value })
 }
 
 /// A dict display whose entries must be of these types.
-#[tactic(auto, using(pyc_obligations::proofs::Steps::performing), unfolding(crate::specs::Displays::dict_to))]
-fn dict_to<N: Judge, R: Reader<N>>(
+#[tactic(auto, using(pyc_obligations::proofs::Steps::performing), unfolding(crate::specs::Displays::check_dict_display))]
+fn check_dict_display<N: AskTypes, R: InferType<N>>(
     alloc: Global,
-    notes: &mut N,
+    recorder: &mut N,
     reader: &R,
     items: &[DictItem],
     want: DictTypes,
 ) -> Result<Ty, AllocError>
     requires { R.ready reader.now }
-    ensures { Performs ty_of (spec.dict_to (R.reads reader.now) (map dict_item_of items.now) (entry_in want))
-        (N.desk notes.old) result (N.desk notes.new) }
+    ensures { Performs ty_of (spec.check_dict_display (R.reads reader.now) (map dict_item_of items.now) (entry_in want))
+        (N.trace recorder.old) result (N.trace recorder.new) }
 {
-    entries_to(alloc, notes, reader, &want, items)?;
+    entries_to(alloc, recorder, reader, &want, items)?;
     dict_of(alloc, want)
 }
 
 /// Entries that must be of these types, in turn.
 #[tactic(auto, using(pyc_obligations::proofs::Steps::performing), unfolding(crate::specs::Displays::entries_to))]
-fn entries_to<N: Judge, R: Reader<N>>(
+fn entries_to<N: AskTypes, R: InferType<N>>(
     alloc: Global,
-    notes: &mut N,
+    recorder: &mut N,
     reader: &R,
     want: &DictTypes,
     items: &[DictItem],
 ) -> Result<(), AllocError>
     requires { R.ready reader.now }
     ensures { Performs (λ u. u)
-        (spec.entries_to (R.reads reader.now) (entry_in want.now) 0 (map dict_item_of items.now)) (N.desk notes.old)
-        result (N.desk notes.new) }
+        (spec.entries_to (R.reads reader.now) (entry_in want.now) 0 (map dict_item_of items.now)) (N.trace recorder.old)
+        result (N.trace recorder.new) }
 {
     for index in 0..items.len() {
-        entry_to(alloc, notes, reader, want, index, &items[index])?;
+        check_entry_types(alloc, recorder, reader, want, index, &items[index])?;
     }
     Ok(())
 }
 
 /// An entry that must be of these types: what stands after `**` is read alone.
-fn entry_to<N: Judge, R: Reader<N>>(
+fn check_entry_types<N: AskTypes, R: InferType<N>>(
     alloc: Global,
-    notes: &mut N,
+    recorder: &mut N,
     reader: &R,
     want: &DictTypes,
     index: usize,
@@ -267,20 +268,23 @@ fn entry_to<N: Judge, R: Reader<N>>(
 ) -> Result<(), AllocError>
     requires { R.ready reader.now }
     ensures { Performs (λ u. u)
-        (spec.entry_to (R.reads reader.now) (entry_in want.now) index (dict_item_of item.now)) (N.desk notes.old)
-        result (N.desk notes.new) }
+        (spec.check_entry_types (R.reads reader.now) (entry_in want.now) index (dict_item_of item.now))
+        (N.trace recorder.old)
+        result (N.trace recorder.new) }
 {
     match item {
-        DictItem::Entry { key, value } => pair_to(alloc, notes, reader, want, index, key, value),
-        DictItem::Unpacking(part) => only_read(alloc, notes, reader, part),
+        DictItem::Entry { key, value } => check_pair_types(
+            alloc, recorder, reader, want, index, key, value,
+        ),
+        DictItem::Unpacking(part) => infer_freely(alloc, recorder, reader, part),
     }
 }
 
 /// A key and its value that must be of these types.
-#[tactic(auto, using(pyc_obligations::proofs::Steps::performing), unfolding(crate::specs::Displays::pair_to))]
-fn pair_to<N: Judge, R: Reader<N>>(
+#[tactic(auto, using(pyc_obligations::proofs::Steps::performing), unfolding(crate::specs::Displays::check_pair_types))]
+fn check_pair_types<N: AskTypes, R: InferType<N>>(
     alloc: Global,
-    notes: &mut N,
+    recorder: &mut N,
     reader: &R,
     want: &DictTypes,
     index: usize,
@@ -289,35 +293,36 @@ fn pair_to<N: Judge, R: Reader<N>>(
 ) -> Result<(), AllocError>
     requires { R.ready reader.now }
     ensures { Performs (λ u. u)
-        (spec.pair_to (R.reads reader.now) (entry_in want.now) index (expr_of key.now) (expr_of value.now))
-        (N.desk notes.old) result (N.desk notes.new) }
+        (spec.check_pair_types (R.reads reader.now) (entry_in want.now) index (expr_of key.now) (expr_of value.now))
+        (N.trace recorder.old) result (N.trace recorder.new) }
 {
     let got = entry_types(
         alloc,
-        notes,
+        recorder,
         reader,
         key,
         value,
         Some(&want.key),
         Some(&want.value),
     )?;
-    owe_entry(alloc, notes, key, index, &got, want)
+    require_entry(alloc, recorder, key, index, &got, want)
 }
 
-/// Owes that the key and the value of an entry are of the types that are expected.
-fn owe_entry<N: Judge>(
+/// Requires that the key and the value of an entry are of the types that are expected.
+fn require_entry<N: AskTypes>(
     alloc: Global,
-    notes: &mut N,
+    recorder: &mut N,
     key: &Expr,
     index: usize,
     got: &DictTypes,
     want: &DictTypes,
 ) -> Result<(), AllocError>
     ensures { Performs (λ u. u)
-        (owing (owed_entry (at_of (expr_of key.now)) index (entry_in got.now) (entry_in want.now))) (N.desk notes.old)
-        result (N.desk notes.new) }
+        (owing (required_entry (at_of (expr_of key.now)) index (entry_in got.now) (entry_in want.now)))
+        (N.trace recorder.old)
+        result (N.trace recorder.new) }
 {
-    let owed_key = OwedPart {
+    let required_key = RequiredPart {
         at: key.at,
         index,
         got_entry: got,
@@ -325,7 +330,7 @@ fn owe_entry<N: Judge>(
         got: &got.key,
         want: &want.key,
     };
-    let owed_value = OwedPart {
+    let required_value = RequiredPart {
         at: key.at,
         index,
         got_entry: got,
@@ -333,5 +338,5 @@ fn owe_entry<N: Judge>(
         got: &got.value,
         want: &want.value,
     };
-    owe_row(alloc, notes, &[owed_key, owed_value])
+    require_row(alloc, recorder, &[required_key, required_value])
 }

@@ -38,7 +38,7 @@ pub(crate) fn expected_entry(
         ≡ spec.expected_entry (option_map (λ ty. ty_of ty.now) want.entry)) }
 {
     match expected(alloc, DisplayKind::Dict, want)? {
-        Some(ty) => dict_entry(&ty),
+        Some(ty) => dict_entry_types(&ty),
         None => Ok(None),
     }
 }
@@ -61,7 +61,7 @@ pub(crate) fn expected_places(
     }
 }
 
-/// The same where no item stands after `*`.
+/// What is expected of each of the `count` places of a tuple display, where no item is starred.
 fn known_places(alloc: Global, count: usize, want: Option<&Ty>) -> Result<Vec<Ty>, AllocError>
     ensures { IfOk result (λ places. map ty_of places.items
         ≡ spec.expected_places false count (option_map (λ ty. ty_of ty.now) want.entry)) }
@@ -139,8 +139,8 @@ fn list_item(ty: &Ty) -> Result<Option<Ty>, AllocError>
 }
 
 /// The types of the entries of a dictionary.
-fn dict_entry(ty: &Ty) -> Result<Option<DictTypes>, AllocError>
-    ensures { IfOk result (λ entry. option_map entry_in entry ≡ spec.dict_entry (ty_of ty.now)) }
+fn dict_entry_types(ty: &Ty) -> Result<Option<DictTypes>, AllocError>
+    ensures { IfOk result (λ entry. option_map entry_in entry ≡ spec.dict_entry_types (ty_of ty.now)) }
 {
     match ty {
         Ty::Dict(types) => Ok(Some(DictTypes {
@@ -166,14 +166,14 @@ fn if_as_many(alloc: Global, count: usize, types: &[Ty]) -> Result<Vec<Ty>, Allo
     ensures { IfOk result (λ places. map ty_of places.items ≡ spec.if_as_many count (map ty_of types.now)) }
 {
     if types.len() == count {
-        copied(alloc, types)
+        copy_types(alloc, types)
     } else {
         Ok(Vec::new(alloc))
     }
 }
 
-/// The same types.
-fn copied(alloc: Global, types: &[Ty]) -> Result<Vec<Ty>, AllocError>
+/// A copy of `types`.
+fn copy_types(alloc: Global, types: &[Ty]) -> Result<Vec<Ty>, AllocError>
     ensures { IfOk result (λ copies. map ty_of copies.items ≡ map ty_of types.now) }
 {
     let mut copies = Vec::with_capacity(alloc, types.len())?;

@@ -13,7 +13,7 @@ pub fn and_type(alloc: Global, left: Ty, right: Option<Ty>) -> Result<Ty, AllocE
     ensures { IfOk result (λ ty. ty_of ty ≡ spec.and_type (ty_of left) (option_map ty_of right)) }
 {
     match right {
-        Some(right) => both(alloc, left, right),
+        Some(right) => union_of_two(alloc, left, right),
         None => Ok(left),
     }
 }
@@ -24,7 +24,7 @@ pub fn or_type(alloc: Global, left: Ty, right: Option<Ty>) -> Result<Ty, AllocEr
     ensures { IfOk result (λ ty. ty_of ty ≡ spec.or_type (ty_of left) (option_map ty_of right)) }
 {
     match right {
-        Some(right) => either(alloc, &left, right),
+        Some(right) => union_without_none(alloc, &left, right),
         None => Ok(left),
     }
 }
@@ -45,7 +45,7 @@ pub fn conditional_type(
 }
 
 /// The union of two types.
-fn both(alloc: Global, left: Ty, right: Ty) -> Result<Ty, AllocError>
+fn union_of_two(alloc: Global, left: Ty, right: Ty) -> Result<Ty, AllocError>
     ensures { IfOk result (λ ty. ty_of ty ≡ spec.and_type (ty_of left) (Some (ty_of right))) }
 {
     let mut types = Vec::with_capacity(alloc, 2)?;
@@ -55,7 +55,7 @@ fn both(alloc: Global, left: Ty, right: Ty) -> Result<Ty, AllocError>
 }
 
 /// The union of a type without None and another.
-fn either(alloc: Global, left: &Ty, right: Ty) -> Result<Ty, AllocError>
+fn union_without_none(alloc: Global, left: &Ty, right: Ty) -> Result<Ty, AllocError>
     ensures { IfOk result (λ ty. ty_of ty ≡ spec.or_type (ty_of left.now) (Some (ty_of right))) }
 {
     let mut types = Vec::with_capacity(alloc, 2)?;

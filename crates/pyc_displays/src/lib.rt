@@ -1,4 +1,4 @@
-//! The types of list, dict, tuple and set displays, and what their items are told to be; those of `and`, `or` and
+//! The types of list, dict, tuple and set displays, and what their items are reported to be; those of `and`, `or` and
 //! conditional expressions by the types of their parts.
 #![tactic(auto)]
 

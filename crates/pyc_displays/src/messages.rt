@@ -1,12 +1,12 @@
-//! What is told of items of displays.
+//! What is reported of items of displays.
 
 ghost use Rattle.std.specs.Prelude.{◌≡◌, IfOk, string_bytes};
 ghost use Rattle.pyc_displays.specs.Messages as spec;
 ghost use Rattle.pyc_displays.specs.Views.{item_in, part_in};
 
 use pyc_ast::Position;
-use pyc_obligations::{Judge, Owed};
-use pyc_report::{Duty, Message};
+use pyc_obligations::{AsObligation, AskTypes};
+use pyc_report::{Message, ObligationKind};
 use pyc_type_forms::{DictTypes, Ty, show};
 use std::alloc::{AllocError, Global};
 
@@ -20,14 +20,14 @@ fn list_item_text(alloc: Global, index: usize, got: &str, want: &str) -> Result<
 
 /// An item of a list, its type, and the type that is expected.
 #[derive(Clone, Copy)]
-pub(crate) struct OwedItem<'a> {
+pub(crate) struct RequiredItem<'a> {
     pub(crate) at: Position,
     pub(crate) index: usize,
     pub(crate) got: &'a Ty,
     pub(crate) want: &'a Ty,
 }
 
-impl<N: Judge> Owed<N> for OwedItem<'_> {
+impl<N: AskTypes> AsObligation<N> for RequiredItem<'_> {
     ghost obligation = { item_in };
 
     fn got(&self) -> &Ty {
@@ -38,16 +38,16 @@ impl<N: Judge> Owed<N> for OwedItem<'_> {
         self.want
     }
 
-    fn ask_details(&self, _alloc: Global, _notes: &mut N) -> Result<(), AllocError> {
+    fn ask_details(&self, _alloc: Global, _recorder: &mut N) -> Result<(), AllocError> {
         Ok(())
     }
 
-    #[tactic(auto, unfolding(crate::specs::Messages::owed_item_text))]
-    fn message(&self, alloc: Global, _notes: &N) -> Result<Message, AllocError> {
+    #[tactic(auto, unfolding(crate::specs::Messages::required_item_text))]
+    fn message(&self, alloc: Global, _recorder: &N) -> Result<Message, AllocError> {
         let got = show(alloc, self.got)?;
         let want = show(alloc, self.want)?;
         let text = list_item_text(alloc, self.index, got.as_str(), want.as_str())?;
-        Ok(Message::failing_at(self.at, Duty::ListItem, text))
+        Ok(Message::failing_at(self.at, ObligationKind::ListItem, text))
     }
 }
 
@@ -73,7 +73,7 @@ fn dict_entry_text(
 /// The key or the value of an entry of a dictionary, its type and the type that is expected of it, with those of the
 /// whole entry.
 #[derive(Clone, Copy)]
-pub(crate) struct OwedPart<'a> {
+pub(crate) struct RequiredPart<'a> {
     pub(crate) at: Position,
     pub(crate) index: usize,
     pub(crate) got_entry: &'a DictTypes,
@@ -82,7 +82,7 @@ pub(crate) struct OwedPart<'a> {
     pub(crate) want: &'a Ty,
 }
 
-impl<N: Judge> Owed<N> for OwedPart<'_> {
+impl<N: AskTypes> AsObligation<N> for RequiredPart<'_> {
     ghost obligation = { part_in };
 
     fn got(&self) -> &Ty {
@@ -93,12 +93,12 @@ impl<N: Judge> Owed<N> for OwedPart<'_> {
         self.want
     }
 
-    fn ask_details(&self, _alloc: Global, _notes: &mut N) -> Result<(), AllocError> {
+    fn ask_details(&self, _alloc: Global, _recorder: &mut N) -> Result<(), AllocError> {
         Ok(())
     }
 
-    #[tactic(auto, unfolding(crate::specs::Messages::owed_entry_text))]
-    fn message(&self, alloc: Global, _notes: &N) -> Result<Message, AllocError> {
+    #[tactic(auto, unfolding(crate::specs::Messages::required_entry_text))]
+    fn message(&self, alloc: Global, _recorder: &N) -> Result<Message, AllocError> {
         let got_key = show(alloc, &self.got_entry.key)?;
         let got_value = show(alloc, &self.got_entry.value)?;
         let want_key = show(alloc, &self.want_entry.key)?;
@@ -111,6 +111,6 @@ impl<N: Judge> Owed<N> for OwedPart<'_> {
             want_key.as_str(),
             want_value.as_str(),
         )?;
-        Ok(Message::failing_at(self.at, Duty::DictEntry, text))
+        Ok(Message::failing_at(self.at, ObligationKind::DictEntry, text))
     }
 }

@@ -10,12 +10,12 @@ abbrev mutual
   pub parts_height : Exprs.Form → ℕ
   parts_height (Exprs.name x) = 0
   parts_height (Exprs.constant found) = 0
-  parts_height (Exprs.quoted x) = 0
+  parts_height (Exprs.string_annotation x) = 0
   parts_height (Exprs.tuple items) = elements_height items
   parts_height (Exprs.list items) = elements_height items
   parts_height (Exprs.set items) = elements_height items
   parts_height (Exprs.dict items) = dict_items_height items
-  parts_height (Exprs.opaque found) = 0
+  parts_height (Exprs.unchecked found) = 0
   parts_height (Exprs.attribute x n) = height x
   parts_height (Exprs.call x given) = max (height x) (arguments_height given)
   parts_height (Exprs.subscript x brackets) = max (height x) (index_height brackets)

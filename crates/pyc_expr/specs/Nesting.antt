@@ -12,12 +12,12 @@ use Rattle.pyc_obligations.specs.declared.value.Value.{Value}
 use Rattle.pyc_obligations.specs.ValueView.{value_of}
 use Rattle.pyc_places.specs.declared.states.State.{State}
 use Rattle.pyc_places.specs.StateView.{state_of}
-use Rattle.pyc_reading.specs.Desks.{Desk, Performs}
+use Rattle.pyc_reading.specs.Traces.{Trace, Performs}
 use Rattle.pyc_type_forms.specs.declared.types.Ty.{Ty}
 use Rattle.pyc_type_forms.specs.TypeView.{ty_of}
 
 -- it may be called at this depth, and reads what the definition does
-pub record Nests {N C : Type 0} (desk : N → Desk) (context : C → Context) (depth : ℕ)
+pub record Nests {N C : Type 0} (trace : N → Trace) (context : C → Context) (depth : ℕ)
     (pre : Global → MutBor N → Bor C → Bor State → Bor Expr → Option (Bor Ty) → ℕ → Type 0)
     (post : Global → MutBor N → Bor C → Bor State → Bor Expr → Option (Bor Ty) → ℕ → Result Value AllocError
     → MutBor N → Type 0) : Type 0 where
@@ -27,4 +27,4 @@ pub record Nests {N C : Type 0} (desk : N → Desk) (context : C → Context) (d
       (result : Result Value AllocError) → post alloc old c s x want depth result new
       → Performs value_of
       (value_at_depth depth (context c.now) (state_of s.now) (expr_of x.now) (option_map (λ ty. ty_of ty.now) want))
-      (desk old.now) result (desk new.now)
+      (trace old.now) result (trace new.now)

@@ -8,18 +8,19 @@ ghost use Rattle.pyc_expr_forms.specs.Subscripting as subscripting;
 ghost use Rattle.pyc_expr.specs.Values as spec;
 ghost use Rattle.pyc_obligations.specs.ValueView.{value_of};
 ghost use Rattle.pyc_places.specs.StateView.{state_of};
-ghost use Rattle.pyc_reading.specs.Desks.{Performs};
+ghost use Rattle.pyc_reading.specs.Traces.{Performs};
 ghost use Rattle.pyc_type_forms.specs.Types.{any, dict, list};
 ghost use Rattle.pyc_type_forms.specs.TypeView.{ty_of};
 
-use pyc_ast::{Expr, Form, Opaque, OptionalExpr};
-use pyc_class::{BuiltinClass, ClassId};
+use pyc_ast::{Expr, Form, OptionalExpr, Unchecked};
+use pyc_class_ids::{BuiltinClass, ClassId};
 use pyc_displays::{dict_display, list_display, set_display, tuple_display};
 use pyc_expr_forms::{
-    Context, InState, Parts, attribute_value, binary_type, boolean_type, call_type, choice_type,
-    compare_type, name_value, only_read, optional_read, subscript_type, unary_type,
+    Context, InState, InferValue, attribute_value, binary_type, boolean_type, call_type,
+    choice_type, compare_type, infer_freely, infer_optional, name_value, subscript_type,
+    unary_type,
 };
-use pyc_obligations::{Judge, Value};
+use pyc_obligations::{AskTypes, Value};
 use pyc_places::State;
 use pyc_scopes::constant_type;
 use pyc_type_forms::{DictTypes, Ty};
@@ -28,9 +29,9 @@ use std::rc::Rc;
 
 /// What an expression is in a state, by what its parts are: in a state that is unreachable nothing is read. The only
 /// error is that memory runs out.
-pub(crate) fn by_parts<N: Judge, C: Context<N>, P: Parts<N>>(
+pub(crate) fn infer_by_parts<N: AskTypes, C: Context<N>, P: InferValue<N>>(
     alloc: Global,
-    notes: &mut N,
+    recorder: &mut N,
     context: &C,
     parts: &P,
     state: &State,
@@ -39,19 +40,19 @@ pub(crate) fn by_parts<N: Judge, C: Context<N>, P: Parts<N>>(
 ) -> Result<Value, AllocError>
     requires { P.ready parts.now }
     ensures { Performs value_of
-        (spec.by_parts (C.context context.now) (P.parts parts.now) (state_of state.now) (expr_of e.now)
-        (option_map (λ ty. ty_of ty.now) want.entry)) (N.desk notes.old) result (N.desk notes.new) }
+        (spec.infer_by_parts (C.context context.now) (P.parts parts.now) (state_of state.now) (expr_of e.now)
+        (option_map (λ ty. ty_of ty.now) want.entry)) (N.trace recorder.old) result (N.trace recorder.new) }
 {
     match state {
         State::Unreachable => Ok(Value::plain(Ty::Any)),
-        State::Reachable(_) => by_form(alloc, notes, context, parts, state, e, want),
+        State::Reachable(_) => infer_form(alloc, recorder, context, parts, state, e, want),
     }
 }
 
 /// What an expression is, by its form.
-fn by_form<N: Judge, C: Context<N>, P: Parts<N>>(
+fn infer_form<N: AskTypes, C: Context<N>, P: InferValue<N>>(
     alloc: Global,
-    notes: &mut N,
+    recorder: &mut N,
     context: &C,
     parts: &P,
     state: &State,
@@ -60,24 +61,24 @@ fn by_form<N: Judge, C: Context<N>, P: Parts<N>>(
 ) -> Result<Value, AllocError>
     requires { P.ready parts.now }
     ensures { Performs value_of
-        (spec.by_form (C.context context.now) (P.parts parts.now) (state_of state.now) (expr_of e.now) e.now.inside
-        (option_map (λ ty. ty_of ty.now) want.entry) (form_of e.now.form)) (N.desk notes.old) result
-        (N.desk notes.new) }
+        (spec.infer_form (C.context context.now) (P.parts parts.now) (state_of state.now) (expr_of e.now) e.now.inside
+        (option_map (λ ty. ty_of ty.now) want.entry) (form_of e.now.form)) (N.trace recorder.old) result
+        (N.trace recorder.new) }
 {
     match &e.form {
-        Form::Name(name) => name_value(alloc, notes, context, state, e, e.inside, name),
+        Form::Name(name) => name_value(alloc, recorder, context, state, e, e.inside, name),
         Form::Attribute { value, name } => {
-            attribute_value(alloc, notes, parts, state, e, e.inside, value, name)
+            attribute_value(alloc, recorder, parts, state, e, e.inside, value, name)
         }
-        _ => plain_value(alloc, notes, context, parts, state, e, want),
+        _ => plain_value(alloc, recorder, context, parts, state, e, want),
     }
 }
 
 /// What an expression is that is no place.
 #[tactic(auto, using(pyc_obligations::proofs::Steps::performing), unfolding(pyc_expr_forms::specs::Contexts::plainly))]
-fn plain_value<N: Judge, C: Context<N>, P: Parts<N>>(
+fn plain_value<N: AskTypes, C: Context<N>, P: InferValue<N>>(
     alloc: Global,
-    notes: &mut N,
+    recorder: &mut N,
     context: &C,
     parts: &P,
     state: &State,
@@ -87,18 +88,18 @@ fn plain_value<N: Judge, C: Context<N>, P: Parts<N>>(
     requires { P.ready parts.now }
     ensures { Performs value_of
         (contexts.plainly
-        (spec.type_by_form (C.context context.now) (P.parts parts.now) (state_of state.now) e.now.inside
-        (option_map (λ ty. ty_of ty.now) want.entry) (form_of e.now.form))) (N.desk notes.old) result
-        (N.desk notes.new) }
+        (spec.infer_type_form (C.context context.now) (P.parts parts.now) (state_of state.now) e.now.inside
+        (option_map (λ ty. ty_of ty.now) want.entry) (form_of e.now.form))) (N.trace recorder.old) result
+        (N.trace recorder.new) }
 {
-    let ty = type_by_form(alloc, notes, context, parts, state, e, want)?;
+    let ty = infer_type_form(alloc, recorder, context, parts, state, e, want)?;
     Ok(Value::plain(ty))
 }
 
 /// The type of an expression that is no place.
-fn type_by_form<N: Judge, C: Context<N>, P: Parts<N>>(
+fn infer_type_form<N: AskTypes, C: Context<N>, P: InferValue<N>>(
     alloc: Global,
-    notes: &mut N,
+    recorder: &mut N,
     context: &C,
     parts: &P,
     state: &State,
@@ -107,20 +108,20 @@ fn type_by_form<N: Judge, C: Context<N>, P: Parts<N>>(
 ) -> Result<Ty, AllocError>
     requires { P.ready parts.now }
     ensures { Performs ty_of
-        (spec.type_by_form (C.context context.now) (P.parts parts.now) (state_of state.now) e.now.inside
-        (option_map (λ ty. ty_of ty.now) want.entry) (form_of e.now.form)) (N.desk notes.old) result
-        (N.desk notes.new) }
+        (spec.infer_type_form (C.context context.now) (P.parts parts.now) (state_of state.now) e.now.inside
+        (option_map (λ ty. ty_of ty.now) want.entry) (form_of e.now.form)) (N.trace recorder.old) result
+        (N.trace recorder.new) }
 {
     let reader = InState { parts, state };
     match &e.form {
         Form::Constant(found) => Ok(constant_type(*found)),
-        Form::Quoted(_) => Ok(str_type()),
-        Form::Opaque(found) => Ok(opaque_type(alloc, *found)?),
-        Form::Tuple(items) => tuple_display(alloc, notes, &reader, items, want),
-        Form::List(items) => list_display(alloc, notes, &reader, items, want),
-        Form::Set(items) => set_display(alloc, notes, &reader, items, want),
-        Form::Dict(items) => dict_display(alloc, notes, &reader, items, want),
-        _ => operation_by_form(alloc, notes, context, parts, state, e, want),
+        Form::StringAnnotation(_) => Ok(str_type()),
+        Form::Unchecked(found) => Ok(opaque_type(alloc, *found)?),
+        Form::Tuple(items) => tuple_display(alloc, recorder, &reader, items, want),
+        Form::List(items) => list_display(alloc, recorder, &reader, items, want),
+        Form::Set(items) => set_display(alloc, recorder, &reader, items, want),
+        Form::Dict(items) => dict_display(alloc, recorder, &reader, items, want),
+        _ => infer_operation_form(alloc, recorder, context, parts, state, e, want),
     }
 }
 
@@ -132,13 +133,13 @@ fn str_type() -> Ty
 }
 
 /// The type of what is not looked into.
-fn opaque_type(alloc: Global, found: Opaque) -> Result<Ty, AllocError>
+fn opaque_type(alloc: Global, found: Unchecked) -> Result<Ty, AllocError>
     ensures { IfOk result (λ ty. ty_of ty ≡ names.opaque_type found) }
 {
     match found {
-        Opaque::ListComprehension => any_list(alloc),
-        Opaque::DictComprehension => any_dict(alloc),
-        Opaque::Lambda | Opaque::Generator | Opaque::SetComprehension => Ok(Ty::Any),
+        Unchecked::ListComprehension => any_list(alloc),
+        Unchecked::DictComprehension => any_dict(alloc),
+        Unchecked::Lambda | Unchecked::Generator | Unchecked::SetComprehension => Ok(Ty::Any),
     }
 }
 
@@ -161,9 +162,9 @@ fn any_dict(alloc: Global) -> Result<Ty, AllocError>
 }
 
 /// The type of a call, a subscript or an operation.
-fn operation_by_form<N: Judge, C: Context<N>, P: Parts<N>>(
+fn infer_operation_form<N: AskTypes, C: Context<N>, P: InferValue<N>>(
     alloc: Global,
-    notes: &mut N,
+    recorder: &mut N,
     context: &C,
     parts: &P,
     state: &State,
@@ -172,35 +173,39 @@ fn operation_by_form<N: Judge, C: Context<N>, P: Parts<N>>(
 ) -> Result<Ty, AllocError>
     requires { P.ready parts.now }
     ensures { Performs ty_of
-        (spec.operation_by_form (C.context context.now) (P.parts parts.now) (state_of state.now) e.now.inside
-        (option_map (λ ty. ty_of ty.now) want.entry) (form_of e.now.form)) (N.desk notes.old) result
-        (N.desk notes.new) }
+        (spec.infer_operation_form (C.context context.now) (P.parts parts.now) (state_of state.now) e.now.inside
+        (option_map (λ ty. ty_of ty.now) want.entry) (form_of e.now.form)) (N.trace recorder.old) result
+        (N.trace recorder.new) }
 {
     let at = e.inside;
     match &e.form {
         Form::Call { callee, arguments } => {
-            call_type(alloc, notes, context, parts, state, at, callee, arguments)
+            call_type(
+                alloc, recorder, context, parts, state, at, callee, arguments,
+            )
         }
         Form::Subscript { value, index } => {
-            subscript_type(alloc, notes, parts, state, at, value, index)
+            subscript_type(alloc, recorder, parts, state, at, value, index)
         }
         Form::Unary { operator, operand } => {
-            unary_type(alloc, notes, parts, state, at, *operator, operand)
+            unary_type(alloc, recorder, parts, state, at, *operator, operand)
         }
         Form::Binary {
             operator,
             left,
             right,
-        } => binary_type(alloc, notes, parts, state, at, *operator, left, right),
-        Form::Compare { left, rest } => { compare_type(alloc, notes, parts, state, at, left, rest) }
-        _ => choice_by_form(alloc, notes, parts, state, want, e),
+        } => binary_type(alloc, recorder, parts, state, at, *operator, left, right),
+        Form::Compare { left, rest } => {
+            compare_type(alloc, recorder, parts, state, at, left, rest)
+        }
+        _ => choice_by_form(alloc, recorder, parts, state, want, e),
     }
 }
 
 /// The type of an expression with conditions, and of what waits.
-fn choice_by_form<N: Judge, P: Parts<N>>(
+fn choice_by_form<N: AskTypes, P: InferValue<N>>(
     alloc: Global,
-    notes: &mut N,
+    recorder: &mut N,
     parts: &P,
     state: &State,
     want: Option<&Ty>,
@@ -209,46 +214,46 @@ fn choice_by_form<N: Judge, P: Parts<N>>(
     requires { P.ready parts.now }
     ensures { Performs ty_of
         (spec.choice_by_form (P.parts parts.now) (state_of state.now) (option_map (λ ty. ty_of ty.now) want.entry)
-        (form_of e.now.form)) (N.desk notes.old) result (N.desk notes.new) }
+        (form_of e.now.form)) (N.trace recorder.old) result (N.trace recorder.new) }
 {
     match &e.form {
         Form::Boolean {
             operator,
             left,
             right,
-        } => boolean_type(alloc, notes, parts, state, want, *operator, left, right),
+        } => boolean_type(alloc, recorder, parts, state, want, *operator, left, right),
         Form::Conditional { test, body, orelse } => {
-            choice_type(alloc, notes, parts, state, want, test, body, orelse)
+            choice_type(alloc, recorder, parts, state, want, test, body, orelse)
         }
-        Form::Await(part) | Form::YieldFrom(part) => any_after(alloc, notes, parts, state, part),
-        Form::Yield(part) => any_after_optional(alloc, notes, parts, state, part),
+        Form::Await(part) | Form::YieldFrom(part) => any_after(alloc, recorder, parts, state, part),
+        Form::Yield(part) => any_after_optional(alloc, recorder, parts, state, part),
         _ => Ok(Ty::Any),
     }
 }
 
 /// Reads a part that is waited for, of which nothing is known.
 #[tactic(auto, using(pyc_obligations::proofs::Steps::performing), unfolding(crate::specs::Values::any_after))]
-fn any_after<N: Judge, P: Parts<N>>(
+fn any_after<N: AskTypes, P: InferValue<N>>(
     alloc: Global,
-    notes: &mut N,
+    recorder: &mut N,
     parts: &P,
     state: &State,
     part: &Expr,
 ) -> Result<Ty, AllocError>
     requires { P.ready parts.now }
     ensures { Performs ty_of
-        (spec.any_after (contexts.only_read (P.parts parts.now) (state_of state.now) (expr_of part.now)))
-        (N.desk notes.old) result (N.desk notes.new) }
+        (spec.any_after (contexts.infer_freely (P.parts parts.now) (state_of state.now) (expr_of part.now)))
+        (N.trace recorder.old) result (N.trace recorder.new) }
 {
-    only_read(alloc, notes, parts, state, part)?;
+    infer_freely(alloc, recorder, parts, state, part)?;
     Ok(Ty::Any)
 }
 
-/// The same of a part that may be absent.
+/// Reads a part that may be absent, for what it asks and reports alone. The type of the whole is Any.
 #[tactic(auto, using(pyc_obligations::proofs::Steps::performing), unfolding(crate::specs::Values::any_after))]
-fn any_after_optional<N: Judge, P: Parts<N>>(
+fn any_after_optional<N: AskTypes, P: InferValue<N>>(
     alloc: Global,
-    notes: &mut N,
+    recorder: &mut N,
     parts: &P,
     state: &State,
     part: &OptionalExpr,
@@ -256,9 +261,9 @@ fn any_after_optional<N: Judge, P: Parts<N>>(
     requires { P.ready parts.now }
     ensures { Performs ty_of
         (spec.any_after
-        (subscripting.optional_read (P.parts parts.now) (state_of state.now) (optional_of part.now)))
-        (N.desk notes.old) result (N.desk notes.new) }
+        (subscripting.infer_optional (P.parts parts.now) (state_of state.now) (optional_of part.now)))
+        (N.trace recorder.old) result (N.trace recorder.new) }
 {
-    optional_read(alloc, notes, parts, state, part)?;
+    infer_optional(alloc, recorder, parts, state, part)?;
     Ok(Ty::Any)
 }

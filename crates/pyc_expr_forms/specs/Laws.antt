@@ -2,8 +2,8 @@
 use Rattle.std.specs.Prelude.{◌≡◌, Option}
 use Rattle.pyc_ast.specs.declared.operator.BooleanOperator.{BooleanOperator}
 use Rattle.pyc_ast.specs.Exprs.{Expr}
-use Rattle.pyc_expr_forms.specs.Choices.{chained, goes_on}
-use Rattle.pyc_expr_forms.specs.Contexts.{Parts, looked_by}
+use Rattle.pyc_expr_forms.specs.Choices.{infer_chain, right_side_state}
+use Rattle.pyc_expr_forms.specs.Contexts.{InferValue, looked_by}
 use Rattle.pyc_narrowing.specs.Splitting.{split}
 use Rattle.pyc_places.specs.States.{State}
 use Rattle.pyc_reading.specs.Answers.{Answer}
@@ -14,6 +14,6 @@ use Rattle.pyc_type_forms.specs.Types.{Ty}
 -- a chain goes on in the state that all of it leaves, taken as one condition
 abbrev pub ChainsGoOn : Type 0
 ChainsGoOn =
-    (answers : Key → Answer) (parts : Parts) (s : State) (want : Option Ty) (operator : BooleanOperator) (x : Expr)
-    → (result_of answers (chained parts s want operator x)).state
-    ≡ goes_on operator (result_of answers (split (looked_by parts) s x))
+    (answers : Key → Answer) (parts : InferValue) (s : State) (want : Option Ty) (operator : BooleanOperator) (x : Expr)
+    → (result_of answers (infer_chain parts s want operator x)).state
+    ≡ right_side_state operator (result_of answers (split (looked_by parts) s x))

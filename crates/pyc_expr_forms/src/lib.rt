@@ -19,5 +19,5 @@ pub use context::Context;
 pub use method_caller::MethodCaller;
 pub use names::{attribute_value, name_value};
 pub use operations::{binary_type, compare_type, unary_type};
-pub use parts::{InState, Looking, Parts, only_read, type_in};
-pub use subscripting::{index_type, optional_read, subscript_type};
+pub use parts::{InState, InferValue, Looking, infer_freely, type_in};
+pub use subscripting::{index_type, infer_optional, subscript_type};

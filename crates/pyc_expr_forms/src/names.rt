@@ -6,22 +6,22 @@ ghost use Rattle.pyc_expr_forms.specs.Names as spec;
 ghost use Rattle.pyc_obligations.specs.Values.{plain_value};
 ghost use Rattle.pyc_obligations.specs.ValueView.{value_of};
 ghost use Rattle.pyc_places.specs.StateView.{state_of};
-ghost use Rattle.pyc_reading.specs.Desks.{Performs};
+ghost use Rattle.pyc_reading.specs.Traces.{Performs};
 ghost use Rattle.pyc_type_forms.specs.TypeView.{ty_of};
 
 use crate::context::Context;
-use crate::parts::Parts;
+use crate::parts::InferValue;
 use pyc_ast::{Expr, Position, Text};
 use pyc_attributes::attribute;
-use pyc_obligations::{Judge, Value};
+use pyc_obligations::{AskTypes, Value};
 use pyc_places::State;
 use pyc_type_forms::Ty;
 use std::alloc::{AllocError, Global};
 
 /// A name, which is the whole expression. The only error is that memory runs out.
-pub fn name_value<N: Judge, C: Context<N>>(
+pub fn name_value<N: AskTypes, C: Context<N>>(
     alloc: Global,
-    notes: &mut N,
+    recorder: &mut N,
     context: &C,
     state: &State,
     whole: &Expr,
@@ -30,11 +30,11 @@ pub fn name_value<N: Judge, C: Context<N>>(
 ) -> Result<Value, AllocError>
     ensures { Performs value_of
         (spec.name_value (C.context context.now) (state_of state.now) (expr_of whole.now) at name.now)
-        (N.desk notes.old) result (N.desk notes.new) }
+        (N.trace recorder.old) result (N.trace recorder.new) }
 {
     match state.narrowed_at(whole) {
         Some(ty) => narrowed(ty),
-        None => context.named(alloc, notes, at, name),
+        None => context.resolve_name(alloc, recorder, at, name),
     }
 }
 
@@ -48,9 +48,9 @@ fn narrowed(ty: &Ty) -> Result<Value, AllocError>
 /// An attribute, which is the whole expression: its owner is read also where the attribute is narrowed. The only error
 /// is that memory runs out.
 #[tactic(auto, using(pyc_obligations::proofs::Steps::performing), unfolding(crate::specs::Names::attribute_value))]
-pub fn attribute_value<N: Judge, P: Parts<N>>(
+pub fn attribute_value<N: AskTypes, P: InferValue<N>>(
     alloc: Global,
-    notes: &mut N,
+    recorder: &mut N,
     parts: &P,
     state: &State,
     whole: &Expr,
@@ -61,17 +61,17 @@ pub fn attribute_value<N: Judge, P: Parts<N>>(
     requires { P.ready parts.now }
     ensures { Performs value_of
         (spec.attribute_value (P.parts parts.now) (state_of state.now) (expr_of whole.now) at (expr_of owner.now)
-        name.now) (N.desk notes.old) result (N.desk notes.new) }
+        name.now) (N.trace recorder.old) result (N.trace recorder.new) }
 {
-    let owner = parts.part(alloc, notes, state, owner, None)?;
-    let value = attribute_of(alloc, notes, state, whole, at, name, &owner)?;
+    let owner = parts.part(alloc, recorder, state, owner, None)?;
+    let value = attribute_of(alloc, recorder, state, whole, at, name, &owner)?;
     Ok(value)
 }
 
 /// The attribute of what was read, which is the whole expression. The only error is that memory runs out.
-pub(crate) fn attribute_of<N: Judge>(
+pub(crate) fn attribute_of<N: AskTypes>(
     alloc: Global,
-    notes: &mut N,
+    recorder: &mut N,
     state: &State,
     whole: &Expr,
     at: Position,
@@ -80,10 +80,10 @@ pub(crate) fn attribute_of<N: Judge>(
 ) -> Result<Value, AllocError>
     ensures { Performs value_of
         (spec.attribute_of (state_of state.now) (expr_of whole.now) at name.now (value_of owner.now))
-        (N.desk notes.old) result (N.desk notes.new) }
+        (N.trace recorder.old) result (N.trace recorder.new) }
 {
     match state.narrowed_at(whole) {
         Some(ty) => narrowed(ty),
-        None => attribute(alloc, notes, at, owner, name),
+        None => attribute(alloc, recorder, at, owner, name),
     }
 }

@@ -6,24 +6,24 @@ ghost use Rattle.pyc_ast.specs.ExprView.{expr_of, comparison_of};
 ghost use Rattle.pyc_expr_forms.specs.Names.{bool_type};
 ghost use Rattle.pyc_expr_forms.specs.Operations as spec;
 ghost use Rattle.pyc_places.specs.StateView.{state_of};
-ghost use Rattle.pyc_reading.specs.Desks.{Performs};
+ghost use Rattle.pyc_reading.specs.Traces.{Performs};
 ghost use Rattle.pyc_type_forms.specs.TypeView.{ty_of};
 
 use crate::method_caller::MethodCaller;
-use crate::parts::{Parts, type_in};
+use crate::parts::{InferValue, type_in};
 use pyc_ast::{Comparison, Expr, Operator, Position, UnaryOperator};
-use pyc_class::{BuiltinClass, ClassId};
-use pyc_obligations::Judge;
-use pyc_operators::{binary, compared, unary};
+use pyc_class_ids::{BuiltinClass, ClassId};
+use pyc_obligations::AskTypes;
+use pyc_operators::{binary, check_comparison, unary};
 use pyc_places::State;
 use pyc_type_forms::Ty;
 use std::alloc::{AllocError, Global};
 
 /// The type of a unary operator with its operand. The only error is that memory runs out.
 #[tactic(auto, using(pyc_obligations::proofs::Steps::performing), unfolding(crate::specs::Operations::unary_type))]
-pub fn unary_type<N: Judge, P: Parts<N>>(
+pub fn unary_type<N: AskTypes, P: InferValue<N>>(
     alloc: Global,
-    notes: &mut N,
+    recorder: &mut N,
     parts: &P,
     state: &State,
     at: Position,
@@ -33,17 +33,17 @@ pub fn unary_type<N: Judge, P: Parts<N>>(
     requires { P.ready parts.now }
     ensures { Performs ty_of
         (spec.unary_type (P.parts parts.now) (state_of state.now) at operator (expr_of operand.now))
-        (N.desk notes.old) result (N.desk notes.new) }
+        (N.trace recorder.old) result (N.trace recorder.new) }
 {
-    let operand = type_in(alloc, notes, parts, state, operand, None)?;
-    unary(alloc, notes, &MethodCaller, at, operator, &operand)
+    let operand = type_in(alloc, recorder, parts, state, operand, None)?;
+    unary(alloc, recorder, &MethodCaller, at, operator, &operand)
 }
 
 /// The type of a binary operation. The only error is that memory runs out.
 #[tactic(auto, using(pyc_obligations::proofs::Steps::performing), unfolding(crate::specs::Operations::binary_type))]
-pub fn binary_type<N: Judge, P: Parts<N>>(
+pub fn binary_type<N: AskTypes, P: InferValue<N>>(
     alloc: Global,
-    notes: &mut N,
+    recorder: &mut N,
     parts: &P,
     state: &State,
     at: Position,
@@ -54,17 +54,17 @@ pub fn binary_type<N: Judge, P: Parts<N>>(
     requires { P.ready parts.now }
     ensures { Performs ty_of
         (spec.binary_type (P.parts parts.now) (state_of state.now) at operator (expr_of left.now)
-        (expr_of right.now)) (N.desk notes.old) result (N.desk notes.new) }
+        (expr_of right.now)) (N.trace recorder.old) result (N.trace recorder.new) }
 {
-    let left = type_in(alloc, notes, parts, state, left, None)?;
-    with_right(alloc, notes, parts, state, at, operator, right, &left)
+    let left = type_in(alloc, recorder, parts, state, left, None)?;
+    infer_with_right(alloc, recorder, parts, state, at, operator, right, &left)
 }
 
-/// The same, when its left operand was read.
-#[tactic(auto, using(pyc_obligations::proofs::Steps::performing), unfolding(crate::specs::Operations::with_right))]
-fn with_right<N: Judge, P: Parts<N>>(
+/// The type of a binary operation whose left operand has the type `left`.
+#[tactic(auto, using(pyc_obligations::proofs::Steps::performing), unfolding(crate::specs::Operations::infer_with_right))]
+fn infer_with_right<N: AskTypes, P: InferValue<N>>(
     alloc: Global,
-    notes: &mut N,
+    recorder: &mut N,
     parts: &P,
     state: &State,
     at: Position,
@@ -74,18 +74,19 @@ fn with_right<N: Judge, P: Parts<N>>(
 ) -> Result<Ty, AllocError>
     requires { P.ready parts.now }
     ensures { Performs ty_of
-        (spec.with_right (P.parts parts.now) (state_of state.now) at operator (expr_of right.now) (ty_of left.now))
-        (N.desk notes.old) result (N.desk notes.new) }
+        (spec.infer_with_right (P.parts parts.now) (state_of state.now) at operator (expr_of right.now)
+        (ty_of left.now))
+        (N.trace recorder.old) result (N.trace recorder.new) }
 {
-    let right = type_in(alloc, notes, parts, state, right, None)?;
-    binary(alloc, notes, &MethodCaller, at, operator, left, &right)
+    let right = type_in(alloc, recorder, parts, state, right, None)?;
+    binary(alloc, recorder, &MethodCaller, at, operator, left, &right)
 }
 
 /// The type of a chain of comparisons. The only error is that memory runs out.
 #[tactic(auto, using(pyc_obligations::proofs::Steps::performing), unfolding(crate::specs::Operations::compare_type))]
-pub fn compare_type<N: Judge, P: Parts<N>>(
+pub fn compare_type<N: AskTypes, P: InferValue<N>>(
     alloc: Global,
-    notes: &mut N,
+    recorder: &mut N,
     parts: &P,
     state: &State,
     at: Position,
@@ -95,17 +96,17 @@ pub fn compare_type<N: Judge, P: Parts<N>>(
     requires { P.ready parts.now }
     ensures { Performs ty_of
         (spec.compare_type (P.parts parts.now) (state_of state.now) at (expr_of left.now)
-        (comparisons (map comparison_of rest.now))) (N.desk notes.old) result (N.desk notes.new) }
+        (comparisons (map comparison_of rest.now))) (N.trace recorder.old) result (N.trace recorder.new) }
 {
-    let left = type_in(alloc, notes, parts, state, left, None)?;
-    chain_type(alloc, notes, parts, state, at, rest, left)
+    let left = type_in(alloc, recorder, parts, state, left, None)?;
+    chain_type(alloc, recorder, parts, state, at, rest, left)
 }
 
-/// The same, when its first operand was read.
+/// The type of a chain of comparisons whose first operand has the type `left`.
 #[tactic(auto, using(pyc_obligations::proofs::Steps::performing), unfolding(crate::specs::Operations::chain_type))]
-fn chain_type<N: Judge, P: Parts<N>>(
+fn chain_type<N: AskTypes, P: InferValue<N>>(
     alloc: Global,
-    notes: &mut N,
+    recorder: &mut N,
     parts: &P,
     state: &State,
     at: Position,
@@ -115,9 +116,9 @@ fn chain_type<N: Judge, P: Parts<N>>(
     requires { P.ready parts.now }
     ensures { Performs ty_of
         (spec.chain_type (P.parts parts.now) (state_of state.now) at (comparisons (map comparison_of rest.now))
-        (ty_of left)) (N.desk notes.old) result (N.desk notes.new) }
+        (ty_of left)) (N.trace recorder.old) result (N.trace recorder.new) }
 {
-    all_compared(alloc, notes, parts, state, at, rest, left)?;
+    infer_comparisons(alloc, recorder, parts, state, at, rest, left)?;
     Ok(bool_type())
 }
 
@@ -129,10 +130,10 @@ fn bool_type() -> Ty
 }
 
 /// Compares the operands of a chain, the first of which was read, in turn: the type of the last.
-#[tactic(auto, using(pyc_obligations::proofs::Steps::performing), unfolding(crate::specs::Operations::all_compared))]
-fn all_compared<N: Judge, P: Parts<N>>(
+#[tactic(auto, using(pyc_obligations::proofs::Steps::performing), unfolding(crate::specs::Operations::infer_comparisons))]
+fn infer_comparisons<N: AskTypes, P: InferValue<N>>(
     alloc: Global,
-    notes: &mut N,
+    recorder: &mut N,
     parts: &P,
     state: &State,
     at: Position,
@@ -141,21 +142,21 @@ fn all_compared<N: Judge, P: Parts<N>>(
 ) -> Result<Ty, AllocError>
     requires { P.ready parts.now }
     ensures { Performs ty_of
-        (spec.all_compared (P.parts parts.now) (state_of state.now) at (ty_of first)
-        (comparisons (map comparison_of rest.now))) (N.desk notes.old) result (N.desk notes.new) }
+        (spec.infer_comparisons (P.parts parts.now) (state_of state.now) at (ty_of first)
+        (comparisons (map comparison_of rest.now))) (N.trace recorder.old) result (N.trace recorder.new) }
 {
     let mut left = first;
     for link in rest {
-        left = compared_with(alloc, notes, parts, state, at, &left, link)?;
+        left = infer_comparison(alloc, recorder, parts, state, at, &left, link)?;
     }
     Ok(left)
 }
 
 /// Reads what stands right in a comparison whose left side was read, and compares both: the type of the right side.
-#[tactic(auto, using(pyc_obligations::proofs::Steps::performing), unfolding(crate::specs::Operations::compared_with))]
-fn compared_with<N: Judge, P: Parts<N>>(
+#[tactic(auto, using(pyc_obligations::proofs::Steps::performing), unfolding(crate::specs::Operations::infer_comparison))]
+fn infer_comparison<N: AskTypes, P: InferValue<N>>(
     alloc: Global,
-    notes: &mut N,
+    recorder: &mut N,
     parts: &P,
     state: &State,
     at: Position,
@@ -164,10 +165,18 @@ fn compared_with<N: Judge, P: Parts<N>>(
 ) -> Result<Ty, AllocError>
     requires { P.ready parts.now }
     ensures { Performs ty_of
-        (spec.compared_with (P.parts parts.now) (state_of state.now) at (ty_of left.now) (comparison_of link.now))
-        (N.desk notes.old) result (N.desk notes.new) }
+        (spec.infer_comparison (P.parts parts.now) (state_of state.now) at (ty_of left.now) (comparison_of link.now))
+        (N.trace recorder.old) result (N.trace recorder.new) }
 {
-    let right = type_in(alloc, notes, parts, state, &link.right, None)?;
-    compared(alloc, notes, &MethodCaller, at, link.operator, left, &right)?;
+    let right = type_in(alloc, recorder, parts, state, &link.right, None)?;
+    check_comparison(
+        alloc,
+        recorder,
+        &MethodCaller,
+        at,
+        link.operator,
+        left,
+        &right,
+    )?;
     Ok(right)
 }

@@ -1,32 +1,32 @@
-//! Who says what the parts of expressions are.
+//! What infers the parts of expressions.
 
 ghost use Rattle.std.specs.Prelude.{option_map};
 ghost use Rattle.pyc_ast.specs.ExprView.{expr_of};
 ghost use Rattle.pyc_expr_forms.specs.Contexts as spec;
 ghost use Rattle.pyc_obligations.specs.ValueView.{value_of};
 ghost use Rattle.pyc_places.specs.StateView.{state_of};
-ghost use Rattle.pyc_reading.specs.Desks.{Performs};
+ghost use Rattle.pyc_reading.specs.Traces.{Performs};
 ghost use Rattle.pyc_type_forms.specs.TypeView.{ty_of};
 
 use pyc_ast::Expr;
-use pyc_narrowing::Looks;
-use pyc_obligations::{Judge, Reader, Value};
+use pyc_narrowing::InferOperand;
+use pyc_obligations::{AskTypes, InferType, Value};
 use pyc_places::State;
 use pyc_type_forms::Ty;
 use std::alloc::{AllocError, Global};
 
-/// Who says what the parts of an expression are.
-pub trait Parts<N: Judge> {
+/// Infers the parts of an expression.
+pub trait InferValue<N: AskTypes> {
     ghost ready: { Self → Type 0 };
 
-    ghost parts: { Self → spec.Parts };
+    ghost parts: { Self → spec.InferValue };
 
     /// What a part is in a state, with the type that is expected of it, if one is. The only error is that memory runs
     /// out.
     fn part(
         &self,
         alloc: Global,
-        notes: &mut N,
+        recorder: &mut N,
         state: &State,
         part: &Expr,
         want: Option<&Ty>,
@@ -34,17 +34,17 @@ pub trait Parts<N: Judge> {
         requires { ready self.now }
         ensures { Performs value_of
             (parts self.now (state_of state.now) (expr_of part.now) (option_map (λ ty. ty_of ty.now) want.entry))
-            (N.desk notes.old) result (N.desk notes.new) };
+            (N.trace recorder.old) result (N.trace recorder.new) };
 }
 
-/// Who reads the parts of an expression in a state.
+/// Infers the types of the parts of an expression in `state`.
 #[derive(Clone, Copy, Drop)]
 pub struct InState<'a, P> {
     pub parts: &'a P,
     pub state: &'a State,
 }
 
-impl<N: Judge, P: Parts<N>> Reader<N> for InState<'_, P> {
+impl<N: AskTypes, P: InferValue<N>> InferType<N> for InState<'_, P> {
     ghost ready = { λ reader. P.ready reader.parts.now };
 
     ghost reads = { λ reader. spec.type_in (P.parts reader.parts.now) (state_of reader.state.now) };
@@ -53,22 +53,22 @@ impl<N: Judge, P: Parts<N>> Reader<N> for InState<'_, P> {
     fn read(
         &self,
         alloc: Global,
-        notes: &mut N,
+        recorder: &mut N,
         part: &Expr,
         want: Option<&Ty>,
     ) -> Result<Ty, AllocError> {
-        let value = self.parts.part(alloc, notes, self.state, part, want)?;
+        let value = self.parts.part(alloc, recorder, self.state, part, want)?;
         Ok(value.ty)
     }
 }
 
-/// Who looks at the parts of a condition.
+/// Looks at the parts of a condition: `parts` infers them.
 #[derive(Clone, Copy, Drop)]
 pub struct Looking<'a, P> {
     pub parts: &'a P,
 }
 
-impl<N: Judge, P: Parts<N>> Looks<N> for Looking<'_, P> {
+impl<N: AskTypes, P: InferValue<N>> InferOperand<N> for Looking<'_, P> {
     ghost ready = { λ looks. P.ready looks.parts.now };
 
     ghost looks = { λ looks. spec.looked_by (P.parts looks.parts.now) };
@@ -76,19 +76,19 @@ impl<N: Judge, P: Parts<N>> Looks<N> for Looking<'_, P> {
     fn look(
         &self,
         alloc: Global,
-        notes: &mut N,
+        recorder: &mut N,
         state: &State,
         part: &Expr,
     ) -> Result<Value, AllocError> {
-        self.parts.part(alloc, notes, state, part, None)
+        self.parts.part(alloc, recorder, state, part, None)
     }
 }
 
 /// The type of a part. The only error is that memory runs out.
 #[tactic(auto, using(pyc_obligations::proofs::Steps::performing), unfolding(crate::specs::Contexts::type_in))]
-pub fn type_in<N: Judge, P: Parts<N>>(
+pub fn type_in<N: AskTypes, P: InferValue<N>>(
     alloc: Global,
-    notes: &mut N,
+    recorder: &mut N,
     parts: &P,
     state: &State,
     part: &Expr,
@@ -97,25 +97,25 @@ pub fn type_in<N: Judge, P: Parts<N>>(
     requires { P.ready parts.now }
     ensures { Performs ty_of
         (spec.type_in (P.parts parts.now) (state_of state.now) (expr_of part.now)
-        (option_map (λ ty. ty_of ty.now) want.entry)) (N.desk notes.old) result (N.desk notes.new) }
+        (option_map (λ ty. ty_of ty.now) want.entry)) (N.trace recorder.old) result (N.trace recorder.new) }
 {
-    let value = parts.part(alloc, notes, state, part, want)?;
+    let value = parts.part(alloc, recorder, state, part, want)?;
     Ok(value.ty)
 }
 
 /// Reads a part of which nothing is expected, whatever it is. The only error is that memory runs out.
-#[tactic(auto, using(pyc_obligations::proofs::Steps::performing), unfolding(crate::specs::Contexts::only_read))]
-pub fn only_read<N: Judge, P: Parts<N>>(
+#[tactic(auto, using(pyc_obligations::proofs::Steps::performing), unfolding(crate::specs::Contexts::infer_freely))]
+pub fn infer_freely<N: AskTypes, P: InferValue<N>>(
     alloc: Global,
-    notes: &mut N,
+    recorder: &mut N,
     parts: &P,
     state: &State,
     part: &Expr,
 ) -> Result<(), AllocError>
     requires { P.ready parts.now }
-    ensures { Performs (λ u. u) (spec.only_read (P.parts parts.now) (state_of state.now) (expr_of part.now))
-        (N.desk notes.old) result (N.desk notes.new) }
+    ensures { Performs (λ u. u) (spec.infer_freely (P.parts parts.now) (state_of state.now) (expr_of part.now))
+        (N.trace recorder.old) result (N.trace recorder.new) }
 {
-    parts.part(alloc, notes, state, part, None)?;
+    parts.part(alloc, recorder, state, part, None)?;
     Ok(())
 }

@@ -5,13 +5,13 @@ ghost use Rattle.pyc_ast.specs.ExprView.{expr_of};
 ghost use Rattle.pyc_expr_forms.specs.CallValues as spec;
 ghost use Rattle.pyc_narrowing.specs.Splitting as splitting;
 ghost use Rattle.pyc_places.specs.StateView.{state_of};
-ghost use Rattle.pyc_reading.specs.Desks.{Performs};
+ghost use Rattle.pyc_reading.specs.Traces.{Performs};
 ghost use Rattle.pyc_type_forms.specs.TypeView.{ty_of};
 
 use crate::context::Context;
-use crate::parts::{Parts, only_read, type_in};
+use crate::parts::{InferValue, infer_freely, type_in};
 use pyc_ast::{ArgumentKind, Expr, Position};
-use pyc_obligations::{Judge, tell_note};
+use pyc_obligations::{AskTypes, report_note};
 use pyc_places::State;
 use pyc_type_forms::{Ty, show};
 use std::alloc::{AllocError, Global};
@@ -23,31 +23,36 @@ pub(crate) fn is_positional(kind: &ArgumentKind) -> bool
     matches!(kind, ArgumentKind::Positional)
 }
 
-/// Tells the type of a part, which is the type of the call. The only error is that memory runs out.
-#[tactic(auto, using(pyc_obligations::proofs::Steps::performing), unfolding(crate::specs::CallValues::revealed))]
-pub(crate) fn revealed<N: Judge, P: Parts<N>>(
+/// Reports the type of a part, which is the type of the call. The only error is that memory runs out.
+#[tactic(auto, using(pyc_obligations::proofs::Steps::performing), unfolding(crate::specs::CallValues::reveal_part))]
+pub(crate) fn reveal_part<N: AskTypes, P: InferValue<N>>(
     alloc: Global,
-    notes: &mut N,
+    recorder: &mut N,
     parts: &P,
     state: &State,
     at: Position,
     part: &Expr,
 ) -> Result<Ty, AllocError>
     requires { P.ready parts.now }
-    ensures { Performs ty_of (spec.revealed (P.parts parts.now) (state_of state.now) at (expr_of part.now))
-        (N.desk notes.old) result (N.desk notes.new) }
+    ensures { Performs ty_of (spec.reveal_part (P.parts parts.now) (state_of state.now) at (expr_of part.now))
+        (N.trace recorder.old) result (N.trace recorder.new) }
 {
-    let ty = type_in(alloc, notes, parts, state, part, None)?;
-    type_told(alloc, notes, at, ty)
+    let ty = type_in(alloc, recorder, parts, state, part, None)?;
+    type_reported(alloc, recorder, at, ty)
 }
 
-/// Tells a type.
+/// Reports a type.
 #[tactic(auto, using(pyc_obligations::proofs::Steps::performing))]
-fn type_told<N: Judge>(alloc: Global, notes: &mut N, at: Position, ty: Ty) -> Result<Ty, AllocError>
-    ensures { Performs ty_of (spec.type_told at (ty_of ty)) (N.desk notes.old) result (N.desk notes.new) }
+fn type_reported<N: AskTypes>(
+    alloc: Global,
+    recorder: &mut N,
+    at: Position,
+    ty: Ty,
+) -> Result<Ty, AllocError>
+    ensures { Performs ty_of (spec.type_reported at (ty_of ty)) (N.trace recorder.old) result (N.trace recorder.new) }
 {
     let text = type_text(alloc, &ty)?;
-    tell_note(notes, at, text)?;
+    report_note(recorder, at, text)?;
     Ok(ty)
 }
 
@@ -69,9 +74,9 @@ fn revealed_text(alloc: Global, shown: &str) -> Result<String, AllocError>
 
 /// A cast to the type that an annotation means, of a value that is read. The only error is that memory runs out.
 #[tactic(auto, using(pyc_obligations::proofs::Steps::performing), unfolding(crate::specs::CallValues::cast_to))]
-pub(crate) fn cast_to<N: Judge, C: Context<N>, P: Parts<N>>(
+pub(crate) fn cast_to<N: AskTypes, C: Context<N>, P: InferValue<N>>(
     alloc: Global,
-    notes: &mut N,
+    recorder: &mut N,
     context: &C,
     parts: &P,
     state: &State,
@@ -81,9 +86,9 @@ pub(crate) fn cast_to<N: Judge, C: Context<N>, P: Parts<N>>(
     requires { P.ready parts.now }
     ensures { Performs ty_of
         (spec.cast_to (C.context context.now) (P.parts parts.now) (state_of state.now) (expr_of annotation.now)
-        (expr_of value.now)) (N.desk notes.old) result (N.desk notes.new) }
+        (expr_of value.now)) (N.trace recorder.old) result (N.trace recorder.new) }
 {
-    let ty = context.annotated(alloc, notes, annotation)?;
-    only_read(alloc, notes, parts, state, value)?;
+    let ty = context.annotated(alloc, recorder, annotation)?;
+    infer_freely(alloc, recorder, parts, state, value)?;
     Ok(ty)
 }

@@ -6,23 +6,23 @@ ghost use Rattle.pyc_ast.specs.Exprs.{indices_of};
 ghost use Rattle.pyc_ast.specs.ExprView.{expr_of, index_of, index_form_of, optional_of};
 ghost use Rattle.pyc_expr_forms.specs.Subscripting as spec;
 ghost use Rattle.pyc_places.specs.StateView.{state_of};
-ghost use Rattle.pyc_reading.specs.Desks.{Performs};
+ghost use Rattle.pyc_reading.specs.Traces.{Performs};
 ghost use Rattle.pyc_type_forms.specs.TypeView.{ty_of};
 
-use crate::parts::{Parts, only_read, type_in};
+use crate::parts::{InferValue, infer_freely, type_in};
 use pyc_ast::{Expr, Index, IndexForm, OptionalExpr, Position};
 use pyc_displays::tuple_type;
-use pyc_items::subscript;
-use pyc_obligations::Judge;
+use pyc_obligations::AskTypes;
 use pyc_places::State;
+use pyc_subscripts::subscript;
 use pyc_type_forms::Ty;
 use std::alloc::{AllocError, Global};
 
 /// The type of a subscript. The only error is that memory runs out.
 #[tactic(auto, using(pyc_obligations::proofs::Steps::performing), unfolding(crate::specs::Subscripting::subscript_type))]
-pub fn subscript_type<N: Judge, P: Parts<N>>(
+pub fn subscript_type<N: AskTypes, P: InferValue<N>>(
     alloc: Global,
-    notes: &mut N,
+    recorder: &mut N,
     parts: &P,
     state: &State,
     at: Position,
@@ -32,17 +32,17 @@ pub fn subscript_type<N: Judge, P: Parts<N>>(
     requires { P.ready parts.now }
     ensures { Performs ty_of
         (spec.subscript_type (P.parts parts.now) (state_of state.now) at (expr_of owner.now) (index_of index.now))
-        (N.desk notes.old) result (N.desk notes.new) }
+        (N.trace recorder.old) result (N.trace recorder.new) }
 {
-    let owner = type_in(alloc, notes, parts, state, owner, None)?;
-    subscript_of(alloc, notes, parts, state, at, index, &owner)
+    let owner = type_in(alloc, recorder, parts, state, owner, None)?;
+    subscript_of(alloc, recorder, parts, state, at, index, &owner)
 }
 
 /// A subscript of a value of a type that was read.
 #[tactic(auto, using(pyc_obligations::proofs::Steps::performing), unfolding(crate::specs::Subscripting::subscript_of))]
-fn subscript_of<N: Judge, P: Parts<N>>(
+fn subscript_of<N: AskTypes, P: InferValue<N>>(
     alloc: Global,
-    notes: &mut N,
+    recorder: &mut N,
     parts: &P,
     state: &State,
     at: Position,
@@ -52,40 +52,40 @@ fn subscript_of<N: Judge, P: Parts<N>>(
     requires { P.ready parts.now }
     ensures { Performs ty_of
         (spec.subscript_of (P.parts parts.now) (state_of state.now) at (index_of index.now) (ty_of owner.now))
-        (N.desk notes.old) result (N.desk notes.new) }
+        (N.trace recorder.old) result (N.trace recorder.new) }
 {
-    let got = index_type(alloc, notes, parts, state, index)?;
-    subscript(alloc, notes, at, index, &got, owner)
+    let got = index_type(alloc, recorder, parts, state, index)?;
+    subscript(alloc, recorder, at, index, &got, owner)
 }
 
 /// The type of what stands between the brackets of a subscript. The only error is that memory runs out.
 #[cycle(index)]
-pub fn index_type<N: Judge, P: Parts<N>>(
+pub fn index_type<N: AskTypes, P: InferValue<N>>(
     alloc: Global,
-    notes: &mut N,
+    recorder: &mut N,
     parts: &P,
     state: &State,
     index: &Index,
 ) -> Result<Ty, AllocError>
     requires { P.ready parts.now }
     ensures { Performs ty_of (spec.index_type (P.parts parts.now) (state_of state.now) (index_of index.now))
-        (N.desk notes.old) result (N.desk notes.new) }
+        (N.trace recorder.old) result (N.trace recorder.new) }
 {
     match &index.form {
-        IndexForm::Item(part) => type_in(alloc, notes, parts, state, part, None),
+        IndexForm::Item(part) => type_in(alloc, recorder, parts, state, part, None),
         IndexForm::Slice { lower, upper, step } => {
-            slice_type(alloc, notes, parts, state, lower, upper, step)
+            slice_type(alloc, recorder, parts, state, lower, upper, step)
         }
-        IndexForm::Indices(indices) => indices_type(alloc, notes, parts, state, indices),
+        IndexForm::Indices(indices) => indices_type(alloc, recorder, parts, state, indices),
     }
 }
 
 /// Indices with commas are a tuple.
 #[cycle(index)]
 #[tactic(auto, using(pyc_obligations::proofs::Steps::performing))]
-fn indices_type<N: Judge, P: Parts<N>>(
+fn indices_type<N: AskTypes, P: InferValue<N>>(
     alloc: Global,
-    notes: &mut N,
+    recorder: &mut N,
     parts: &P,
     state: &State,
     indices: &[Index],
@@ -93,18 +93,18 @@ fn indices_type<N: Judge, P: Parts<N>>(
     requires { P.ready parts.now }
     ensures { Performs ty_of
         (spec.tuple_of_indices (P.parts parts.now) (state_of state.now) (indices_of (map index_of indices.now)))
-        (N.desk notes.old) result (N.desk notes.new) }
+        (N.trace recorder.old) result (N.trace recorder.new) }
 {
-    let types = index_types(alloc, notes, parts, state, indices)?;
+    let types = index_types(alloc, recorder, parts, state, indices)?;
     tuple_type(alloc, false, types)
 }
 
 /// The types of indices, in turn.
 #[cycle(index)]
 #[tactic(auto, using(pyc_obligations::proofs::Steps::performing))]
-fn index_types<N: Judge, P: Parts<N>>(
+fn index_types<N: AskTypes, P: InferValue<N>>(
     alloc: Global,
-    notes: &mut N,
+    recorder: &mut N,
     parts: &P,
     state: &State,
     indices: &[Index],
@@ -112,11 +112,11 @@ fn index_types<N: Judge, P: Parts<N>>(
     requires { P.ready parts.now }
     ensures { Performs (λ (types : Vec Ty Global). map ty_of types.items)
         (spec.index_types (P.parts parts.now) (state_of state.now) [] (indices_of (map index_of indices.now)))
-        (N.desk notes.old) result (N.desk notes.new) }
+        (N.trace recorder.old) result (N.trace recorder.new) }
 {
     let mut types = Vec::with_capacity(alloc, indices.len())?;
     for index in indices {
-        let ty = index_type(alloc, notes, parts, state, index)?;
+        let ty = index_type(alloc, recorder, parts, state, index)?;
         types.push(ty)?;
     }
     Ok(types)
@@ -124,9 +124,9 @@ fn index_types<N: Judge, P: Parts<N>>(
 
 /// Reads the bounds and the step of a slice, of which nothing is expected.
 #[tactic(auto, using(pyc_obligations::proofs::Steps::performing), unfolding(crate::specs::Subscripting::slice_type))]
-fn slice_type<N: Judge, P: Parts<N>>(
+fn slice_type<N: AskTypes, P: InferValue<N>>(
     alloc: Global,
-    notes: &mut N,
+    recorder: &mut N,
     parts: &P,
     state: &State,
     lower: &OptionalExpr,
@@ -136,29 +136,30 @@ fn slice_type<N: Judge, P: Parts<N>>(
     requires { P.ready parts.now }
     ensures { Performs ty_of
         (spec.slice_type (P.parts parts.now) (state_of state.now) (optional_of lower.now) (optional_of upper.now)
-        (optional_of step.now)) (N.desk notes.old) result (N.desk notes.new) }
+        (optional_of step.now)) (N.trace recorder.old) result (N.trace recorder.new) }
 {
-    optional_read(alloc, notes, parts, state, lower)?;
-    optional_read(alloc, notes, parts, state, upper)?;
-    optional_read(alloc, notes, parts, state, step)?;
+    infer_optional(alloc, recorder, parts, state, lower)?;
+    infer_optional(alloc, recorder, parts, state, upper)?;
+    infer_optional(alloc, recorder, parts, state, step)?;
     Ok(Ty::Any)
 }
 
 /// Reads a part that may be absent. The only error is that memory runs out.
-pub fn optional_read<N: Judge, P: Parts<N>>(
+pub fn infer_optional<N: AskTypes, P: InferValue<N>>(
     alloc: Global,
-    notes: &mut N,
+    recorder: &mut N,
     parts: &P,
     state: &State,
     part: &OptionalExpr,
 ) -> Result<(), AllocError>
     requires { P.ready parts.now }
     ensures { Performs (λ u. u)
-        (spec.optional_read (P.parts parts.now) (state_of state.now) (optional_of part.now)) (N.desk notes.old) result
-        (N.desk notes.new) }
+        (spec.infer_optional (P.parts parts.now) (state_of state.now) (optional_of part.now)) (N.trace recorder.old)
+        result
+        (N.trace recorder.new) }
 {
     match part {
         OptionalExpr::Absent => Ok(()),
-        OptionalExpr::Present(part) => only_read(alloc, notes, parts, state, part),
+        OptionalExpr::Present(part) => infer_freely(alloc, recorder, parts, state, part),
     }
 }

@@ -4,11 +4,11 @@ use Rattle.pyc_ast.specs.Modules.{Module}
 use Rattle.pyc_ast.specs.Statements.{Stmts}
 use Rattle.pyc_bindings.specs.Bindings.{bindings_of}
 use Rattle.pyc_blocks.specs.Blocks.{statements_read}
-use Rattle.pyc_bodies.specs.Bodies.{Body}
+use Rattle.pyc_body_context.specs.Bodies.{Body}
 use Rattle.pyc_functions.specs.Functions.{begun}
-use Rattle.pyc_functions.specs.Redefined.{redefined_told}
+use Rattle.pyc_functions.specs.Redefined.{redefined_reported}
 use Rattle.pyc_locals.specs.Locals.{no_locals}
-use Rattle.pyc_reading.specs.Desks.{Step}
+use Rattle.pyc_reading.specs.Traces.{Step}
 use Rattle.pyc_reading.specs.Readings.{Done, ◌>>=◌}
 use Rattle.pyc_simple_statements.specs.BodyParts.{body_parts}
 
@@ -22,7 +22,7 @@ plain_body_read body statements = do
 unfoldable pub class_statements_read : Body → Stmts → Step (Unit {0})
 class_statements_read body statements = do
   u ← plain_body_read body statements
-  redefined_told (bindings_of statements)
+  redefined_reported (bindings_of statements)
 
 -- the body of a class by whether it suspends: one that does is skipped
 abbrev pub class_body_reading : Body → Bool → Stmts → Step (Unit {0})

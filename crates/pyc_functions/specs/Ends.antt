@@ -6,10 +6,10 @@ use Rattle.pyc_ast.specs.Exprs.{Expr, expr, Form}
 use Rattle.pyc_ast.specs.Exprs as form
 use Rattle.pyc_ast.specs.Statements.{Stmt, stmt, StmtForm, Stmts, no_stmt, another_stmt}
 use Rattle.pyc_ast.specs.Statements as plain
-use Rattle.pyc_reading.specs.Desks.{Step, owed}
+use Rattle.pyc_reading.specs.Traces.{Step, required}
 use Rattle.pyc_reading.specs.Owing.{Obligation}
 use Rattle.pyc_reading.specs.Readings.{Done}
-use Rattle.pyc_report.specs.declared.message.Duty.TheVariants as duty
+use Rattle.pyc_report.specs.declared.message.ObligationKind.TheVariants as obligation_kind
 use Rattle.pyc_type_forms.specs.Types.{Ty, none}
 
 -- ---- stubs
@@ -18,7 +18,7 @@ use Rattle.pyc_type_forms.specs.Types.{Ty, none}
 abbrev pub is_idle_form : Bool → Form → Bool
 is_idle_form is_first (form.constant constant.Ellipsis) = true
 is_idle_form is_first (form.constant constant.Str) = is_first
-is_idle_form is_first (form.quoted x) = is_first
+is_idle_form is_first (form.string_annotation x) = is_first
 is_idle_form is_first _ = false
 
 abbrev pub is_idle_expression : Bool → Expr → Bool
@@ -38,13 +38,13 @@ all_idle is_first (another_stmt (stmt at found) rest) = is_idle is_first found &
 abbrev pub is_stub : Stmts → Bool
 is_stub statements = all_idle true statements
 
--- ---- what the end owes
+-- ---- what the end requires
 
 -- what a function gives at its end has to be of the type that it gives, which is reported where its `def` begins
-abbrev pub owed_end : Position → (got want : Ty) → Obligation
-owed_end at got want =
+abbrev pub required_end : Position → (got want : Ty) → Obligation
+required_end at got want =
     record {
-      duty = duty.MissingReturn;
+      obligation_kind = obligation_kind.MissingReturn;
       at = at;
       got = got;
       want = want;
@@ -54,4 +54,4 @@ owed_end at got want =
 
 -- where the end of a function is reached, it gives None
 unfoldable pub end_read : Position → Ty → Bool → Step (Unit {0})
-end_read at result is_reached = if is_reached then owed (owed_end at none result) else Done tt
+end_read at result is_reached = if is_reached then required (required_end at none result) else Done tt

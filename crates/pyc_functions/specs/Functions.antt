@@ -1,21 +1,21 @@
--- A function whole: its head, and its body (Python reference 3.13, "Function definitions"; mypy's documentation, "Function
--- signatures and dynamic vs static typing").
+-- A function whole: its head, and its body (Python reference 3.13, "Function definitions"; mypy's documentation,
+-- "Function signatures and dynamic vs static typing").
 use Rattle.std.specs.Prelude.{Bool, not, ◌&&◌, ◌||◌, if◌then◌else◌, is_some, List, []}
 use Rattle.std.specs.List.{list_any}
 use Rattle.pyc_ast.specs.declared.position.Position.{Position}
 use Rattle.pyc_ast.specs.Statements.{FunctionDefinition, Parameter, Stmts}
 use Rattle.pyc_bindings.specs.Bindings.{Binding}
 use Rattle.pyc_blocks.specs.Blocks.{statements_read}
-use Rattle.pyc_bodies.specs.Bodies.{Body, class_around, in_function}
+use Rattle.pyc_body_context.specs.Bodies.{Body, class_around, in_function}
 use Rattle.pyc_functions.specs.Ends.{end_read, is_stub}
 use Rattle.pyc_functions.specs.FunctionNames.{function_bindings, function_locals}
 use Rattle.pyc_functions.specs.Parameters.{ParameterType, parameters_read, receiver_of}
-use Rattle.pyc_functions.specs.Redefined.{redefined_told}
+use Rattle.pyc_functions.specs.Redefined.{redefined_reported}
 use Rattle.pyc_locals.specs.Locals.{Locals}
-use Rattle.pyc_locals.specs.Points.{Point}
+use Rattle.pyc_locals.specs.FlowStates.{FlowState}
 use Rattle.pyc_names.specs.Interfaces.{interface_of}
 use Rattle.pyc_places.specs.States.{is_reachable, nothing_narrowed}
-use Rattle.pyc_reading.specs.Desks.{Step}
+use Rattle.pyc_reading.specs.Traces.{Step}
 use Rattle.pyc_reading.specs.Readings.{Done, ◌>>=◌}
 use Rattle.pyc_signatures.specs.Signatures.{annotated_or}
 use Rattle.pyc_simple_statements.specs.BodyParts.{body_parts}
@@ -35,7 +35,7 @@ is_checked check_untyped head = not (head.is_async || head.suspends) && (is_anno
 -- ---- bodies
 
 -- where the statements of a body begin, with these locals: nothing is narrowed
-abbrev pub begun : Locals → Point
+abbrev pub begun : Locals → FlowState
 begun locals = record { locals = locals; state = nothing_narrowed }
 
 -- what the head of a function says of its body: its parameters, and the type that it gives
@@ -57,12 +57,12 @@ module _ (outside : Body) where
     Done (record { parameters = parameters; result = result })
 
   -- the statements of a function with these bindings, in turn
-  abbrev pub inside_read : HeadTypes → List Binding → Stmts → Step Point
+  abbrev pub inside_read : HeadTypes → List Binding → Stmts → Step FlowState
   inside_read types bindings statements =
       statements_read (body_parts (inside_of types.result)) statements
       (begun (function_locals types.parameters bindings))
 
-  -- the statements of a function that begins at a position, and what its end owes
+  -- the statements of a function that begins at a position, and what its end requires
   unfoldable pub statements_and_end_read : Position → HeadTypes → List Binding → Stmts → Step (Unit {0})
   statements_and_end_read at types bindings statements = do
     p ← inside_read types bindings statements
@@ -71,7 +71,7 @@ module _ (outside : Body) where
   -- the body of a function: the names that it defines again, its statements, and its end
   unfoldable pub body_read : Position → HeadTypes → List Binding → Stmts → Step (Unit {0})
   body_read at types bindings statements = do
-    u ← redefined_told bindings
+    u ← redefined_reported bindings
     statements_and_end_read at types bindings statements
 
   abbrev pub body_if_checked : Bool → Position → HeadTypes → FunctionDefinition → Stmts → Step (Unit {0})

@@ -6,11 +6,11 @@ use Rattle.pyc_ast.specs.declared.parameter.ParameterKind.TheVariants as kind
 use Rattle.pyc_ast.specs.declared.position.Position.{Position}
 use Rattle.pyc_ast.specs.Exprs.{Expr, at_of}
 use Rattle.pyc_ast.specs.Statements.{Parameter}
-use Rattle.pyc_bodies.specs.Bodies.{Body}
-use Rattle.pyc_bodies.specs.BodyNames.{body_context}
+use Rattle.pyc_body_context.specs.Bodies.{Body}
+use Rattle.pyc_body_context.specs.BodyNames.{body_context}
 use Rattle.pyc_builtins.specs.Builtin.{builtin_type}
 use Rattle.pyc_builtins.specs.declared.builtin.Builtin.TheVariants as builtin
-use Rattle.pyc_class.specs.Class.{Id}
+use Rattle.pyc_class_ids.specs.Class.{Id}
 use Rattle.pyc_expr.specs.Values.{infer_type}
 use Rattle.pyc_locals.specs.Locals.{no_locals}
 use Rattle.pyc_members.specs.declared.method.MethodKind.{MethodKind}
@@ -18,10 +18,10 @@ use Rattle.pyc_members.specs.declared.method.MethodKind.TheVariants as method
 use Rattle.pyc_members.specs.Methods.{method_kind}
 use Rattle.pyc_names.specs.Interfaces.{interface_of}
 use Rattle.pyc_places.specs.States.{nothing_narrowed}
-use Rattle.pyc_reading.specs.Desks.{Step, owed}
+use Rattle.pyc_reading.specs.Traces.{Step, required}
 use Rattle.pyc_reading.specs.Owing.{Obligation}
 use Rattle.pyc_reading.specs.Readings.{Done, ◌>>=◌}
-use Rattle.pyc_report.specs.declared.message.Duty.TheVariants as duty
+use Rattle.pyc_report.specs.declared.message.ObligationKind.TheVariants as obligation_kind
 use Rattle.pyc_signatures.specs.Signatures.{annotated_or, first_type}
 use Rattle.pyc_type_forms.specs.Text.{text_of}
 use Rattle.pyc_type_forms.specs.Types.{Ty, any, class_object, dict, instance, tuple_of}
@@ -38,19 +38,19 @@ default_text name got want =
     codes "Incompatible default for argument \"" ++ (name ++ (codes "\" (default has type \"" ++ (got
     ++ (codes "\", argument has type \"" ++ (want ++ codes "\")")))))
 
-unfoldable pub owed_default_text : List ℕ → (got want : Ty) → List ℕ
-owed_default_text name got want = default_text name (text_of got) (text_of want)
+unfoldable pub required_default_text : List ℕ → (got want : Ty) → List ℕ
+required_default_text name got want = default_text name (text_of got) (text_of want)
 
 -- a default has to be of the type of the parameter of this name, which is reported where the default begins
-abbrev pub owed_default : Position → List ℕ → (got want : Ty) → Obligation
-owed_default at name got want =
+abbrev pub required_default : Position → List ℕ → (got want : Ty) → Obligation
+required_default at name got want =
     record {
-      duty = duty.Default;
+      obligation_kind = obligation_kind.Default;
       at = at;
       got = got;
       want = want;
       details = [];
-      text = owed_default_text name got want;
+      text = required_default_text name got want;
     }
 
 -- ---- what a function is called on
@@ -84,7 +84,7 @@ module _ (outside : Body) where
   unfoldable pub default_read : List ℕ → Ty → Expr → Step (Unit {0})
   default_read name want x = do
     got ← infer_type (body_context outside no_locals) nothing_narrowed x (Some want)
-    owed (owed_default (at_of x) name got want)
+    required (required_default (at_of x) name got want)
 
   abbrev pub optional_default : List ℕ → Ty → Option Expr → Step (Unit {0})
   optional_default name want (Some x) = default_read name want x

@@ -5,13 +5,13 @@ ghost use Rattle.pyc_ast.specs.ExprView.{expr_of};
 ghost use Rattle.pyc_ast.specs.Statements.{stmts};
 ghost use Rattle.pyc_ast.specs.StatementView.{stmt_of, stmt_form_of};
 ghost use Rattle.pyc_functions.specs.Ends as spec;
-ghost use Rattle.pyc_functions.specs.Views.{owed_end_in};
-ghost use Rattle.pyc_reading.specs.Desks.{Performs};
+ghost use Rattle.pyc_functions.specs.Views.{required_end_in};
+ghost use Rattle.pyc_reading.specs.Traces.{Performs};
 ghost use Rattle.pyc_type_forms.specs.TypeView.{ty_of};
 
 use pyc_ast::{Constant, Expr, Form, Position, Stmt, StmtForm};
-use pyc_obligations::{Judge, Owed, owe};
-use pyc_report::{Duty, Message};
+use pyc_obligations::{AsObligation, AskTypes, require};
+use pyc_report::{Message, ObligationKind};
 use pyc_type_forms::Ty;
 use std::alloc::{AllocError, Global};
 
@@ -55,45 +55,45 @@ fn is_idle_expression(is_first: bool, e: &Expr) -> bool
     match &e.form {
         Form::Constant(Constant::Ellipsis) => true,
         Form::Constant(Constant::Str) => is_first,
-        Form::Quoted(_) => is_first,
+        Form::StringAnnotation(_) => is_first,
         _ => false,
     }
 }
 
-/// Owes what the end of a function that begins at a position owes, if it is reached: that None is of the type that the
-/// function gives. The only error is that memory runs out.
+/// Requires what the end of a function that begins at a position requires, if it is reached: that None is of the type
+/// that the function gives. The only error is that memory runs out.
 #[tactic(auto, unfolding(crate::specs::Ends::end_read))]
-pub(crate) fn read_end<N: Judge>(
+pub(crate) fn read_end<N: AskTypes>(
     alloc: Global,
-    notes: &mut N,
+    recorder: &mut N,
     at: Position,
     gives: &Ty,
     is_reached: bool,
 ) -> Result<(), AllocError>
-    ensures { Performs (λ u. u) (spec.end_read at (ty_of gives.now) is_reached) (N.desk notes.old) result
-        (N.desk notes.new) }
+    ensures { Performs (λ u. u) (spec.end_read at (ty_of gives.now) is_reached) (N.trace recorder.old) result
+        (N.trace recorder.new) }
 {
     if !is_reached {
         return Ok(());
     }
-    let owed = OwedEnd {
+    let required = RequiredEnd {
         at,
         got: &Ty::None,
         want: gives,
     };
-    owe(alloc, notes, &owed)
+    require(alloc, recorder, &required)
 }
 
 /// The end of a function: where the function begins, and the types that it gives there and has to give.
 #[derive(Clone, Copy)]
-struct OwedEnd<'a> {
+struct RequiredEnd<'a> {
     at: Position,
     got: &'a Ty,
     want: &'a Ty,
 }
 
-impl<N: Judge> Owed<N> for OwedEnd<'_> {
-    ghost obligation = { owed_end_in };
+impl<N: AskTypes> AsObligation<N> for RequiredEnd<'_> {
+    ghost obligation = { required_end_in };
 
     fn got(&self) -> &Ty {
         self.got
@@ -103,12 +103,12 @@ impl<N: Judge> Owed<N> for OwedEnd<'_> {
         self.want
     }
 
-    fn ask_details(&self, _alloc: Global, _notes: &mut N) -> Result<(), AllocError> {
+    fn ask_details(&self, _alloc: Global, _recorder: &mut N) -> Result<(), AllocError> {
         Ok(())
     }
 
-    fn message(&self, alloc: Global, _notes: &N) -> Result<Message, AllocError> {
+    fn message(&self, alloc: Global, _recorder: &N) -> Result<Message, AllocError> {
         let text = String::from_str(alloc, "Missing return statement")?;
-        Ok(Message::failing_at(self.at, Duty::MissingReturn, text))
+        Ok(Message::failing_at(self.at, ObligationKind::MissingReturn, text))
     }
 }

@@ -11,7 +11,7 @@ ghost use Rattle.pyc_locals.specs.Views.{locals_in};
 
 use crate::parameters::ParameterType;
 use pyc_ast::{Parameter, Stmt, StmtForm, Text};
-use pyc_bindings::{Binding, BindingForm, PartForm, Place, scope_bindings, scope_parts};
+use pyc_bindings::{Binding, BindingForm, BindingSite, PartForm, scope_bindings, scope_parts};
 use pyc_locals::{LocalType, Locals};
 use std::alloc::{AllocError, Global};
 
@@ -50,7 +50,7 @@ fn parameter_binding(parameter: &Parameter) -> Result<Binding, AllocError>
 {
     Ok(Binding {
         name: parameter.name.clone()?,
-        place: Place {
+        place: BindingSite {
             at: parameter.at,
             is_guarded: false,
         },

@@ -1,6 +1,6 @@
 //! What reads functions.
 
-use pyc_bodies::Body;
+use pyc_body_context::Body;
 use std::alloc::Global;
 
 /// Reads functions that stand in a body.

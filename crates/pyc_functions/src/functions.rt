@@ -5,23 +5,23 @@ ghost use Rattle.std.specs.List.{list_any};
 ghost use Rattle.pyc_ast.specs.Statements.{stmts};
 ghost use Rattle.pyc_ast.specs.StatementView.{function_of, parameter_of, stmt_of};
 ghost use Rattle.pyc_bindings.specs.BindingView.{binding_of};
-ghost use Rattle.pyc_bodies.specs.Views.{body_in};
+ghost use Rattle.pyc_body_context.specs.Views.{body_in};
 ghost use Rattle.pyc_functions.specs.Functions as spec;
 ghost use Rattle.pyc_functions.specs.Views.{head_types_in};
-ghost use Rattle.pyc_locals.specs.Views.{locals_in, point_in};
-ghost use Rattle.pyc_reading.specs.Desks.{Performs};
+ghost use Rattle.pyc_locals.specs.Views.{locals_in, flow_state_in};
+ghost use Rattle.pyc_reading.specs.Traces.{Performs};
 
 use crate::ends::{is_stub, read_end};
 use crate::function_names::{function_bindings, function_locals};
 use crate::function_reader::FunctionReader;
 use crate::parameters::{ParameterType, receiver_of};
-use crate::redefined::tell_redefined;
+use crate::redefined::report_redefined;
 use pyc_ast::{FunctionDefinition, Parameter, Position, Stmt};
 use pyc_bindings::Binding;
 use pyc_blocks::read_statements;
-use pyc_bodies::{Body, BodyKind};
-use pyc_locals::{Locals, Point};
-use pyc_obligations::Judge;
+use pyc_body_context::{Body, BodyKind};
+use pyc_locals::{FlowState, Locals};
+use pyc_obligations::AskTypes;
 use pyc_places::State;
 use pyc_simple_statements::BodyParts;
 use pyc_type_forms::Ty;
@@ -45,37 +45,37 @@ impl Drop for HeadTypes<'_> {
 impl FunctionReader<'_> {
     /// Reads a function that begins at a position: its parameters with their annotations and defaults, its result, and
     /// its body, unless that suspends, or the function has no annotations and such bodies are not asked for: the names
-    /// that it defines again, its statements, and its end. What does not hold is told. The only error is that memory
-    /// runs out.
+    /// that it defines again, its statements, and its end. What does not hold is reported. The only error is that
+    /// memory runs out.
     #[tactic(auto, using(pyc_obligations::proofs::Steps::performing), unfolding(crate::specs::Functions::function_reading))]
-    pub fn read<N: Judge>(
+    pub fn read<N: AskTypes>(
         &self,
-        notes: &mut N,
+        recorder: &mut N,
         at: Position,
         head: &FunctionDefinition,
         statements: &[Stmt],
     ) -> Result<(), AllocError>
         ensures { Performs (λ u. u)
             (spec.function_reading (body_in self.now.outside) at (function_of head.now)
-            (stmts (map stmt_of statements.now))) (N.desk notes.old) result (N.desk notes.new) }
+            (stmts (map stmt_of statements.now))) (N.trace recorder.old) result (N.trace recorder.new) }
     {
-        let types = self.read_head(notes, head)?;
-        self.read_body_if_checked(notes, at, &types, head, statements)
+        let types = self.read_head(recorder, head)?;
+        self.read_body_if_checked(recorder, at, &types, head, statements)
     }
 
     /// Reads the head of a function: its parameters in turn, and then its result.
     #[tactic(auto, using(pyc_obligations::proofs::Steps::performing), unfolding(crate::specs::Functions::head_read))]
-    fn read_head<'h, N: Judge>(
+    fn read_head<'h, N: AskTypes>(
         &self,
-        notes: &mut N,
+        recorder: &mut N,
         head: &'h FunctionDefinition,
     ) -> Result<HeadTypes<'h>, AllocError>
         ensures { Performs head_types_in (spec.head_read (body_in self.now.outside) (function_of head.now))
-            (N.desk notes.old) result (N.desk notes.new) }
+            (N.trace recorder.old) result (N.trace recorder.new) }
     {
         let receiver = receiver_of(self.outside.class_around(), &head.decorators)?;
-        let parameters = self.read_parameters(notes, receiver, &head.parameters)?;
-        let gives = self.read_result(notes, head.returns.as_ref())?;
+        let parameters = self.read_parameters(recorder, receiver, &head.parameters)?;
+        let gives = self.read_result(recorder, head.returns.as_ref())?;
         Ok(HeadTypes {
             parameters,
             result: gives,
@@ -84,9 +84,9 @@ impl FunctionReader<'_> {
 
     /// Reads the body of a function, where it is checked.
     #[tactic(auto, using(pyc_obligations::proofs::Steps::performing))]
-    fn read_body_if_checked<N: Judge>(
+    fn read_body_if_checked<N: AskTypes>(
         &self,
-        notes: &mut N,
+        recorder: &mut N,
         at: Position,
         types: &HeadTypes<'_>,
         head: &FunctionDefinition,
@@ -95,20 +95,21 @@ impl FunctionReader<'_> {
         ensures { Performs (λ u. u)
             (spec.body_if_checked (body_in self.now.outside)
             (spec.is_checked self.now.outside.options.check_untyped (function_of head.now)) at (head_types_in types.now)
-            (function_of head.now) (stmts (map stmt_of statements.now))) (N.desk notes.old) result (N.desk notes.new) }
+            (function_of head.now) (stmts (map stmt_of statements.now))) (N.trace recorder.old) result
+            (N.trace recorder.new) }
     {
         if !is_checked(self.outside.options.check_untyped, head) {
             return Ok(());
         }
         let bindings = function_bindings(self.alloc, &head.parameters, statements)?;
-        self.read_body(notes, at, types, &bindings, statements)
+        self.read_body(recorder, at, types, &bindings, statements)
     }
 
     /// Reads the body of a function: the names that it defines again, its statements, and its end.
     #[tactic(auto, using(pyc_obligations::proofs::Steps::performing), unfolding(crate::specs::Functions::body_read))]
-    fn read_body<N: Judge>(
+    fn read_body<N: AskTypes>(
         &self,
-        notes: &mut N,
+        recorder: &mut N,
         at: Position,
         types: &HeadTypes<'_>,
         bindings: &[Binding],
@@ -116,17 +117,17 @@ impl FunctionReader<'_> {
     ) -> Result<(), AllocError>
         ensures { Performs (λ u. u)
             (spec.body_read (body_in self.now.outside) at (head_types_in types.now) (map binding_of bindings.now)
-            (stmts (map stmt_of statements.now))) (N.desk notes.old) result (N.desk notes.new) }
+            (stmts (map stmt_of statements.now))) (N.trace recorder.old) result (N.trace recorder.new) }
     {
-        tell_redefined(self.alloc, notes, bindings)?;
-        self.read_statements_and_end(notes, at, types, bindings, statements)
+        report_redefined(self.alloc, recorder, bindings)?;
+        self.read_statements_and_end(recorder, at, types, bindings, statements)
     }
 
-    /// Reads the statements of a function, and what its end owes.
+    /// Reads the statements of a function, and what its end requires.
     #[tactic(auto, using(pyc_obligations::proofs::Steps::performing), unfolding(crate::specs::Functions::statements_and_end_read))]
-    fn read_statements_and_end<N: Judge>(
+    fn read_statements_and_end<N: AskTypes>(
         &self,
-        notes: &mut N,
+        recorder: &mut N,
         at: Position,
         types: &HeadTypes<'_>,
         bindings: &[Binding],
@@ -135,25 +136,25 @@ impl FunctionReader<'_> {
         ensures { Performs (λ u. u)
             (spec.statements_and_end_read (body_in self.now.outside) at (head_types_in types.now)
             (map binding_of bindings.now) (stmts (map stmt_of statements.now)))
-            (N.desk notes.old) result (N.desk notes.new) }
+            (N.trace recorder.old) result (N.trace recorder.new) }
     {
-        let point = self.read_inside(notes, types, bindings, statements)?;
-        let is_reached = point.state.is_reachable() && !is_stub(statements);
-        read_end(self.alloc, notes, at, &types.result, is_reached)
+        let flow_state = self.read_inside(recorder, types, bindings, statements)?;
+        let is_reached = flow_state.state.is_reachable() && !is_stub(statements);
+        read_end(self.alloc, recorder, at, &types.result, is_reached)
     }
 
     /// Reads the statements of a function, in turn.
     #[tactic(auto, using(pyc_obligations::proofs::Steps::performing))]
-    fn read_inside<N: Judge>(
+    fn read_inside<N: AskTypes>(
         &self,
-        notes: &mut N,
+        recorder: &mut N,
         types: &HeadTypes<'_>,
         bindings: &[Binding],
         statements: &[Stmt],
-    ) -> Result<Point, AllocError>
-        ensures { Performs point_in
+    ) -> Result<FlowState, AllocError>
+        ensures { Performs flow_state_in
             (spec.inside_read (body_in self.now.outside) (head_types_in types.now) (map binding_of bindings.now)
-            (stmts (map stmt_of statements.now))) (N.desk notes.old) result (N.desk notes.new) }
+            (stmts (map stmt_of statements.now))) (N.trace recorder.old) result (N.trace recorder.new) }
     {
         let inside = Body {
             options: self.outside.options,
@@ -161,18 +162,18 @@ impl FunctionReader<'_> {
             kind: BodyKind::Function(&types.result),
         };
         let locals = function_locals(self.alloc, &types.parameters, bindings)?;
-        let mut point = begun(self.alloc, locals);
+        let mut flow_state = begun(self.alloc, locals);
         let parts = BodyParts { body: &inside };
-        read_statements(self.alloc, notes, &parts, statements, &mut point)?;
-        Ok(point)
+        read_statements(self.alloc, recorder, &parts, statements, &mut flow_state)?;
+        Ok(flow_state)
     }
 }
 
 /// Where the statements of a body begin, with these locals.
-pub(crate) fn begun(alloc: Global, locals: Locals) -> Point
-    ensures { point_in result ≡ spec.begun (locals_in locals) }
+pub(crate) fn begun(alloc: Global, locals: Locals) -> FlowState
+    ensures { flow_state_in result ≡ spec.begun (locals_in locals) }
 {
-    Point {
+    FlowState {
         locals,
         state: State::nothing_narrowed(alloc),
     }

@@ -11,4 +11,4 @@ mod redefined;
 
 pub use bodies::{read_class_body, read_module_body};
 pub use function_reader::FunctionReader;
-pub use redefined::tell_redefinitions;
+pub use redefined::report_redefinitions;

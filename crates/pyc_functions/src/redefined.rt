@@ -1,58 +1,58 @@
-//! What is told of names that are defined again.
+//! What is reported of names that are defined again.
 
 ghost use Rattle.std.specs.Prelude.{◌≡◌, map, IfOk, string_bytes};
 ghost use Rattle.pyc_bindings.specs.BindingView.{binding_of};
 ghost use Rattle.pyc_bindings.specs.RedefinitionView.{redefinition_of};
 ghost use Rattle.pyc_functions.specs.Redefined as spec;
-ghost use Rattle.pyc_reading.specs.Desks.{Performs};
+ghost use Rattle.pyc_reading.specs.Traces.{Performs};
 ghost use Rattle.pyc_reading.specs.Readings.{each};
 
 use pyc_bindings::{Binding, Redefinition, redefinitions};
-use pyc_reading::{Notes, tell_error};
+use pyc_reading::{Ask, report_error};
 use pyc_report::Code;
 use std::alloc::{AllocError, Global};
 
-/// Tells the names that bindings define again, in turn. The only error is that memory runs out.
+/// Reports the names that bindings define again, in turn. The only error is that memory runs out.
 #[tactic(auto, using(pyc_obligations::proofs::Steps::performing))]
-pub(crate) fn tell_redefined<N: Notes>(
+pub(crate) fn report_redefined<N: Ask>(
     alloc: Global,
-    notes: &mut N,
+    recorder: &mut N,
     bindings: &[Binding],
 ) -> Result<(), AllocError>
-    ensures { Performs (λ u. u) (spec.redefined_told (map binding_of bindings.now)) (N.desk notes.old) result
-        (N.desk notes.new) }
+    ensures { Performs (λ u. u) (spec.redefined_reported (map binding_of bindings.now)) (N.trace recorder.old) result
+        (N.trace recorder.new) }
 {
     let again = redefinitions(alloc, bindings)?;
-    tell_redefinitions(alloc, notes, &again)
+    report_redefinitions(alloc, recorder, &again)
 }
 
-/// Tells names that are defined again, in turn. The only error is that memory runs out.
-pub fn tell_redefinitions<N: Notes>(
+/// Reports names that are defined again, in turn. The only error is that memory runs out.
+pub fn report_redefinitions<N: Ask>(
     alloc: Global,
-    notes: &mut N,
+    recorder: &mut N,
     again: &[Redefinition],
 ) -> Result<(), AllocError>
-    ensures { Performs (λ u. u) (each spec.redefinition_reading (map redefinition_of again.now)) (N.desk notes.old)
-        result (N.desk notes.new) }
+    ensures { Performs (λ u. u) (each spec.redefinition_reading (map redefinition_of again.now)) (N.trace recorder.old)
+        result (N.trace recorder.new) }
 {
     for found in again {
-        tell_redefinition(alloc, notes, found)?;
+        report_redefinition(alloc, recorder, found)?;
     }
     Ok(())
 }
 
-/// Tells a name that is defined again.
+/// Reports a name that is defined again.
 #[tactic(auto, using(pyc_obligations::proofs::Steps::performing))]
-fn tell_redefinition<N: Notes>(
+fn report_redefinition<N: Ask>(
     alloc: Global,
-    notes: &mut N,
+    recorder: &mut N,
     found: &Redefinition,
 ) -> Result<(), AllocError>
-    ensures { Performs (λ u. u) (spec.redefinition_reading (redefinition_of found.now)) (N.desk notes.old) result
-        (N.desk notes.new) }
+    ensures { Performs (λ u. u) (spec.redefinition_reading (redefinition_of found.now)) (N.trace recorder.old) result
+        (N.trace recorder.new) }
 {
     let text = redefinition_text(alloc, found.name.as_str(), found.line)?;
-    tell_error(notes, found.at, Code::NoRedef, text)
+    report_error(recorder, found.at, Code::NoRedef, text)
 }
 
 /// The text on a name that is defined again, by the line of its declaration.

@@ -16,7 +16,7 @@ use Rattle.pyc_lower_atom.specs.declared.role.Role.TheVariants.{Value}
 use Rattle.pyc_lower_atom.specs.Origins.{Origin, position_at}
 use Rattle.pyc_lower_block.specs.declared.ending.Ending.{Ending}
 use Rattle.pyc_lower_block.specs.declared.ending.Ending.TheVariants.{Else, Finally}
-use Rattle.pyc_lower_block.specs.Blocks.{Parts, is_while, is_ending, decorators_in, branch_in, handler_in, condition_in, form_in, stmts_in, stmt_in, suite_in, branches_in, handlers_in, ended_in, parts_in}
+use Rattle.pyc_lower_block.specs.Blocks.{Parts, is_while, is_ending, decorators_in, branch_in, handler_in, condition_in, form_in, stmts_in, stmt_in, suite_in, branches_in, handlers_in, ending_block_in, parts_in}
 use Rattle.pyc_lower_block.specs.Suspends.{suite_suspends}
 use Rattle.pyc_lower_expression.specs.Expressions.{expr_in}
 use Rattle.pyc_token.specs.declared.tokens.Token.{Token}
@@ -120,8 +120,8 @@ module _ (spelled : List ℕ → Position → Option Expr) where
     handlers_low o (tree.another (tree.clause h colon s) clauses) =
         omega (arith, handler_before (handler_in spelled o h (stmts (suite_in spelled o s))) (handlers_in spelled o clauses), handler_low o h (stmts (suite_in spelled o s)), suite_low o s, handlers_low o clauses)
 
-    ended_low : (o : Origin) (ending : Ending) (clauses : CompoundClauses) → stmts_height (stmts (ended_in spelled o ending clauses)) ≤ clauses_top clauses
+    ended_low : (o : Origin) (ending : Ending) (clauses : CompoundClauses) → stmts_height (stmts (ending_block_in spelled o ending clauses)) ≤ clauses_top clauses
     ended_low o ending tree.no_clause = omega arith
     ended_low o ending (tree.another (tree.clause h colon s) clauses) =
         if_low (λ (found : List Stmt). stmts_height (stmts found)) (clauses_top (tree.another (tree.clause h colon s) clauses)) (is_ending ending h)
-        (suite_in spelled o s) (ended_in spelled o ending clauses) (omega (arith, suite_low o s)) (omega (arith, ended_low o ending clauses))
+        (suite_in spelled o s) (ending_block_in spelled o ending clauses) (omega (arith, suite_low o s)) (omega (arith, ended_low o ending clauses))

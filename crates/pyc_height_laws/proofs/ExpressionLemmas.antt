@@ -10,7 +10,7 @@ use Rattle.pyc_lower_atom.specs.Constants.{is_plain, strings_constant}
 use Rattle.pyc_lower_atom.specs.Operators.{operation}
 use Rattle.pyc_lower_atom.specs.Origins.{Origin, text_at, position_at}
 use Rattle.pyc_lower_atom.specs.Roles.{is_annotation}
-use Rattle.pyc_lower_expression.specs.Expressions.{enclosed, quoted_or, display_form, element_of, argument_of, first_role, only_or, is_single, last_index, many_indices, subscript_of, quoted_form, strings_form}
+use Rattle.pyc_lower_expression.specs.Expressions.{in_parentheses, string_annotation_or, display_form, element_of, argument_of, first_role, arguments_or_generator, is_single, last_index, many_indices, subscript_of, string_annotation_form, strings_form}
 use Rattle.pyc_lower_expression.specs.Expressions.{expr_in, optional_in, elements_in, dict_item_in, dict_items_in, arguments_in, comparisons_in, index_in, indices_in}
 use Rattle.pyc_token.specs.declared.tokens.Keyword.TheVariants as word
 use Rattle.pyc_token.specs.declared.tokens.Kind.{Kind}
@@ -24,8 +24,8 @@ use Rattle.pyc_tree.specs.Tree as tree
 
 -- ---- one form, of parts that are lowered
 
-enclosed_height : (at : Position) (e : Expr) → height (enclosed at e) ≡ height e
-enclosed_height at (expr begins inside form) = refl
+in_parentheses_height : (at : Position) (e : Expr) → height (in_parentheses at e) ≡ height e
+in_parentheses_height at (expr begins inside form) = refl
 
 operation_height : (k : Kind) (left right : Expr) → parts_height (operation k left right) ≡ max (height left) (height right)
 operation_height (kind.Keyword word.And) left right = refl
@@ -52,7 +52,7 @@ argument_of_height o _ x = refl
 
 -- a generator that is the only argument of a call is less high than its tree
 only_low : (here : Position) (items : Pieces) (found : List Argument) → arguments_height (arguments found) ≤ concrete.pieces_height items
-    → arguments_height (arguments (only_or here items found)) ≤ concrete.pieces_height items
+    → arguments_height (arguments (arguments_or_generator here items found)) ≤ concrete.pieces_height items
 unfolding concrete.height
 only_low here (tree.last (tree.argument (tree.generator e clauses))) found low = omega arith
 only_low here _ found low = low
@@ -69,17 +69,17 @@ subscript_low items found =
 -- ---- trees, where the text of a string spells this expression
 
 module _ (spelled : List ℕ → Position → Option Expr) where
-  quoted_low : (otherwise : Form) (found : Option Expr) → parts_height otherwise ≤ 0 → parts_height (quoted_or otherwise found) ≤ 0
-  quoted_low otherwise None low = low
-  quoted_low otherwise (Some e) low = omega arith
+  string_annotation_low : (otherwise : Form) (found : Option Expr) → parts_height otherwise ≤ 0 → parts_height (string_annotation_or otherwise found) ≤ 0
+  string_annotation_low otherwise None low = low
+  string_annotation_low otherwise (Some e) low = omega arith
 
   -- a string has no parts
   strings_low : (o : Origin) (role : Role) (t : Token) (more : List Token) → parts_height (strings_form spelled o role t more) ≤ 0
   strings_low o role t more =
       let otherwise : Form = plain.constant (strings_constant t.kind []) in
-      if_low parts_height 0 (is_annotation role && (length more == 0)) (quoted_form spelled o t) (plain.constant (strings_constant t.kind more))
-      (if_low parts_height 0 (is_plain t.kind) (quoted_or otherwise (spelled (text_at o.source t.span) (position_at o t))) otherwise
-      (quoted_low otherwise (spelled (text_at o.source t.span) (position_at o t)) (omega arith)) (omega arith)) (omega arith)
+      if_low parts_height 0 (is_annotation role && (length more == 0)) (string_annotation_form spelled o t) (plain.constant (strings_constant t.kind more))
+      (if_low parts_height 0 (is_plain t.kind) (string_annotation_or otherwise (spelled (text_at o.source t.span) (position_at o t))) otherwise
+      (string_annotation_low otherwise (spelled (text_at o.source t.span) (position_at o t)) (omega arith)) (omega arith)) (omega arith)
 
   mutual
     unfolding expr_in concrete.height
@@ -90,7 +90,7 @@ module _ (spelled : List ℕ → Position → Option Expr) where
     expr_low o role (tree.constant t) = omega arith
     expr_low o role (tree.strings t more) = omega (arith, strings_low o role t more)
     expr_low o role (tree.parenthesized opening e closing) =
-        omega (arith, enclosed_height (position_at o opening) (expr_in spelled o role e), expr_low o role e)
+        omega (arith, in_parentheses_height (position_at o opening) (expr_in spelled o role e), expr_low o role e)
     expr_low o role (tree.display made opening items closing) =
         omega (arith, display_low (concrete.pieces_height items) made (elements_in spelled o role items) (dict_items_in spelled o role items) (elements_low o role items) (dict_items_low o role items))
     expr_low o role (tree.comprehension_display made opening e clauses closing) = omega arith

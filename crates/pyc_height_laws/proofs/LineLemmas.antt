@@ -3,7 +3,7 @@ use Rattle.std.proofs.Common.{◌≤◌, arith, ℕ, zero, suc, max, Bool, true,
 use Rattle.pyc_height_laws.proofs.BlockHeights.{marks_top, stmt_top, clause_top, clauses_top, suite_top, stmts_top}
 use Rattle.pyc_parse.specs.Blocks.{Placed, BlocksParsed, Parser, ◌>>=◌, and_then, pure, take_one, next_of, follower, under, number_of, is_none, is_decorator, is_definition}
 use Rattle.pyc_parse.specs.Blocks.{statements_of, simple_line, decorator_of, decorator_line, decorators, all_decorators, clauses_after, statements_after, suite_under, suite, clause_of, one_clause, clause_by, next_clause}
-use Rattle.pyc_parse.specs.Blocks.{clauses, all_clauses, compound_statement, definition, decorated, statement_by, next_statement, statements, all_statements, block_at, module_of, blocks}
+use Rattle.pyc_parse.specs.Blocks.{clauses, all_clauses, compound_statement, definition, decorated_definition, statement_by, next_statement, statements, all_statements, block_at, module_of, blocks}
 use Rattle.pyc_tree.specs.declared.block.After.{After}
 use Rattle.pyc_tree.specs.declared.block.After.TheVariants as after
 use Rattle.pyc_tree.specs.declared.block.Next.{Next}
@@ -164,9 +164,9 @@ module _ (n : ℕ) (self : ℕ → Parser Stmts) (self_low : (indent : ℕ) → 
       chosen_low n stmt_top (is_definition (next_of indent ps)) (compound_statement self indent marks after.Nothing ps) (Err number)
       (compound_low indent marks after.Nothing high ps low) tt
 
-  decorated_low : (indent : ℕ) → Keeps n stmt_top (decorated self indent)
-  unfolding decorated
-  decorated_low indent ps low =
+  decorated_definition_low : (indent : ℕ) → Keeps n stmt_top (decorated_definition self indent)
+  unfolding decorated_definition
+  decorated_definition_low indent ps low =
       then_low n marks_top stmt_top (all_decorators indent ps) (definition self (number_of ps) indent) (all_decorators_low n indent ps low)
       (λ marks high. definition_low (number_of ps) indent marks high)
 
@@ -176,7 +176,7 @@ module _ (n : ℕ) (self : ℕ → Parser Stmts) (self_low : (indent : ℕ) → 
   statement_by_low indent next.Simple ps low =
       then_low n stmt_top optional_top (simple_line ps) (λ found. pure (Some found)) (simple_low n ps low) (λ found least rest rests. (least, rests))
   statement_by_low indent next.Decorator ps low =
-      then_low n stmt_top optional_top (decorated self indent ps) (λ found. pure (Some found)) (decorated_low indent ps low)
+      then_low n stmt_top optional_top (decorated_definition self indent ps) (λ found. pure (Some found)) (decorated_definition_low indent ps low)
       (λ found least rest rests. (least, rests))
   statement_by_low indent next.Definition ps low =
       then_low n stmt_top optional_top (compound_statement self indent [] after.Nothing ps) (λ found. pure (Some found))

@@ -15,7 +15,7 @@ use Rattle.pyc_lower.specs.Strings.{spelled}
 use Rattle.pyc_parse.specs.Modules as concrete
 use Rattle.pyc_parse.specs.Modules.{module_of}
 use Rattle.pyc_parse.specs.Outcome as concrete_outcome
-use Rattle.pyc_parse.specs.Outcome.{lexical_outcome, parsed, scanned, outcome_of}
+use Rattle.pyc_parse.specs.Outcome.{lexical_outcome, parse_outcome, scan_outcome, outcome_of}
 use Rattle.pyc_tree.specs.Height.{max_height}
 
 -- the tree of the grammar that a source is, is at most so high
@@ -28,21 +28,21 @@ abbrev IsLow : Outcome → Type 0
 IsLow (tree m) = stmts_height m.statements ≤ most_depth
 IsLow (fault line text) = Unit {0}
 
-lexical_low : (told : LexFault) → IsTreeLow (lexical_outcome told)
+lexical_low : (reported : LexFault) → IsTreeLow (lexical_outcome reported)
 lexical_low lexical.NotUtf8 = tt
 lexical_low _ = tt
 
-parsed_low : (r : Result concrete.Module ParseFault) → IsModuleLow r → IsTreeLow (parsed r)
-parsed_low (Ok found) low = low
-parsed_low (Err told) low = tt
+parse_outcome_low : (r : Result concrete.Module ParseFault) → IsModuleLow r → IsTreeLow (parse_outcome r)
+parse_outcome_low (Ok found) low = low
+parse_outcome_low (Err reported) low = tt
 
-scanned_low : (r : Result Lexis LexFault) → IsTreeLow (scanned r)
-scanned_low (Ok lexis) = parsed_low (module_of lexis) (module_low lexis)
-scanned_low (Err told) = lexical_low told
+scan_outcome_low : (r : Result Lexis LexFault) → IsTreeLow (scan_outcome r)
+scan_outcome_low (Ok lexis) = parse_outcome_low (module_of lexis) (module_low lexis)
+scan_outcome_low (Err reported) = lexical_low reported
 
 outcome_low : (source : List ℕ) → IsTreeLow (outcome_of source)
 unfolding outcome_of
-outcome_low source = scanned_low (lines_of source)
+outcome_low source = scan_outcome_low (lines_of source)
 
 lowered_low : (source : List ℕ) (o : concrete_outcome.Outcome) → IsTreeLow o → IsLow (outcome_in source o)
 unfolding module_in most_depth

@@ -37,13 +37,13 @@ line_low ts = complete_low (any_line expression ts)
 -- lines with their trees are at most so high
 abbrev ArePlacedLow : Result (List Placed) ParseFault → Type 0
 ArePlacedLow (Ok ps) = lines_top ps ≤ max_height
-ArePlacedLow (Err told) = Unit {0}
+ArePlacedLow (Err reported) = Unit {0}
 
 before_low : (l : lex.Line) (t : Option Line) (later : Result (List Placed) ParseFault) → IsLineLow t → ArePlacedLow later
     → ArePlacedLow (placed_before l t later)
 before_low l None later low lows = tt
 before_low l (Some t) (Ok ps) low lows = omega arith
-before_low l (Some t) (Err told) low lows = tt
+before_low l (Some t) (Err reported) low lows = tt
 
 placed_low : (ls : List lex.Line) → ArePlacedLow (placed_lines ls)
 unfolding placed_lines
@@ -53,7 +53,7 @@ placed_low (l ∷ ls) = before_low l (line_tree l.tokens) (placed_lines ls) (lin
 -- the statements of a module are at most so high
 abbrev pub IsModuleLow : Result Module ParseFault → Type 0
 IsModuleLow (Ok found) = stmts_top found.statements ≤ max_height
-IsModuleLow (Err told) = Unit {0}
+IsModuleLow (Err reported) = Unit {0}
 
 of_blocks_low : (lexis : Lexis) (r : Result Stmts ℕ) → AreBlocksLow max_height r → IsModuleLow (of_blocks lexis r)
 of_blocks_low lexis (Ok found) low = low
@@ -61,7 +61,7 @@ of_blocks_low lexis (Err number) low = tt
 
 of_lines_low : (lexis : Lexis) (r : Result (List Placed) ParseFault) → ArePlacedLow r → IsModuleLow (of_lines lexis r)
 of_lines_low lexis (Ok ps) low = of_blocks_low lexis (blocks ps) (blocks_low max_height ps low)
-of_lines_low lexis (Err told) low = tt
+of_lines_low lexis (Err reported) low = tt
 
 pub module_low : (lexis : Lexis) → IsModuleLow (module_of lexis)
 unfolding module_of

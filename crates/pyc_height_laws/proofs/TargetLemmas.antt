@@ -8,7 +8,7 @@ use Rattle.pyc_height_laws.proofs.ExpressionLemmas.{expr_low, indices_low, subsc
 use Rattle.pyc_lower_atom.specs.declared.role.Role.TheVariants.{Value}
 use Rattle.pyc_lower_atom.specs.Origins.{Origin, position_at}
 use Rattle.pyc_lower_expression.specs.Expressions.{indices_in}
-use Rattle.pyc_lower_statement.specs.Targets.{enclosed, element_of, target_in, elements_in}
+use Rattle.pyc_lower_statement.specs.Targets.{in_parentheses, element_of, target_in, elements_in}
 use Rattle.pyc_tree.specs.Height as concrete
 use Rattle.pyc_tree.specs.Tree.{Tree, Pieces}
 use Rattle.pyc_tree.specs.Tree as tree
@@ -20,8 +20,8 @@ tall (tree.entry key colon value) = omega (arith, tall key)
 tall (tree.mapping stars e) = tall e
 tall _ = omega arith
 
-enclosed_height : (at : Position) (to : Target) → target_height (enclosed at to) ≡ target_height to
-enclosed_height at (target begins inside form) = refl
+in_parentheses_height : (at : Position) (to : Target) → target_height (in_parentheses at to) ≡ target_height to
+in_parentheses_height at (target begins inside form) = refl
 
 element_of_height : (t : Tree) (to : Target) → target_element_height (element_of t to) ≡ target_height to
 element_of_height (tree.starred star e) to = refl
@@ -37,7 +37,7 @@ module _ (spelled : List ℕ → Position → Option Expr) where
     target_low o (tree.subscript e opening items closing) =
         omega (arith, expr_low spelled o Value e, subscript_low items (indices_in spelled o Value items), indices_low spelled o Value items)
     target_low o (tree.parenthesized opening e closing) =
-        omega (arith, enclosed_height (position_at o opening) (target_in spelled o e), target_low o e)
+        omega (arith, in_parentheses_height (position_at o opening) (target_in spelled o e), target_low o e)
     target_low o (tree.display made opening items closing) = omega (arith, elements_low o items)
     target_low o (tree.bare items) = omega (arith, elements_low o items)
     target_low o (tree.starred star e) = omega (arith, target_low o e)

@@ -1,8 +1,8 @@
 -- What the files of a workspace answer, which is what their interfaces answer. That a thing is absent is an answer like
 -- others.
 use Rattle.std.specs.Prelude.{List, map}
-use Rattle.pyc_class.specs.Order.{Orders}
-use Rattle.pyc_classes.specs.ClassOrders.{orders_of}
+use Rattle.pyc_class_ids.specs.Mro.{MroTable}
+use Rattle.pyc_class_table.specs.ClassMros.{orders_of}
 use Rattle.pyc_declarations.specs.ClassEntries.{class_entries}
 use Rattle.pyc_declarations.specs.Declarations.{declared_answer}
 use Rattle.pyc_iface.specs.Members.{member_answer}
@@ -14,7 +14,7 @@ use Rattle.pyc_reading.specs.Keys.{Key, class, member}
 -- ---- interfaces
 
 -- the order of each class, where files have these interfaces
-unfoldable pub orders_by : List Interface → Orders
+unfoldable pub orders_by : List Interface → MroTable
 orders_by interfaces = orders_of (class_entries interfaces)
 
 -- what files answer that have these interfaces
@@ -26,7 +26,7 @@ answer_by interfaces key = declared_answer interfaces key
 -- ---- files
 
 -- the order of each class, where these are the files
-abbrev pub class_orders : List SourceFile → Orders
+abbrev pub class_orders : List SourceFile → MroTable
 class_orders files = orders_by (map interface_of files)
 
 -- what files answer

@@ -1,5 +1,5 @@
 pub mod Members
 pub mod Answers
 pub mod DeclaredView
-pub mod WorldView
+pub mod PlainWorldView
 pub mod WorldLaws

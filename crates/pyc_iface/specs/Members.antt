@@ -1,6 +1,6 @@
 -- What classes have under names, of their own or from their ancestors, with its type as it is declared (Python
--- reference 3.13, "The standard type hierarchy", classes and instance methods; typing specification, "Type annotations";
--- the library reference, "Built-in Functions": property, staticmethod and classmethod).
+-- reference 3.13, "The standard type hierarchy", classes and instance methods; typing specification, "Type
+-- annotations"; the library reference, "Built-in Functions": property, staticmethod and classmethod).
 use Rattle.std.specs.Prelude.{ℕ, Bool, bytes_eq, if◌then◌else◌, List, [], ◌∷◌, Option, None, Some, option_map}
 use Rattle.std.specs.List.{find}
 use Rattle.pyc_ast.specs.declared.parameter.ParameterKind.{ParameterKind}
@@ -15,9 +15,9 @@ use Rattle.pyc_builtins.specs.declared.members.Member.{Member}
 use Rattle.pyc_builtins.specs.declared.members.Member.TheVariants as builtin_member
 use Rattle.pyc_builtins.specs.Members as builtins
 use Rattle.pyc_builtins.specs.MemberTypes as builtin_types
-use Rattle.pyc_class.specs.declared.builtin_class.BuiltinClass.{BuiltinClass}
-use Rattle.pyc_class.specs.Class.{Id, builtin, builtin_of, module_of, name_of}
-use Rattle.pyc_class.specs.Order.{Orders}
+use Rattle.pyc_class_ids.specs.declared.builtin_class.BuiltinClass.{BuiltinClass}
+use Rattle.pyc_class_ids.specs.Class.{Id, builtin, builtin_of, module_of, name_of}
+use Rattle.pyc_class_ids.specs.Mro.{MroTable}
 use Rattle.pyc_declarations.specs.Declarations.{annotated_type, declared_function}
 use Rattle.pyc_declarations.specs.DeclaredTypes.{initialiser_type}
 use Rattle.pyc_members.specs.declared.method.MethodKind.{MethodKind}
@@ -70,9 +70,9 @@ abbrev pub variable : Declared → Ty → MemberAnswer
 variable c ty = member_of c kind.Variable ty
 
 -- what a call of something of this type gives, where its signature is known
-abbrev pub given : Ty → Ty
-given (callable params result) = result
-given _ = any
+abbrev pub result_of_callable : Ty → Ty
+result_of_callable (callable params result) = result
+result_of_callable _ = any
 
 -- a property is settable where the class has a setter of its name
 abbrev pub property_kind : Bool → MemberKind
@@ -85,7 +85,7 @@ method_type files c head = declared_function files c.file (instance c.id) head
 -- the type of a property; of one that its setter declares none is known
 abbrev pub property_type : List Interface → Declared → FunctionDefinition → Ty
 property_type files c head =
-    if has_setter head.decorators then any else given (method_type files c head)
+    if has_setter head.decorators then any else result_of_callable (method_type files c head)
 
 -- a method of this name: its first parameter, without annotation, is the instance, or the class
 abbrev pub method_member : List Interface → Declared → List ℕ → FunctionDefinition → MethodKind → MemberAnswer
@@ -211,7 +211,7 @@ first_assigned files [] x = None
 first_assigned files (c ∷ rest) x = or_else (assigned_in files c x) (first_assigned files rest x)
 
 -- what a class has under a name: what the first class of its order declares, else what the first assigns
-abbrev pub member_answer : List Interface → Orders → MemberName → Option MemberAnswer
+abbrev pub member_answer : List Interface → MroTable → MemberName → Option MemberAnswer
 member_answer files orders name =
     or_else (first_declared files (orders name.class).classes name.name)
     (first_assigned files (orders name.class).classes name.name)

@@ -3,14 +3,14 @@
 ghost use Rattle.std.specs.Prelude.{◌≡◌, map, IfOk, option_map};
 ghost use Rattle.pyc_iface.specs.DeclaredView.{declared_at};
 ghost use Rattle.pyc_iface.specs.Members as spec;
-ghost use Rattle.pyc_iface.specs.WorldView.{world_in};
+ghost use Rattle.pyc_iface.specs.PlainWorldView.{world_in};
 ghost use Rattle.pyc_members.specs.DeclaredClassView.{declared_class_in, declared_class_of};
 ghost use Rattle.pyc_names.specs.InterfaceView.{interface_in};
 ghost use Rattle.pyc_reading.specs.AnswerView.{member_answer_of};
 ghost use Rattle.pyc_type_forms.specs.TypeView.{ty_of};
 
-use crate::world::World;
-use pyc_class::ClassId;
+use crate::world::PlainWorld;
+use pyc_class_ids::ClassId;
 use pyc_members::{ClassBody, DeclaredClass};
 use pyc_names::Interface;
 use pyc_reading::{MemberAnswer, MemberKind};
@@ -26,7 +26,7 @@ pub(crate) struct Declared<'a> {
     pub(crate) body: &'a ClassBody,
 }
 
-impl World {
+impl PlainWorld {
     /// The class of a source, where its module's file declares it.
     pub(crate) fn declared<'a>(&'a self, class: &'a ClassId) -> Option<Declared<'a>>
         ensures { option_map declared_at result ≡ spec.declared_of (world_in self.now) class.now }

@@ -1,11 +1,11 @@
 //! Laws of the answers, proved for all files.
 
-ghost use Rattle.pyc_iface.specs.WorldLaws.{InterfacesAnswer, OrdersAreOrderly};
+ghost use Rattle.pyc_iface.specs.WorldLaws.{InterfacesAnswer, MrosAreOrderly};
 
 /// The orders of the classes that files declare meet what the laws of assignability ask of orders: each known one holds
 /// its class, and the order of each class in it; and those of the builtin classes are theirs.
 pub fn orders_are_orderly()
-    ensures { OrdersAreOrderly }
+    ensures { MrosAreOrderly }
 {}
 
 /// What files answer depends on their interfaces, and on nothing else: where other files have the same interfaces, they

@@ -9,9 +9,9 @@ mod options;
 mod world;
 
 pub use options::{Options, TURNS};
-pub use pyc_declarations::{Answers, Recorder, annotation_builtin, literal_type};
+pub use pyc_declarations::{Answers, DeclarationRecorder, literal_type};
 pub use pyc_reading::{
-    Answer, ClassOrder, Key, MemberAnswer, MemberKind, MemberName, NameAnswer, NameKind, Notes,
+    Answer, Ask, Key, MemberAnswer, MemberKind, MemberName, MroAnswer, NameAnswer, NameKind,
     Presence,
 };
-pub use world::{World, WorldAnswers};
+pub use world::{PlainWorld, PlainWorldAnswers};

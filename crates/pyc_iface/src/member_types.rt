@@ -7,7 +7,7 @@ ghost use Rattle.pyc_ast.specs.StatementView.{function_of, parameter_of};
 ghost use Rattle.pyc_bindings.specs.BindingView.{binding_of, binding_form_of};
 ghost use Rattle.pyc_iface.specs.DeclaredView.{declared_at};
 ghost use Rattle.pyc_iface.specs.Members as spec;
-ghost use Rattle.pyc_iface.specs.WorldView.{world_in};
+ghost use Rattle.pyc_iface.specs.PlainWorldView.{world_in};
 ghost use Rattle.pyc_members.specs.AttributeView.{attribute_of, attribute_form_of};
 ghost use Rattle.pyc_members.specs.ClassBodyView.{own_member_of};
 ghost use Rattle.pyc_names.specs.InterfaceView.{interface_in};
@@ -15,7 +15,7 @@ ghost use Rattle.pyc_reading.specs.AnswerView.{member_answer_of};
 ghost use Rattle.pyc_type_forms.specs.TypeView.{ty_of};
 
 use crate::declared::{Declared, member_of, variable};
-use crate::world::World;
+use crate::world::PlainWorld;
 use pyc_ast::{Expr, Form, FunctionDefinition, Parameter, ParameterKind, Text};
 use pyc_bindings::{Binding, BindingForm, has_setter, is_decorated};
 use pyc_declarations::initialiser_type;
@@ -25,7 +25,7 @@ use pyc_reading::{MemberAnswer, MemberKind};
 use pyc_types::Ty;
 use std::alloc::{AllocError, Global};
 
-impl World {
+impl PlainWorld {
     /// What decides of a name in a class, as a member of it.
     pub(crate) fn own_answer(
         &self,
@@ -141,7 +141,7 @@ impl World {
             return Ok(Ty::Any);
         }
         let ty = self.method_type(alloc, c, head)?;
-        given(&ty)
+        result_of_callable(&ty)
     }
 
     /// The type of a method that is given the instance.
@@ -273,8 +273,8 @@ fn property_kind(is_settable: bool) -> MemberKind
 }
 
 /// What a call of something of this type gives, where its signature is known.
-fn given(ty: &Ty) -> Result<Ty, AllocError>
-    ensures { IfOk result (λ given. ty_of given ≡ spec.given (ty_of ty.now)) }
+fn result_of_callable(ty: &Ty) -> Result<Ty, AllocError>
+    ensures { IfOk result (λ result_of_callable. ty_of result_of_callable ≡ spec.result_of_callable (ty_of ty.now)) }
 {
     match ty {
         Ty::Callable(signature) => signature.result.clone(),

@@ -4,21 +4,21 @@ ghost use Rattle.std.specs.Prelude.{◌≡◌, IfOk, option_map};
 ghost use Rattle.pyc_iface.specs.Answers.{orders_by};
 ghost use Rattle.pyc_iface.specs.DeclaredView.{declared_at};
 ghost use Rattle.pyc_iface.specs.Members as spec;
-ghost use Rattle.pyc_iface.specs.WorldView.{world_in};
+ghost use Rattle.pyc_iface.specs.PlainWorldView.{world_in};
 ghost use Rattle.pyc_reading.specs.AnswerView.{member_answer_of};
 ghost use Rattle.pyc_reading.specs.KeyView.{member_of as member_name_of};
 ghost use Rattle.pyc_type_forms.specs.TypeView.{ty_of};
 
 use crate::declared::Declared;
-use crate::world::World;
+use crate::world::PlainWorld;
 use pyc_ast::Text;
 use pyc_builtins::{Member, member_type, own_member};
-use pyc_class::{BuiltinClass, ClassId, Lins};
+use pyc_class_ids::{BuiltinClass, ClassId, Lins};
 use pyc_reading::{MemberAnswer, MemberKind, MemberName};
 use pyc_types::Ty;
 use std::alloc::{AllocError, Global};
 
-impl World {
+impl PlainWorld {
     /// What a class has under a name: what the first class of its order declares, else what the first assigns.
     pub(crate) fn member(
         &self,

@@ -1,8 +1,8 @@
 //! The interfaces of the files of a workspace as they answer keys.
 
 ghost use Rattle.std.specs.Prelude.{◌≡◌, IfOk};
-ghost use Rattle.pyc_class.specs.Class.{Id};
-ghost use Rattle.pyc_classes.specs.OrderView.{orders_in};
+ghost use Rattle.pyc_class_ids.specs.Class.{Id};
+ghost use Rattle.pyc_class_table.specs.MroView.{orders_in};
 ghost use Rattle.pyc_iface.specs.Answers as spec;
 ghost use Rattle.pyc_iface.specs.Answers.{orders_by};
 ghost use Rattle.pyc_declarations.specs.KindsView.{declarations_in};
@@ -11,18 +11,18 @@ ghost use Rattle.pyc_names.specs.TableView.{table_in};
 ghost use Rattle.pyc_reading.specs.AnswerView.{answer_in, class_order_of};
 ghost use Rattle.pyc_reading.specs.KeyView.{key_of};
 
-use pyc_class::{ClassId, Lin, Lins};
-use pyc_classes::ClassTable;
+use pyc_class_ids::{ClassId, Lin, Lins};
+use pyc_class_table::ClassTable;
 use pyc_declarations::{Answers, Declarations};
 use pyc_names::{Interface, Table};
-use pyc_reading::{Answer, ClassOrder, Key};
+use pyc_reading::{Answer, Key, MroAnswer};
 use std::alloc::{AllocError, Global};
 use std::rc::Rc;
 
 /// The interfaces of the files of a workspace as they answer keys: the order of each class is made once, and each other
 /// answer is looked up anew.
 #[derive(Drop)]
-pub struct World {
+pub struct PlainWorld {
     pub(crate) table: Table,
     pub(crate) classes: ClassTable,
     ghost classes_are: { (c : Id) → orders_in classes c ≡ orders_by (table_in table) c },
@@ -30,13 +30,13 @@ pub struct World {
 
 /// The answers of a world.
 #[derive(Clone, Copy, Drop)]
-pub struct WorldAnswers<'a> {
-    world: &'a World,
+pub struct PlainWorldAnswers<'a> {
+    world: &'a PlainWorld,
 }
 
-impl Answers for WorldAnswers<'_> {
+impl Answers for PlainWorldAnswers<'_> {
     ghost use Rattle.pyc_iface.specs.Answers.{answer_by};
-    ghost use Rattle.pyc_iface.specs.WorldView.{answers_in};
+    ghost use Rattle.pyc_iface.specs.PlainWorldView.{answers_in};
 
     ghost answers = { λ answers. answer_by (answers_in answers) };
 
@@ -45,8 +45,8 @@ impl Answers for WorldAnswers<'_> {
     }
 }
 
-impl Lins for World {
-    ghost use Rattle.pyc_iface.specs.WorldView.{world_in};
+impl Lins for PlainWorld {
+    ghost use Rattle.pyc_iface.specs.PlainWorldView.{world_in};
 
     ghost orders = { λ world. orders_by (world_in world) };
 
@@ -55,30 +55,24 @@ impl Lins for World {
     }
 }
 
-impl World {
-    ghost use Rattle.pyc_iface.specs.WorldView.{answers_in, world_in};
+impl PlainWorld {
+    ghost use Rattle.pyc_iface.specs.PlainWorldView.{answers_in, world_in};
 
     /// The world of files with these interfaces, which it shares. The only error is that memory runs out.
-    pub fn build(alloc: Global, files: &[Rc<Interface>]) -> Result<World, AllocError>
+    pub fn build(alloc: Global, files: &[Rc<Interface>]) -> Result<PlainWorld, AllocError>
         ensures { IfOk result (λ world. world_in world ≡ interfaces_in files.now) }
     {
         let table = Table::build(alloc, files)?;
         let classes = class_table(alloc, &table)?;
-        Ok(World { table, classes })
+        Ok(PlainWorld { table, classes })
     }
 
-    /// The interfaces of the files of the world, in their order.
-    pub fn files(&self) -> &[Rc<Interface>]
-        ensures { interfaces_in result.now ≡ world_in self.now }
-    {
-        self.table.files()
-    }
-
-    /// The answers of the world, as readings ask for them. It takes no memory.
-    pub fn answers(&self) -> WorldAnswers<'_>
+    /// The answers of the world, as readings ask for them. It takes no memory. The call is for users of the library:
+    /// the program does not make it.
+    pub fn answers(&self) -> PlainWorldAnswers<'_>
         ensures { answers_in result ≡ world_in self.now }
     {
-        WorldAnswers { world: self }
+        PlainWorldAnswers { world: self }
     }
 
     /// The answer to a key. The only error is that memory runs out.
@@ -86,7 +80,7 @@ impl World {
         ensures { IfOk result (λ answer. answer_in answer ≡ spec.answer_by (world_in self.now) (key_of key.now)) }
     {
         match key {
-            Key::Class(class) => Ok(Answer::Order(self.class_order(alloc, class)?)),
+            Key::Class(class) => Ok(Answer::Mro(self.class_order(alloc, class)?)),
             Key::Member(name) => Ok(Answer::Member(self.member(alloc, name)?)),
             _ => self.declarations().answer(alloc, key),
         }
@@ -100,12 +94,12 @@ impl World {
     }
 
     /// The order of a class.
-    fn class_order(&self, alloc: Global, class: &ClassId) -> Result<ClassOrder, AllocError>
+    fn class_order(&self, alloc: Global, class: &ClassId) -> Result<MroAnswer, AllocError>
         ensures { IfOk result (λ order. class_order_of order ≡ orders_by (world_in self.now) class.now) }
     {
         let lin = self.classes.lin(class);
-        Ok(ClassOrder {
-            classes: copied(alloc, lin.classes)?,
+        Ok(MroAnswer {
+            classes: copy_classes(alloc, lin.classes)?,
             unknown: lin.unknown,
             has_call: lin.has_call,
         })
@@ -122,7 +116,7 @@ fn class_table(alloc: Global, table: &Table) -> Result<ClassTable, AllocError>
 }
 
 /// These classes once more.
-fn copied(alloc: Global, classes: &[ClassId]) -> Result<Vec<ClassId>, AllocError>
+fn copy_classes(alloc: Global, classes: &[ClassId]) -> Result<Vec<ClassId>, AllocError>
     ensures { IfOk result (λ copy. copy.items ≡ classes.now) }
 {
     let mut copy = Vec::with_capacity(alloc, classes.len())?;

@@ -1,2 +1,3 @@
 pub mod TextLemmas
 pub mod Steps
+pub mod NameLemmas

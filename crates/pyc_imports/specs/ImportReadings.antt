@@ -1,5 +1,5 @@
--- What is told of imports: modules and names that are not there (Python reference 3.13, "The import statement"; mypy's
--- documentation, "Missing imports").
+-- What is reported of imports: modules and names that are not there (Python reference 3.13, "The import statement";
+-- mypy's documentation, "Missing imports").
 use Rattle.std.specs.Prelude.{ℕ, zero, suc, Bool, true, false, is_some, if◌then◌else◌, List, [], ◌∷◌, ◌++◌, codes}
 use Rattle.std.specs.Prelude.{Option, None, Some}
 use Rattle.pyc_ast.specs.declared.position.Position.{Position}
@@ -13,7 +13,7 @@ use Rattle.pyc_names.specs.Interfaces.{Interface}
 use Rattle.pyc_reading.specs.Answers.{Answer, presence_of}
 use Rattle.pyc_reading.specs.declared.answer.Presence.{Presence}
 use Rattle.pyc_reading.specs.declared.answer.Presence.TheVariants as presence
-use Rattle.pyc_reading.specs.Desks.{Step, telling}
+use Rattle.pyc_reading.specs.Traces.{Step, reporting}
 use Rattle.pyc_reading.specs.Keys.{Key, has_module, has_name}
 use Rattle.pyc_reading.specs.Readings.{Done, Ask, each, ◌>>=◌}
 use Rattle.pyc_report.specs.declared.message.Code.TheVariants as code
@@ -40,36 +40,36 @@ no_attribute_text shown name = codes "Module \"" ++ (shown ++ (codes "\" has no 
 
 -- ---- what is asked
 
--- whether a module or a name is there, as an answer tells it
+-- whether a module or a name is there, as an answer says it
 abbrev pub presence_in : Answer → Option Presence
 presence_in (presence_of found) = Some found
 presence_in _ = None
 
-abbrev pub asked_presence : Key → Step (Option Presence)
-asked_presence key = Ask key (λ answer. Done (presence_in answer))
+abbrev pub ask_presence : Key → Step (Option Presence)
+ask_presence key = Ask key (λ answer. Done (presence_in answer))
 
 -- ---- imports
 
--- a module that is not there, told unless missing imports are left out
+-- a module that is not there, reported unless missing imports are left out
 abbrev pub missing : Options → Position → List ℕ → Step (Unit {0})
 missing options at shown =
-    if options.ignore_missing then Done tt else telling (error_at at code.ImportNotFound (missing_text shown))
+    if options.ignore_missing then Done tt else reporting (error_at at code.ImportNotFound (missing_text shown))
 
 -- a module, by whether it is there
-abbrev pub module_told : Options → Position → List ℕ → Option Presence → Step (Unit {0})
-module_told options at shown (Some presence.NoModule) = missing options at shown
-module_told options at shown _ = Done tt
+abbrev pub module_reported : Options → Position → List ℕ → Option Presence → Step (Unit {0})
+module_reported options at shown (Some presence.NoModule) = missing options at shown
+module_reported options at shown _ = Done tt
 
--- whether a module is there, as its presence tells it
+-- whether a module is there, as its presence says it
 abbrev pub is_there : Option Presence → Bool
 is_there (Some presence.NoModule) = false
 is_there _ = true
 
--- whether a module that is no fixed one is there: it is asked for, and told where it is not
+-- whether a module that is no fixed one is there: it is asked for, and reported where it is not
 abbrev pub own_module_reading : Options → Position → ImportedModule → Step Bool
 own_module_reading options at m = do
-  found ← asked_presence (has_module m.path)
-  u ← module_told options at (written_module 0 m.path) found
+  found ← ask_presence (has_module m.path)
+  u ← module_reported options at (written_module 0 m.path) found
   Done (is_there found)
 
 -- a module that is imported, and whether it is there; a fixed one is
@@ -84,18 +84,18 @@ module_checked options at m = do
   Done tt
 
 -- a name that is imported from a module, by whether it is there
-abbrev pub name_told : Options → Position → List ℕ → List ℕ → Option Presence → Step (Unit {0})
-name_told options at shown name (Some presence.NoModule) = missing options at shown
-name_told options at shown name (Some presence.NoName) =
-    telling (error_at at code.AttrDefined (no_attribute_text shown name))
-name_told options at shown name _ = Done tt
+abbrev pub name_reported : Options → Position → List ℕ → List ℕ → Option Presence → Step (Unit {0})
+name_reported options at shown name (Some presence.NoModule) = missing options at shown
+name_reported options at shown name (Some presence.NoName) =
+    reporting (error_at at code.AttrDefined (no_attribute_text shown name))
+name_reported options at shown name _ = Done tt
 
 -- a name that is imported from a module, or from above the root, where nothing is there
 abbrev pub name_reading : Options → Position → List ℕ → List ℕ → Option (List (List ℕ)) → Step (Unit {0})
 name_reading options at shown name None = missing options at shown
 name_reading options at shown name (Some m) =
     if is_some (fixed_module m) then Done tt
-    else asked_presence (has_name (record { home = m; name = name })) >>= name_told options at shown name
+    else ask_presence (has_name (record { module_path = m; name = name })) >>= name_reported options at shown name
 
 -- one name of a from-import
 abbrev pub imported_reading : Options → Interface → Position → ImportFrom → Alias → Step (Unit {0})

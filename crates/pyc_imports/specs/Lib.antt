@@ -1,1 +1,3 @@
 pub mod ImportReadings
+pub mod Names
+pub mod LocalImports

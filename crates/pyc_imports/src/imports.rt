@@ -4,15 +4,17 @@ ghost use Rattle.std.specs.Prelude.{◌≡◌, map};
 ghost use Rattle.pyc_ast.specs.StatementView.{imported_of, imported_module_of, import_from_of, stmt_form_of};
 ghost use Rattle.pyc_imports.specs.ImportReadings as spec;
 ghost use Rattle.pyc_names.specs.InterfaceView.{interface_in};
-ghost use Rattle.pyc_reading.specs.Desks.{Performs};
+ghost use Rattle.pyc_reading.specs.Traces.{Performs};
 ghost use Rattle.pyc_reading.specs.Readings.{each};
 
-use crate::asking::asked_presence;
+use crate::asking::ask_presence;
 use crate::texts::{missing_text, no_attribute_text, written_module};
 use pyc_ast::{Alias, ImportFrom, ImportedModule, Position, StmtForm, Text};
 use pyc_iface::Options;
-use pyc_names::{Interface, ModuleName, QualifiedName, fixed_module, joined, named_module};
-use pyc_reading::{Key, Notes, Presence, tell_error};
+use pyc_names::{
+    Interface, ModuleName, QualifiedName, fixed_module, module_of_parts, named_module,
+};
+use pyc_reading::{Ask, Key, Presence, report_error};
 use pyc_report::Code;
 use std::alloc::{AllocError, Global};
 use std::rc::Rc;
@@ -29,132 +31,133 @@ pub struct ImportReader {
 impl ImportReader {
     /// Reads the statement: an import asks for each of its modules or names, and the reader reports those that are not
     /// there. The only error is that memory runs out.
-    pub fn read_import<N: Notes>(
+    pub fn read_import<N: Ask>(
         self,
-        notes: &mut N,
+        recorder: &mut N,
         file: &Interface,
         form: &StmtForm,
     ) -> Result<(), AllocError>
         ensures { Performs (λ u. u)
             (spec.import_reading self.options (interface_in file.now) self.at (stmt_form_of form.now))
-            (N.desk notes.old) result (N.desk notes.new) }
+            (N.trace recorder.old) result (N.trace recorder.new) }
     {
         match form {
-            StmtForm::Import(modules) => self.read_modules(notes, modules),
-            StmtForm::ImportFrom(from) => self.read_aliases(notes, file, from),
+            StmtForm::Import(modules) => self.read_modules(recorder, modules),
+            StmtForm::ImportFrom(from) => self.read_aliases(recorder, file, from),
             _ => Ok(()),
         }
     }
 
     /// Reads imports of modules, in turn.
-    fn read_modules<N: Notes>(
+    fn read_modules<N: Ask>(
         self,
-        notes: &mut N,
+        recorder: &mut N,
         modules: &[Rc<ImportedModule>],
     ) -> Result<(), AllocError>
         ensures { Performs (λ u. u) (each (spec.module_checked self.options self.at) (map imported_of modules.now))
-            (N.desk notes.old) result (N.desk notes.new) }
+            (N.trace recorder.old) result (N.trace recorder.new) }
     {
         for imported in modules {
-            self.check_module(notes, imported)?;
+            self.check_module(recorder, imported)?;
         }
         Ok(())
     }
 
     /// Reads an import of a module, where nothing hangs on whether it is there.
     #[tactic(auto, using(crate::proofs::Steps::performing))]
-    fn check_module<N: Notes>(
+    fn check_module<N: Ask>(
         self,
-        notes: &mut N,
+        recorder: &mut N,
         imported: &ImportedModule,
     ) -> Result<(), AllocError>
         ensures { Performs (λ u. u) (spec.module_checked self.options self.at (imported_module_of imported.now))
-            (N.desk notes.old) result (N.desk notes.new) }
+            (N.trace recorder.old) result (N.trace recorder.new) }
     {
-        let _is_there = self.read_module(notes, imported)?;
+        let _is_there = self.read_module(recorder, imported)?;
         Ok(())
     }
 
     /// Reads an import of a module, and answers whether the module is there; a fixed one is. The reader reports a
     /// module that is not. The only error is that memory runs out.
     #[tactic(auto, using(crate::proofs::Steps::performing))]
-    pub fn read_module<N: Notes>(
+    pub fn read_module<N: Ask>(
         self,
-        notes: &mut N,
+        recorder: &mut N,
         imported: &ImportedModule,
     ) -> Result<bool, AllocError>
         ensures { Performs (λ found. found) (spec.module_reading self.options self.at (imported_module_of imported.now))
-            (N.desk notes.old) result (N.desk notes.new) }
+            (N.trace recorder.old) result (N.trace recorder.new) }
     {
         if fixed_module(&imported.path).is_some() {
             return Ok(true);
         }
-        let key = Key::HasModule(joined(self.alloc, &[], &imported.path)?);
-        let found = asked_presence(self.alloc, notes, key)?;
+        let key = Key::HasModule(module_of_parts(self.alloc, &[], &imported.path)?);
+        let found = ask_presence(self.alloc, recorder, key)?;
         let shown = written_module(self.alloc, 0, &imported.path)?;
-        self.tell_module(notes, shown.as_str(), found)?;
+        self.report_module(recorder, shown.as_str(), found)?;
         Ok(is_there(found))
     }
 
     /// Reports a module that is not there, as its presence says.
-    fn tell_module<N: Notes>(
+    fn report_module<N: Ask>(
         self,
-        notes: &mut N,
+        recorder: &mut N,
         shown: &str,
         found: Option<Presence>,
     ) -> Result<(), AllocError>
-        ensures { Performs (λ u. u) (spec.module_told self.options self.at shown.now found) (N.desk notes.old) result
-            (N.desk notes.new) }
+        ensures { Performs (λ u. u) (spec.module_reported self.options self.at shown.now found) (N.trace recorder.old)
+            result
+            (N.trace recorder.new) }
     {
         match found {
-            Some(Presence::NoModule) => self.tell_missing(notes, shown),
+            Some(Presence::NoModule) => self.report_missing(recorder, shown),
             _ => Ok(()),
         }
     }
 
     /// Reports that a module is not there, unless the options leave missing imports out.
-    fn tell_missing<N: Notes>(self, notes: &mut N, shown: &str) -> Result<(), AllocError>
-        ensures { Performs (λ u. u) (spec.missing self.options self.at shown.now) (N.desk notes.old) result
-            (N.desk notes.new) }
+    fn report_missing<N: Ask>(self, recorder: &mut N, shown: &str) -> Result<(), AllocError>
+        ensures { Performs (λ u. u) (spec.missing self.options self.at shown.now) (N.trace recorder.old) result
+            (N.trace recorder.new) }
     {
         if self.options.ignore_missing {
             return Ok(());
         }
         let text = missing_text(self.alloc, shown)?;
-        tell_error(notes, self.at, Code::ImportNotFound, text)
+        report_error(recorder, self.at, Code::ImportNotFound, text)
     }
 
     /// Reads from-imports, in turn.
-    fn read_aliases<N: Notes>(
+    fn read_aliases<N: Ask>(
         self,
-        notes: &mut N,
+        recorder: &mut N,
         file: &Interface,
         from: &ImportFrom,
     ) -> Result<(), AllocError>
         ensures { Performs (λ u. u)
             (each (spec.imported_reading self.options (interface_in file.now) self.at (import_from_of from.now))
-            from.now.names.items) (N.desk notes.old) result (N.desk notes.new) }
+            from.now.names.items) (N.trace recorder.old) result (N.trace recorder.new) }
     {
         for alias in &from.names {
-            self.read_imported(notes, file, from, alias)?;
+            self.read_imported(recorder, file, from, alias)?;
         }
         Ok(())
     }
 
     /// Reads one name of a from-import, which asks whether it is there; the reader reports a name or a module that is
     /// not. The only error is that memory runs out.
-    pub fn read_imported<N: Notes>(
+    pub fn read_imported<N: Ask>(
         self,
-        notes: &mut N,
+        recorder: &mut N,
         file: &Interface,
         from: &ImportFrom,
         alias: &Alias,
     ) -> Result<(), AllocError>
         ensures { Performs (λ u. u)
             (spec.imported_reading self.options (interface_in file.now) self.at (import_from_of from.now) alias.now)
-            (N.desk notes.old) result (N.desk notes.new) }
+            (N.trace recorder.old) result (N.trace recorder.new) }
     {
-        let home = named_module(
+        let module_path = named_module(
             self.alloc,
             file.name(),
             file.is_package(),
@@ -162,58 +165,60 @@ impl ImportReader {
             &from.path,
         )?;
         let shown = written_module(self.alloc, from.dots, &from.path)?;
-        self.read_name(notes, shown.as_str(), &alias.name, home)
+        self.read_name(recorder, shown.as_str(), &alias.name, module_path)
     }
 
     /// Reads a name that a statement imports from some module; none is above the root, where nothing is there.
     #[tactic(auto, using(crate::proofs::Steps::performing))]
-    fn read_name<N: Notes>(
+    fn read_name<N: Ask>(
         self,
-        notes: &mut N,
+        recorder: &mut N,
         shown: &str,
         name: &Text,
-        home: Option<ModuleName>,
+        module_path: Option<ModuleName>,
     ) -> Result<(), AllocError>
-        ensures { Performs (λ u. u) (spec.name_reading self.options self.at shown.now name.now home) (N.desk notes.old)
-            result (N.desk notes.new) }
+        ensures { Performs (λ u. u) (spec.name_reading self.options self.at shown.now name.now module_path)
+            (N.trace recorder.old)
+            result (N.trace recorder.new) }
     {
-        let Some(home) = home else {
-            return self.tell_missing(notes, shown);
+        let Some(module_path) = module_path else {
+            return self.report_missing(recorder, shown);
         };
-        if fixed_module(home.parts()).is_some() {
+        if fixed_module(module_path.parts()).is_some() {
             return Ok(());
         }
         let key = Key::HasName(QualifiedName {
-            home,
+            module_path,
             name: name.clone()?,
         });
-        let found = asked_presence(self.alloc, notes, key)?;
-        self.tell_name(notes, shown, name, found)
+        let found = ask_presence(self.alloc, recorder, key)?;
+        self.report_name(recorder, shown, name, found)
     }
 
     /// Reports an imported name that is not there, as its presence says.
-    fn tell_name<N: Notes>(
+    fn report_name<N: Ask>(
         self,
-        notes: &mut N,
+        recorder: &mut N,
         shown: &str,
         name: &Text,
         found: Option<Presence>,
     ) -> Result<(), AllocError>
-        ensures { Performs (λ u. u) (spec.name_told self.options self.at shown.now name.now found) (N.desk notes.old)
-            result (N.desk notes.new) }
+        ensures { Performs (λ u. u) (spec.name_reported self.options self.at shown.now name.now found)
+            (N.trace recorder.old)
+            result (N.trace recorder.new) }
     {
         match found {
-            Some(Presence::NoModule) => self.tell_missing(notes, shown),
+            Some(Presence::NoModule) => self.report_missing(recorder, shown),
             Some(Presence::NoName) => {
                 let text = no_attribute_text(self.alloc, shown, name.as_str())?;
-                tell_error(notes, self.at, Code::AttrDefined, text)
+                report_error(recorder, self.at, Code::AttrDefined, text)
             }
             _ => Ok(()),
         }
     }
 }
 
-/// Whether a module is there, as its presence tells it.
+/// Whether a module is there, as its presence says it.
 fn is_there(found: Option<Presence>) -> bool
     ensures { result ≡ spec.is_there found }
 {

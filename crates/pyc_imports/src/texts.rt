@@ -33,7 +33,7 @@ fn dots_text(alloc: Global, dots: usize) -> Result<String, AllocError>
     Ok(text)
 }
 
-/// What is told of a module that is not there.
+/// What is reported of a module that is not there.
 #[tactic(auto, unfolding(crate::specs::ImportReadings::missing_text))]
 pub(crate) fn missing_text(alloc: Global, shown: &str) -> Result<String, AllocError>
     ensures { IfOk result (λ text. string_bytes text ≡ spec.missing_text shown.now) }
@@ -41,7 +41,7 @@ pub(crate) fn missing_text(alloc: Global, shown: &str) -> Result<String, AllocEr
     format!(in alloc; "Cannot find implementation or library stub for module named \"{shown}\"")
 }
 
-/// What is told of a name that a module does not have.
+/// What is reported of a name that a module does not have.
 #[tactic(auto, unfolding(crate::specs::ImportReadings::no_attribute_text))]
 pub(crate) fn no_attribute_text(
     alloc: Global,

@@ -3,7 +3,7 @@ use Rattle.std.proofs.Common.{◌≡◌, ℕ, Bool, true, false, ◌||◌, List,
 use Rattle.std.specs.List.{find, list_any}
 use Rattle.std.specs.Prelude.{option_map}
 use Rattle.pyc_annotations.specs.Annotations.{read_type}
-use Rattle.pyc_annotations.specs.Bases.{Base, invalid_base, unnamed, base_named, written_base, names_at, base, argument_base, base_of_argument, with_base, more_bases, bases}
+use Rattle.pyc_annotations.specs.Bases.{Base, invalid_base, unnamed, base_of_meaning, written_base, names_at, base, argument_base, base_of_argument, with_base, more_bases, bases}
 use Rattle.pyc_annotations.specs.Meanings.{Meaning, class_meant, any_meant, type_meant, fixed_meant, module_meant, variable_meant, function_meant, nothing_meant}
 use Rattle.pyc_annotations.specs.Annotations.{dotted_meaning}
 use Rattle.pyc_annotations.specs.declared.meaning.Role.TheVariants as role
@@ -30,7 +30,7 @@ use Rattle.pyc_reading.specs.Answers.{Answer}
 use Rattle.pyc_reading.specs.Keys.{Key}
 use Rattle.pyc_reading.specs.Readings.{Done, and_then, result_of}
 use Rattle.pyc_report.specs.NameTexts.{joined_names}
-use Rattle.pyc_signatures.specs.Signatures.{kind_of, param_of_type, annotated_or, first_type, parameter_reading, more_params, parameters_reading, called, function_type}
+use Rattle.pyc_signatures.specs.Signatures.{kind_of, param_of_type, annotated_or, first_type, parameter_reading, more_params, parameters_reading, function_type_of, function_type}
 use Rattle.pyc_type_exprs.specs.TypeExprs.{type_expr, dotted_names, innermost}
 use Rattle.pyc_type_forms.specs.Types.{Ty, any}
 use Rattle.pyc_type_forms.specs.TypeView.{ParamView}
@@ -58,12 +58,12 @@ is_some-map g None = refl
 attribute_decorator-bare : (e : Expr) (k : List ℕ) → attribute_decorator (bare e) k ≡ attribute_decorator e k
 attribute_decorator-bare (expr at inside (plain.name x)) k = refl
 attribute_decorator-bare (expr at inside (plain.constant c)) k = refl
-attribute_decorator-bare (expr at inside (plain.quoted x)) k = refl
+attribute_decorator-bare (expr at inside (plain.string_annotation x)) k = refl
 attribute_decorator-bare (expr at inside (plain.tuple xs)) k = refl
 attribute_decorator-bare (expr at inside (plain.list xs)) k = refl
 attribute_decorator-bare (expr at inside (plain.set xs)) k = refl
 attribute_decorator-bare (expr at inside (plain.dict xs)) k = refl
-attribute_decorator-bare (expr at inside (plain.opaque o)) k = refl
+attribute_decorator-bare (expr at inside (plain.unchecked o)) k = refl
 attribute_decorator-bare (expr at inside (plain.attribute x n)) k = refl
 attribute_decorator-bare (expr at inside (plain.call x xs)) k = refl
 attribute_decorator-bare (expr at inside (plain.subscript x i)) k = refl
@@ -80,12 +80,12 @@ decorator-bare : (e : Expr) → decorator_of (bare e) ≡ decorator_of e
 unfolding decorator_of
 decorator-bare (expr at inside (plain.name x)) = refl
 decorator-bare (expr at inside (plain.constant c)) = refl
-decorator-bare (expr at inside (plain.quoted x)) = refl
+decorator-bare (expr at inside (plain.string_annotation x)) = refl
 decorator-bare (expr at inside (plain.tuple xs)) = refl
 decorator-bare (expr at inside (plain.list xs)) = refl
 decorator-bare (expr at inside (plain.set xs)) = refl
 decorator-bare (expr at inside (plain.dict xs)) = refl
-decorator-bare (expr at inside (plain.opaque o)) = refl
+decorator-bare (expr at inside (plain.unchecked o)) = refl
 decorator-bare (expr at inside (plain.attribute x n)) = attribute_decorator-bare x n
 decorator-bare (expr at inside (plain.call x xs)) = refl
 decorator-bare (expr at inside (plain.subscript x i)) = refl
@@ -148,12 +148,12 @@ constant_type-bare constant.Bytes = refl
 literal_type-bare : (e : Expr) → literal_type (bare_value e) ≡ literal_type e
 literal_type-bare (expr at inside (plain.name x)) = refl
 literal_type-bare (expr at inside (plain.constant c)) = constant_type-bare c
-literal_type-bare (expr at inside (plain.quoted x)) = refl
+literal_type-bare (expr at inside (plain.string_annotation x)) = refl
 literal_type-bare (expr at inside (plain.tuple xs)) = refl
 literal_type-bare (expr at inside (plain.list xs)) = refl
 literal_type-bare (expr at inside (plain.set xs)) = refl
 literal_type-bare (expr at inside (plain.dict xs)) = refl
-literal_type-bare (expr at inside (plain.opaque o)) = refl
+literal_type-bare (expr at inside (plain.unchecked o)) = refl
 literal_type-bare (expr at inside (plain.attribute x n)) = refl
 literal_type-bare (expr at inside (plain.call x xs)) = refl
 literal_type-bare (expr at inside (plain.subscript x i)) = refl
@@ -210,11 +210,11 @@ module _ (f : Key → Answer) (file twin : Interface) (one : SameNames file twin
   unfolding function_type
   function_type-same receiver head =
       same_then f (parameters_reading file receiver head.parameters) (parameters_reading twin receiver (map bare_parameter head.parameters))
-      (λ params. and_then (annotated_or file any head.returns) (λ result. Done (called head.is_async params result)))
-      (λ params. and_then (annotated_or twin any (option_map bare head.returns)) (λ result. Done (called head.is_async params result)))
+      (λ params. and_then (annotated_or file any head.returns) (λ result. Done (function_type_of head.is_async params result)))
+      (λ params. and_then (annotated_or twin any (option_map bare head.returns)) (λ result. Done (function_type_of head.is_async params result)))
       (parameters-same receiver head.parameters)
       (λ params. same_then f (annotated_or file any head.returns) (annotated_or twin any (option_map bare head.returns))
-      (λ result. Done (called head.is_async params result)) (λ result. Done (called head.is_async params result)) (annotated_or-same any head.returns) (λ result. refl))
+      (λ result. Done (function_type_of head.is_async params result)) (λ result. Done (function_type_of head.is_async params result)) (annotated_or-same any head.returns) (λ result. refl))
 
   -- ---- bases
 
@@ -222,23 +222,23 @@ module _ (f : Key → Answer) (file twin : Interface) (one : SameNames file twin
   unfolding invalid_base
   invalid_base-same at there shown = refl
 
-  base_named-same : (at there : Position) (names : List ℕ) (m : Meaning) → Same f (base_named at names m) (base_named there names m)
-  unfolding base_named
-  base_named-same at there names (class_meant c) = refl
-  base_named-same at there names any_meant = refl
-  base_named-same at there names type_meant = refl
-  base_named-same at there names (fixed_meant found) = refl
-  base_named-same at there names (variable_meant true) = refl
-  base_named-same at there names (function_meant true) = refl
-  base_named-same at there names (module_meant m) = invalid_base-same at there names
-  base_named-same at there names (variable_meant false) = invalid_base-same at there names
-  base_named-same at there names (function_meant false) = invalid_base-same at there names
-  base_named-same at there names nothing_meant = invalid_base-same at there names
+  base_of_meaning-same : (at there : Position) (names : List ℕ) (m : Meaning) → Same f (base_of_meaning at names m) (base_of_meaning there names m)
+  unfolding base_of_meaning
+  base_of_meaning-same at there names (class_meant c) = refl
+  base_of_meaning-same at there names any_meant = refl
+  base_of_meaning-same at there names type_meant = refl
+  base_of_meaning-same at there names (fixed_meant found) = refl
+  base_of_meaning-same at there names (variable_meant true) = refl
+  base_of_meaning-same at there names (function_meant true) = refl
+  base_of_meaning-same at there names (module_meant m) = invalid_base-same at there names
+  base_of_meaning-same at there names (variable_meant false) = invalid_base-same at there names
+  base_of_meaning-same at there names (function_meant false) = invalid_base-same at there names
+  base_of_meaning-same at there names nothing_meant = invalid_base-same at there names
 
   written_base-same : (at inside there within : Position) (names : Option (List (List ℕ))) → Same f (written_base file at inside names) (written_base twin there within names)
   written_base-same at inside there within (Some names) =
-      same_then f (dotted_meaning role.Base file inside names) (dotted_meaning role.Base twin within names) (base_named at (joined_names names)) (base_named there (joined_names names))
-      (dotted_meaning-same f role.Base file twin one inside within names) (base_named-same at there (joined_names names))
+      same_then f (dotted_meaning role.Base file inside names) (dotted_meaning role.Base twin within names) (base_of_meaning at (joined_names names)) (base_of_meaning there (joined_names names))
+      (dotted_meaning-same f role.Base file twin one inside within names) (base_of_meaning-same at there (joined_names names))
   written_base-same at inside there within None = invalid_base-same at there unnamed
 
   base-same : (e : Expr) → Same f (base file e) (base twin (bare e))

@@ -78,9 +78,9 @@ module _ (files : List Interface) where
   step_to-bare : (q next : QualifiedName) → step_to alike q next ≡ step_to files q next
   step_to-bare q next = ap (λ b. if same_name next q && b then ends (names.module_itself (submodule q)) else leads next) (has_module-bare (submodule q))
 
-  import_step-bare : (q : QualifiedName) (home : Option (List (List ℕ))) (n : List ℕ) → import_step alike q home n ≡ import_step files q home n
+  import_step-bare : (q : QualifiedName) (module_path : Option (List (List ℕ))) (n : List ℕ) → import_step alike q module_path n ≡ import_step files q module_path n
   import_step-bare q None n = refl
-  import_step-bare q (Some m) n = step_to-bare q (record { home = m; name = n })
+  import_step-bare q (Some m) n = step_to-bare q (record { module_path = m; name = n })
 
   form_step-bare : (q : QualifiedName) (file : Interface) (form : BindingForm) → form_step alike q (bare_interface file) (bare_form form) ≡ form_step files q file form
   form_step-bare q file (import path) = ap ends (module_referent-bare path)
@@ -105,13 +105,13 @@ module _ (files : List Interface) where
 
   module_step-bare : (q : QualifiedName) (fixed : Option FixedModule) → module_step alike q fixed ≡ module_step files q fixed
   module_step-bare q (Some fixed) = refl
-  module_step-bare q None = ap (file_step alike q) (file_of-bare files q.home) ∙ file_step-bare q (file_of files q.home)
+  module_step-bare q None = ap (file_step alike q) (file_of-bare files q.module_path) ∙ file_step-bare q (file_of files q.module_path)
 
   step-bare : (q : QualifiedName) → step alike q ≡ step files q
   unfolding step
   step-bare q =
-      ap (λ b. if b then module_step alike q (fixed_module q.home) else ends names.no_module) (has_module-bare q.home)
-      ∙ ap (λ s. if has_module files q.home then s else ends names.no_module) (module_step-bare q (fixed_module q.home))
+      ap (λ b. if b then module_step alike q (fixed_module q.module_path) else ends names.no_module) (has_module-bare q.module_path)
+      ∙ ap (λ s. if has_module files q.module_path then s else ends names.no_module) (module_step-bare q (fixed_module q.module_path))
 
   arrive-same : (f g : QualifiedName → Referent) → ((q : QualifiedName) → f q ≡ g q) → (s : Step) → arrive f s ≡ arrive g s
   arrive-same f g same (ends found) = refl
@@ -171,13 +171,13 @@ module _ (files : List Interface) where
 
   name_in_module-bare : (q : QualifiedName) (fixed : Option FixedModule) → name_in_module alike q fixed ≡ name_in_module files q fixed
   name_in_module-bare q (Some fixed) = refl
-  name_in_module-bare q None = ap (name_in_file alike q) (file_of-bare files q.home) ∙ name_in_file-bare q (file_of files q.home)
+  name_in_module-bare q None = ap (name_in_file alike q) (file_of-bare files q.module_path) ∙ name_in_file-bare q (file_of files q.module_path)
 
   name_presence-bare : (q : QualifiedName) → name_presence alike q ≡ name_presence files q
   unfolding name_presence
   name_presence-bare q =
-      ap (λ b. if b then name_in_module alike q (fixed_module q.home) else presence.NoModule) (has_module-bare q.home)
-      ∙ ap (λ p. if has_module files q.home then p else presence.NoModule) (name_in_module-bare q (fixed_module q.home))
+      ap (λ b. if b then name_in_module alike q (fixed_module q.module_path) else presence.NoModule) (has_module-bare q.module_path)
+      ∙ ap (λ p. if has_module files q.module_path then p else presence.NoModule) (name_in_module-bare q (fixed_module q.module_path))
 
   -- ---- what names lead to
 
@@ -200,20 +200,20 @@ module _ (files : List Interface) where
 
   found_declared-bare : (q : QualifiedName) (fixed : Option FixedModule) → found_declared alike q fixed ≡ bare_found (found_declared files q fixed)
   found_declared-bare q (Some m) = fixed_found-bare q m
-  found_declared-bare q None = ap (found_in_file q) (file_of-bare files q.home) ∙ found_in_file-bare q (file_of files q.home)
+  found_declared-bare q None = ap (found_in_file q) (file_of-bare files q.module_path) ∙ found_in_file-bare q (file_of files q.module_path)
 
   absent_name-bare : (o : Option Interface) (x : List ℕ) → absent_name (option_map bare_interface o) x ≡ absent_name o x
   absent_name-bare None x = refl
   absent_name-bare (Some file) x = ap (λ b. if b then kind.no_target else kind.no_name) (is_bound-bare file.bindings x)
 
   found_referent-bare : (q : QualifiedName) (r : Referent) → found_referent alike q r ≡ bare_found (found_referent files q r)
-  found_referent-bare q (names.declared r) = found_declared-bare r (fixed_module r.home)
+  found_referent-bare q (names.declared r) = found_declared-bare r (fixed_module r.module_path)
   found_referent-bare q (names.module_itself m) = refl
   found_referent-bare q names.opaque = refl
   found_referent-bare q names.fixed_any = refl
   found_referent-bare q names.no_module = refl
   found_referent-bare q names.no_name =
-      ap (λ o. answered (of_kind (absent_name o q.name))) (file_of-bare files q.home) ∙ ap (λ k. answered (of_kind k)) (absent_name-bare (file_of files q.home) q.name)
+      ap (λ o. answered (of_kind (absent_name o q.name))) (file_of-bare files q.module_path) ∙ ap (λ k. answered (of_kind k)) (absent_name-bare (file_of files q.module_path) q.name)
   found_referent-bare q names.cycle = refl
 
   pub found_name-bare : (q : QualifiedName) → found_name alike q ≡ bare_found (found_name files q)
@@ -223,7 +223,7 @@ module _ (files : List Interface) where
   -- ---- aliases
 
   module_attribute-bare : (m : List (List ℕ)) (n : List ℕ) → module_attribute alike m n ≡ module_attribute files m n
-  module_attribute-bare m n = ap (λ r. if is_looked_up m n then r else names.no_name) (follow-bare (record { home = m; name = n }))
+  module_attribute-bare m n = ap (λ r. if is_looked_up m n then r else names.no_name) (follow-bare (record { module_path = m; name = n }))
 
   attribute_referent-bare : (r : Referent) (n : List ℕ) → attribute_referent alike r n ≡ attribute_referent files r n
   attribute_referent-bare (names.module_itself m) n = module_attribute-bare m n
@@ -240,8 +240,8 @@ module _ (files : List Interface) where
 
   own_referent-bare : (file : Interface) (x : List ℕ) → own_referent alike (bare_interface file) x ≡ own_referent files file x
   own_referent-bare file x =
-      ap (λ b. if b then follow alike (record { home = file.name; name = x }) else names.no_name) (is_bound-bare file.bindings x)
-      ∙ ap (λ r. if is_some (declaration file.bindings x) then r else names.no_name) (follow-bare (record { home = file.name; name = x }))
+      ap (λ b. if b then follow alike (record { module_path = file.name; name = x }) else names.no_name) (is_bound-bare file.bindings x)
+      ∙ ap (λ r. if is_some (declaration file.bindings x) then r else names.no_name) (follow-bare (record { module_path = file.name; name = x }))
 
   dotted_referent-bare : (file : Interface) (ns : List (List ℕ)) → dotted_referent alike (bare_interface file) ns ≡ dotted_referent files file ns
   dotted_referent-bare file [] = refl

@@ -4,8 +4,8 @@ use Rattle.pyc_annotations.specs.declared.meaning.Role.{Role}
 use Rattle.pyc_annotations.specs.declared.meaning.Role.TheVariants as role
 use Rattle.pyc_annotations.specs.declared.type_form.TypeForm.{TypeForm}
 use Rattle.pyc_annotations.specs.declared.type_form.TypeForm.TheVariants as type_form
-use Rattle.pyc_annotations.specs.Annotations.{Annotation, of_type, not_a_type, invalid, wrong_count, attribute_meaning, attributes, dotted_meaning, bare_form, named, name_rule, Subscripted, form_subscripted, class_subscripted, any_subscripted, value_subscripted, wrong_subscripted, with_arguments, ShapeReading, ellipsis_read, list_read, other_read, ArgumentReading, more_types, argument_types, takes, built, built_rule, object_of, object_rule, class_object_rule, any_length_rule, pair_rule, tuple_rule, plain_callable, any_callable, listed_callable, callable_of, callable_rule, form_rule, subscripted_rule, subscript_rule, union_rule, read_type, argument_readings, argument_reading, shape_reading, type_readings}
-use Rattle.pyc_annotations.specs.Meanings.{Meaning, class_meant, any_meant, type_meant, fixed_meant, module_meant, variable_meant, function_meant, nothing_meant, not_defined, no_attribute, found_builtin, unbound, own_meaning, binds, own_name, module_name_meaning, attribute_of_kind, answered_attribute, attribute_in_module, module_attribute}
+use Rattle.pyc_annotations.specs.Annotations.{Annotation, annotation_of_type, not_a_type, invalid, wrong_count, attribute_meaning, attributes, dotted_meaning, bare_form, resolve_name, name_rule, Subscripted, form_subscripted, class_subscripted, any_subscripted, value_subscripted, wrong_subscripted, with_arguments, ShapeReading, ellipsis_read, list_read, other_read, ArgumentReading, more_types, argument_types, takes, build_form_type, built_rule, object_of, object_rule, class_object_rule, any_length_rule, pair_rule, tuple_rule, plain_callable, any_callable, listed_callable, callable_of, callable_rule, form_rule, subscripted_rule, subscript_rule, union_rule, read_type, argument_readings, argument_reading, shape_reading, type_readings}
+use Rattle.pyc_annotations.specs.Meanings.{Meaning, class_meant, any_meant, type_meant, fixed_meant, module_meant, variable_meant, function_meant, nothing_meant, report_undefined, no_attribute, found_builtin, unbound, own_meaning, binds, own_name, module_name_meaning, attribute_of_kind, answered_attribute, attribute_in_module, module_attribute}
 use Rattle.pyc_ast.specs.declared.position.Position.{Position}
 use Rattle.pyc_builtins.specs.declared.names.BuiltinName.{BuiltinName}
 use Rattle.pyc_builtins.specs.Members.{is_dunder}
@@ -19,10 +19,10 @@ use Rattle.pyc_names.specs.FixedModules.{fixed_module}
 use Rattle.pyc_names.specs.Interfaces.{Interface}
 use Rattle.pyc_reading.specs.Answers.{Answer, NameAnswer, NameKind, presence_of, name_is, order_is, member_is}
 use Rattle.pyc_reading.specs.Answers as kind
-use Rattle.pyc_reading.specs.Desks.{Step}
+use Rattle.pyc_reading.specs.Traces.{Step}
 use Rattle.pyc_reading.specs.Keys.{Key}
 use Rattle.pyc_reading.specs.Keys as key
-use Rattle.pyc_reading.specs.Readings.{Done, Ask, Tell, Owe, and_then, result_of}
+use Rattle.pyc_reading.specs.Readings.{Done, Ask, Report, Require, and_then, result_of}
 use Rattle.pyc_type_exprs.specs.TypeExprs.{DottedName, TypeExpr, none_written, name_written, union_written, subscript_written, wrong_written, TypeArgument, type_argument, ArgumentShape, ellipsis_shape, list_shape, other_shape, TypeExprs, no_type, another_type, TypeArguments, no_argument, another_argument}
 use Rattle.pyc_type_forms.specs.Types.{Ty, tuple_of, callable, dots}
 use Rattle.pyc_type_forms.specs.Unions.{union_of}
@@ -31,8 +31,8 @@ pub result-and_then : {A B : Type 0} (f : Key → Answer) (r : Step A) (next : A
 unfolding and_then
 result-and_then f (Done a) next = refl
 result-and_then f (Ask key go) next = result-and_then f (go (f key)) next
-result-and_then f (Tell remark rest) next = result-and_then f rest next
-result-and_then f (Owe row rest) next = result-and_then f rest next
+result-and_then f (Report diagnostic rest) next = result-and_then f rest next
+result-and_then f (Require row rest) next = result-and_then f rest next
 
 -- both are of one module and bind the same names
 pub record SameNames (file other : Interface) : Type 0 where
@@ -50,13 +50,13 @@ module _ (f : Key → Answer) where
 
   -- ---- names
 
-  not_defined-same : (at there : Position) (x : List ℕ) → Same (not_defined at x) (not_defined there x)
-  unfolding not_defined
-  not_defined-same at there x = refl
+  report_undefined-same : (at there : Position) (x : List ℕ) → Same (report_undefined at x) (report_undefined there x)
+  unfolding report_undefined
+  report_undefined-same at there x = refl
 
-  no_builtin-same : (at there : Position) (x : List ℕ) (b : Bool) → Same (if b then Done any_meant else not_defined at x) (if b then Done any_meant else not_defined there x)
+  no_builtin-same : (at there : Position) (x : List ℕ) (b : Bool) → Same (if b then Done any_meant else report_undefined at x) (if b then Done any_meant else report_undefined there x)
   no_builtin-same at there x true = refl
-  no_builtin-same at there x false = not_defined-same at there x
+  no_builtin-same at there x false = report_undefined-same at there x
 
   found_builtin-same : (at there : Position) (x : List ℕ) (o : Option BuiltinName) → Same (found_builtin at x o) (found_builtin there x o)
   found_builtin-same at there x (Some b) = refl
@@ -108,7 +108,7 @@ module _ (f : Key → Answer) where
 
   attribute_in_module-same : (at there : Position) (m : List (List ℕ)) (n : List ℕ) (fixed : Option FixedModule) → Same (attribute_in_module at m n fixed) (attribute_in_module there m n fixed)
   attribute_in_module-same at there m n (Some found) = refl
-  attribute_in_module-same at there m n None = answered_attribute-same at there n (f (key.name (record { home = m; name = n })))
+  attribute_in_module-same at there m n None = answered_attribute-same at there n (f (key.name (record { module_path = m; name = n })))
 
   module_attribute-by : (at there : Position) (m : List (List ℕ)) (n : List ℕ) (b : Bool)
       → Same (if b then Done any_meant else attribute_in_module at m n (fixed_module m)) (if b then Done any_meant else attribute_in_module there m n (fixed_module m))
@@ -142,7 +142,7 @@ module _ (f : Key → Answer) where
   dotted_meaning-same r file other one at there (x ∷ names) =
       same_then (own_name file at x) (own_name other there x) (attributes r at names) (attributes r there names) (own_name-same file other one at there x) (attributes-same r at there names)
 
-  -- ---- what is told
+  -- ---- what is reported
 
   invalid-same : (at there : Position) → Same (invalid at) (invalid there)
   unfolding invalid
@@ -168,22 +168,22 @@ module _ (f : Key → Answer) where
   bare_form-same at there special.RevealType = invalid-same at there
   bare_form-same at there special.TypeChecking = invalid-same at there
 
-  named-same : (at there : Position) (name : DottedName) (m : Meaning) → Same (named at name m) (named there (drop_name name) m)
-  unfolding named
-  named-same at there name (class_meant c) = refl
-  named-same at there name any_meant = refl
-  named-same at there name type_meant = refl
-  named-same at there name (fixed_meant x) = bare_form-same at there x
-  named-same at there name (module_meant m) = not_a_type-same name
-  named-same at there name (variable_meant b) = not_a_type-same name
-  named-same at there name (function_meant b) = not_a_type-same name
-  named-same at there name nothing_meant = invalid-same at there
+  resolve_name-same : (at there : Position) (name : DottedName) (m : Meaning) → Same (resolve_name at name m) (resolve_name there (drop_name name) m)
+  unfolding resolve_name
+  resolve_name-same at there name (class_meant c) = refl
+  resolve_name-same at there name any_meant = refl
+  resolve_name-same at there name type_meant = refl
+  resolve_name-same at there name (fixed_meant x) = bare_form-same at there x
+  resolve_name-same at there name (module_meant m) = not_a_type-same name
+  resolve_name-same at there name (variable_meant b) = not_a_type-same name
+  resolve_name-same at there name (function_meant b) = not_a_type-same name
+  resolve_name-same at there name nothing_meant = invalid-same at there
 
   name_rule-same : (file other : Interface) → SameNames file other → (at there : Position) (name : DottedName) → Same (name_rule file at name) (name_rule other there (drop_name name))
   unfolding name_rule
   name_rule-same file other one at there name =
-      same_then (dotted_meaning role.Annotation file name.at name.names) (dotted_meaning role.Annotation other nowhere name.names) (named at name) (named there (drop_name name))
-      (dotted_meaning-same role.Annotation file other one name.at nowhere name.names) (named-same at there name)
+      same_then (dotted_meaning role.Annotation file name.at name.names) (dotted_meaning role.Annotation other nowhere name.names) (resolve_name at name) (resolve_name there (drop_name name))
+      (dotted_meaning-same role.Annotation file other one name.at nowhere name.names) (resolve_name-same at there name)
 
   -- ---- arguments
 
@@ -221,11 +221,11 @@ module _ (f : Key → Answer) where
   built_rule-same : (form : TypeForm) (xs ys : List ArgumentReading) → AllAlike xs ys → Same (built_rule form xs) (built_rule form ys)
   unfolding built_rule
   built_rule-same form xs ys all =
-      same_then (argument_types xs) (argument_types ys) (λ tys. Done (of_type (built form tys))) (λ tys. Done (of_type (built form tys)))
+      same_then (argument_types xs) (argument_types ys) (λ tys. Done (annotation_of_type (build_form_type form tys))) (λ tys. Done (annotation_of_type (build_form_type form tys)))
       (more_types-same [] (map (λ a. a.read) xs) (map (λ a. a.read) ys) (reads-same xs ys all)) (λ tys. refl)
 
   object_rule-same : (r s : Step Annotation) → Same r s → Same (object_rule r) (object_rule s)
-  object_rule-same r s same = same_then r s (λ found. Done (of_type (object_of found.class))) (λ found. Done (of_type (object_of found.class))) same (λ found. refl)
+  object_rule-same r s same = same_then r s (λ found. Done (annotation_of_type (object_of found.class))) (λ found. Done (annotation_of_type (object_of found.class))) same (λ found. refl)
 
   class_object-same : (xs ys : List ArgumentReading) → AllAlike xs ys → Same (class_object_rule xs) (class_object_rule ys)
   class_object-same [] [] all = refl
@@ -234,7 +234,7 @@ module _ (f : Key → Answer) where
   class_object-same (x ∷ xs) (y ∷ ys) all = object_rule-same x.read y.read all.0.0
 
   any_length-same : (r s : Step Annotation) → Same r s → Same (any_length_rule r) (any_length_rule s)
-  any_length-same r s same = same_then r s (λ found. Done (of_type (tuple_of found.ty))) (λ found. Done (of_type (tuple_of found.ty))) same (λ found. refl)
+  any_length-same r s same = same_then r s (λ found. Done (annotation_of_type (tuple_of found.ty))) (λ found. Done (annotation_of_type (tuple_of found.ty))) same (λ found. refl)
 
   pair-same : (x y x' y' : ArgumentReading) (shape shape' : ShapeReading) → Same x.read x'.read → SameShape shape shape' → AllAlike (x ∷ y ∷ []) (x' ∷ y' ∷ [])
       → Same (pair_rule x y shape) (pair_rule x' y' shape')
@@ -261,12 +261,12 @@ module _ (f : Key → Answer) where
   tuple_rule-same (x ∷ z ∷ u ∷ xs) (y ∷ w ∷ v ∷ ys) all = built_rule-same type_form.Tuple (x ∷ z ∷ u ∷ xs) (y ∷ w ∷ v ∷ ys) all
 
   any_callable-same : (r s : Step Annotation) → Same r s → Same (any_callable r) (any_callable s)
-  any_callable-same r s same = same_then r s (λ found. Done (of_type (callable dots found.ty))) (λ found. Done (of_type (callable dots found.ty))) same (λ found. refl)
+  any_callable-same r s same = same_then r s (λ found. Done (annotation_of_type (callable dots found.ty))) (λ found. Done (annotation_of_type (callable dots found.ty))) same (λ found. refl)
 
   listed_callable-same : (rs ss : List (Step Annotation)) (r s : Step Annotation) → AllSame rs ss → Same r s → Same (listed_callable rs r) (listed_callable ss s)
   listed_callable-same rs ss r s all same =
-      same_then (more_types [] rs) (more_types [] ss) (λ tys. and_then r (λ found. Done (of_type (plain_callable tys found.ty)))) (λ tys. and_then s (λ found. Done (of_type (plain_callable tys found.ty))))
-      (more_types-same [] rs ss all) (λ tys. same_then r s (λ found. Done (of_type (plain_callable tys found.ty))) (λ found. Done (of_type (plain_callable tys found.ty))) same (λ found. refl))
+      same_then (more_types [] rs) (more_types [] ss) (λ tys. and_then r (λ found. Done (annotation_of_type (plain_callable tys found.ty)))) (λ tys. and_then s (λ found. Done (annotation_of_type (plain_callable tys found.ty))))
+      (more_types-same [] rs ss all) (λ tys. same_then r s (λ found. Done (annotation_of_type (plain_callable tys found.ty))) (λ found. Done (annotation_of_type (plain_callable tys found.ty))) same (λ found. refl))
 
   callable_of-same : (at there : Position) (a b : ShapeReading) (r s : Step Annotation) → SameShape a b → Same r s → Same (callable_of at a r) (callable_of there b s)
   callable_of-same at there ellipsis_read ellipsis_read r s shape same = any_callable-same r s same
@@ -334,8 +334,8 @@ module _ (f : Key → Answer) where
   union_rule-same : (r s t u : Step Annotation) → Same r t → Same s u → Same (union_rule r s) (union_rule t u)
   unfolding union_rule
   union_rule-same r s t u left right =
-      same_then r t (λ l. and_then s (λ r. Done (of_type (union_of (l.ty ∷ r.ty ∷ []))))) (λ l. and_then u (λ r. Done (of_type (union_of (l.ty ∷ r.ty ∷ [])))))
-      left (λ l. same_then s u (λ r. Done (of_type (union_of (l.ty ∷ r.ty ∷ [])))) (λ r. Done (of_type (union_of (l.ty ∷ r.ty ∷ [])))) right (λ r. refl))
+      same_then r t (λ l. and_then s (λ r. Done (annotation_of_type (union_of (l.ty ∷ r.ty ∷ []))))) (λ l. and_then u (λ r. Done (annotation_of_type (union_of (l.ty ∷ r.ty ∷ [])))))
+      left (λ l. same_then s u (λ r. Done (annotation_of_type (union_of (l.ty ∷ r.ty ∷ [])))) (λ r. Done (annotation_of_type (union_of (l.ty ∷ r.ty ∷ [])))) right (λ r. refl))
 
   -- ---- annotations
 

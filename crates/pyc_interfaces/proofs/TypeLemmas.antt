@@ -52,12 +52,12 @@ pub dotted_names-bare : (e : Expr) → dotted_names (bare e) ≡ dotted_names e
 unfolding dotted_names
 dotted_names-bare (expr at inside (plain.name x)) = refl
 dotted_names-bare (expr at inside (plain.constant c)) = refl
-dotted_names-bare (expr at inside (plain.quoted x)) = refl
+dotted_names-bare (expr at inside (plain.string_annotation x)) = refl
 dotted_names-bare (expr at inside (plain.tuple xs)) = refl
 dotted_names-bare (expr at inside (plain.list xs)) = refl
 dotted_names-bare (expr at inside (plain.set xs)) = refl
 dotted_names-bare (expr at inside (plain.dict xs)) = refl
-dotted_names-bare (expr at inside (plain.opaque o)) = refl
+dotted_names-bare (expr at inside (plain.unchecked o)) = refl
 dotted_names-bare (expr at inside (plain.attribute x n)) = ap (option_map (λ names. names ++ (n ∷ []))) (dotted_names-bare x)
 dotted_names-bare (expr at inside (plain.call x xs)) = refl
 dotted_names-bare (expr at inside (plain.subscript x i)) = refl
@@ -74,12 +74,12 @@ pub innermost-bare : (e : Expr) → innermost (bare e) ≡ bare (innermost e)
 unfolding innermost
 innermost-bare (expr at inside (plain.name x)) = refl
 innermost-bare (expr at inside (plain.constant c)) = refl
-innermost-bare (expr at inside (plain.quoted x)) = refl
+innermost-bare (expr at inside (plain.string_annotation x)) = refl
 innermost-bare (expr at inside (plain.tuple xs)) = refl
 innermost-bare (expr at inside (plain.list xs)) = refl
 innermost-bare (expr at inside (plain.set xs)) = refl
 innermost-bare (expr at inside (plain.dict xs)) = refl
-innermost-bare (expr at inside (plain.opaque o)) = refl
+innermost-bare (expr at inside (plain.unchecked o)) = refl
 innermost-bare (expr at inside (plain.attribute x n)) = refl
 innermost-bare (expr at inside (plain.call x xs)) = refl
 innermost-bare (expr at inside (plain.subscript x i)) = innermost-bare x
@@ -95,12 +95,12 @@ innermost-bare (expr at inside (plain.yield_from x)) = refl
 is_subscript-bare : (e : Expr) → is_subscript (bare e) ≡ is_subscript e
 is_subscript-bare (expr at inside (plain.name x)) = refl
 is_subscript-bare (expr at inside (plain.constant c)) = refl
-is_subscript-bare (expr at inside (plain.quoted x)) = refl
+is_subscript-bare (expr at inside (plain.string_annotation x)) = refl
 is_subscript-bare (expr at inside (plain.tuple xs)) = refl
 is_subscript-bare (expr at inside (plain.list xs)) = refl
 is_subscript-bare (expr at inside (plain.set xs)) = refl
 is_subscript-bare (expr at inside (plain.dict xs)) = refl
-is_subscript-bare (expr at inside (plain.opaque o)) = refl
+is_subscript-bare (expr at inside (plain.unchecked o)) = refl
 is_subscript-bare (expr at inside (plain.attribute x n)) = refl
 is_subscript-bare (expr at inside (plain.call x xs)) = refl
 is_subscript-bare (expr at inside (plain.subscript x i)) = refl
@@ -183,12 +183,12 @@ mutual
   pub type_expr-bare : (e : Expr) → type_expr (bare e) ≡ drop_type (type_expr e)
   type_expr-bare (expr at inside (plain.name x)) = ap (name_or_wrong nowhere nowhere) (dotted_names-bare (expr at inside (plain.name x))) ∙ name_or-drop at inside (dotted_names (expr at inside (plain.name x)))
   type_expr-bare (expr at inside (plain.constant c)) = constant-drop at c
-  type_expr-bare (expr at inside (plain.quoted x)) = type_expr-bare x
+  type_expr-bare (expr at inside (plain.string_annotation x)) = type_expr-bare x
   type_expr-bare (expr at inside (plain.tuple xs)) = refl
   type_expr-bare (expr at inside (plain.list xs)) = refl
   type_expr-bare (expr at inside (plain.set xs)) = refl
   type_expr-bare (expr at inside (plain.dict xs)) = refl
-  type_expr-bare (expr at inside (plain.opaque o)) = refl
+  type_expr-bare (expr at inside (plain.unchecked o)) = refl
   type_expr-bare (expr at inside (plain.attribute x n)) = ap (name_or_wrong nowhere nowhere) (dotted_names-bare (expr at inside (plain.attribute x n))) ∙ name_or-drop at inside (dotted_names (expr at inside (plain.attribute x n)))
   type_expr-bare (expr at inside (plain.call x xs)) = refl
   type_expr-bare (expr at inside (plain.subscript x i)) = subscript-bare at x (is_subscript (bare x)) (is_subscript x) (index_arguments i) (index_arguments (bare_index i)) (is_subscript-bare x) (index_arguments-bare i)
@@ -204,12 +204,12 @@ mutual
   shape_of-bare : (e : Expr) → shape_of (bare e) ≡ drop_shape (shape_of e)
   shape_of-bare (expr at inside (plain.name x)) = refl
   shape_of-bare (expr at inside (plain.constant c)) = constant_shape-drop c
-  shape_of-bare (expr at inside (plain.quoted x)) = refl
+  shape_of-bare (expr at inside (plain.string_annotation x)) = refl
   shape_of-bare (expr at inside (plain.tuple xs)) = refl
   shape_of-bare (expr at inside (plain.list xs)) = ap list_shape (ap type_exprs (elements_written-bare xs) ∙ types-drop (elements_written xs))
   shape_of-bare (expr at inside (plain.set xs)) = refl
   shape_of-bare (expr at inside (plain.dict xs)) = refl
-  shape_of-bare (expr at inside (plain.opaque o)) = refl
+  shape_of-bare (expr at inside (plain.unchecked o)) = refl
   shape_of-bare (expr at inside (plain.attribute x n)) = refl
   shape_of-bare (expr at inside (plain.call x xs)) = refl
   shape_of-bare (expr at inside (plain.subscript x i)) = refl
@@ -225,12 +225,12 @@ mutual
   tuple_items-bare : (e : Expr) → tuple_items (bare e) ≡ option_map (map drop_argument) (tuple_items e)
   tuple_items-bare (expr at inside (plain.name x)) = refl
   tuple_items-bare (expr at inside (plain.constant c)) = refl
-  tuple_items-bare (expr at inside (plain.quoted x)) = refl
+  tuple_items-bare (expr at inside (plain.string_annotation x)) = refl
   tuple_items-bare (expr at inside (plain.tuple xs)) = ap Some (element_arguments-bare xs)
   tuple_items-bare (expr at inside (plain.list xs)) = refl
   tuple_items-bare (expr at inside (plain.set xs)) = refl
   tuple_items-bare (expr at inside (plain.dict xs)) = refl
-  tuple_items-bare (expr at inside (plain.opaque o)) = refl
+  tuple_items-bare (expr at inside (plain.unchecked o)) = refl
   tuple_items-bare (expr at inside (plain.attribute x n)) = refl
   tuple_items-bare (expr at inside (plain.call x xs)) = refl
   tuple_items-bare (expr at inside (plain.subscript x i)) = refl

@@ -11,17 +11,17 @@ use Rattle.pyc_ast.specs.Statements.{FunctionDefinition, Parameter}
 use Rattle.pyc_bindings.specs.Bindings.{Binding, BindingForm, import, import_from, function, class, annotated, assigned, other}
 use Rattle.pyc_bindings.specs.Decorators.{has_setter}
 use Rattle.pyc_bindings.specs.Redefinitions.{declaration, is_decorated}
-use Rattle.pyc_class.specs.declared.builtin_class.BuiltinClass.{BuiltinClass}
-use Rattle.pyc_class.specs.Class.{Id, builtin_of, module_of, name_of, user}
-use Rattle.pyc_class.specs.Order.{Orders}
-use Rattle.pyc_classes.specs.declared.class_entry.WrittenBase.{WrittenBase}
-use Rattle.pyc_classes.specs.ClassOrders.{orders_of}
-use Rattle.pyc_classes.specs.Entries.{Entry}
+use Rattle.pyc_class_ids.specs.declared.builtin_class.BuiltinClass.{BuiltinClass}
+use Rattle.pyc_class_ids.specs.Class.{Id, builtin_of, module_of, name_of, user}
+use Rattle.pyc_class_ids.specs.Mro.{MroTable}
+use Rattle.pyc_class_table.specs.declared.class_entry.WrittenBase.{WrittenBase}
+use Rattle.pyc_class_table.specs.ClassMros.{orders_of}
+use Rattle.pyc_class_table.specs.Entries.{Entry}
 use Rattle.pyc_declarations.specs.ClassEntries.{written_base, written_bases, class_entry, file_entries, class_entries}
 use Rattle.pyc_declarations.specs.Declarations.{annotated_type, declared_function, form_answer, found_answer, name_answer, declared_answer}
 use Rattle.pyc_declarations.specs.Kinds.{Found, declared_in, answered, found_name, kind_answer, answer_with, variable_kind}
 use Rattle.pyc_iface.specs.Answers.{orders_by, answer_by}
-use Rattle.pyc_iface.specs.Members.{Declared, class_named, declared_class, class_in_file, declared_of, member_of, variable, given, property_kind, method_type, property_type, method_member, form_member, bound_member, plain_type, parameter_type, parameter_named, name_written, value_by_name, value_type, attribute_type, own_answer, declared_in_user, declared_by_kind, assigned_in_user, assigned_by_kind, or_else, first_declared, first_assigned, member_answer}
+use Rattle.pyc_iface.specs.Members.{Declared, class_named, declared_class, class_in_file, declared_of, member_of, variable, result_of_callable, property_kind, method_type, property_type, method_member, form_member, bound_member, plain_type, parameter_type, parameter_named, name_written, value_by_name, value_type, attribute_type, own_answer, declared_in_user, declared_by_kind, assigned_in_user, assigned_by_kind, or_else, first_declared, first_assigned, member_answer}
 use Rattle.pyc_interfaces.specs.BareExpressions.{bare, bare_argument, bare_value}
 use Rattle.pyc_interfaces.specs.BareInterfaces.{bare_parameter, bare_function, bare_form, bare_binding, bare_attribute_form, bare_attribute, bare_body, bare_declared, bare_interface}
 use Rattle.pyc_interfaces.specs.InterfaceLaws.{PositionsChangeNoAnswer, AlikeFilesAnswerAlike}
@@ -117,12 +117,12 @@ same_names file = record { name = refl; binds = λ x. sym (is_bound-bare file.bi
 name_written-bare : (e : Expr) → name_written (bare_value e) ≡ name_written e
 name_written-bare (expr at inside (plain.name x)) = refl
 name_written-bare (expr at inside (plain.constant c)) = refl
-name_written-bare (expr at inside (plain.quoted x)) = refl
+name_written-bare (expr at inside (plain.string_annotation x)) = refl
 name_written-bare (expr at inside (plain.tuple xs)) = refl
 name_written-bare (expr at inside (plain.list xs)) = refl
 name_written-bare (expr at inside (plain.set xs)) = refl
 name_written-bare (expr at inside (plain.dict xs)) = refl
-name_written-bare (expr at inside (plain.opaque o)) = refl
+name_written-bare (expr at inside (plain.unchecked o)) = refl
 name_written-bare (expr at inside (plain.attribute x n)) = refl
 name_written-bare (expr at inside (plain.call x xs)) = refl
 name_written-bare (expr at inside (plain.subscript x i)) = refl
@@ -242,8 +242,8 @@ module _ (files : List Interface) where
 
   property_type-bare : (c : Declared) (head : FunctionDefinition) → property_type alike (bare_at c) (bare_function head) ≡ property_type files c head
   property_type-bare c head =
-      ap (λ b. if b then any else given (method_type alike (bare_at c) (bare_function head))) (has_setter-bare head.decorators)
-      ∙ ap (λ ty. if has_setter head.decorators then any else given ty) (method_type-bare c head)
+      ap (λ b. if b then any else result_of_callable (method_type alike (bare_at c) (bare_function head))) (has_setter-bare head.decorators)
+      ∙ ap (λ ty. if has_setter head.decorators then any else result_of_callable ty) (method_type-bare c head)
 
   method_member-bare : (c : Declared) (x : List ℕ) (head : FunctionDefinition) (k : MethodKind) → method_member alike (bare_at c) x (bare_function head) k ≡ method_member files c x head k
   method_member-bare c x head method.Property =
@@ -332,14 +332,14 @@ module _ (files : List Interface) where
 
   member_answer-bare : (m : MemberName) → member_answer alike (orders_by alike) m ≡ member_answer files (orders_by files) m
   member_answer-bare m =
-      ap (λ (o : Orders). member_answer alike o m) orders-bare
+      ap (λ (o : MroTable). member_answer alike o m) orders-bare
       ∙ ap₂ or_else (first_declared-bare (orders_by files m.class).classes m.name) (first_assigned-all (orders_by files m.class).classes m.name)
 
   pub answer_by-bare : (k : Key) → answer_by alike k ≡ answer_by files k
   answer_by-bare (key.has_module m) = declared_answer-bare (key.has_module m)
   answer_by-bare (key.has_name q) = declared_answer-bare (key.has_name q)
   answer_by-bare (key.name q) = declared_answer-bare (key.name q)
-  answer_by-bare (key.class c) = ap (λ (o : Orders). order_is (o c)) orders-bare
+  answer_by-bare (key.class c) = ap (λ (o : MroTable). order_is (o c)) orders-bare
   answer_by-bare (key.member m) = ap member_is (member_answer-bare m)
 
 -- positions change no answer

@@ -3,7 +3,7 @@
 use Rattle.std.specs.Prelude.{None}
 use Rattle.pyc_ast.specs.declared.constant.Constant.{Constant}
 use Rattle.pyc_ast.specs.declared.constant.Constant.TheVariants as constant
-use Rattle.pyc_ast.specs.declared.constant.Opaque.TheVariants as opaque
+use Rattle.pyc_ast.specs.declared.constant.Unchecked.TheVariants as opaque
 use Rattle.pyc_ast.specs.declared.position.Position.{Position}
 use Rattle.pyc_ast.specs.Exprs.{Expr, expr, Form, Element, element, Elements, no_element, another_element, Index, index}
 use Rattle.pyc_ast.specs.Exprs.{IndexForm, Indices, no_index, another_index, absent, Argument, argument}
@@ -15,7 +15,7 @@ nowhere = record { line = 0; column = 0 }
 
 -- an expression of any other form: one that is not looked into
 abbrev pub other_form : Form
-other_form = plain.opaque opaque.Lambda
+other_form = plain.unchecked opaque.Lambda
 
 abbrev pub other_expr : Expr
 other_expr = expr nowhere nowhere other_form
@@ -33,7 +33,7 @@ abbrev mutual
   pub bare_form : Form → Form
   bare_form (plain.name x) = plain.name x
   bare_form (plain.constant c) = plain.constant (bare_constant c)
-  bare_form (plain.quoted spelled) = plain.quoted (bare spelled)
+  bare_form (plain.string_annotation spelled) = plain.string_annotation (bare spelled)
   bare_form (plain.tuple items) = plain.tuple (bare_elements items)
   bare_form (plain.list items) = plain.list (bare_elements items)
   bare_form (plain.attribute value n) = plain.attribute (bare value) n
@@ -70,7 +70,7 @@ bare_argument (argument at kind value) = argument nowhere kind (bare value)
 abbrev pub bare_value_form : Form → Form
 bare_value_form (plain.name x) = plain.name x
 bare_value_form (plain.constant c) = plain.constant (bare_constant c)
-bare_value_form (plain.quoted spelled) = plain.quoted other_expr
+bare_value_form (plain.string_annotation spelled) = plain.string_annotation other_expr
 bare_value_form _ = other_form
 
 abbrev pub bare_value : Expr → Expr

@@ -1,5 +1,5 @@
 -- When two expressions of interfaces are one without their positions (typing specification, "Type expressions"). Of
--- those that mean nothing, as calls, all are one. Operators other than `|` are told as others.
+-- those that mean nothing, as calls, all are one. Operators other than `|` are reported as others.
 use Rattle.std.specs.Prelude.{ℕ, Bool, true, false, not, ◌&&◌, ◌==◌, bytes_eq, Option, None, Some}
 use Rattle.std.specs.Bool.{beq}
 use Rattle.pyc_ast.specs.declared.constant.Constant.{Constant}
@@ -31,7 +31,7 @@ same_constant c d = constant_number c == constant_number d
 abbrev pub is_read : Form → Bool
 is_read (plain.name x) = true
 is_read (plain.constant c) = true
-is_read (plain.quoted x) = true
+is_read (plain.string_annotation x) = true
 is_read (plain.tuple xs) = true
 is_read (plain.list xs) = true
 is_read (plain.attribute x n) = true
@@ -47,7 +47,7 @@ abbrev mutual
   pub same_form : Form → Form → Bool
   same_form (plain.name x) (plain.name y) = bytes_eq x y
   same_form (plain.constant c) (plain.constant d) = same_constant c d
-  same_form (plain.quoted x) (plain.quoted y) = same_expr x y
+  same_form (plain.string_annotation x) (plain.string_annotation y) = same_expr x y
   same_form (plain.tuple xs) (plain.tuple ys) = same_elements xs ys
   same_form (plain.list xs) (plain.list ys) = same_elements xs ys
   same_form (plain.attribute x m) (plain.attribute y n) = same_expr x y && bytes_eq m n
@@ -56,7 +56,7 @@ abbrev mutual
       (is_bit_or o && is_bit_or p) && (same_expr x z && same_expr y w)
   same_form (plain.name x) _ = false
   same_form (plain.constant c) _ = false
-  same_form (plain.quoted x) _ = false
+  same_form (plain.string_annotation x) _ = false
   same_form (plain.tuple xs) _ = false
   same_form (plain.list xs) _ = false
   same_form (plain.attribute x m) _ = false
@@ -111,17 +111,17 @@ same_argument (argument at kind x) (argument there other y) = same_kind kind oth
 abbrev pub counts : Form → Bool
 counts (plain.name x) = true
 counts (plain.constant c) = true
-counts (plain.quoted x) = true
+counts (plain.string_annotation x) = true
 counts _ = false
 
 -- whether two initial values are one: of what is no literal and no name, all are
 abbrev pub same_value_form : Form → Form → Bool
 same_value_form (plain.name x) (plain.name y) = bytes_eq x y
 same_value_form (plain.constant c) (plain.constant d) = same_constant c d
-same_value_form (plain.quoted x) (plain.quoted y) = true
+same_value_form (plain.string_annotation x) (plain.string_annotation y) = true
 same_value_form (plain.name x) _ = false
 same_value_form (plain.constant c) _ = false
-same_value_form (plain.quoted x) _ = false
+same_value_form (plain.string_annotation x) _ = false
 same_value_form _ y = not (counts y)
 
 abbrev pub same_value : Expr → Expr → Bool

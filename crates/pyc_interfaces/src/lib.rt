@@ -8,4 +8,4 @@ mod same_expressions;
 mod same_heads;
 mod sameness;
 
-pub use sameness::{same_interface, same_interfaces};
+pub use sameness::same_interface;

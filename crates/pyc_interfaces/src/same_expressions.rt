@@ -17,7 +17,8 @@ pub(crate) fn same_expr(a: &Expr, b: &Expr) -> bool
     match &a.form {
         Form::Name(x) => matches!(&b.form, Form::Name(y) if x == y),
         Form::Constant(c) => matches!(&b.form, Form::Constant(d) if same_constant(*c, *d)),
-        Form::Quoted(x) => matches!(&b.form, Form::Quoted(y) if same_expr(x, y)),
+        Form::StringAnnotation(x) =>
+            matches!(&b.form, Form::StringAnnotation(y) if same_expr(x, y)),
         Form::Tuple(xs) => matches!(&b.form, Form::Tuple(ys) if same_elements(xs, ys)),
         Form::List(xs) => matches!(&b.form, Form::List(ys) if same_elements(xs, ys)),
         Form::Attribute { value: x, name: m } => {
@@ -44,7 +45,7 @@ fn is_read(form: &Form) -> bool
         form,
         Form::Name(_)
             | Form::Constant(_)
-            | Form::Quoted(_)
+            | Form::StringAnnotation(_)
             | Form::Tuple(_)
             | Form::List(_)
             | Form::Attribute { .. }
@@ -177,7 +178,7 @@ pub(crate) fn same_value(a: &Expr, b: &Expr) -> bool
     match &a.form {
         Form::Name(x) => matches!(&b.form, Form::Name(y) if x == y),
         Form::Constant(c) => matches!(&b.form, Form::Constant(d) if same_constant(*c, *d)),
-        Form::Quoted(_) => matches!(&b.form, Form::Quoted(_)),
+        Form::StringAnnotation(_) => matches!(&b.form, Form::StringAnnotation(_)),
         _ => !counts(&b.form),
     }
 }
@@ -186,5 +187,8 @@ pub(crate) fn same_value(a: &Expr, b: &Expr) -> bool
 fn counts(form: &Form) -> bool
     ensures { result ≡ spec.counts (form_of form.now) }
 {
-    matches!(form, Form::Name(_) | Form::Constant(_) | Form::Quoted(_))
+    matches!(
+        form,
+        Form::Name(_) | Form::Constant(_) | Form::StringAnnotation(_)
+    )
 }

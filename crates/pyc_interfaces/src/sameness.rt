@@ -1,17 +1,13 @@
 //! When two interfaces are the same.
 
 ghost use Rattle.std.specs.Prelude.{◌≡◌, IsTrue};
-ghost use Rattle.std.specs.Cmp.Lexicographic.{pointwise};
-ghost use Rattle.pyc_iface.specs.Answers.{answer_by};
 ghost use Rattle.pyc_interfaces.specs.BareInterfaces.{bare_interface};
 ghost use Rattle.pyc_interfaces.specs.SameInterfaces as spec;
-ghost use Rattle.pyc_names.specs.InterfaceView.{interface_in, interfaces_in};
-ghost use Rattle.pyc_reading.specs.Keys.{Key};
+ghost use Rattle.pyc_names.specs.InterfaceView.{interface_in};
 
 use crate::same_bindings::same_bindings;
 use crate::same_classes::same_classes;
 use pyc_names::Interface;
-use std::rc::Rc;
 
 /// Whether two interfaces are the same but for positions. It says no where an annotation, a base or a decorator
 /// has a form that these seldom have. It takes no memory.
@@ -20,16 +16,6 @@ pub fn same_interface(a: &Interface, b: &Interface) -> bool
     ensures alike { IsTrue result → bare_interface (interface_in a.now) ≡ bare_interface (interface_in b.now) }
 {
     is_same(a, b)
-}
-
-/// Whether interfaces are the same but for positions, one by one. Where they are, files with these and files with those
-/// give the same answer to each key. It takes no memory.
-pub fn same_interfaces(files: &[Rc<Interface>], others: &[Rc<Interface>]) -> bool
-    ensures value { result ≡ pointwise spec.same_interface (interfaces_in files.now) (interfaces_in others.now) }
-    ensures answers { IsTrue result
-        → (key : Key) → answer_by (interfaces_in files.now) key ≡ answer_by (interfaces_in others.now) key }
-{
-    are_same(files, others)
 }
 
 /// Whether two interfaces are the same.
@@ -42,19 +28,4 @@ fn is_same(a: &Interface, b: &Interface) -> bool
         && a.has_fault() == b.has_fault()
         && same_bindings(a.bindings(), b.bindings())
         && same_classes(a.classes(), b.classes())
-}
-
-/// Whether interfaces are the same, one by one.
-fn are_same(files: &[Rc<Interface>], others: &[Rc<Interface>]) -> bool
-    ensures { result ≡ pointwise spec.same_interface (interfaces_in files.now) (interfaces_in others.now) }
-{
-    if files.len() != others.len() {
-        return false;
-    }
-    for i in 0..files.len() {
-        if !is_same(&files[i], &others[i]) {
-            return false;
-        }
-    }
-    true
 }

@@ -37,7 +37,7 @@ pub found_none : (keys : Numbering Key) (numbers : Key → Option ℕ) (key : Ke
 found_none keys numbers key None inverse e = not_held keys numbers key inverse (sym e)
 found_none keys numbers key (Some i) inverse e = tt
 
--- the same entries
+-- where the entries `es` are an inverse of the keys, so are entries `fs` that are equal to them
 pub same_entries : (keys : Numbering Key) (es fs : List (Key × ℕ)) → fs ≡ es → AreInverse keys (λ k. lookup (is_asked k) es)
     → AreInverse keys (λ k. lookup (is_asked k) fs)
 same_entries keys es fs same inverse = subst (λ xs. AreInverse keys (λ k. lookup (is_asked k) xs)) (sym same) inverse

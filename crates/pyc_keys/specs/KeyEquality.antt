@@ -6,9 +6,9 @@ use Rattle.std.proofs.Common.{ap, ap₂, sym, ◌∙◌}
 use Rattle.std.proofs.lemmas.Bool.{and_parts, false≢true}
 use Rattle.std.proofs.lemmas.Bool.Decides.{same_from_decides}
 use Rattle.std.proofs.lemmas.Slice.Eq.{bytes_eq-Decides, slice_eq-Decides}
-use Rattle.pyc_class.specs.Class.{Id, same_class}
-use Rattle.pyc_class.specs.ClassEquality.{same_class_equiv}
-use Rattle.pyc_classes.proofs.BuiltinLemmas.{same_class-is}
+use Rattle.pyc_class_ids.specs.Class.{Id, same_class}
+use Rattle.pyc_class_ids.specs.ClassEquality.{same_class_equiv}
+use Rattle.pyc_class_table.proofs.BuiltinLemmas.{same_class-is}
 use Rattle.pyc_names.specs.Following.{QualifiedName, same_name}
 use Rattle.pyc_names.specs.ModuleName.{same_module}
 use Rattle.pyc_reading.specs.Keys.{Key, MemberName, same_key, same_member, has_module, has_name, name, class, member}
@@ -22,17 +22,17 @@ module_decides m n = slice_eq-Decides bytes_eq-Decides m n (same_module m n) ref
 
 names_are : (q r : QualifiedName) → same_name q r ≡ true → q ≡ r
 names_are q r same =
-    let parts = and_parts (same_module q.home r.home) (bytes_eq q.name r.name) same in
-    let home : q.home ≡ r.home = (module_decides q.home r.home).0 parts.0 in
+    let parts = and_parts (same_module q.module_path r.module_path) (bytes_eq q.name r.name) same in
+    let module_path : q.module_path ≡ r.module_path = (module_decides q.module_path r.module_path).0 parts.0 in
     let own : q.name ≡ r.name = (bytes_eq-Decides q.name r.name).0 parts.1 in
-    ap₂ (λ (m : List (List ℕ)) (x : List ℕ). record { home = m; name = x }) home own
+    ap₂ (λ (m : List (List ℕ)) (x : List ℕ). record { module_path = m; name = x }) module_path own
 
 members_are : (a b : MemberName) → same_member a b ≡ true → a ≡ b
 members_are a b same =
     let parts = and_parts (same_class a.class b.class) (bytes_eq a.name b.name) same in
-    let home : a.class ≡ b.class = same_class-is a.class b.class parts.0 in
+    let module_path : a.class ≡ b.class = same_class-is a.class b.class parts.0 in
     let own : a.name ≡ b.name = (bytes_eq-Decides a.name b.name).0 parts.1 in
-    ap₂ (λ (c : Id) (x : List ℕ). record { class = c; name = x }) home own
+    ap₂ (λ (c : Id) (x : List ℕ). record { class = c; name = x }) module_path own
 
 -- two keys that are one are the same
 pub keys_are : (a b : Key) → same_key a b ≡ true → a ≡ b
@@ -70,10 +70,12 @@ both false q h k = absurd (false≢true h)
 same_itself : (a : Key) → same_key a a ≡ true
 same_itself (has_module m) = (module_decides m m).1 refl
 same_itself (has_name q) =
-    both (same_module q.home q.home) (bytes_eq q.name q.name) ((module_decides q.home q.home).1 refl)
+    both (same_module q.module_path q.module_path) (bytes_eq q.name q.name)
+    ((module_decides q.module_path q.module_path).1 refl)
     ((bytes_eq-Decides q.name q.name).1 refl)
 same_itself (name q) =
-    both (same_module q.home q.home) (bytes_eq q.name q.name) ((module_decides q.home q.home).1 refl)
+    both (same_module q.module_path q.module_path) (bytes_eq q.name q.name)
+    ((module_decides q.module_path q.module_path).1 refl)
     ((bytes_eq-Decides q.name q.name).1 refl)
 same_itself (class c) = same_class_equiv.refl c
 same_itself (member a) =

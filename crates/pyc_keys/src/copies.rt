@@ -11,7 +11,7 @@ pub(crate) fn copy_of(key: &Key) -> Result<Key, AllocError>
     ensures { IfOk result (λ copy. key_of copy ≡ key_of key.now) }
 {
     Ok(match key {
-        Key::HasModule(home) => Key::HasModule(home.clone()?),
+        Key::HasModule(module_path) => Key::HasModule(module_path.clone()?),
         Key::HasName(name) => Key::HasName(name.clone()?),
         Key::Name(name) => Key::Name(name.clone()?),
         Key::Class(class) => Key::Class(class.clone()?),

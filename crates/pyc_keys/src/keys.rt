@@ -48,7 +48,7 @@ impl Keys {
     }
 
     /// The number of a key: its own where it is held, else one that was free. The only error is that memory runs out;
-    /// then all is as before.
+    /// then all is as before. The call is for users of the library: the program does not make it.
     pub fn intern(&mut self, key: &Key) -> Result<KeyId, AllocError>
         ensures number { IfOk result (λ id. IsNumberFor (key_at self.old) (key_of key.now) id) }
         ensures held { IfOk result (λ id. key_at self.new ≡ with_item (key_at self.old) id (key_of key.now)) }
@@ -112,7 +112,8 @@ impl Keys {
         self.marks.bound()
     }
 
-    /// Lets a number that is held go; it may be given anew. It takes no memory.
+    /// Lets a number that is held go; it may be given anew. It takes no memory. The call is for users of the library:
+    /// the program does not make it.
     pub fn forget(&mut self, id: KeyId)
         requires { is_some (key_at self.old id) ≡ true }
         ensures { key_at self.new ≡ without (key_at self.old) id }

@@ -11,12 +11,12 @@ use std::rc::Rc;
 /// A key that is held or sought, as one of a map. Contracts see the key.
 #[derive(Debug, Drop)]
 pub(crate) struct KnownKey<'a> {
-    place: Place<'a>,
+    place: KeySource<'a>,
 }
 
 /// Where a key stands.
 #[derive(Debug, Drop)]
-pub(crate) enum Place<'a> {
+pub(crate) enum KeySource<'a> {
     /// It is held, and shared by those that hold it.
     Held(Rc<Key>),
     /// It is sought.
@@ -38,7 +38,7 @@ impl<'a> KnownKey<'a> {
         ensures { result ≡ key_of key.now }
     {
         KnownKey {
-            place: Place::Sought(key),
+            place: KeySource::Sought(key),
         }
     }
 
@@ -47,7 +47,7 @@ impl<'a> KnownKey<'a> {
         ensures { result ≡ key_of key.value }
     {
         KnownKey {
-            place: Place::Held(key),
+            place: KeySource::Held(key),
         }
     }
 
@@ -56,8 +56,8 @@ impl<'a> KnownKey<'a> {
         ensures { key_of result.now ≡ self.now }
     {
         match &self.place {
-            Place::Held(key) => key,
-            Place::Sought(key) => key,
+            KeySource::Held(key) => key,
+            KeySource::Sought(key) => key,
         }
     }
 }
@@ -98,9 +98,9 @@ impl Hash for KnownKey<'_> {
 
     fn hash<H: Hasher>(&self, state: &mut H) {
         match self.key() {
-            Key::HasModule(home) => home.parts().hash(state),
+            Key::HasModule(module_path) => module_path.parts().hash(state),
             Key::HasName(name) | Key::Name(name) => {
-                name.home.parts().hash(state);
+                name.module_path.parts().hash(state);
                 name.name.hash(state);
             }
             Key::Class(class) => class.hash(state),

@@ -4,7 +4,7 @@ ghost use Rattle.std.specs.Prelude.{◌≡◌};
 
 use std::marker::Model;
 
-/// The number of a name. Contracts see the number itself.
+/// The number of a name. Contracts see the number itself. It is for users of the library: the program has none.
 #[derive(Clone, Copy, Debug, PartialEq, Eq, Hash)]
 pub struct NameId {
     number: usize,

@@ -10,7 +10,8 @@ use indexmap::IndexSet;
 use std::alloc::{AllocError, Global};
 use std::marker::Model;
 
-/// Texts, each with a number of its own. No text is let go. Contracts see the texts by number from 0 on.
+/// Texts, each with a number of its own. No text is let go. Contracts see the texts by number from 0 on. They are for
+/// users of the library: the program has none.
 #[derive(Drop)]
 pub struct Names {
     alloc: Global,
@@ -73,13 +74,6 @@ impl Names {
         ensures apart { IsInjective (text_at self.now) }
     {
         self.texts.get_index(id.number()).unwrap().as_str()
-    }
-
-    /// A number above those of all names: as long is a list with an item for each.
-    pub fn bound(&self) -> usize
-        ensures { result ≡ length self.now }
-    {
-        self.texts.len()
     }
 
     /// Gives a number to a text that has none. Where memory is refused all is as before.

@@ -1,5 +1,5 @@
 -- Known answers are those of their keys.
-use Rattle.std.proofs.Common.{◌≡◌, ℕ, ◌==◌, Bool, true, false, true≢false, List, [], ◌∷◌, length, map, Option, None, Some, is_some, option_map, Result, Ok, Err, IfOk, OnErr, MatchResult, subst, if◌then◌else◌, refl, sym, ap, ◌∙◌, arith}
+use Rattle.std.proofs.Common.{◌≡◌, ℕ, ◌==◌, Bool, true, false, true≢false, List, [], ◌∷◌, length, map, Option, None, Some, is_some, option_map, subst, if◌then◌else◌, refl, sym, ap, ◌∙◌, arith}
 use Rattle.std.proofs.lemmas.Bool.{eqb-true}
 use Rattle.std.proofs.Math.Logic.{∥∥₁_elim}
 use mathlib.Core.HLevel.{Discrete, hedberg}
@@ -12,8 +12,8 @@ use Rattle.pyc_known_answers.specs.KnownAnswersLaws.{StayWithMoreKeys, StayWithF
 use Rattle.pyc_names.specs.Interfaces.{Interface}
 use Rattle.pyc_reading.specs.Answers.{Answer}
 use Rattle.pyc_reading.specs.Keys.{Key}
-use Rattle.pyc_same_answers.proofs.EqualityLemmas.{answers_decide}
-use Rattle.pyc_same_answers.specs.SameAnswers.{same_answer}
+use Rattle.pyc_known_answers.proofs.EqualityLemmas.{answers_decide}
+use Rattle.pyc_known_answers.specs.SameAnswers.{same_answer}
 
 -- ---- two proofs that answers are one are the same
 
@@ -61,26 +61,7 @@ module _ (interfaces : List Interface) where
   one_more_kept keys known new i x key are held is more =
       one_more_known keys known new i x are (ap (option_map (answer_by interfaces)) held ∙ ap (λ a. Some a) (sym is)) more
 
-  -- what comes of forming the answer of a number
-  pub formed : {R E : Type 0} (f : R → Answer) (keys : Numbering Key) (known new : Numbering Answer) (i : ℕ) (r : Result R E)
-      → AreKnownOf interfaces keys known → IfOk r (λ x. answers_at interfaces keys i ≡ Some (f x))
-      → IfOk r (λ x. new ≡ with_item known i (f x)) → OnErr r (new ≡ known) → AreKnownOf interfaces keys new
-  formed f keys known new i (Ok x) are own more same = one_more_known keys known new i (f x) are own more
-  formed f keys known new i (Err e) are own more same = subst (AreKnownOf interfaces keys) (sym same) are
-
--- an answer that is handed out once more
-pub handed_out : {R V E : Type 0} (value : R → V) (f : V → Answer) (own : Option Answer) (v : V) (r : Result R E) (N : E → Type 0)
-    → MatchResult r (λ copy. value copy ≡ v) N → own ≡ Some (f v) → IfOk r (λ copy. own ≡ Some (f (value copy)))
-handed_out value f own v (Ok copy) N same is = is ∙ ap (λ w. Some (f w)) (sym same)
-handed_out value f own v (Err e) N same is = tt
-
--- the answer to the key of a number
-pub answer_to : {R E : Type 0} (f : R → Answer) (interfaces : List Interface) (held : Option Key) (r : Result R E)
-    → IfOk r (λ x. option_map (answer_by interfaces) held ≡ Some (f x)) → (key : Key) → held ≡ Some key → IfOk r (λ x. f x ≡ answer_by interfaces key)
-answer_to f interfaces held (Ok x) own key is = same_some (sym own ∙ ap (option_map (answer_by interfaces)) is)
-answer_to f interfaces held (Err e) own key is = tt
-
--- the same answers of the same world
+-- where `known` are answers of the world `interfaces`, so are `new` of the world `others`, which are equal to these
 pub over_same : (interfaces others : List Interface) (keys : Numbering Key) (known new : Numbering Answer) → others ≡ interfaces
     → new ≡ known → AreKnownOf interfaces keys known → AreKnownOf others keys new
 over_same interfaces others keys known new world same are =

@@ -1,2 +1,4 @@
 pub mod SlotLemmas
 pub mod KnownLemmas
+pub mod EqualityLemmas
+pub mod KeyChangeLemmas

@@ -4,7 +4,7 @@ use Rattle.std.proofs.lemmas.Bool.{eqb-true, eqb-false, eq-eqb, ltb-true, ltb-fa
 use Rattle.std.proofs.lemmas.List.{get_or_past, get_or-set_same, get_or-set_other}
 use Rattle.pyc_keys.proofs.NumberingLemmas.{changed_at}
 use Rattle.pyc_keys.specs.Numbering.{Numbering, with_item, without}
-use Rattle.pyc_known_answers.specs.KnownAnswers.{where_held}
+use Rattle.pyc_known_answers.specs.KnownAnswers.{restrict_to_held}
 
 module _ {A : Type 0} where
   -- a number that is freed
@@ -56,7 +56,7 @@ module _ {A B : Type 0} (f : B → A) where
 
 -- up to a number just those are left that are held
 pub record Passed {A B : Type 0} (held : Numbering A) (n : ℕ) (before now : Numbering B) : Type 0 where
-  pub done : (i : ℕ) → i < n → now i ≡ where_held held before i
+  pub done : (i : ℕ) → i < n → now i ≡ restrict_to_held held before i
   pub left : (i : ℕ) → n ≤ i → now i ≡ before i
 
 module _ {A B : Type 0} (held : Numbering A) where
@@ -78,14 +78,14 @@ module _ {A B : Type 0} (held : Numbering A) where
       other : (i : ℕ) → (n == i) ≡ false → new i ≡ now i
       other i e = ap (λ g. g i) step ∙ other_stays (is_some (held n)) now n i e
 
-      own : new n ≡ where_held held known n
+      own : new n ≡ restrict_to_held held known n
       own =
           ap (λ g. g n) step ∙ own_goes (is_some (held n)) now n
           ∙ ap (λ x. if is_some (held n) then x else None) (passed.left n (omega arith))
 
-      done : (i : ℕ) → i < n + 1 → new i ≡ where_held held known i
-      done i below = elim (n == i) as (λ b. (n == i) ≡ b → new i ≡ where_held held known i) [
-        | true ↦ λ e. let same : n ≡ i = eqb-true n i e in ap new (sym same) ∙ own ∙ ap (where_held held known) same
+      done : (i : ℕ) → i < n + 1 → new i ≡ restrict_to_held held known i
+      done i below = elim (n == i) as (λ b. (n == i) ≡ b → new i ≡ restrict_to_held held known i) [
+        | true ↦ λ e. let same : n ≡ i = eqb-true n i e in ap new (sym same) ∙ own ∙ ap (restrict_to_held held known) same
         | false ↦ λ e. let apart : n ≢ i = eqb-false n i e in other i e ∙ passed.done i (omega (arith, below, apart))
       ] refl
 
@@ -99,11 +99,11 @@ module _ {A B : Type 0} (held : Numbering A) where
   none_held true x none = none
   none_held false x none = refl
 
-  pub passed_end : (n : ℕ) (known now : Numbering B) → Passed held n known now → ((i : ℕ) → n ≤ i → known i ≡ None) → now ≡ where_held held known
+  pub passed_end : (n : ℕ) (known now : Numbering B) → Passed held n known now → ((i : ℕ) → n ≤ i → known i ≡ None) → now ≡ restrict_to_held held known
   passed_end n known now passed past = λ t i. at i t
     where
-      at : (i : ℕ) → now i ≡ where_held held known i
-      at i = elim (nat_lt i n) as (λ b. nat_lt i n ≡ b → now i ≡ where_held held known i) [
+      at : (i : ℕ) → now i ≡ restrict_to_held held known i
+      at i = elim (nat_lt i n) as (λ b. nat_lt i n ≡ b → now i ≡ restrict_to_held held known i) [
         | true ↦ λ e. passed.done i (ltb-true i n e)
         | false ↦ λ e.
             let beyond : n ≤ i = ltb-false i n e in
@@ -112,7 +112,7 @@ module _ {A B : Type 0} (held : Numbering A) where
 
 -- where all places are passed
 pub passed_whole : {A B C : Type 0} (f : C → B) (held : Numbering A) (slots : List (Option C)) (n : ℕ) (now : Numbering B)
-    → Passed held n (at_slot f slots) now → length slots ≤ n → now ≡ where_held held (at_slot f slots)
+    → Passed held n (at_slot f slots) now → length slots ≤ n → now ≡ restrict_to_held held (at_slot f slots)
 passed_whole f held slots n now passed whole =
     passed_end held n (at_slot f slots) now passed
     (λ i past. let beyond : length slots ≤ i = omega (arith, past, whole) in none_past f slots i beyond)

@@ -15,5 +15,5 @@ abbrev pub AreKnownOf : List Interface → Numbering Key → Numbering Answer �
 AreKnownOf interfaces keys known = ∥ Extends known (answers_at interfaces keys) ∥₁
 
 -- what numbers stand for, so far as they are held elsewhere too
-abbrev pub where_held : {A B : Type 0} → Numbering A → Numbering B → Numbering B
-where_held held known i = if is_some (held i) then known i else None
+abbrev pub restrict_to_held : {A B : Type 0} → Numbering A → Numbering B → Numbering B
+restrict_to_held held known i = if is_some (held i) then known i else None

@@ -1,7 +1,7 @@
 -- How known answers stay those of their keys.
 use Rattle.std.specs.Prelude.{ℕ, List}
 use Rattle.pyc_keys.specs.Numbering.{Numbering, Extends, without}
-use Rattle.pyc_known_answers.specs.KnownAnswers.{AreKnownOf, where_held}
+use Rattle.pyc_known_answers.specs.KnownAnswers.{AreKnownOf, restrict_to_held}
 use Rattle.pyc_names.specs.Interfaces.{Interface}
 use Rattle.pyc_reading.specs.Answers.{Answer}
 use Rattle.pyc_reading.specs.Keys.{Key}
@@ -16,7 +16,7 @@ StayWithMoreKeys =
 abbrev pub StayWithFewerKeys : Type 0
 StayWithFewerKeys =
     (interfaces : List Interface) (old new : Numbering Key) (known : Numbering Answer)
-    → Extends new old → AreKnownOf interfaces old known → AreKnownOf interfaces new (where_held new known)
+    → Extends new old → AreKnownOf interfaces old known → AreKnownOf interfaces new (restrict_to_held new known)
 
 -- where a number is let go, and its answer is forgotten
 abbrev pub StayWithoutOne : Type 0

@@ -1,6 +1,6 @@
 -- Known answers as plain values.
 use Rattle.std.specs.Prelude.{ℕ, ◌<◌, List, length, None, option_map, slice_index_or}
-use Rattle.pyc_iface.specs.WorldView.{world_in}
+use Rattle.pyc_iface.specs.PlainWorldView.{world_in}
 use Rattle.pyc_keys.specs.Numbering.{Numbering}
 use Rattle.pyc_known_answers.specs.KnownAnswers.{AreKnownOf}
 use Rattle.pyc_known_answers.specs.declared.known_answers.KnownAnswers.{KnownAnswers}

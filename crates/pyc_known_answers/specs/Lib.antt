@@ -1,4 +1,7 @@
 pub mod KnownAnswers
 pub mod KnownAnswersView
 pub mod KnownAnswersLaws
-pub mod AnsweredKeysView
+pub mod WorldView
+pub mod SameAnswers
+pub mod Changes
+pub mod ChangedKeysView

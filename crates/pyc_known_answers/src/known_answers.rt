@@ -3,19 +3,19 @@
 ghost use Rattle.std.specs.Prelude.{◌≡◌, List, Some, None, true, is_some, map, if◌then◌else◌};
 ghost use Rattle.std.specs.Prelude.{IfSome, IfNone, IfOk, OnOk, OnErr};
 ghost use Rattle.pyc_iface.specs.Answers.{answer_by};
-ghost use Rattle.pyc_iface.specs.WorldView.{world_in};
+ghost use Rattle.pyc_iface.specs.PlainWorldView.{world_in};
 ghost use Rattle.pyc_keys.specs.KeyNumbers.{key_at};
 ghost use Rattle.pyc_keys.specs.Numbering.{with_item, without, AreOf, Extends, Numbering};
-ghost use Rattle.pyc_known_answers.specs.KnownAnswers.{answers_at, where_held};
+ghost use Rattle.pyc_known_answers.specs.KnownAnswers.{restrict_to_held};
 ghost use Rattle.pyc_reading.specs.AnswerView.{answer_in};
 ghost use Rattle.pyc_reading.specs.KeyView.{key_of};
 ghost use Rattle.pyc_reading.specs.Keys.{Key as PlainKey};
-ghost use Rattle.pyc_same_answers.specs.SameAnswers.{same_answer};
+ghost use Rattle.pyc_known_answers.specs.SameAnswers.{same_answer};
 
-use pyc_iface::World;
+use crate::same_answers::is_same;
+use pyc_iface::PlainWorld;
 use pyc_keys::{KeyId, Keys};
 use pyc_reading::{Answer, Key};
-use pyc_same_answers::is_same;
 use std::alloc::{AllocError, Global};
 use std::rc::Rc;
 
@@ -26,7 +26,7 @@ use std::rc::Rc;
 #[derive(Drop)]
 pub struct KnownAnswers {
     alloc: Global,
-    world: Rc<World>,
+    world: Rc<PlainWorld>,
     known: Vec<Option<Rc<Answer>>>,
 }
 
@@ -34,7 +34,7 @@ impl KnownAnswers {
     ghost use Rattle.pyc_known_answers.specs.KnownAnswersView.{interfaces_of, known_at, HasPlace, IsOver};
 
     /// No answers of a world. It takes no memory.
-    pub fn new(alloc: Global, world: Rc<World>) -> KnownAnswers
+    pub fn new(alloc: Global, world: Rc<PlainWorld>) -> KnownAnswers
         ensures world { interfaces_of result ≡ world_in world.value }
         ensures over { (keys : Numbering PlainKey) → IsOver keys result }
     {
@@ -46,7 +46,7 @@ impl KnownAnswers {
     }
 
     /// The world whose answers these are.
-    pub fn world(&self) -> &Rc<World>
+    pub fn world(&self) -> &Rc<PlainWorld>
         ensures { world_in result.now.value ≡ interfaces_of self.now }
     {
         &self.world
@@ -62,25 +62,6 @@ impl KnownAnswers {
         match self.known.get(id.number()) {
             Some(Some(answer)) => Some(answer),
             _ => None,
-        }
-    }
-
-    /// The answer to the key of a number that is held. It is formed, unless it is known. The only error is that memory
-    /// runs out; then the same answers are known as before.
-    pub fn ask(&mut self, keys: &Keys, id: KeyId) -> Result<Rc<Answer>, AllocError>
-        requires held { is_some (key_at keys.now id) ≡ true }
-        requires over { IsOver (key_at keys.now) self.old }
-        ensures answer { (key : PlainKey) → key_at keys.now id ≡ Some key
-            → IfOk result (λ answer. answer_in answer.value ≡ answer_by (interfaces_of self.old) key) }
-        ensures kept { IfOk result (λ answer. known_at self.new
-            ≡ with_item (known_at self.old) id (answer_in answer.value)) }
-        ensures over { IsOver (key_at keys.now) self.new }
-        ensures world { interfaces_of self.new ≡ interfaces_of self.old }
-        ensures same { OnErr result (known_at self.new ≡ known_at self.old) }
-    {
-        match self.find(id) {
-            Some(answer) => answer.clone(),
-            None => self.form_at(keys, id),
         }
     }
 
@@ -180,18 +161,9 @@ impl KnownAnswers {
         }
     }
 
-    /// Forgets the answer of a number. It takes no memory.
-    pub fn forget(&mut self, id: KeyId)
-        ensures known { known_at self.new ≡ without (known_at self.old) id }
-        ensures over { (keys : Numbering PlainKey) → IsOver keys self.old → IsOver (without keys id) self.new }
-        ensures world { interfaces_of self.new ≡ interfaces_of self.old }
-    {
-        self.release(id.number());
-    }
-
     /// Forgets the answers of all numbers that are not held. It takes no memory.
     pub fn keep_held(&mut self, keys: &Keys)
-        ensures known { known_at self.new ≡ where_held (key_at keys.now) (known_at self.old) }
+        ensures known { known_at self.new ≡ restrict_to_held (key_at keys.now) (known_at self.old) }
         ensures over { (before : Numbering PlainKey) → Extends (key_at keys.now) before → IsOver before self.old
             → IsOver (key_at keys.now) self.new }
         ensures world { interfaces_of self.new ≡ interfaces_of self.old }
@@ -208,22 +180,6 @@ impl KnownAnswers {
     {
         let answer = self.world.ask(self.alloc, key)?;
         let shared = Rc::new(self.alloc, answer)?;
-        Ok(shared)
-    }
-
-    /// Forms the answer to the key of a number that is held, and keeps it.
-    fn form_at(&mut self, keys: &Keys, id: KeyId) -> Result<Rc<Answer>, AllocError>
-        requires held { is_some (key_at keys.now id) ≡ true }
-        ensures answer { IfOk result (λ answer. answers_at (interfaces_of self.old) (key_at keys.now) id
-            ≡ Some (answer_in answer.value)) }
-        ensures kept { IfOk result (λ answer. known_at self.new
-            ≡ with_item (known_at self.old) id (answer_in answer.value)) }
-        ensures world { interfaces_of self.new ≡ interfaces_of self.old }
-        ensures same { OnErr result (known_at self.new ≡ known_at self.old) }
-    {
-        let shared = self.form(keys.key(id))?;
-        let kept = shared.clone()?;
-        self.keep(id, kept)?;
         Ok(shared)
     }
 

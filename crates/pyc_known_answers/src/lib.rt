@@ -1,9 +1,17 @@
-//! The answers of a world by the numbers of their keys, each formed once.
+//! The answers of a world by the numbers of their keys, each formed once; whether two answers are one; and which keys
+//! have other answers in another world, each compared once.
 #![tactic(auto)]
 
-mod answered_keys;
+mod changed_keys;
+mod compared;
+pub mod equality_laws;
 mod known_answers;
 pub mod laws;
+mod same_answers;
+mod world;
 
-pub use answered_keys::AnsweredKeys;
+pub use changed_keys::ChangedKeys;
+pub use compared::Compared;
 pub use known_answers::KnownAnswers;
+pub use same_answers::is_same;
+pub use world::World;

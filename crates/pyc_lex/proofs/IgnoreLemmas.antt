@@ -2,7 +2,7 @@
 use Rattle.std.proofs.Common.{◌≡◌, ℕ, suc, ◌+◌, ◌-◌, ◌<◌, ◌≤◌, ◌==◌, true, false, List, [], ◌∷◌, ◌++◌, take, drop, length, if◌then◌else◌, Option, Some, None, option_map, option_and_then, refl, sym, ap, ◌∙◌, arith, length-drop, append_assoc}
 use Rattle.std.specs.List.{prefix_len}
 use Rattle.pyc_token.specs.declared.tokens.Span.{Span}
-use Rattle.pyc_lex.specs.Ignores.{is_code_byte, trimmed, codes_at}
+use Rattle.pyc_lex.specs.Ignores.{is_code_byte, trim_spaces, codes_at}
 
 -- the codes so far before those of the rest are those of the whole, in the turns that are left
 pub record IsListing (whole : Option (List Span)) (end : ℕ) (turns : ℕ) (spans : List Span) (at : ℕ) (rest : List ℕ) : Type 0 where
@@ -22,7 +22,7 @@ listing-start from turns text e = record {
 module _ (whole : Option (List Span)) (end turns : ℕ) (spans : List Span) (at : ℕ) (rest : List ℕ) (listing : IsListing whole end turns spans at rest)
     (fewer : ℕ) (n : turns ≡ suc fewer) (len : ℕ) (len_is : len ≡ prefix_len is_code_byte rest) where
   -- what one turn reads
-  turn : (found : Option Span) → trimmed at (take len rest) ≡ found
+  turn : (found : Option Span) → trim_spaces at (take len rest) ≡ found
       → option_map (λ later. spans ++ later) (option_and_then (λ code.
       if len == length rest then Some (code ∷ [])
       else option_map (λ later. code ∷ later) (codes_at fewer (at + len + 1) (drop (len + 1) rest))) found) ≡ whole
@@ -33,16 +33,16 @@ module _ (whole : Option (List Span)) (end turns : ℕ) (spans : List Span) (at 
       else option_map (λ later. code ∷ later) (codes_at fewer (at + len + 1) (drop (len + 1) rest))) o)) (sym e)
       ∙ ap (λ (k : ℕ). option_map (λ later. spans ++ later) (option_and_then (λ code.
       if k == length rest then Some (code ∷ [])
-      else option_map (λ later. code ∷ later) (codes_at fewer (at + k + 1) (drop (k + 1) rest))) (trimmed at (take k rest)))) len_is
+      else option_map (λ later. code ∷ later) (codes_at fewer (at + k + 1) (drop (k + 1) rest))) (trim_spaces at (take k rest)))) len_is
       ∙ ap (λ (k : ℕ). option_map (λ later. spans ++ later) (codes_at k at rest)) (sym n) ∙ listing.value
 
-  pub listing-empty : None ≡ trimmed at (take len rest) → None ≡ whole
+  pub listing-empty : None ≡ trim_spaces at (take len rest) → None ≡ whole
   listing-empty e = turn None (sym e)
 
-  pub listing-last : (span : Span) → Some span ≡ trimmed at (take len rest) → (len == length rest) ≡ true → Some (spans ++ span ∷ []) ≡ whole
+  pub listing-last : (span : Span) → Some span ≡ trim_spaces at (take len rest) → (len == length rest) ≡ true → Some (spans ++ span ∷ []) ≡ whole
   listing-last span e last = rw last at (turn (Some span) (sym e))
 
-  pub listing-step : (span : Span) (back : List ℕ) (next : ℕ) → Some span ≡ trimmed at (take len rest) → (len == length rest) ≡ false → len < length rest
+  pub listing-step : (span : Span) (back : List ℕ) (next : ℕ) → Some span ≡ trim_spaces at (take len rest) → (len == length rest) ≡ false → len < length rest
       → back ≡ drop (len + 1) rest → next ≡ at + len + 1 → IsListing whole end fewer (spans ++ span ∷ []) next back
   listing-step span back next e more within dropped moved =
       let left : length back ≡ length rest - (len + 1) = ap length dropped ∙ length-drop (len + 1) rest in

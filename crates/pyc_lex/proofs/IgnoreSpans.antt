@@ -12,10 +12,10 @@ use Rattle.std.specs.List.{All, prefix_len, starts_with}
 use Rattle.pyc_token.specs.declared.lexeme.Lexeme.{Lexeme}
 use Rattle.pyc_token.specs.declared.lexeme.Lexeme.TheVariants as lexeme
 use Rattle.pyc_token.specs.declared.tokens.Span.{Span}
-use Rattle.pyc_token.specs.Cuts.{cut, cut_off, left_of, cuts, cuts_up_to}
+use Rattle.pyc_token.specs.Cuts.{cut_first_lexeme, cut_off, left_of, cuts, cuts_up_to}
 use Rattle.pyc_token.proofs.BoundaryLemmas.{boundary_past, boundary_past_prefix}
 use Rattle.pyc_token.proofs.CutLemmas.{HasLexeme, cut_takes}
-use Rattle.pyc_lex.specs.Ignores.{Codes, all, listed, IgnoreAt, is_space, is_list_byte, is_code_byte, trimmed, codes_at, ends_ignore, listed_codes, codes_after, after_word, after_spaces, silenced}
+use Rattle.pyc_lex.specs.Ignores.{Codes, all, listed, IgnoreAt, is_space, is_list_byte, is_code_byte, trim_spaces, codes_at, ends_ignore, codes_in_brackets, codes_after, after_word, after_spaces, suppressed}
 use Rattle.pyc_lex.specs.Indents.{columns_after}
 use Rattle.pyc_lex.specs.Lines.{Reading, Lexis, start_at, is_empty, and_then, step, read, line_ended, measured, with_ignore, end_met, front_joined, finished, mark_len, lexemes_of}
 use Rattle.pyc_lex.specs.Texts.{IsTextSpan, listed_spans}
@@ -121,8 +121,8 @@ module _ (source : List ℕ) (from : ℕ) (text : List ℕ) (p : IsPart source f
       (omega (arith, apart, size, left)) (omega (arith, apart, size, left))
 
   -- a code without the spaces at its ends
-  pub trimmed_span : (span : Span) → trimmed from text ≡ Some span → IsTextSpan source span
-  trimmed_span span e =
+  pub trim_spaces_span : (span : Span) → trim_spaces from text ≡ Some span → IsTextSpan source span
+  trim_spaces_span span e =
       elim (lead == length text) as (λ b. (lead == length text) ≡ b → (if b then None else Some (record { start = from + lead; end = from + (length text - trail) })) ≡ Some span → IsTextSpan source span) [
         | true ↦ λ is none. absurd (cc)
         | false ↦ λ is some. let same : record { start = from + lead; end = from + (length text - trail) } ≡ span = cc in subst (IsTextSpan source) same (trimmed_part (lead_within is))
@@ -180,14 +180,14 @@ one_code source text spans len code rest most is each e =
 -- what a first code is, before those after it
 first_code : (source text : List ℕ) (from : ℕ) (spans : List Span) (rest : Option (List Span)) → IsPart source from text
     → (prefix_len is_code_byte text < length text → (later : List Span) → rest ≡ Some later → All (IsTextSpan source) later)
-    → (o : Option Span) → trimmed from (take (prefix_len is_code_byte text) text) ≡ o
+    → (o : Option Span) → trim_spaces from (take (prefix_len is_code_byte text) text) ≡ o
     → option_and_then (λ code. if prefix_len is_code_byte text == length text then Some (code ∷ []) else option_map (λ later. code ∷ later) rest) o ≡ Some spans
     → All (IsTextSpan source) spans
 first_code source text from spans rest p each None _ e = absurd (cc)
 first_code source text from spans rest p each (Some code) is e =
     let n : ℕ = prefix_len is_code_byte text in
     one_code source text spans n code rest (prefix_len-le-length is_code_byte text)
-    (trimmed_span source from (take n text) (part_take source from text p n (code_boundary text p.utf8)) code is) each e
+    (trim_spaces_span source from (take n text) (part_take source from text p n (code_boundary text p.utf8)) code is) each e
 
 -- the codes of a list
 codes_spans : (source : List ℕ) (count from : ℕ) (text : List ℕ) (spans : List Span) → IsPart source from text → codes_at count from text ≡ Some spans
@@ -198,7 +198,7 @@ codes_spans source (suc count) from text spans p e =
     let n : ℕ = prefix_len is_code_byte text in
     first_code source text from spans (codes_at count (from + n + 1) (drop (n + 1) text)) p
     (λ within later got. codes_spans source count (from + n + 1) (drop (n + 1) text) later (after_comma source from text p within) got)
-    (trimmed from (take n text)) refl e
+    (trim_spaces from (take n text)) refl e
 
 -- ---- the codes of a comment
 
@@ -223,7 +223,7 @@ when_true true o a e = (refl, e)
 when_true false o a e = absurd (cc)
 
 -- the codes in brackets at the front of a part
-listed_within : (source : List ℕ) (from : ℕ) (text : List ℕ) (found : Codes) → IsPart source from text → slice_index text 0 ≡ 91 → listed_codes from text ≡ Some found
+listed_within : (source : List ℕ) (from : ℕ) (text : List ℕ) (found : Codes) → IsPart source from text → slice_index text 0 ≡ 91 → codes_in_brackets from text ≡ Some found
     → All (IsTextSpan source) (listed_spans found)
 listed_within source from text found p opens e =
     let inside : List ℕ = drop 1 text in
@@ -243,7 +243,7 @@ listed_within source from text found p opens e =
 codes_within : (source : List ℕ) (from : ℕ) (text : List ℕ) (found : Codes) → IsPart source from text → codes_after from text ≡ Some found
     → All (IsTextSpan source) (listed_spans found)
 codes_within source from text found p e =
-    elim (slice_index text 0 == 91) as (λ b. (slice_index text 0 == 91) ≡ b → (if b then listed_codes from text else if ends_ignore text then Some all else None) ≡ Some found
+    elim (slice_index text 0 == 91) as (λ b. (slice_index text 0 == 91) ≡ b → (if b then codes_in_brackets from text else if ends_ignore text then Some all else None) ≡ Some found
     → All (IsTextSpan source) (listed_spans found)) [
       | true ↦ λ opens e. listed_within source from text found p (same_byte (slice_index text 0) 91 opens) e
       | false ↦ λ _ e.
@@ -314,10 +314,10 @@ and_then_some f None b e = absurd (cc)
 and_then_some f (Some a) b e = (a, refl, e)
 
 -- the codes of an ignore comment
-pub silenced_spans : (source : List ℕ) (from : ℕ) (comment : List ℕ) (found : Codes) → IsPart source from comment → silenced from comment ≡ Some found
+pub suppressed_spans : (source : List ℕ) (from : ℕ) (comment : List ℕ) (found : Codes) → IsPart source from comment → suppressed from comment ≡ Some found
     → All (IsTextSpan source) (listed_spans found)
-unfolding silenced
-silenced_spans source from comment found p e =
+unfolding suppressed
+suppressed_spans source from comment found p e =
     let start : ℕ × List ℕ = (from + 1, drop 1 comment) in
     let first = and_then_some (λ kind. option_and_then (λ word. codes_after word.0 word.1) (after_word (codes "ignore") (after_spaces kind)))
     (after_word (codes "type:") (after_spaces start)) found e in
@@ -367,7 +367,7 @@ codes_follow source r lexeme.Blank text next at f kept =
     same_codes source r next (sym (ignores-measured r text) ∙ ap (λ (s : Reading). s.lexis.ignores) (sym f)) kept
 codes_follow source r lexeme.Comment text next at f kept =
     subst (λ (s : Reading). AreCodes source s.lexis.ignores) (sym f)
-    (codes_ignored source r (silenced r.from text) (λ found e. silenced_spans source r.from text found at e) kept)
+    (codes_ignored source r (suppressed r.from text) (λ found e. suppressed_spans source r.from text found at e) kept)
 codes_follow source r lexeme.LineEnd text next at f kept =
     same_codes source r next (sym (ignores-end_met r) ∙ ap (λ (s : Reading). s.lexis.ignores) (sym f)) kept
 codes_follow source r lexeme.Joined text next at f kept =
@@ -379,7 +379,7 @@ unfolding read cuts_up_to
 codes_read source zero r out text p kept e = same_codes source r out (cc) kept
 codes_read source (suc turns) r out [] p kept e = same_codes source r out (cc) kept
 codes_read source (suc turns) r out (byte ∷ text) p kept e =
-    elim (cut (byte ∷ text)) as (λ f. HasLexeme (byte ∷ text) f → read r (cut_off f (byte ∷ text) ∷ cuts_up_to turns (left_of f (byte ∷ text))) ≡ Ok out
+    elim (cut_first_lexeme (byte ∷ text)) as (λ f. HasLexeme (byte ∷ text) f → read r (cut_off f (byte ∷ text) ∷ cuts_up_to turns (left_of f (byte ∷ text))) ≡ Ok out
     → AreCodes source out.lexis.ignores) [
       | Ok f ↦ λ lexeme done.
           let taken : List ℕ = take f.1 (byte ∷ text) in

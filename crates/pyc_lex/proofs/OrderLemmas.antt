@@ -8,7 +8,7 @@ use Rattle.pyc_token.specs.declared.tokens.Token.{Token}
 use Rattle.pyc_token.specs.declared.lexeme.Lexeme.{Lexeme}
 use Rattle.pyc_token.specs.declared.lexeme.Lexeme.TheVariants as lexeme
 use Rattle.pyc_token.specs.Cuts.{Cut, found, bad}
-use Rattle.pyc_lex.specs.Ignores.{Codes, silenced}
+use Rattle.pyc_lex.specs.Ignores.{Codes, suppressed}
 use Rattle.pyc_lex.specs.Indents.{columns_after}
 use Rattle.pyc_lex.specs.Limits.{IsBefore, depth_past, depth_after, NestsWithin, IsWithinLimits}
 use Rattle.pyc_lex.specs.Lines.{Line, Lexis, Reading, start_at, is_empty, moved, measured, with_ignore, end_met, line_ended, front_joined, token_at, with_line, step, read, and_then, finished, mark_len, lexemes_of}
@@ -134,7 +134,7 @@ orderly-follows r lexeme.Name text next f orderly = orderly-pushed r next (kind_
 orderly-follows r (lexeme.Token kind) text next f orderly = orderly-pushed r next kind text f orderly
 orderly-follows r lexeme.Blank text next f orderly = subst IsOrderly (sym f) (orderly-moved (measured r text) text (orderly-measured r text orderly))
 orderly-follows r lexeme.Comment text next f orderly =
-    subst IsOrderly (sym f) (orderly-moved (with_ignore r (silenced r.from text)) text (orderly-ignored r (silenced r.from text) orderly))
+    subst IsOrderly (sym f) (orderly-moved (with_ignore r (suppressed r.from text)) text (orderly-ignored r (suppressed r.from text) orderly))
 orderly-follows r lexeme.LineEnd text next f orderly = subst IsOrderly (sym f) (orderly-moved (end_met r) text (orderly-end_met r orderly))
 orderly-follows r lexeme.Joined text next f orderly = subst IsOrderly (sym f) (orderly-moved (front_joined r) text (orderly-front_joined r orderly))
 

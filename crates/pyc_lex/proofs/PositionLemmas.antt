@@ -35,7 +35,7 @@ printed_front at (byte ∷ rest) =
       | false ↦ λ _. ap (λ (p : Position). position_after p (byte ∷ rest)) (moved_none at)
     ] refl
 
--- the same of what a call counted
+-- printed characters at the front of a text, which a call counted as `count`, take a column each
 pub printed_counted : (at : Position) (text : List ℕ) (count : ℕ) → count ≡ prefix_len is_printed text
     → position_after (moved_by at count) (drop count text) ≡ position_after at text
 printed_counted at text count counted = ap (λ (n : ℕ). position_after (moved_by at n) (drop n text)) counted ∙ printed_front at text

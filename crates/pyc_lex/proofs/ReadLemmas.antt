@@ -10,8 +10,8 @@ use Rattle.pyc_token.specs.declared.lexeme.Lexeme.{Lexeme}
 use Rattle.pyc_token.specs.declared.lexeme.Lexeme.TheVariants as lexeme
 use Rattle.pyc_token.specs.declared.lexeme.CutFault.{CutFault}
 use Rattle.pyc_lex.specs.declared.fault.LexFault.{LexFault}
-use Rattle.pyc_token.specs.Cuts.{FirstLexeme, cut, cut_off, left_of, cuts_up_to, cuts}
-use Rattle.pyc_lex.specs.Ignores.{Codes, silenced}
+use Rattle.pyc_token.specs.Cuts.{FirstLexeme, cut_first_lexeme, cut_off, left_of, cuts_up_to, cuts}
+use Rattle.pyc_lex.specs.Ignores.{Codes, suppressed}
 use Rattle.pyc_lex.specs.Indents.{columns_after, settled}
 use Rattle.pyc_lex.specs.Lines.{Reading, Lexis, start_at, is_empty, and_then, moved, line_settled, measured, front_joined, bracketed, pushed, with_token, end_met, line_ended, with_ignore, step, fault_met, read}
 use Rattle.pyc_lex.specs.View.{AnswersScan}
@@ -61,7 +61,7 @@ abbrev pub Follows : Reading → Lexeme → List ℕ → Reading → Type 0
 Follows r lexeme.Name text next = IsPushed r next (kind_of_name text) text
 Follows r (lexeme.Token kind) text next = IsPushed r next kind text
 Follows r lexeme.Blank text next = next ≡ moved (measured r text) text
-Follows r lexeme.Comment text next = next ≡ moved (with_ignore r (silenced r.from text)) text
+Follows r lexeme.Comment text next = next ≡ moved (with_ignore r (suppressed r.from text)) text
 Follows r lexeme.LineEnd text next = next ≡ moved (end_met r) text
 Follows r lexeme.Joined text next = next ≡ moved (front_joined r) text
 
@@ -91,7 +91,7 @@ from-follows : (r : Reading) (p : Lexeme) (text : List ℕ) (next : Reading) →
 from-follows r lexeme.Name text next f = ap (λ (s : Reading). s.from) f.is
 from-follows r (lexeme.Token kind) text next f = ap (λ (s : Reading). s.from) f.is
 from-follows r lexeme.Blank text next f = ap (λ (s : Reading). s.from) f ∙ ap (λ (n : ℕ). n + length text) (from-measured r text)
-from-follows r lexeme.Comment text next f = ap (λ (s : Reading). s.from) f ∙ ap (λ (n : ℕ). n + length text) (from-ignored r (silenced r.from text))
+from-follows r lexeme.Comment text next f = ap (λ (s : Reading). s.from) f ∙ ap (λ (n : ℕ). n + length text) (from-ignored r (suppressed r.from text))
 from-follows r lexeme.LineEnd text next f = ap (λ (s : Reading). s.from) f ∙ ap (λ (n : ℕ). n + length text) (from-end_met r)
 from-follows r lexeme.Joined text next f = ap (λ (s : Reading). s.from) f ∙ ap (λ (n : ℕ). n + length text) (from-front_joined r)
 
@@ -100,11 +100,11 @@ from-step r p text next e = from-follows r p text next (step-follows r p text ne
 
 -- ---- all lexemes
 
--- a fault that was met is what is told
-pub answers_err : (expected : Result Lexis LexFault) (found : LexFault) (result : Result Scan LexFault) → IsErrAnd result (λ told. told ≡ found)
+-- a fault that was met is what is reported
+pub answers_err : (expected : Result Lexis LexFault) (found : LexFault) (result : Result Scan LexFault) → IsErrAnd result (λ reported. reported ≡ found)
     → (found ≢ Memory → expected ≡ Err found) → AnswersScan expected result
 answers_err expected found (Ok scan) is leads = absurd is
-answers_err expected found (Err told) is leads = λ other. leads (λ same. other (is ∙ same)) ∙ ap Err (sym is)
+answers_err expected found (Err reported) is leads = λ other. leads (λ same. other (is ∙ same)) ∙ ap Err (sym is)
 
 -- what is left of a text is read to what the whole is read to, in the turns that are left
 pub record IsOnTheWay (whole : Result Reading LexFault) (end turns : ℕ) (r : Reading) (rest : List ℕ) : Type 0 where
@@ -121,19 +121,19 @@ read_end r (suc turns) (byte ∷ rest) e = absurd (omega (arith, e))
 
 -- one turn reads what is cut off
 read_turn : (r : Reading) (turns : ℕ) (rest : List ℕ) → 0 < length rest
-    → read r (cuts_up_to (suc turns) rest) ≡ read r (cut_off (cut rest) rest ∷ cuts_up_to turns (left_of (cut rest) rest))
+    → read r (cuts_up_to (suc turns) rest) ≡ read r (cut_off (cut_first_lexeme rest) rest ∷ cuts_up_to turns (left_of (cut_first_lexeme rest) rest))
 unfolding cuts_up_to
 read_turn r turns [] l = absurd (omega (arith, l))
 read_turn r turns (byte ∷ rest) l = refl
 
-pub read_bad : (r : Reading) (turns : ℕ) (rest : List ℕ) (fault : CutFault) → 0 < length rest → 0 < turns → cut rest ≡ Err fault
+pub read_bad : (r : Reading) (turns : ℕ) (rest : List ℕ) (fault : CutFault) → 0 < length rest → 0 < turns → cut_first_lexeme rest ≡ Err fault
     → read r (cuts_up_to turns rest) ≡ fault_met r fault
 unfolding read
 read_bad r zero rest fault l m e = absurd (omega (arith, m))
 read_bad r (suc turns) rest fault l m e =
     read_turn r turns rest l ∙ ap (λ (front : FirstLexeme). read r (cut_off front rest ∷ cuts_up_to turns (left_of front rest))) e
 
-pub read_step : (r : Reading) (turns : ℕ) (rest : List ℕ) (p : Lexeme) (len : ℕ) → 0 < length rest → cut rest ≡ Ok (p, len)
+pub read_step : (r : Reading) (turns : ℕ) (rest : List ℕ) (p : Lexeme) (len : ℕ) → 0 < length rest → cut_first_lexeme rest ≡ Ok (p, len)
     → read r (cuts_up_to (suc turns) rest) ≡ and_then (step r p (take len rest)) (λ next. read next (cuts_up_to turns (drop len rest)))
 unfolding read
 read_step r turns rest p len l e =
@@ -150,10 +150,10 @@ on_the_way-start r from text turns e n u = record {
 }
 
 module _ (whole : Result Reading LexFault) (end turns : ℕ) (r : Reading) (rest : List ℕ) (way : IsOnTheWay whole end turns r rest) (l : 0 < length rest) where
-  pub on_the_way-bad : (fault : CutFault) → cut rest ≡ Err fault → fault_met r fault ≡ whole
+  pub on_the_way-bad : (fault : CutFault) → cut_first_lexeme rest ≡ Err fault → fault_met r fault ≡ whole
   on_the_way-bad fault e = sym (read_bad r turns rest fault l (omega (arith, way.enough, l)) e) ∙ way.reads
 
-  module _ (p : Lexeme) (len fewer : ℕ) (e : cut rest ≡ Ok (p, len)) (n : turns ≡ suc fewer) where
+  module _ (p : Lexeme) (len fewer : ℕ) (e : cut_first_lexeme rest ≡ Ok (p, len)) (n : turns ≡ suc fewer) where
     -- the whole, from what the lexeme at the front leads to
     turn : and_then (step r p (take len rest)) (λ next. read next (cuts_up_to fewer (drop len rest))) ≡ whole
     turn = sym (read_step r fewer rest p len l e) ∙ ap (λ (k : ℕ). read r (cuts_up_to k rest)) (sym n) ∙ way.reads

@@ -9,8 +9,8 @@ use Rattle.pyc_token.specs.declared.tokens.Token.{Token}
 use Rattle.pyc_token.specs.declared.lexeme.Lexeme.{Lexeme}
 use Rattle.pyc_token.specs.declared.lexeme.Lexeme.TheVariants as lexeme
 use Rattle.pyc_token.specs.declared.lexeme.CutFault.{CutFault}
-use Rattle.pyc_token.specs.Cuts.{Cut, found, cut, cut_off, left_of, cuts, cuts_up_to}
-use Rattle.pyc_lex.specs.Ignores.{Codes, silenced}
+use Rattle.pyc_token.specs.Cuts.{Cut, found, cut_first_lexeme, cut_off, left_of, cuts, cuts_up_to}
+use Rattle.pyc_lex.specs.Ignores.{Codes, suppressed}
 use Rattle.pyc_lex.specs.Indents.{columns_after}
 use Rattle.pyc_lex.specs.Lines.{Line, Reading, Lexis, start_at, is_empty, and_then, step, read, fault_met, line_settled, token_at, with_line, line_ended, measured, with_ignore, end_met, front_joined, innermost, lexis_read, finished, mark_len, lexemes_of}
 use Rattle.pyc_token.specs.Names.{kind_of_name}
@@ -66,7 +66,7 @@ tokens-follows : (r : Reading) (p : Lexeme) (text : List ℕ) (next : Reading) �
 tokens-follows r lexeme.Name text next f = tokens-pushed r next (kind_of_name text) text f
 tokens-follows r (lexeme.Token kind) text next f = tokens-pushed r next kind text f
 tokens-follows r lexeme.Blank text next f = same_tokens r next (ap read_tokens f ∙ tokens-measured r text)
-tokens-follows r lexeme.Comment text next f = same_tokens r next (ap read_tokens f ∙ tokens-ignored r (silenced r.from text))
+tokens-follows r lexeme.Comment text next f = same_tokens r next (ap read_tokens f ∙ tokens-ignored r (suppressed r.from text))
 tokens-follows r lexeme.LineEnd text next f = same_tokens r next (ap read_tokens f ∙ tokens-end_met r)
 tokens-follows r lexeme.Joined text next f = same_tokens r next (ap read_tokens f ∙ tokens-front_joined r)
 
@@ -178,7 +178,7 @@ unfolding read cuts_up_to
 slices_read source zero r out front text parts position utf8 spans e = slices_at_end source r out spans (cc)
 slices_read source (suc turns) r out front [] parts position utf8 spans e = slices_at_end source r out spans (cc)
 slices_read source (suc turns) r out front (byte ∷ text) parts position utf8 spans e =
-    elim (cut (byte ∷ text)) as (λ f. HasLexeme (byte ∷ text) f → read r (cut_off f (byte ∷ text) ∷ cuts_up_to turns (left_of f (byte ∷ text))) ≡ Ok out
+    elim (cut_first_lexeme (byte ∷ text)) as (λ f. HasLexeme (byte ∷ text) f → read r (cut_off f (byte ∷ text) ∷ cuts_up_to turns (left_of f (byte ∷ text))) ≡ Ok out
     → AreSlices source r out (cut_off f (byte ∷ text) ∷ cuts_up_to turns (left_of f (byte ∷ text)))) [
       | Ok f ↦ λ lexeme done.
           let taken : List ℕ = take f.1 (byte ∷ text) in

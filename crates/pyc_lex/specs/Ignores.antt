@@ -1,11 +1,11 @@
--- Comments that silence errors (mypy documentation, "Error codes", "Silencing errors based on error codes").
+-- Comments that suppress errors (mypy documentation, "Error codes", "Silencing errors based on error codes").
 use Rattle.std.specs.Prelude.{ℕ, zero, suc, ◌+◌, ◌-◌, Bool, not, ◌||◌, ◌==◌, nat_eq, if◌then◌else◌, List, [], ◌∷◌}
 use Rattle.std.specs.Prelude.{reverse, take, drop, length, slice_index, codes, Option, None, Some, option_map}
 use Rattle.std.specs.Prelude.{option_and_then}
 use Rattle.std.specs.List.{prefix_len, starts_with}
 use Rattle.pyc_token.specs.declared.tokens.Span.{Span}
 
--- which errors a comment silences: all, or those of the codes at some spans
+-- which errors a comment suppresses: all, or those of the codes at some spans
 pub data Codes : Type 0 where
   all : Codes
   listed : List Span → Codes
@@ -29,8 +29,8 @@ is_code_byte byte = not (byte == 44)
 
 -- the span of a text that begins at a byte of the source, without the spaces at its ends; none where nothing else is
 -- there
-abbrev pub trimmed : ℕ → List ℕ → Option Span
-trimmed from text =
+abbrev pub trim_spaces : ℕ → List ℕ → Option Span
+trim_spaces from text =
     let lead = prefix_len is_space text in
     if lead == length text then None
     else Some (record { start = from + lead; end = from + (length text - prefix_len is_space (reverse text)) })
@@ -44,15 +44,15 @@ codes_at (suc count) from text =
     option_and_then (λ code.
     if len == length text then Some (code ∷ [])
     else option_map (λ later. code ∷ later) (codes_at count (from + len + 1) (drop (len + 1) text)))
-    (trimmed from (take len text))
+    (trim_spaces from (take len text))
 
 -- whether an ignore may end here: at the end of the comment, at a space, a tab or a `#`
 abbrev pub ends_ignore : List ℕ → Bool
 ends_ignore text = length text == 0 || slice_index text 0 == 32 || slice_index text 0 == 9 || slice_index text 0 == 35
 
 -- the codes in brackets at the front of what follows `ignore`, which begins at a byte of the source
-abbrev pub listed_codes : ℕ → List ℕ → Option Codes
-listed_codes from text =
+abbrev pub codes_in_brackets : ℕ → List ℕ → Option Codes
+codes_in_brackets from text =
     let inside = drop 1 text in
     let len = prefix_len is_list_byte inside in
     if slice_index inside len == 93 then
@@ -63,7 +63,7 @@ listed_codes from text =
 -- the codes that follow `ignore`: all, or those in brackets
 abbrev pub codes_after : ℕ → List ℕ → Option Codes
 codes_after from text =
-    if slice_index text 0 == 91 then listed_codes from text
+    if slice_index text 0 == 91 then codes_in_brackets from text
     else if ends_ignore text then Some all
     else None
 
@@ -75,10 +75,10 @@ after_word word at = if starts_with nat_eq at.1 word then Some (at.0 + length wo
 abbrev pub after_spaces : ℕ × List ℕ → ℕ × List ℕ
 after_spaces at = let len = prefix_len is_space at.1 in (at.0 + len, drop len at.1)
 
--- what a comment that begins at a byte of the source silences: `#`, spaces, `type:`, spaces, `ignore`, and perhaps
+-- what a comment that begins at a byte of the source suppresses: `#`, spaces, `type:`, spaces, `ignore`, and perhaps
 -- codes
-unfoldable pub silenced : ℕ → List ℕ → Option Codes
-silenced from comment =
+unfoldable pub suppressed : ℕ → List ℕ → Option Codes
+suppressed from comment =
     option_and_then (λ kind.
     option_and_then (λ word. codes_after word.0 word.1) (after_word (codes "ignore") (after_spaces kind)))
     (after_word (codes "type:") (after_spaces (from + 1, drop 1 comment)))

@@ -18,7 +18,7 @@ use Rattle.pyc_token.specs.declared.lexeme.CutFault.TheVariants as cut
 use Rattle.pyc_lex.specs.declared.fault.LexFault.{LexFault}
 use Rattle.pyc_lex.specs.declared.fault.LexFault.TheVariants as fault
 use Rattle.pyc_token.specs.Cuts.{Cut, found, bad, cuts}
-use Rattle.pyc_lex.specs.Ignores.{Codes, all, listed, IgnoreAt, silenced}
+use Rattle.pyc_lex.specs.Ignores.{Codes, all, listed, IgnoreAt, suppressed}
 use Rattle.pyc_lex.specs.Indents.{no_columns, columns_after, max_depth, settled}
 use Rattle.pyc_token.specs.Names.{kind_of_name}
 use Rattle.pyc_lex.specs.Positions.{position_after}
@@ -28,7 +28,7 @@ pub record Line : Type 0 where
   pub indent : ℕ
   pub tokens : List Token
 
--- what a source is: its logical lines, its ignore comments, and whether one before the first line silences the whole
+-- what a source is: its logical lines, its ignore comments, and whether one before the first line suppresses the whole
 -- file
 pub record Lexis : Type 0 where
   pub lines : List Line
@@ -159,12 +159,12 @@ line_ended r = record r {
 abbrev pub end_met : Reading → Reading
 end_met r = if is_empty r.brackets then line_ended r else r
 
--- whether all errors are silenced
+-- whether all errors are suppressed
 abbrev pub is_all : Codes → Bool
 is_all all = true
 is_all (listed spans) = false
 
--- one more ignore comment; one of all errors before the first logical line silences the file
+-- one more ignore comment; one of all errors before the first logical line suppresses the file
 abbrev pub with_ignore : Reading → Option Codes → Reading
 with_ignore r None = r
 with_ignore r (Some codes) = record r {
@@ -181,18 +181,18 @@ unfoldable pub step : Reading → Lexeme → List ℕ → Result Reading LexFaul
 step r lexeme.Name text = with_token r (kind_of_name text) text
 step r (lexeme.Token kind) text = with_token r kind text
 step r lexeme.Blank text = Ok (moved (measured r text) text)
-step r lexeme.Comment text = Ok (moved (with_ignore r (silenced r.from text)) text)
+step r lexeme.Comment text = Ok (moved (with_ignore r (suppressed r.from text)) text)
 step r lexeme.LineEnd text = Ok (moved (end_met r) text)
 step r lexeme.Joined text = Ok (moved (front_joined r) text)
 
 -- a fault of the text with its physical line
-abbrev pub told : CutFault → ℕ → LexFault
-told cut.BadCharacter line = fault.BadCharacter line
-told cut.OpenString line = fault.OpenString line
+abbrev pub reported : CutFault → ℕ → LexFault
+reported cut.BadCharacter line = fault.BadCharacter line
+reported cut.OpenString line = fault.OpenString line
 
 -- the fault at a position where no lexeme stands: that of the line's indent comes first
 unfoldable pub fault_met : Reading → CutFault → Result Reading LexFault
-fault_met r met = and_then (line_settled r) (λ s. Err (told met s.position.line))
+fault_met r met = and_then (line_settled r) (λ s. Err (reported met s.position.line))
 
 -- what is known after all lexemes, or the first fault
 unfoldable pub read : Reading → List Cut → Result Reading LexFault

@@ -1,4 +1,4 @@
-//! Comments that silence errors.
+//! Comments that suppress errors.
 
 ghost use Rattle.std.specs.Prelude.{◌≡◌, ◌<◌, ◌≤◌, ◌+◌, ◌^◌, length, reverse, IfOk, IfSome, option_map, drop};
 ghost use Rattle.std.specs.List.{prefix_len};
@@ -51,9 +51,9 @@ fn code_len(text: &[u8]) -> usize
 }
 
 /// The span of a text that begins at a byte, without the spaces at its ends.
-fn trimmed(from: usize, text: &[u8]) -> Option<Span>
+fn trim_spaces(from: usize, text: &[u8]) -> Option<Span>
     requires { from + length text.now < 2 ^ 64 }
-    ensures { result ≡ spec.trimmed from text.now }
+    ensures { result ≡ spec.trim_spaces from text.now }
 {
     let lead = space_len(text);
     if lead == text.len() {
@@ -76,7 +76,7 @@ fn codes_at(alloc: Global, from: usize, text: &[u8]) -> Result<Option<Vec<Span>>
     for _turn in 0..text.len() + 1 {
         let len = code_len(rest);
         let (code, left) = rest.split_at(len);
-        let Some(span) = trimmed(at, code) else {
+        let Some(span) = trim_spaces(at, code) else {
             return Ok(None);
         };
         spans.push(span)?;
@@ -101,10 +101,10 @@ fn ends_ignore(text: &[u8]) -> bool
 }
 
 /// The codes in brackets.
-fn listed_codes(alloc: Global, from: usize, text: &[u8]) -> Result<Option<Codes>, AllocError>
+fn codes_in_brackets(alloc: Global, from: usize, text: &[u8]) -> Result<Option<Codes>, AllocError>
     requires within { from + length text.now < 2 ^ 63 }
     requires opens { 0 < length text.now }
-    ensures { IfOk result (λ codes. option_map codes_in codes ≡ spec.listed_codes from text.now) }
+    ensures { IfOk result (λ codes. option_map codes_in codes ≡ spec.codes_in_brackets from text.now) }
 {
     let (_, inside) = text.split_at(1);
     let len = list_len(inside);
@@ -125,7 +125,7 @@ fn codes_after(alloc: Global, from: usize, text: &[u8]) -> Result<Option<Codes>,
     ensures { IfOk result (λ codes. option_map codes_in codes ≡ spec.codes_after from text.now) }
 {
     if byte_at(text, 0) == b'[' {
-        return listed_codes(alloc, from, text);
+        return codes_in_brackets(alloc, from, text);
     }
     if ends_ignore(text) {
         Ok(Some(Codes::All))
@@ -153,16 +153,16 @@ fn after_word<'a>(word: &[u8], at: Rest<'a>) -> Option<Rest<'a>>
     })
 }
 
-/// What a comment that begins at a byte silences.
-#[tactic(auto, unfolding(crate::specs::Ignores::silenced))]
-pub(crate) fn silenced(
+/// What a comment that begins at a byte suppresses.
+#[tactic(auto, unfolding(crate::specs::Ignores::suppressed))]
+pub(crate) fn suppressed(
     alloc: Global,
     from: usize,
     comment: &[u8],
 ) -> Result<Option<Codes>, AllocError>
     requires within { from + length comment.now < 2 ^ 63 }
     requires hash { 0 < length comment.now }
-    ensures { IfOk result (λ codes. option_map codes_in codes ≡ spec.silenced from comment.now) }
+    ensures { IfOk result (λ codes. option_map codes_in codes ≡ spec.suppressed from comment.now) }
 {
     let (_, text) = comment.split_at(1);
     let Some(rest) = after_word(

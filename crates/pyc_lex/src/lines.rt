@@ -12,11 +12,12 @@ ghost use Rattle.pyc_lex.specs.Texts.{tokens_of, token_texts, slice_at, IsTextSp
 use crate::fault::LexFault;
 use crate::logical_lines::Scan;
 use crate::reader::Reader;
-use pyc_token::{Span, cut};
+use pyc_token::{Span, cut_first_lexeme};
 use std::alloc::Global;
 use std::str;
 
-/// The text of a token: the bytes of a source at its span. It takes no memory.
+/// The text of a token: the bytes of a source at its span. It takes no memory. The call is for users of the library:
+/// the program does not make it.
 pub fn ident(bytes: &[u8], span: Span) -> &str
     requires { IsTextSpan bytes.now span }
     ensures { result.now ≡ slice_range bytes.now span.start span.end }
@@ -51,7 +52,7 @@ fn read(alloc: Global, from: usize, text: &str) -> Result<Scan, LexFault>
         if rest.is_empty() {
             break;
         }
-        match cut(rest) {
+        match cut_first_lexeme(rest) {
             Ok((lexeme, len)) => {
                 let (front, left) = rest.split_at(len);
                 reader.step(alloc, lexeme, front)?;

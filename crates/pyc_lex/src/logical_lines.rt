@@ -13,7 +13,7 @@ pub struct LogicalLine {
     pub ghost not_empty: { 0 < vec_len tokens },
 }
 
-/// Which errors an ignore comment silences.
+/// Which errors an ignore comment suppresses.
 #[derive(Debug, Drop)]
 pub enum Codes {
     /// All of them.

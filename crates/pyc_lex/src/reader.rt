@@ -5,11 +5,11 @@ ghost use Rattle.pyc_lex.specs.Lines as spec;
 
 use crate::brackets::Opened;
 use crate::fault::LexFault;
-use crate::ignores::silenced;
+use crate::ignores::suppressed;
 use crate::indents::Columns;
 use crate::logical_lines::{Codes, Ignore, LogicalLine, Scan};
 use crate::positions::Position;
-use crate::stack::{innermost, meet, settle};
+use crate::stack::{innermost, meet_bracket, settle_indent};
 use pyc_token::{CutFault, Kind, Lexeme, Span, Token, kind_of_name};
 use std::alloc::{AllocError, Global};
 
@@ -37,7 +37,7 @@ pub(crate) struct Reader {
 impl Reader {
     ghost use Rattle.pyc_lex.specs.View.{Leads, lexis_in, codes_in, AnswersScan};
     ghost use Rattle.pyc_lex.specs.Reader.{reading_of};
-    ghost use Rattle.pyc_lex.specs.Ignores.{silenced};
+    ghost use Rattle.pyc_lex.specs.Ignores.{suppressed};
 
     /// The reader at the start of a text that begins at a byte of the source.
     pub fn new(alloc: Global, from: usize) -> Result<Reader, AllocError>
@@ -73,7 +73,7 @@ impl Reader {
         ensures { Leads (spec.line_settled (reading_of self.old)) result (reading_of self.new) }
     {
         if self.begun.is_empty() {
-            settle(&mut self.indents, self.margin, self.position.line)?;
+            settle_indent(&mut self.indents, self.margin, self.position.line)?;
         }
         Ok(())
     }
@@ -108,7 +108,7 @@ impl Reader {
         if self.begun.is_empty() {
             self.settle_line()?;
         }
-        meet(&mut self.brackets, kind, self.position.line)?;
+        meet_bracket(&mut self.brackets, kind, self.position.line)?;
         self.push_token(kind, text)?;
         Ok(())
     }
@@ -161,9 +161,9 @@ impl Reader {
         requires within { self.old.from + length text.now < 2 ^ 63 }
         requires hash { 0 < length text.now }
         ensures { OnOk result (reading_of self.new
-            ≡ spec.moved (spec.with_ignore (reading_of self.old) (silenced self.old.from text.now)) text.now) }
+            ≡ spec.moved (spec.with_ignore (reading_of self.old) (suppressed self.old.from text.now)) text.now) }
     {
-        if let Some(codes) = silenced(alloc, self.from, text)? {
+        if let Some(codes) = suppressed(alloc, self.from, text)? {
             self.add_ignore(codes)?;
         }
         self.advance(text);

@@ -53,7 +53,11 @@ fn pop(stack: &mut Vec<Columns>, at: Columns, line: usize) -> Result<(), LexFaul
 
 /// The stack for a line that begins at these columns.
 #[tactic(auto, unfolding(crate::specs::Indents::settled))]
-pub(crate) fn settle(stack: &mut Vec<Columns>, at: Columns, line: usize) -> Result<(), LexFault>
+pub(crate) fn settle_indent(
+    stack: &mut Vec<Columns>,
+    at: Columns,
+    line: usize,
+) -> Result<(), LexFault>
     ensures { Leads (indents.settled stack.old.items at line) result stack.new.items }
 {
     let top = top_of(stack);
@@ -116,7 +120,11 @@ fn close(brackets: &mut Vec<Opened>, sort: Bracket, line: usize) -> Result<(), L
 
 /// The brackets that are open after a token.
 #[tactic(auto, unfolding(crate::specs::Lines::bracketed))]
-pub(crate) fn meet(brackets: &mut Vec<Opened>, kind: Kind, line: usize) -> Result<(), LexFault>
+pub(crate) fn meet_bracket(
+    brackets: &mut Vec<Opened>,
+    kind: Kind,
+    line: usize,
+) -> Result<(), LexFault>
     ensures { Leads (lines.bracketed brackets.old.items kind line) result brackets.new.items }
 {
     match kind {

@@ -160,7 +160,7 @@ const FAULTS: &[(&[u8], LexFault)] = &[
 ];
 
 #[test]
-fn tells_the_first_fault(rt: HostRuntime) {
+fn reports_the_first_fault(rt: HostRuntime) {
     for (source, want) in FAULTS {
         assert_eq!(rt; scan(rt.alloc(), source).err(), Some(*want));
     }

@@ -1,4 +1,5 @@
--- Each well-formed tree is read back from its tokens: what that says of expressions of a precedence, and how trees begin.
+-- Each well-formed tree is read back from its tokens: what that says of expressions of a precedence, and how trees
+-- begin.
 use Rattle.std.proofs.Common.{◌≡◌, refl, ap, ◌∙◌, ℕ, ◌≤◌, ◌<◌, Bool, true, false, ◌||◌, List, [], ◌∷◌, ◌++◌, Some, append_assoc, arith}
 use Rattle.pyc_token.specs.declared.tokens.Kind.{Kind}
 use Rattle.pyc_token.specs.declared.tokens.Token.{Token}

@@ -28,7 +28,7 @@ use Rattle.pyc_line.proofs.CompleteTools.{step, yes, no, same_as, apart, expecte
 use Rattle.pyc_line.proofs.CompleteTables.{ends, is_close, comprehension_follows, either}
 use Rattle.pyc_line.proofs.Complete.{Full, opens, begins_item}
 use Rattle.pyc_line.proofs.CompleteItems.{item_full}
-use Rattle.pyc_line.proofs.CompleteLists.{Listed, listed_full, yielded_full, comprehensions_full, comprehensions_begin, one_item}
+use Rattle.pyc_line.proofs.CompleteLists.{Listed, parse_items_from_full, yield_expression_full, comprehensions_full, comprehensions_begin, one_item}
 
 -- ---- between curly brackets
 
@@ -115,7 +115,7 @@ module _ (S : ℕ → Parser Tree) (d : ℕ) (full : Full S d) (low : suc d ≤ 
   parentheses_none : (opening closing : Token) (rest : List Token) → closing.kind ≡ kind.Close bracket.Round
       → height (tree.display display_kind.Tuple opening tree.none closing) ≤ suc d
       → grammar.parentheses S (opening ∷ closing ∷ rest) ≡ Some (tree.display display_kind.Tuple opening tree.none closing, rest)
-  unfolding grammar.parentheses rule.empty take_one
+  unfolding grammar.parentheses rule.parse_empty_brackets take_one
   parentheses_none opening closing rest is small =
       yes _ _ (same_kind closing.kind (kind.Close bracket.Round)) (closing ∷ rest) _ (same_as closing.kind (kind.Close bracket.Round) is)
       (made_low (tree.display display_kind.Tuple opening tree.none closing) rest (omega (arith, small, low)))
@@ -123,13 +123,13 @@ module _ (S : ℕ → Parser Tree) (d : ℕ) (full : Full S d) (low : suc d ≤ 
   brackets_none : (sign : Bracket) (opening closing : Token) (rest : List Token) → closing.kind ≡ kind.Close sign
       → height (tree.display (empty_display_kind sign) opening tree.none closing) ≤ suc d
       → grammar.brackets S sign (opening ∷ closing ∷ rest) ≡ Some (tree.display (empty_display_kind sign) opening tree.none closing, rest)
-  unfolding grammar.brackets rule.empty take_one
+  unfolding grammar.brackets rule.parse_empty_brackets take_one
   brackets_none sign opening closing rest is small =
       yes _ _ (same_kind closing.kind (kind.Close sign)) (closing ∷ rest) _ (same_as closing.kind (kind.Close sign) is)
       (made_low (tree.display (empty_display_kind sign) opening tree.none closing) rest (omega (arith, small, low)))
 
   pub parentheses_filled : (opening : Token) (ts : List Token) (r : Parsed Tree) → begins list_context.Items (kind_of ts) ≡ true
-      → rule.filled S bracket.Round opening ts ≡ r → grammar.parentheses S (opening ∷ ts) ≡ r
+      → rule.parse_filled_brackets S bracket.Round opening ts ≡ r → grammar.parentheses S (opening ∷ ts) ≡ r
   unfolding grammar.parentheses take_one
   parentheses_filled opening ts r begun next =
       no _ _ (same_kind (kind_of ts) (kind.Close bracket.Round)) ts r (apart (begins list_context.Items) (kind_of ts) (kind.Close bracket.Round) begun refl)
@@ -141,13 +141,13 @@ module _ (S : ℕ → Parser Tree) (d : ℕ) (full : Full S d) (low : suc d ≤ 
   never_shut bracket.Curly = refl
 
   brackets_filled : (sign : Bracket) (opening : Token) (ts : List Token) (r : Parsed Tree) → begins (context_in sign) (kind_of ts) ≡ true
-      → rule.filled S sign opening ts ≡ r → grammar.brackets S sign (opening ∷ ts) ≡ r
+      → rule.parse_filled_brackets S sign opening ts ≡ r → grammar.brackets S sign (opening ∷ ts) ≡ r
   unfolding grammar.brackets take_one
   brackets_filled sign opening ts r begun next =
       no _ _ (same_kind (kind_of ts) (kind.Close sign)) ts r (apart (begins (context_in sign)) (kind_of ts) (kind.Close sign) begun (never_shut sign)) next
 
   bracketed_filled : (sign : Bracket) (opening : Token) (ts : List Token) (r : Parsed Tree) → begins (context_in sign) (kind_of ts) ≡ true
-      → rule.filled S sign opening ts ≡ r → bracketed sign (opening ∷ ts) ≡ r
+      → rule.parse_filled_brackets S sign opening ts ≡ r → bracketed sign (opening ∷ ts) ≡ r
   bracketed_filled bracket.Round opening ts r begun next = parentheses_filled opening ts r begun next
   bracketed_filled bracket.Square opening ts r begun next = brackets_filled bracket.Square opening ts r begun next
   bracketed_filled bracket.Curly opening ts r begun next = brackets_filled bracket.Curly opening ts r begun next
@@ -156,12 +156,12 @@ module _ (S : ℕ → Parser Tree) (d : ℕ) (full : Full S d) (low : suc d ≤ 
 
   filled_listed : (sign : Bracket) (opening : Token) (found : Pieces) (closing : Token) (ts rest : List Token) (r : Parsed Tree)
       → (all : Listed S (context_in sign) ts found (closing ∷ rest)) → closing.kind ≡ kind.Close sign
-      → rule.enclosed S sign all.first opening found closing rest ≡ r → rule.filled S sign opening ts ≡ r
-  unfolding rule.filled rule.displayed
+      → rule.enclosed S sign all.first opening found closing rest ≡ r → rule.parse_filled_brackets S sign opening ts ≡ r
+  unfolding rule.parse_filled_brackets rule.parse_display
   filled_listed sign opening found closing ts rest r all is next =
       step (rule.item S (context_in sign) ts) _ all.first all.later r all.starts
       (no _ _ (begins_comprehension (kind_of all.later)) all.later r all.no_comprehension
-      (step (rule.listed S (context_in sign) all.first all.later) _ found (closing ∷ rest) r all.lists
+      (step (rule.parse_items_from S (context_in sign) all.first all.later) _ found (closing ∷ rest) r all.lists
       (step (expect (kind.Close sign) (closing ∷ rest)) _ closing rest r (expected (kind.Close sign) closing rest is) next)))
 
   close_ends : (here : ListContext) (sign : Bracket) (k : Kind) → k ≡ kind.Close sign → ends here k ≡ true
@@ -175,7 +175,7 @@ module _ (S : ℕ → Parser Tree) (d : ℕ) (full : Full S d) (low : suc d ≤ 
       → bracketed sign (opening ∷ (pieces_yield found ++ (closing ∷ rest))) ≡ Some (tree.display shown opening found closing, rest)
   unfolding height
   items_full sign shown opening found closing rest some well is small encloses =
-      let all = listed_full S d full low_items (context_in sign) found (closing ∷ rest) some well (omega (arith, small)) (close_ends (context_in sign) sign closing.kind is) in
+      let all = parse_items_from_full S d full low_items (context_in sign) found (closing ∷ rest) some well (omega (arith, small)) (close_ends (context_in sign) sign closing.kind is) in
       bracketed_filled sign opening (pieces_yield found ++ (closing ∷ rest)) _ all.begun
       (filled_listed sign opening found closing (pieces_yield found ++ (closing ∷ rest)) rest _ all is
       (encloses all.first all.same ∙ made_low (tree.display shown opening found closing) rest (omega (arith, small, low))))
@@ -231,12 +231,12 @@ module _ (S : ℕ → Parser Tree) (d : ℕ) (full : Full S d) (low : suc d ≤ 
       (ap (λ k. same_kind k (kind.Close bracket.Round)) begun)
       (yes _ _ (same_kind (kind_of (yield_of e ++ (closing ∷ rest))) (kind.Keyword word.Yield)) (yield_of e ++ (closing ∷ rest)) _
       (same_as _ (kind.Keyword word.Yield) begun)
-      (step (rule.yielded S (yield_of e ++ (closing ∷ rest))) _ e (closing ∷ rest) _
-      (yielded_full S d full low_items e (closing ∷ rest) yields well.3 (omega (arith, small)) (close_ends list_context.Items bracket.Round closing.kind well.1))
+      (step (rule.yield_expression S (yield_of e ++ (closing ∷ rest))) _ e (closing ∷ rest) _
+      (yield_expression_full S d full low_items e (closing ∷ rest) yields well.3 (omega (arith, small)) (close_ends list_context.Items bracket.Round closing.kind well.1))
       (step (expect (kind.Close bracket.Round) (closing ∷ rest)) _ closing rest _ (expected (kind.Close bracket.Round) closing rest well.1)
       (made_low (tree.parenthesized opening e closing) rest (omega (arith, small, low)))))))
       (λ high.
-      let all = listed_full S d full low_items list_context.Items (tree.last e) (closing ∷ rest) refl (one_item e high, well.3, refl) (omega (arith, small))
+      let all = parse_items_from_full S d full low_items list_context.Items (tree.last e) (closing ∷ rest) refl (one_item e high, well.3, refl) (omega (arith, small))
       (close_ends list_context.Items bracket.Round closing.kind well.1) in
       parentheses_filled opening (yield_of e ++ (closing ∷ rest)) _ all.begun
       (filled_listed bracket.Round opening (tree.last e) closing (yield_of e ++ (closing ∷ rest)) rest _ all well.1
@@ -247,9 +247,9 @@ module _ (S : ℕ → Parser Tree) (d : ℕ) (full : Full S d) (low : suc d ≤ 
   filled_comprehensions : (sign : Bracket) (opening : Token) (e : Tree) (found : Comprehensions) (closing : Token) (rest : List Token) → fits (context_in sign) e ≡ true
       → IsWell e → is_element (display_kind_of sign e) e ≡ true → has_for found ≡ true → AreComprehensions found → closing.kind ≡ kind.Close sign
       → height (tree.comprehension_display (display_kind_of sign e) opening e found closing) ≤ suc d
-      → rule.filled S sign opening (yield_of e ++ (comprehensions_yield found ++ (closing ∷ rest)))
+      → rule.parse_filled_brackets S sign opening (yield_of e ++ (comprehensions_yield found ++ (closing ∷ rest)))
       ≡ Some (tree.comprehension_display (display_kind_of sign e) opening e found closing, rest)
-  unfolding rule.filled rule.comprehended height
+  unfolding rule.parse_filled_brackets rule.parse_comprehension_display height
   filled_comprehensions sign opening e found closing rest fit well element headed are is small =
       let begun : begins_comprehension (kind_of (comprehensions_yield found ++ (closing ∷ rest))) ≡ true = comprehensions_begin found (closing ∷ rest) are headed in
       step (rule.item S (context_in sign) (yield_of e ++ (comprehensions_yield found ++ (closing ∷ rest)))) _ e (comprehensions_yield found ++ (closing ∷ rest)) _
@@ -303,31 +303,31 @@ module _ (S : ℕ → Parser Tree) (d : ℕ) (full : Full S d) (low : suc d ≤ 
 
   call_items : (callee : Tree) (opening : Token) (found : Pieces) (closing : Token) (ts rest : List Token)
       → Listed S list_context.Arguments ts found (closing ∷ rest) → closing.kind ≡ kind.Close bracket.Round → height (tree.call callee opening found closing) ≤ suc d
-      → rule.called S callee (opening ∷ ts) ≡ Some (tree.call callee opening found closing, rest)
-  unfolding rule.called rule.call_filled rule.called_with take_one
+      → rule.parse_call S callee (opening ∷ ts) ≡ Some (tree.call callee opening found closing, rest)
+  unfolding rule.parse_call rule.parse_filled_call rule.parse_call_arguments take_one
   call_items callee opening found closing ts rest all is small =
       no _ _ (same_kind (kind_of ts) (kind.Close bracket.Round)) ts _ (apart (begins list_context.Arguments) (kind_of ts) (kind.Close bracket.Round) all.begun refl)
       (step (rule.item S list_context.Arguments ts) _ all.first all.later _ all.starts
       (no _ _ (begins_comprehension (kind_of all.later)) all.later _ all.no_comprehension
-      (step (rule.listed S list_context.Arguments all.first all.later) _ found (closing ∷ rest) _ all.lists
+      (step (rule.parse_items_from S list_context.Arguments all.first all.later) _ found (closing ∷ rest) _ all.lists
       (step (expect (kind.Close bracket.Round) (closing ∷ rest)) _ closing rest _ (expected (kind.Close bracket.Round) closing rest is)
       (made_low (tree.call callee opening found closing) rest (omega (arith, small, low)))))))
 
   call_listed : (callee : Tree) (opening : Token) (found : Pieces) (closing : Token) (rest : List Token) → has_item found ≡ true
       → ArePieces list_context.Arguments found → closing.kind ≡ kind.Close bracket.Round → height (tree.call callee opening found closing) ≤ suc d
-      → rule.called S callee (opening ∷ (pieces_yield found ++ (closing ∷ rest))) ≡ Some (tree.call callee opening found closing, rest)
+      → rule.parse_call S callee (opening ∷ (pieces_yield found ++ (closing ∷ rest))) ≡ Some (tree.call callee opening found closing, rest)
   unfolding height
   call_listed callee opening found closing rest some well is small =
       call_items callee opening found closing (pieces_yield found ++ (closing ∷ rest)) rest
-      (listed_full S d full low_items list_context.Arguments found (closing ∷ rest) some well (omega (arith, small))
+      (parse_items_from_full S d full low_items list_context.Arguments found (closing ∷ rest) some well (omega (arith, small))
       (close_ends list_context.Arguments bracket.Round closing.kind is)) is small
 
   call_generator : (callee : Tree) (opening : Token) (e : Tree) (found : Comprehensions) (closing : Token) (rest : List Token)
       → 1 ≤ precedence e → IsWell e → has_for found ≡ true → AreComprehensions found → closing.kind ≡ kind.Close bracket.Round
       → height (tree.call callee opening (tree.last (tree.argument (tree.generator e found))) closing) ≤ suc d
-      → rule.called S callee (opening ∷ (yield_of e ++ (comprehensions_yield found ++ (closing ∷ rest))))
+      → rule.parse_call S callee (opening ∷ (yield_of e ++ (comprehensions_yield found ++ (closing ∷ rest))))
       ≡ Some (tree.call callee opening (tree.last (tree.argument (tree.generator e found))) closing, rest)
-  unfolding rule.called rule.call_filled take_one IsWell yield_of height
+  unfolding rule.parse_call rule.parse_filled_call take_one IsWell yield_of height
   call_generator callee opening e found closing rest high well headed are is small =
       let begun : begins_comprehension (kind_of (comprehensions_yield found ++ (closing ∷ rest))) ≡ true = comprehensions_begin found (closing ∷ rest) are headed in
       no _ _ (same_kind (kind_of (yield_of e ++ (comprehensions_yield found ++ (closing ∷ rest)))) (kind.Close bracket.Round))
@@ -345,40 +345,40 @@ module _ (S : ℕ → Parser Tree) (d : ℕ) (full : Full S d) (low : suc d ≤ 
       (made_low (tree.argument (tree.generator e found)) rest (omega (arith, small, low)))
       (made_low (tree.call callee opening (tree.last (tree.argument (tree.generator e found))) closing) rest (omega (arith, small, low)))))))))
 
-  call_empty : (callee : Tree) (opening closing : Token) (rest : List Token) → closing.kind ≡ kind.Close bracket.Round
+  parse_empty_call : (callee : Tree) (opening closing : Token) (rest : List Token) → closing.kind ≡ kind.Close bracket.Round
       → height (tree.call callee opening tree.none closing) ≤ suc d
-      → rule.called S callee (opening ∷ closing ∷ rest) ≡ Some (tree.call callee opening tree.none closing, rest)
-  unfolding rule.called rule.call_empty take_one
-  call_empty callee opening closing rest is small =
+      → rule.parse_call S callee (opening ∷ closing ∷ rest) ≡ Some (tree.call callee opening tree.none closing, rest)
+  unfolding rule.parse_call rule.parse_empty_call take_one
+  parse_empty_call callee opening closing rest is small =
       yes _ _ (same_kind closing.kind (kind.Close bracket.Round)) (closing ∷ rest) _ (same_as closing.kind (kind.Close bracket.Round) is)
       (made_low (tree.call callee opening tree.none closing) rest (omega (arith, small, low)))
 
-  pub called_full : (callee : Tree) (opening : Token) (found : Pieces) (closing : Token) (rest : List Token)
+  pub parse_call_full : (callee : Tree) (opening : Token) (found : Pieces) (closing : Token) (rest : List Token)
       → AreArguments found → closing.kind ≡ kind.Close bracket.Round → height (tree.call callee opening found closing) ≤ suc d
-      → rule.called S callee (opening ∷ (pieces_yield found ++ (closing ∷ rest))) ≡ Some (tree.call callee opening found closing, rest)
+      → rule.parse_call S callee (opening ∷ (pieces_yield found ++ (closing ∷ rest))) ≡ Some (tree.call callee opening found closing, rest)
   unfolding IsWell yield_of is_generated
-  called_full callee opening tree.none closing rest are is small = call_empty callee opening closing rest is small
-  called_full callee opening (tree.last (tree.argument (tree.generator e found))) closing rest are is small =
+  parse_call_full callee opening tree.none closing rest are is small = parse_empty_call callee opening closing rest is small
+  parse_call_full callee opening (tree.last (tree.argument (tree.generator e found))) closing rest are is small =
       rw (append_assoc (yield_of e) (comprehensions_yield found) (closing ∷ rest))
       (call_generator callee opening e found closing rest are.0 are.1 are.2 are.3 is small)
-  called_full callee opening found closing rest are is small =
+  parse_call_full callee opening found closing rest are is small =
       call_listed callee opening found closing rest refl (argument_pieces found are refl) is small
 
   subscript_items : (e : Tree) (opening : Token) (found : Pieces) (closing : Token) (ts rest : List Token)
       → Listed S list_context.Subscript ts found (closing ∷ rest) → closing.kind ≡ kind.Close bracket.Square → height (tree.subscript e opening found closing) ≤ suc d
-      → rule.subscripted S e (opening ∷ ts) ≡ Some (tree.subscript e opening found closing, rest)
-  unfolding rule.subscripted take_one
+      → rule.parse_subscript S e (opening ∷ ts) ≡ Some (tree.subscript e opening found closing, rest)
+  unfolding rule.parse_subscript take_one
   subscript_items e opening found closing ts rest all is small =
       step (rule.item S list_context.Subscript ts) _ all.first all.later _ all.starts
-      (step (rule.listed S list_context.Subscript all.first all.later) _ found (closing ∷ rest) _ all.lists
+      (step (rule.parse_items_from S list_context.Subscript all.first all.later) _ found (closing ∷ rest) _ all.lists
       (step (expect (kind.Close bracket.Square) (closing ∷ rest)) _ closing rest _ (expected (kind.Close bracket.Square) closing rest is)
       (made_low (tree.subscript e opening found closing) rest (omega (arith, small, low)))))
 
-  pub subscripted_full : (e : Tree) (opening : Token) (found : Pieces) (closing : Token) (rest : List Token) → has_item found ≡ true
+  pub parse_subscript_full : (e : Tree) (opening : Token) (found : Pieces) (closing : Token) (rest : List Token) → has_item found ≡ true
       → ArePieces list_context.Subscript found → closing.kind ≡ kind.Close bracket.Square → height (tree.subscript e opening found closing) ≤ suc d
-      → rule.subscripted S e (opening ∷ (pieces_yield found ++ (closing ∷ rest))) ≡ Some (tree.subscript e opening found closing, rest)
+      → rule.parse_subscript S e (opening ∷ (pieces_yield found ++ (closing ∷ rest))) ≡ Some (tree.subscript e opening found closing, rest)
   unfolding height
-  subscripted_full e opening found closing rest some well is small =
+  parse_subscript_full e opening found closing rest some well is small =
       subscript_items e opening found closing (pieces_yield found ++ (closing ∷ rest)) rest
-      (listed_full S d full low_items list_context.Subscript found (closing ∷ rest) some well (omega (arith, small))
+      (parse_items_from_full S d full low_items list_context.Subscript found (closing ∷ rest) some well (omega (arith, small))
       (close_ends list_context.Subscript bracket.Square closing.kind is)) is small

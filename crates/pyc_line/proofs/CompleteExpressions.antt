@@ -27,8 +27,8 @@ use Rattle.pyc_line.proofs.CompleteTools.{step, yes, no, same_as, apart, expecte
 use Rattle.pyc_line.proofs.CompleteTables.{begins_tight, ends, sign_stop, loose_stop, right_stop, compare_stop, left_string, comparison_string, comparison_left}
 use Rattle.pyc_line.proofs.Complete.{Full, opens_tight}
 use Rattle.pyc_line.proofs.CompleteItems.{both_first, both_second}
-use Rattle.pyc_line.proofs.CompleteLists.{some_items_full}
-use Rattle.pyc_line.proofs.CompleteBrackets.{bracketed, display_full, comprehension_full, parenthesized_full, called_full, subscripted_full}
+use Rattle.pyc_line.proofs.CompleteLists.{optional_items_full}
+use Rattle.pyc_line.proofs.CompleteBrackets.{bracketed, display_full, comprehension_full, parenthesized_full, parse_call_full, parse_subscript_full}
 
 -- ---- atoms
 
@@ -138,7 +138,7 @@ module _ (S : ℕ → Parser Tree) (d : ℕ) (full : Full S d) (low : suc d ≤ 
   by_constant m (kind.Delimiter delimiter.Ellipsis) is = refl
   by_constant m _ is = never is
 
-  by_sign : (m : ℕ) (k : Kind) → 1 ≤ prefix_precedence k → grammar.prefix_by S m k ≡ grammar.signed S m (prefix_precedence k)
+  by_sign : (m : ℕ) (k : Kind) → 1 ≤ prefix_precedence k → grammar.prefix_by S m k ≡ grammar.parse_unary S m (prefix_precedence k)
   by_sign m (kind.Keyword word.Not) some = refl
   by_sign m (kind.Arithmetic op.Plus) some = refl
   by_sign m (kind.Arithmetic op.Minus) some = refl
@@ -164,7 +164,7 @@ module _ (S : ℕ → Parser Tree) (d : ℕ) (full : Full S d) (low : suc d ≤ 
   unary_full : (m : ℕ) (sign : Token) (e : Tree) (rest : List Token) → IsWell (tree.unary sign e) → height (tree.unary sign e) ≤ suc d
       → m ≤ prefix_precedence sign.kind → left_precedence (kind_of rest) ≤ prefix_precedence sign.kind → is_string (kind_of rest) ≡ false
       → grammar.prefix S m (sign ∷ (yield_of e ++ rest)) ≡ Some (tree.unary sign e, rest)
-  unfolding grammar.prefix grammar.signed take_one IsWell height
+  unfolding grammar.prefix grammar.parse_unary take_one IsWell height
   unary_full m sign e rest well small high fits string =
       let own : ℕ = prefix_precedence sign.kind in
       ap (λ (p : Parser Tree). p (sign ∷ (yield_of e ++ rest))) (by_sign m sign.kind well.0)
@@ -176,7 +176,7 @@ module _ (S : ℕ → Parser Tree) (d : ℕ) (full : Full S d) (low : suc d ≤ 
   await_full : (m : ℕ) (t : Token) (e : Tree) (rest : List Token) → IsWell (tree.await t e) → height (tree.await t e) ≤ suc d
       → m ≤ 14 → left_precedence (kind_of rest) ≤ 14 → is_string (kind_of rest) ≡ false
       → grammar.prefix S m (t ∷ (yield_of e ++ rest)) ≡ Some (tree.await t e, rest)
-  unfolding grammar.awaited take_one IsWell height
+  unfolding grammar.await_expression take_one IsWell height
   await_full m t e rest well small high fits string =
       operand m t (yield_of e ++ rest) (kind.Keyword word.Await) _ well.0
       (no _ _ (nat_lt 14 m) (t ∷ (yield_of e ++ rest)) _ (le-ltb 14 m high)
@@ -191,8 +191,8 @@ module _ (S : ℕ → Parser Tree) (d : ℕ) (full : Full S d) (low : suc d ≤ 
   lambda_full m t found colon body rest well small high fits string =
       operand m t (pieces_yield found ++ (colon ∷ (yield_of body ++ rest))) (kind.Keyword word.Lambda) _ well.0
       (no _ _ (nat_lt 1 m) (t ∷ (pieces_yield found ++ (colon ∷ (yield_of body ++ rest)))) _ (le-ltb 1 m high)
-      (step (rule.some_items S (list_context.Parameters false) (pieces_yield found ++ (colon ∷ (yield_of body ++ rest)))) _ found (colon ∷ (yield_of body ++ rest)) _
-      (some_items_full S d full low_items (list_context.Parameters false) found (colon ∷ (yield_of body ++ rest)) well.1 (omega (arith, small))
+      (step (rule.optional_items S (list_context.Parameters false) (pieces_yield found ++ (colon ∷ (yield_of body ++ rest)))) _ found (colon ∷ (yield_of body ++ rest)) _
+      (optional_items_full S d full low_items (list_context.Parameters false) found (colon ∷ (yield_of body ++ rest)) well.1 (omega (arith, small))
       (ap (ends (list_context.Parameters false)) well.2))
       (step (expect (kind.Delimiter delimiter.Colon) (colon ∷ (yield_of body ++ rest))) _ colon (yield_of body ++ rest) _
       (expected (kind.Delimiter delimiter.Colon) colon (yield_of body ++ rest) well.2)
@@ -213,13 +213,13 @@ module _ (S : ℕ → Parser Tree) (d : ℕ) (full : Full S d) (low : suc d ≤ 
   unfolding grammar.operation
   operates left t later q r is next = ap (λ k. grammar.operation_by S left k (t ∷ later)) is ∙ next
 
-  by_operator : (left : Tree) (k : Kind) → 1 ≤ right_precedence k → grammar.operation_by S left k ≡ grammar.operated S left (right_precedence k)
+  by_operator : (left : Tree) (k : Kind) → 1 ≤ right_precedence k → grammar.operation_by S left k ≡ grammar.parse_binary S left (right_precedence k)
   by_operator left (kind.Keyword word.Or) some = refl
   by_operator left (kind.Keyword word.And) some = refl
   by_operator left (kind.Arithmetic o) some = refl
   by_operator left _ some = absurd (omega arith)
 
-  by_comparison : (left : Tree) (k : Kind) → is_comparison k ≡ true → grammar.operation_by S left k ≡ grammar.compared S left
+  by_comparison : (left : Tree) (k : Kind) → is_comparison k ≡ true → grammar.operation_by S left k ≡ grammar.parse_comparisons S left
   by_comparison left (kind.Keyword word.In) is = refl
   by_comparison left (kind.Keyword word.Is) is = refl
   by_comparison left (kind.Keyword word.Not) is = refl
@@ -229,7 +229,7 @@ module _ (S : ℕ → Parser Tree) (d : ℕ) (full : Full S d) (low : suc d ≤ 
   binary_full : (a : Tree) (sign : Token) (b : Tree) (rest : List Token) → IsWell (tree.binary a sign b) → height (tree.binary a sign b) ≤ suc d
       → left_precedence (kind_of rest) ≤ infix_precedence sign.kind → is_string (kind_of rest) ≡ false
       → grammar.operation S a (sign ∷ (yield_of b ++ rest)) ≡ Some (tree.binary a sign b, rest)
-  unfolding grammar.operation grammar.operated take_one IsWell height
+  unfolding grammar.operation grammar.parse_binary take_one IsWell height
   binary_full a sign b rest well small fits string =
       let right : ℕ = right_precedence sign.kind in
       ap (λ (p : Parser Tree). p (sign ∷ (yield_of b ++ rest))) (by_operator a sign.kind well.0)
@@ -294,7 +294,7 @@ module _ (S : ℕ → Parser Tree) (d : ℕ) (full : Full S d) (low : suc d ≤ 
       → IsWell (tree.compare a (tree.link first second e more)) → height (tree.compare a (tree.link first second e more)) ≤ suc d
       → left_precedence (kind_of rest) ≤ 5 → is_string (kind_of rest) ≡ false
       → grammar.operation S a (links_yield (tree.link first second e more) ++ rest) ≡ Some (tree.compare a (tree.link first second e more), rest)
-  unfolding grammar.operation grammar.compared grammar.all_links IsWell yield_of height
+  unfolding grammar.operation grammar.parse_comparisons grammar.all_links IsWell yield_of height
   compare_full a first second e more rest well small fits string =
       let found : Links = tree.link first second e more in
       ap (λ (p : Parser Tree). p (links_yield found ++ rest)) (by_comparison a first.kind well.2.0)
@@ -387,7 +387,7 @@ module _ (S : ℕ → Parser Tree) (d : ℕ) (full : Full S d) (low : suc d ≤ 
       (front e m us well.1 (omega (arith, small)) (omega (arith, high, well.0)) (omega (arith, well.0)) (omega (arith, well.0, ap left_precedence well.2))
       (ap is_string well.2)) (ap (opening ∷◌) (sym (append_assoc (pieces_yield found) (closing ∷ []) rest)))
       (operates e opening (pieces_yield found ++ (closing ∷ rest)) (kind.Open bracket.Round) _ well.2
-      (called_full S d full low e opening found closing rest well.4 well.3 small))
+      (parse_call_full S d full low e opening found closing rest well.4 well.3 small))
       (omega (arith, high, ap infix_precedence well.2)) refl (omega (arith, length-append (pieces_yield found) (closing ∷ rest)))
   front (tree.subscript e opening found closing) m rest well small high some fits string =
       let us : List Token = opening ∷ (pieces_yield found ++ (closing ∷ rest)) in
@@ -395,7 +395,7 @@ module _ (S : ℕ → Parser Tree) (d : ℕ) (full : Full S d) (low : suc d ≤ 
       (front e m us well.1 (omega (arith, small)) (omega (arith, high, well.0)) (omega (arith, well.0)) (omega (arith, well.0, ap left_precedence well.2))
       (ap is_string well.2)) (ap (opening ∷◌) (sym (append_assoc (pieces_yield found) (closing ∷ []) rest)))
       (operates e opening (pieces_yield found ++ (closing ∷ rest)) (kind.Open bracket.Square) _ well.2
-      (subscripted_full S d full low e opening found closing rest well.4 well.5 well.3 small))
+      (parse_subscript_full S d full low e opening found closing rest well.4 well.5 well.3 small))
       (omega (arith, high, ap infix_precedence well.2)) refl (omega (arith, length-append (pieces_yield found) (closing ∷ rest)))
   front (tree.binary a sign b) m rest well small high some fits string =
       let us : List Token = sign ∷ (yield_of b ++ rest) in

@@ -26,7 +26,7 @@ use Rattle.pyc_line.proofs.CompleteTools.{step, yes, no, same_as, expected, name
 use Rattle.pyc_line.proofs.CompleteTables.{ends, no_colon}
 use Rattle.pyc_line.proofs.Complete.{Full, opens}
 use Rattle.pyc_line.proofs.CompleteItems.{Halts, halts_as, after, tail_full}
-use Rattle.pyc_line.proofs.CompleteLists.{Listed, listed_full, some_items_full, expressions_full, targets_full}
+use Rattle.pyc_line.proofs.CompleteLists.{Listed, parse_items_from_full, optional_items_full, expressions_full, targets_full}
 use Rattle.pyc_line.proofs.CompleteNames.{alias_full}
 use Rattle.pyc_line.proofs.CompleteWith.{listed_managers}
 
@@ -116,14 +116,14 @@ module _ (S : ℕ → Parser Tree) (full : Full S max_height) (rule_of_with : Re
       (expressions_full S max_height full low e rest well.5 well.6 small (ap (ends list_context.Items) stop)) refl))
 
   except_full : (t : Token) (rest : List Token) → kind_of rest ≡ kind.Delimiter delimiter.Colon
-      → grammar.excepted S (t ∷ rest) ≡ Some (line.except t, rest)
-  unfolding grammar.excepted take_one
+      → grammar.except_header S (t ∷ rest) ≡ Some (line.except t, rest)
+  unfolding grammar.except_header take_one
   except_full t rest stop = yes _ _ (is_colon (kind_of rest)) rest _ (ap is_colon stop) refl
 
   except_of_full : (t : Token) (e : Tree) (found : Option Alias) (rest : List Token) → IsHeader (line.except_of t e found) → height e ≤ max_height
       → kind_of rest ≡ kind.Delimiter delimiter.Colon
-      → grammar.excepted S (t ∷ (yield_of e ++ (alias_yield found ++ rest))) ≡ Some (line.except_of t e found, rest)
-  unfolding grammar.excepted take_one same_kind IsHeader
+      → grammar.except_header S (t ∷ (yield_of e ++ (alias_yield found ++ rest))) ≡ Some (line.except_of t e found, rest)
+  unfolding grammar.except_header take_one same_kind IsHeader
   except_of_full t e found rest well small stop =
       let left : List Token = alias_yield found ++ rest in
       no _ _ (is_colon (kind_of (yield_of e ++ left))) (yield_of e ++ left) _ (no_colon _ (opens e left well.2 well.1))
@@ -137,28 +137,28 @@ module _ (S : ℕ → Parser Tree) (full : Full S max_height) (rule_of_with : Re
       ≡ Some (line.with_enclosed word_async t opening items closing, rest)
   unfolding grammar.with take_one IsHeader
   with_enclosed_full word_async t opening items closing rest well small stop =
-      ap (λ o. grammar.or_else o (grammar.with_open S word_async t (opening ∷ (pieces_yield items ++ (closing ∷ rest)))))
+      ap (λ o. grammar.or_else o (grammar.with_unenclosed S word_async t (opening ∷ (pieces_yield items ++ (closing ∷ rest)))))
       (listed_managers S full word_async t opening items closing (pieces_yield items ++ (closing ∷ rest)) rest
-      (listed_full S max_height full low list_context.WithItems items (closing ∷ rest) well.4 well.5 small (ap (ends list_context.WithItems) well.3))
+      (parse_items_from_full S max_height full low list_context.WithItems items (closing ∷ rest) well.4 well.5 small (ap (ends list_context.WithItems) well.3))
       well.2 well.3 (ap is_colon stop))
 
   open_listed : (word_async : Option Token) (t : Token) (items : Pieces) (ts rest : List Token) → Listed S list_context.WithItems ts items rest
       → ends_without_comma items ≡ true
-      → grammar.with_open S word_async t ts ≡ Some (line.with word_async t items, rest)
-  unfolding grammar.with_open grammar.with_items
+      → grammar.with_unenclosed S word_async t ts ≡ Some (line.with word_async t items, rest)
+  unfolding grammar.with_unenclosed grammar.with_items
   open_listed word_async t items ts rest all comma =
       step (grammar.with_items S ts) _ items rest _ (step (rule.item S list_context.WithItems ts) _ all.first all.later _ all.starts all.lists)
       (checked_holds (ends_without_comma items) (line.with word_async t items) rest comma)
 
-  with_open_full : (word_async : Option Token) (t : Token) (items : Pieces) (rest : List Token) → IsHeader (line.with word_async t items)
+  with_unenclosed_full : (word_async : Option Token) (t : Token) (items : Pieces) (rest : List Token) → IsHeader (line.with word_async t items)
       → pieces_height items ≤ max_height → kind_of rest ≡ kind.Delimiter delimiter.Colon
       → grammar.with S word_async (t ∷ (pieces_yield items ++ rest)) ≡ Some (line.with word_async t items, rest)
   unfolding grammar.with take_one IsHeader
-  with_open_full word_async t items rest well small stop =
-      ap (λ o. grammar.or_else o (grammar.with_open S word_async t (pieces_yield items ++ rest)))
+  with_unenclosed_full word_async t items rest well small stop =
+      ap (λ o. grammar.or_else o (grammar.with_unenclosed S word_async t (pieces_yield items ++ rest)))
       (rule_of_with.none word_async t items rest well.2 well.4 well.5 small stop)
       ∙ open_listed word_async t items (pieces_yield items ++ rest) rest
-      (listed_full S max_height full low list_context.WithItems items rest well.2 well.5 small (ap (ends list_context.WithItems) stop)) well.3
+      (parse_items_from_full S max_height full low list_context.WithItems items rest well.2 well.5 small (ap (ends list_context.WithItems) stop)) well.3
 
   function_full : (word_async : Option Token) (t name opening : Token) (parameters : Pieces) (closing : Token) (result : Tail) (rest : List Token)
       → IsHeader (line.def word_async t name opening parameters closing result) → pieces_height parameters ≤ max_height → tail_height result ≤ max_height
@@ -172,8 +172,8 @@ module _ (S : ℕ → Parser Tree) (full : Full S max_height) (rule_of_with : Re
       (name_expected name (opening ∷ (pieces_yield parameters ++ left)) well.2)
       (step (expect (kind.Open bracket.Round) (opening ∷ (pieces_yield parameters ++ left))) _ opening (pieces_yield parameters ++ left) _
       (expected (kind.Open bracket.Round) opening (pieces_yield parameters ++ left) well.3)
-      (step (rule.some_items S (list_context.Parameters true) (pieces_yield parameters ++ left)) _ parameters left _
-      (some_items_full S max_height full low (list_context.Parameters true) parameters left well.5 small (ap (ends (list_context.Parameters true)) well.4))
+      (step (rule.optional_items S (list_context.Parameters true) (pieces_yield parameters ++ left)) _ parameters left _
+      (optional_items_full S max_height full low (list_context.Parameters true) parameters left well.5 small (ap (ends (list_context.Parameters true)) well.4))
       (step (expect (kind.Close bracket.Round) left) _ closing (tail_yield result ++ rest) _
       (expected (kind.Close bracket.Round) closing (tail_yield result ++ rest) well.4)
       (step (rule.tail S (kind.Delimiter delimiter.Arrow) (tail_yield result ++ rest)) _ result rest _
@@ -195,8 +195,8 @@ module _ (S : ℕ → Parser Tree) (full : Full S max_height) (rule_of_with : Re
       let left : List Token = opening ∷ (pieces_yield arguments ++ (closing ∷ rest)) in
       step (expect_name (name ∷ left)) _ name left _ (name_expected name left well.1)
       (yes _ _ (same_kind opening.kind (kind.Open bracket.Round)) left _ (same_as opening.kind (kind.Open bracket.Round) well.2)
-      (step (rule.some_items S list_context.Arguments (pieces_yield arguments ++ (closing ∷ rest))) _ arguments (closing ∷ rest) _
-      (some_items_full S max_height full low list_context.Arguments arguments (closing ∷ rest) well.4 small (ap (ends list_context.Arguments) well.3))
+      (step (rule.optional_items S list_context.Arguments (pieces_yield arguments ++ (closing ∷ rest))) _ arguments (closing ∷ rest) _
+      (optional_items_full S max_height full low list_context.Arguments arguments (closing ∷ rest) well.4 small (ap (ends list_context.Arguments) well.3))
       (step (expect (kind.Close bracket.Round) (closing ∷ rest)) _ closing rest _ (expected (kind.Close bracket.Round) closing rest well.3) refl)))
 
   -- ---- any header
@@ -213,16 +213,16 @@ module _ (S : ℕ → Parser Tree) (full : Full S max_height) (rule_of_with : Re
       (line.for_each word_async t to word_in e) rest r well.0 well.1
       (for_each_full word_async t to word_in e rest well (omega (arith, small)) (omega (arith, small)) stop) next))
   header_full (line.except t) rest r well small stop next =
-      by_line t rest (kind.Keyword word.Except) r well (heads (grammar.excepted S) (t ∷ rest) (line.except t) rest r (except_full t rest stop) next)
+      by_line t rest (kind.Keyword word.Except) r well (heads (grammar.except_header S) (t ∷ rest) (line.except t) rest r (except_full t rest stop) next)
   header_full (line.except_of t e found) rest r well small stop next =
       rw (append_assoc (yield_of e) (alias_yield found) rest)
       (by_line t (yield_of e ++ (alias_yield found ++ rest)) (kind.Keyword word.Except) r well.0
-      (heads (grammar.excepted S) (t ∷ (yield_of e ++ (alias_yield found ++ rest))) (line.except_of t e found) rest r
+      (heads (grammar.except_header S) (t ∷ (yield_of e ++ (alias_yield found ++ rest))) (line.except_of t e found) rest r
       (except_of_full t e found rest well (omega (arith, small)) stop) next))
   header_full (line.with word_async t items) rest r well small stop next =
       rw (append_assoc (optional_token word_async) (t ∷ pieces_yield items) rest)
       (led (grammar.with S) (kind.Keyword word.With) refl (λ w. refl) word_async t (pieces_yield items ++ rest) (line.with word_async t items) rest r
-      well.0 well.1 (with_open_full word_async t items rest well (omega (arith, small)) stop) next)
+      well.0 well.1 (with_unenclosed_full word_async t items rest well (omega (arith, small)) stop) next)
   header_full (line.with_enclosed word_async t opening items closing) rest r well small stop next =
       rw (append_assoc (optional_token word_async) (t ∷ opening ∷ (pieces_yield items ++ closing ∷ [])) rest)
       (rw (append_assoc (pieces_yield items) (closing ∷ []) rest)

@@ -85,11 +85,11 @@ module _ (S : ℕ → Parser Tree) (d : ℕ) (full : Full S d) (low : d ≤ max_
       yes _ _ (same_kind t.kind k) (t ∷ (yield_of e ++ rest)) _ (same_as t.kind k well.0)
       (after 1 e rest _ _ well.2 small (omega arith) (precedence_at 1 e well.1) halts refl)
 
-  bound_full : (found : Perhaps) (rest : List Token) → MayBe (is_at 1) found → perhaps_height found ≤ d → Halts (kind_of rest)
-      → begins_expression (kind_of rest) ≡ false → rule.bound S (perhaps_yield found ++ rest) ≡ Some (found, rest)
-  unfolding rule.bound IsWell yield_of height
-  bound_full tree.absent rest well small halts other = no _ _ (begins_expression (kind_of rest)) rest _ other refl
-  bound_full (tree.present e) rest well small halts other =
+  optional_bound_full : (found : Perhaps) (rest : List Token) → MayBe (is_at 1) found → perhaps_height found ≤ d → Halts (kind_of rest)
+      → begins_expression (kind_of rest) ≡ false → rule.optional_bound S (perhaps_yield found ++ rest) ≡ Some (found, rest)
+  unfolding rule.optional_bound IsWell yield_of height
+  optional_bound_full tree.absent rest well small halts other = no _ _ (begins_expression (kind_of rest)) rest _ other refl
+  optional_bound_full (tree.present e) rest well small halts other =
       yes _ _ (begins_expression (kind_of (yield_of e ++ rest))) (yield_of e ++ rest) _ (opens e rest well.1 (precedence_at 1 e well.0))
       (after 1 e rest _ _ well.1 small (omega arith) (precedence_at 1 e well.0) halts refl)
 
@@ -103,14 +103,14 @@ module _ (S : ℕ → Parser Tree) (d : ℕ) (full : Full S d) (low : d ≤ max_
       step (S loosest (yield_of e ++ rest)) _ e rest _ (full.reads loosest e rest well.2 (omega (arith, small)) some high stop string)
       (made_low (tree.starred star e) rest (omega (arith, small, low)))
 
-  starred_or_full : (loosest : ℕ) (e : Tree) (rest : List Token) → IsWell e → height e ≤ d → 1 ≤ loosest → loosest ≤ 6 → stands_at loosest e ≡ true
+  starred_or_expression_full : (loosest : ℕ) (e : Tree) (rest : List Token) → IsWell e → height e ≤ d → 1 ≤ loosest → loosest ≤ 6 → stands_at loosest e ≡ true
       → infix_precedence (kind_of rest) < loosest → is_string (kind_of rest) ≡ false
-      → rule.starred_or S loosest (kind_of (yield_of e ++ rest)) (yield_of e ++ rest) ≡ Some (e, rest)
+      → rule.starred_or_expression S loosest (kind_of (yield_of e ++ rest)) (yield_of e ++ rest) ≡ Some (e, rest)
   unfolding IsWell yield_of
-  starred_or_full loosest (tree.starred star x) rest well small some few fit stop string =
+  starred_or_expression_full loosest (tree.starred star x) rest well small some few fit stop string =
       yes _ _ (is_star star.kind) (star ∷ (yield_of x ++ rest)) _ (ap is_star well.0)
       (starred_full 6 star x rest well small (omega arith) (precedence_at 6 x fit) (omega (arith, stop)) string)
-  starred_or_full loosest e rest well small some few fit stop string =
+  starred_or_expression_full loosest e rest well small some few fit stop string =
       let high : loosest ≤ precedence e = precedence_at loosest e fit in
       no _ _ (is_star (kind_of (yield_of e ++ rest))) (yield_of e ++ rest) _ (no_star _ (opens e rest well (omega (arith, high))))
       (full.reads loosest e rest well small some high stop string)
@@ -124,8 +124,8 @@ module _ (S : ℕ → Parser Tree) (d : ℕ) (full : Full S d) (low : d ≤ max_
 
   entry_full : (key : Tree) (colon : Token) (value : Tree) (rest : List Token) → IsWell (tree.entry key colon value)
       → height (tree.entry key colon value) ≤ d → Halts (kind_of rest)
-      → rule.keyed S (yield_of key ++ (colon ∷ (yield_of value ++ rest))) ≡ Some (tree.entry key colon value, rest)
-  unfolding rule.keyed take_one IsWell height
+      → rule.element_or_entry S (yield_of key ++ (colon ∷ (yield_of value ++ rest))) ≡ Some (tree.entry key colon value, rest)
+  unfolding rule.element_or_entry take_one IsWell height
   entry_full key colon value rest well small halts =
       after 1 key (colon ∷ (yield_of value ++ rest)) _ _ well.1 (omega (arith, small)) (omega arith) well.0
       (halts_as colon.kind (kind.Delimiter delimiter.Colon) well.2 refl refl)
@@ -134,8 +134,8 @@ module _ (S : ℕ → Parser Tree) (d : ℕ) (full : Full S d) (low : d ≤ max_
       (made_low (tree.entry key colon value) rest (omega (arith, small, low)))))
 
   element_full : (e : Tree) (rest : List Token) → IsWell e → height e ≤ d → 1 ≤ precedence e → Plain (kind_of rest)
-      → rule.brace_by S (kind_of (yield_of e ++ rest)) (yield_of e ++ rest) ≡ Some (e, rest)
-  unfolding rule.keyed
+      → rule.brace_item_by_kind S (kind_of (yield_of e ++ rest)) (yield_of e ++ rest) ≡ Some (e, rest)
+  unfolding rule.element_or_entry
   element_full e rest well small high p =
       let begun : begins_expression (kind_of (yield_of e ++ rest)) ≡ true = opens e rest well high in
       no _ _ (is_star (kind_of (yield_of e ++ rest))) (yield_of e ++ rest) _ (no_star _ begun)
@@ -144,7 +144,7 @@ module _ (S : ℕ → Parser Tree) (d : ℕ) (full : Full S d) (low : d ≤ max_
       (no _ _ (is_colon (kind_of rest)) rest _ p.colon refl)))
 
   brace_full : (e : Tree) (rest : List Token) → (is_item e || is_entry e) ≡ true → IsWell e → height e ≤ d → Plain (kind_of rest)
-      → rule.brace_by S (kind_of (yield_of e ++ rest)) (yield_of e ++ rest) ≡ Some (e, rest)
+      → rule.brace_item_by_kind S (kind_of (yield_of e ++ rest)) (yield_of e ++ rest) ≡ Some (e, rest)
   unfolding IsWell yield_of
   brace_full (tree.starred star x) rest fit well small p =
       yes _ _ (is_star star.kind) (star ∷ (yield_of x ++ rest)) _ (ap is_star well.0)
@@ -164,7 +164,7 @@ module _ (S : ℕ → Parser Tree) (d : ℕ) (full : Full S d) (low : d ≤ max_
   -- ---- arguments
 
   argument_full : (e : Tree) (rest : List Token) → is_argument e ≡ true → IsWell e → height e ≤ d → Plain (kind_of rest)
-      → rule.argument_by S (kind_of (yield_of e ++ rest)) (yield_of e ++ rest) ≡ Some (e, rest)
+      → rule.argument_by_kind S (kind_of (yield_of e ++ rest)) (yield_of e ++ rest) ≡ Some (e, rest)
   unfolding rule.double_starred rule.argument take_one IsWell yield_of height
   argument_full (tree.starred star x) rest fit well small p =
       yes _ _ (is_star star.kind) (star ∷ (yield_of x ++ rest)) _ (ap is_star well.0)
@@ -194,32 +194,32 @@ module _ (S : ℕ → Parser Tree) (d : ℕ) (full : Full S d) (low : d ≤ max_
 
   -- ---- indices
 
-  sliced_full : (lower : Perhaps) (colon : Token) (upper : Perhaps) (rest : List Token) → IsWell (tree.slice lower colon upper)
+  parse_slice_full : (lower : Perhaps) (colon : Token) (upper : Perhaps) (rest : List Token) → IsWell (tree.slice lower colon upper)
       → height (tree.slice lower colon upper) ≤ d → Plain (kind_of rest)
-      → rule.sliced S lower (colon ∷ (perhaps_yield upper ++ rest)) ≡ Some (tree.slice lower colon upper, rest)
-  unfolding rule.sliced take_one IsWell height
-  sliced_full lower colon upper rest well small p =
-      step (rule.bound S (perhaps_yield upper ++ rest)) _ upper rest _
-      (bound_full upper rest well.2 (omega (arith, small)) (halts_plain p) p.begins)
+      → rule.parse_slice S lower (colon ∷ (perhaps_yield upper ++ rest)) ≡ Some (tree.slice lower colon upper, rest)
+  unfolding rule.parse_slice take_one IsWell height
+  parse_slice_full lower colon upper rest well small p =
+      step (rule.optional_bound S (perhaps_yield upper ++ rest)) _ upper rest _
+      (optional_bound_full upper rest well.2 (omega (arith, small)) (halts_plain p) p.begins)
       (no _ _ (is_colon (kind_of rest)) rest _ p.colon (made_low (tree.slice lower colon upper) rest (omega (arith, small, low))))
 
   stride_full : (lower : Perhaps) (colon : Token) (upper : Perhaps) (second : Token) (by : Perhaps) (rest : List Token)
       → IsWell (tree.stride lower colon upper second by)
       → height (tree.stride lower colon upper second by) ≤ d → Plain (kind_of rest)
-      → rule.sliced S lower (colon ∷ (perhaps_yield upper ++ (second ∷ (perhaps_yield by ++ rest)))) ≡ Some (tree.stride lower colon upper second by, rest)
-  unfolding rule.sliced take_one IsWell height
+      → rule.parse_slice S lower (colon ∷ (perhaps_yield upper ++ (second ∷ (perhaps_yield by ++ rest)))) ≡ Some (tree.stride lower colon upper second by, rest)
+  unfolding rule.parse_slice take_one IsWell height
   stride_full lower colon upper second by rest well small p =
-      step (rule.bound S (perhaps_yield upper ++ (second ∷ (perhaps_yield by ++ rest)))) _ upper (second ∷ (perhaps_yield by ++ rest)) _
-      (bound_full upper (second ∷ (perhaps_yield by ++ rest)) well.2 (omega (arith, small))
+      step (rule.optional_bound S (perhaps_yield upper ++ (second ∷ (perhaps_yield by ++ rest)))) _ upper (second ∷ (perhaps_yield by ++ rest)) _
+      (optional_bound_full upper (second ∷ (perhaps_yield by ++ rest)) well.2 (omega (arith, small))
       (halts_as second.kind (kind.Delimiter delimiter.Colon) well.3 refl refl) (ap begins_expression well.3))
       (yes _ _ (is_colon second.kind) (second ∷ (perhaps_yield by ++ rest)) _ (ap is_colon well.3)
-      (step (rule.bound S (perhaps_yield by ++ rest)) _ by rest _
-      (bound_full by rest well.4 (omega (arith, small)) (halts_plain p) p.begins)
+      (step (rule.optional_bound S (perhaps_yield by ++ rest)) _ by rest _
+      (optional_bound_full by rest well.4 (omega (arith, small)) (halts_plain p) p.begins)
       (made_low (tree.stride lower colon upper second by) rest (omega (arith, small, low)))))
 
   -- a slice after its lower bound, which is read
   bounded_full : (lower : Perhaps) (colon : Token) (later : List Token) (r : Parsed Tree) → MayBe (is_at 1) lower → perhaps_height lower ≤ d
-      → colon.kind ≡ kind.Delimiter delimiter.Colon → rule.sliced S lower (colon ∷ later) ≡ r
+      → colon.kind ≡ kind.Delimiter delimiter.Colon → rule.parse_slice S lower (colon ∷ later) ≡ r
       → rule.index S (perhaps_yield lower ++ (colon ∷ later)) ≡ r
   unfolding rule.index IsWell yield_of height
   bounded_full tree.absent colon later r well small is next = yes _ _ (is_colon colon.kind) (colon ∷ later) r (ap is_colon is) next
@@ -242,7 +242,7 @@ module _ (S : ℕ → Parser Tree) (d : ℕ) (full : Full S d) (low : d ≤ max_
   unfolding IsWell yield_of height
   index_full (tree.slice lower colon upper) rest fit well small p =
       rw (append_assoc (perhaps_yield lower) (colon ∷ perhaps_yield upper) rest)
-      (bounded_full lower colon (perhaps_yield upper ++ rest) _ well.0 (omega (arith, small)) well.1 (sliced_full lower colon upper rest well small p))
+      (bounded_full lower colon (perhaps_yield upper ++ rest) _ well.0 (omega (arith, small)) well.1 (parse_slice_full lower colon upper rest well small p))
   index_full (tree.stride lower colon upper second by) rest fit well small p =
       rw (append_assoc (perhaps_yield lower) (colon ∷ (perhaps_yield upper ++ second ∷ perhaps_yield by)) rest)
       (rw (append_assoc (perhaps_yield upper) (second ∷ perhaps_yield by) rest)
@@ -313,7 +313,7 @@ module _ (S : ℕ → Parser Tree) (d : ℕ) (full : Full S d) (low : d ≤ max_
       (made_low (tree.double_parameter stars name annotation) rest (omega (arith, small, low))))
 
   parameter_full : (b : Bool) (e : Tree) (rest : List Token) → is_parameter b e ≡ true → IsWell e → height e ≤ d → Bare b (kind_of rest)
-      → rule.parameter_by S b (kind_of (yield_of e ++ rest)) (yield_of e ++ rest) ≡ Some (e, rest)
+      → rule.parameter_by_kind S b (kind_of (yield_of e ++ rest)) (yield_of e ++ rest) ≡ Some (e, rest)
   unfolding IsWell yield_of
   parameter_full b (tree.star_parameter star name annotation) rest fit well small p =
       yes _ _ (is_star star.kind) (star ∷ name ∷ (tail_yield annotation ++ rest)) _ (ap is_star well.0)
@@ -353,45 +353,45 @@ module _ (S : ℕ → Parser Tree) (d : ℕ) (full : Full S d) (low : d ≤ max_
 
   -- ---- by context
 
-  item_by_full : (here : ListContext) (e : Tree) (rest : List Token) → fits here e ≡ true → IsWell e → height e ≤ d → follows here (kind_of rest) ≡ true
-      → rule.item_by S here (kind_of (yield_of e ++ rest)) (yield_of e ++ rest) ≡ Some (e, rest)
-  item_by_full list_context.Items e rest fit well small behind =
+  item_by_context_full : (here : ListContext) (e : Tree) (rest : List Token) → fits here e ≡ true → IsWell e → height e ≤ d → follows here (kind_of rest) ≡ true
+      → rule.item_by_context S here (kind_of (yield_of e ++ rest)) (yield_of e ++ rest) ≡ Some (e, rest)
+  item_by_context_full list_context.Items e rest fit well small behind =
       let p = after_items (kind_of rest) behind in
-      starred_or_full 1 e rest well small (omega arith) (omega arith) (item_stands e fit) (omega (arith, p.0)) p.1
-  item_by_full list_context.Targets e rest fit well small behind =
+      starred_or_expression_full 1 e rest well small (omega arith) (omega arith) (item_stands e fit) (omega (arith, p.0)) p.1
+  item_by_context_full list_context.Targets e rest fit well small behind =
       let p = after_targets (kind_of rest) behind in
-      starred_or_full 6 e rest well small (omega arith) (omega arith) (target_stands e fit) p.0 p.1
-  item_by_full list_context.Subscript e rest fit well small behind =
+      starred_or_expression_full 6 e rest well small (omega arith) (omega arith) (target_stands e fit) p.0 p.1
+  item_by_context_full list_context.Subscript e rest fit well small behind =
       index_full e rest fit well small (plain (kind_of rest) (or_first (is_common (kind_of rest)) false behind refl))
-  item_by_full list_context.WithItems e rest fit well small behind =
+  item_by_context_full list_context.WithItems e rest fit well small behind =
       let p = after_managers (kind_of rest) behind in
       managed_full e rest fit well small (record { loose = p.0; string = p.1 }) p.2
-  item_by_full list_context.Braces e rest fit well small behind =
+  item_by_context_full list_context.Braces e rest fit well small behind =
       brace_full e rest fit well small (plain (kind_of rest) (or_first (is_common (kind_of rest)) false behind refl))
-  item_by_full list_context.Set e rest fit well small behind =
+  item_by_context_full list_context.Set e rest fit well small behind =
       brace_full e rest (either_first (is_item e) (is_entry e) fit) well small
       (plain (kind_of rest) (or_first (is_common (kind_of rest)) false behind refl))
-  item_by_full list_context.Entries e rest fit well small behind =
+  item_by_context_full list_context.Entries e rest fit well small behind =
       brace_full e rest (either_second (is_item e) (is_entry e) fit) well small
       (plain (kind_of rest) (or_first (is_common (kind_of rest)) false behind refl))
-  item_by_full list_context.Arguments e rest fit well small behind =
+  item_by_context_full list_context.Arguments e rest fit well small behind =
       argument_full e rest fit well small (plain (kind_of rest) (or_first (is_common (kind_of rest)) false behind refl))
-  item_by_full list_context.KeywordArguments e rest fit well small behind =
+  item_by_context_full list_context.KeywordArguments e rest fit well small behind =
       argument_full e rest (keyword_any e fit) well small (plain (kind_of rest) (or_first (is_common (kind_of rest)) false behind refl))
-  item_by_full list_context.LastArguments e rest fit well small behind =
+  item_by_context_full list_context.LastArguments e rest fit well small behind =
       argument_full e rest (keyword_any e (last_keyword e fit)) well small
       (plain (kind_of rest) (or_first (is_common (kind_of rest)) false behind refl))
-  item_by_full (list_context.Parameters b) e rest fit well small behind = parameter_full b e rest fit well small (bare_parameters b (kind_of rest) behind)
-  item_by_full (list_context.AfterStar b) e rest fit well small behind =
+  item_by_context_full (list_context.Parameters b) e rest fit well small behind = parameter_full b e rest fit well small (bare_parameters b (kind_of rest) behind)
+  item_by_context_full (list_context.AfterStar b) e rest fit well small behind =
       parameter_full b e rest (late_any b e (plain_late b e fit)) well small (bare_after_star b (kind_of rest) behind)
-  item_by_full (list_context.KeywordOnly b) e rest fit well small behind =
+  item_by_context_full (list_context.KeywordOnly b) e rest fit well small behind =
       parameter_full b e rest (late_any b e fit) well small (bare_keyword_only b (kind_of rest) behind)
-  item_by_full list_context.Ended e rest fit well small behind = never fit
+  item_by_context_full list_context.Ended e rest fit well small behind = never fit
 
   -- an item that fits its place
   pub item_full : (here : ListContext) (e : Tree) (rest : List Token) → fits here e ≡ true → IsWell e → height e ≤ d → follows here (kind_of rest) ≡ true
       → rule.item S here (yield_of e ++ rest) ≡ Some (e, rest)
   unfolding rule.item
   item_full here e rest fit well small behind =
-      step (rule.item_by S here (kind_of (yield_of e ++ rest)) (yield_of e ++ rest)) _ e rest _ (item_by_full here e rest fit well small behind)
+      step (rule.item_by_context S here (kind_of (yield_of e ++ rest)) (yield_of e ++ rest)) _ e rest _ (item_by_context_full here e rest fit well small behind)
       (checked_holds (fits here e) e rest fit)

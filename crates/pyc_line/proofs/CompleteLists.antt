@@ -134,7 +134,7 @@ pub record Listed (S : ℕ → Parser Tree) (here : ListContext) (ts : List Toke
   pub later : List Token
   pub begun : begins here (kind_of ts) ≡ true
   pub starts : rule.item S here ts ≡ Some (first, later)
-  pub lists : rule.listed S here first later ≡ Some (found, rest)
+  pub lists : rule.parse_items_from S here first later ≡ Some (found, rest)
   pub no_comprehension : begins_comprehension (kind_of later) ≡ false
   pub same : first_of found ≡ Some first
 
@@ -181,11 +181,11 @@ module _ (S : ℕ → Parser Tree) (d : ℕ) (full : Full S d) (low : d ≤ max_
       (pieces_full more n (next_context here x) y between rest well.2 well.3 (omega (arith, small)) stop_there (omega (arith, few))) refl))))
 
   -- items, of which there is one
-  pub listed_full : (here : ListContext) (found : Pieces) (rest : List Token) → has_item found ≡ true → ArePieces here found → pieces_height found ≤ d
+  pub parse_items_from_full : (here : ListContext) (found : Pieces) (rest : List Token) → has_item found ≡ true → ArePieces here found → pieces_height found ≤ d
       → ends here (kind_of rest) ≡ true → Listed S here (pieces_yield found ++ rest) found rest
-  unfolding rule.listed IsWell yield_of height
-  listed_full here tree.none rest some well small stop = never some
-  listed_full here (tree.last x) rest some well small stop =
+  unfolding rule.parse_items_from IsWell yield_of height
+  parse_items_from_full here tree.none rest some well small stop = never some
+  parse_items_from_full here (tree.last x) rest some well small stop =
       record {
         first = x;
         later = rest;
@@ -195,7 +195,7 @@ module _ (S : ℕ → Parser Tree) (d : ℕ) (full : Full S d) (low : d ≤ max_
         no_comprehension = ends_comprehension here (kind_of rest) stop;
         same = refl;
       }
-  listed_full here (tree.piece x comma more) rest some well small stop =
+  parse_items_from_full here (tree.piece x comma more) rest some well small stop =
       let later : List Token = comma ∷ (pieces_yield more ++ rest) in
       rw (append_assoc (yield_of x) (comma ∷ pieces_yield more) rest)
       (record {
@@ -210,12 +210,12 @@ module _ (S : ℕ → Parser Tree) (d : ℕ) (full : Full S d) (low : d ≤ max_
       })
 
   -- items, if there is one
-  pub some_items_full : (here : ListContext) (found : Pieces) (rest : List Token) → ArePieces here found → pieces_height found ≤ d
-      → ends here (kind_of rest) ≡ true → rule.some_items S here (pieces_yield found ++ rest) ≡ Some (found, rest)
-  unfolding rule.some_items yield_of
-  some_items_full here tree.none rest well small stop = no _ _ (begins here (kind_of rest)) rest _ (ends_begins here (kind_of rest) stop) refl
-  some_items_full here found rest well small stop =
-      let all = listed_full here found rest refl well small stop in
+  pub optional_items_full : (here : ListContext) (found : Pieces) (rest : List Token) → ArePieces here found → pieces_height found ≤ d
+      → ends here (kind_of rest) ≡ true → rule.optional_items S here (pieces_yield found ++ rest) ≡ Some (found, rest)
+  unfolding rule.optional_items yield_of
+  optional_items_full here tree.none rest well small stop = no _ _ (begins here (kind_of rest)) rest _ (ends_begins here (kind_of rest) stop) refl
+  optional_items_full here found rest well small stop =
+      let all = parse_items_from_full here found rest refl well small stop in
       yes _ _ (begins here (kind_of (pieces_yield found ++ rest))) (pieces_yield found ++ rest) _ all.begun
       (step (rule.item S here (pieces_yield found ++ rest)) _ all.first all.later _ all.starts all.lists)
 
@@ -228,18 +228,18 @@ module _ (S : ℕ → Parser Tree) (d : ℕ) (full : Full S d) (low : d ≤ max_
   bare_full here (tree.last x) rest comma well small stop = never comma
   bare_full here (tree.piece x between more) rest comma well small stop =
       let found : Pieces = tree.piece x between more in
-      let all = listed_full here found rest refl well (omega (arith, small)) stop in
+      let all = parse_items_from_full here found rest refl well (omega (arith, small)) stop in
       step (rule.item S here (pieces_yield found ++ rest)) _ all.first all.later _ all.starts
-      (step (rule.listed S here all.first all.later) _ found rest _ all.lists
+      (step (rule.parse_items_from S here all.first all.later) _ found rest _ all.lists
       (made_low (tree.bare found) rest (omega (arith, small, low))))
 
   single_full : (here : ListContext) (e : Tree) (rest : List Token) → fits here e ≡ true → IsWell e → may_end (next_context here e) ≡ true → height e ≤ d
       → is_at 1 e ≡ true → ends here (kind_of rest) ≡ true → rule.expressions S here (yield_of e ++ rest) ≡ Some (e, rest)
   unfolding rule.expressions IsWell yield_of height
   single_full here e rest fit well may small high stop =
-      let all = listed_full here (tree.last e) rest refl (fit, well, may) small stop in
+      let all = parse_items_from_full here (tree.last e) rest refl (fit, well, may) small stop in
       step (rule.item S here (yield_of e ++ rest)) _ all.first all.later _ all.starts
-      (step (rule.listed S here all.first all.later) _ (tree.last e) rest _ all.lists
+      (step (rule.parse_items_from S here all.first all.later) _ (tree.last e) rest _ all.lists
       (checked_holds (is_at 1 e) e rest high))
 
   -- an expression, or a tuple without brackets
@@ -265,14 +265,14 @@ module _ (S : ℕ → Parser Tree) (d : ℕ) (full : Full S d) (low : d ≤ max_
 
   -- ---- `yield`
 
-  pub yielded_full : (e : Tree) (rest : List Token) → is_yield e ≡ true → IsWell e → height e ≤ d → ends list_context.Items (kind_of rest) ≡ true
-      → rule.yielded S (yield_of e ++ rest) ≡ Some (e, rest)
-  unfolding rule.yielded rule.yield_from rule.yield_value take_one IsWell yield_of height
-  yielded_full (tree.yield t tree.absent) rest is well small stop =
+  pub yield_expression_full : (e : Tree) (rest : List Token) → is_yield e ≡ true → IsWell e → height e ≤ d → ends list_context.Items (kind_of rest) ≡ true
+      → rule.yield_expression S (yield_of e ++ rest) ≡ Some (e, rest)
+  unfolding rule.yield_expression rule.yield_from rule.yield_value take_one IsWell yield_of height
+  yield_expression_full (tree.yield t tree.absent) rest is well small stop =
       no _ _ (same_kind (kind_of rest) (kind.Keyword word.From)) rest _ (apart (ends list_context.Items) (kind_of rest) (kind.Keyword word.From) stop refl)
       (no _ _ (begins list_context.Items (kind_of rest)) rest _ (ends_begins list_context.Items (kind_of rest) stop)
       (made_low (tree.yield t tree.absent) rest (omega (arith, small, low))))
-  yielded_full (tree.yield t (tree.present x)) rest is well small stop =
+  yield_expression_full (tree.yield t (tree.present x)) rest is well small stop =
       let begun : begins list_context.Items (kind_of (yield_of x ++ rest)) ≡ true = list_begins x rest well.1.0 well.1.1 in
       no _ _ (same_kind (kind_of (yield_of x ++ rest)) (kind.Keyword word.From)) (yield_of x ++ rest) _
       (apart (begins list_context.Items) _ (kind.Keyword word.From) begun refl)
@@ -280,11 +280,11 @@ module _ (S : ℕ → Parser Tree) (d : ℕ) (full : Full S d) (low : d ≤ max_
       (step (rule.expressions S list_context.Items (yield_of x ++ rest)) _ x rest _
       (expressions_full x rest well.1.0 well.1.1 (omega (arith, small)) stop)
       (made_low (tree.yield t (tree.present x)) rest (omega (arith, small, low)))))
-  yielded_full (tree.yield_from t from x) rest is well small stop =
+  yield_expression_full (tree.yield_from t from x) rest is well small stop =
       yes _ _ (same_kind from.kind (kind.Keyword word.From)) (from ∷ (yield_of x ++ rest)) _ (same_as from.kind (kind.Keyword word.From) well.1)
       (after S d full low 1 x rest _ _ well.3 (omega (arith, small)) (omega arith) well.2 (items_halt (kind_of rest) stop)
       (made_low (tree.yield_from t from x) rest (omega (arith, small, low))))
-  yielded_full _ rest is well small stop = never is
+  yield_expression_full _ rest is well small stop = never is
 
   -- ---- clauses of comprehensions
 

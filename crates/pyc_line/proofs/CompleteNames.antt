@@ -165,10 +165,10 @@ few_parts : (found : List DottedPart) → length found ≤ length (parts_yield f
 few_parts [] = omega arith
 few_parts (p ∷ more) = omega (arith, few_parts more)
 
-dotted_full : (path : Dotted) (rest : List Token) → IsDotted path → same_kind (kind_of rest) (kind.Delimiter delimiter.Dot) ≡ false
-    → grammar.dotted (dotted_yield path ++ rest) ≡ Some (path, rest)
-unfolding grammar.dotted grammar.all_parts
-dotted_full path rest well other =
+dotted_name_full : (path : Dotted) (rest : List Token) → IsDotted path → same_kind (kind_of rest) (kind.Delimiter delimiter.Dot) ≡ false
+    → grammar.dotted_name (dotted_yield path ++ rest) ≡ Some (path, rest)
+unfolding grammar.dotted_name grammar.all_parts
+dotted_name_full path rest well other =
     let left : List Token = parts_yield path.parts ++ rest in
     step (expect_name (path.first ∷ left)) _ path.first left _ (name_expected path.first left well.0)
     (step (grammar.all_parts left) _ path.parts rest _
@@ -193,8 +193,8 @@ modules_named =
     record {
       reads = λ m rest well stop.
           rw (append_assoc (dotted_yield m.path) (alias_yield m.alias) rest)
-          (step (grammar.dotted (dotted_yield m.path ++ (alias_yield m.alias ++ rest))) _ m.path (alias_yield m.alias ++ rest) _
-          (dotted_full m.path (alias_yield m.alias ++ rest) well.0 (alias_dot m.alias rest well.1 stop))
+          (step (grammar.dotted_name (dotted_yield m.path ++ (alias_yield m.alias ++ rest))) _ m.path (alias_yield m.alias ++ rest) _
+          (dotted_name_full m.path (alias_yield m.alias ++ rest) well.0 (alias_dot m.alias rest well.1 stop))
           (step (grammar.alias (alias_yield m.alias ++ rest)) _ m.alias rest _ (alias_full m.alias rest well.1 (after_as (kind_of rest) stop)) refl));
       begins = λ m rest well. well.0.0;
     }
@@ -234,10 +234,10 @@ name_dot (kind.Name w) is = refl
 name_dot _ is = never is
 
 -- a module that is named
-named_path : (dots : List Token) (k : Kind) (path : Dotted) (ts rest : List Token) → is_name k ≡ true → grammar.dotted ts ≡ Some (path, rest)
+named_path : (dots : List Token) (k : Kind) (path : Dotted) (ts rest : List Token) → is_name k ≡ true → grammar.dotted_name ts ≡ Some (path, rest)
     → grammar.path_after dots k ts ≡ Some (Some path, rest)
 named_path (dot ∷ dots) (kind.Keyword word.Import) path ts rest is found = never is
-named_path dots k path ts rest is found = step (grammar.dotted ts) _ path rest _ found refl
+named_path dots k path ts rest is found = step (grammar.dotted_name ts) _ path rest _ found refl
 
 pub source_parts : (dots : List Token) (path : Option Dotted) (rest : List Token) → IsSourceOf dots path → kind_of rest ≡ kind.Keyword word.Import
     → grammar.source (dots ++ (optional_path path ++ rest)) ≡ Some (record { dots = dots; path = path }, rest)
@@ -251,4 +251,4 @@ source_parts dots (Some path) rest well is =
     (dots_full dots (dotted_yield path ++ rest) well.0 (name_dot path.first.kind well.1.0))
     (step (grammar.path_after dots path.first.kind (dotted_yield path ++ rest)) _ (Some path) rest _
     (named_path dots path.first.kind path (dotted_yield path ++ rest) rest well.1.0
-    (dotted_full path rest well.1 (ap (λ k. same_kind k (kind.Delimiter delimiter.Dot)) is))) refl)
+    (dotted_name_full path rest well.1 (ap (λ k. same_kind k (kind.Delimiter delimiter.Dot)) is))) refl)

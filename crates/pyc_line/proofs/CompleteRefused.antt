@@ -26,12 +26,12 @@ use Rattle.pyc_tree.specs.Headers as header
 use Rattle.pyc_line.proofs.SoundTables.{never, is_colon_is}
 use Rattle.pyc_line.proofs.SoundTools.{refused, bind, after_expected, after_made, at_precedence, either_second}
 use Rattle.pyc_line.proofs.SoundItems.{after_item}
-use Rattle.pyc_line.proofs.SoundLists.{is_first, listed_sound}
+use Rattle.pyc_line.proofs.SoundLists.{is_first, parse_items_from_sound}
 use Rattle.pyc_line.proofs.SoundExpressions.{expression_sound}
 use Rattle.pyc_line.proofs.CompleteTools.{step, no}
 use Rattle.pyc_line.proofs.CompleteTables.{ends}
 use Rattle.pyc_line.proofs.Complete.{Full}
-use Rattle.pyc_line.proofs.CompleteLists.{Listed, listed_full, last_full, one_item}
+use Rattle.pyc_line.proofs.CompleteLists.{Listed, parse_items_from_full, last_full, one_item}
 use Rattle.pyc_line.proofs.CompleteBrackets.{parentheses_filled}
 use Rattle.pyc_line.proofs.CompleteExpressions.{operand, expr_full, expression_full}
 use Rattle.pyc_line.proofs.CompleteWith.{unstarred, plain_star}
@@ -189,12 +189,12 @@ stops : {A B : Type 0} (o : Parsed A) (f : A → Parser B) → o ≡ None → an
 stops o f none = ap (λ p. and_then p f) none
 
 listed_as : (S : ℕ → Parser Tree) (opening : Token) (ts : List Token) (found : Pieces) (word_as : Token) (later : List Token)
-    → Listed S list_context.Items ts found (word_as ∷ later) → word_as.kind ≡ kind.Keyword word.As → rule.filled S bracket.Round opening ts ≡ None
-unfolding rule.filled rule.displayed same_kind
+    → Listed S list_context.Items ts found (word_as ∷ later) → word_as.kind ≡ kind.Keyword word.As → rule.parse_filled_brackets S bracket.Round opening ts ≡ None
+unfolding rule.parse_filled_brackets rule.parse_display same_kind
 listed_as S opening ts found word_as later all is =
     step (rule.item S list_context.Items ts) _ all.first all.later _ all.starts
     (no _ _ (begins_comprehension (kind_of all.later)) all.later _ all.no_comprehension
-    (step (rule.listed S list_context.Items all.first all.later) _ found (word_as ∷ later) _ all.lists
+    (step (rule.parse_items_from S list_context.Items all.first all.later) _ found (word_as ∷ later) _ all.lists
     (stops (expect (kind.Close bracket.Round) (word_as ∷ later)) _
     (other_token (kind.Close bracket.Round) word_as later (ap (λ k. same_kind k (kind.Close bracket.Round)) is)))))
 
@@ -206,7 +206,7 @@ whole_as d low opening found word_as later some well small opens is =
     let S : ℕ → Parser Tree = grammar.expr d in
     let full : Full S d = expr_full d (omega (arith, low)) in
     let ts : List Token = pieces_yield found ++ (word_as ∷ later) in
-    let all = listed_full S d full (omega (arith, low)) list_context.Items found (word_as ∷ later) some well small (ap (ends list_context.Items) is) in
+    let all = parse_items_from_full S d full (omega (arith, low)) list_context.Items found (word_as ∷ later) some well small (ap (ends list_context.Items) is) in
     stops (grammar.prefix S 1 (opening ∷ ts)) _
     (operand S d full low 1 opening ts (kind.Open bracket.Round) _ opens
     (parentheses_filled S d full low opening ts _ all.begun (listed_as S opening ts found word_as later all is)))
@@ -222,7 +222,7 @@ no_item ts none = stops (rule.with_item expression ts) _ (stops (expression 1 ts
 one_alone : (e : Tree) (ts later rest : List Token) (items : Pieces) → expression 1 ts ≡ Some (e, later)
     → kind_of later ≡ kind.Delimiter delimiter.Colon → Listed expression list_context.WithItems ts items rest
     → items ≡ tree.last (tree.with_item e tree.nothing)
-unfolding rule.item rule.with_item rule.listed same_kind
+unfolding rule.item rule.with_item rule.parse_items_from same_kind
 one_alone e ts later rest items is colon all =
     let W : Tree = tree.with_item e tree.nothing in
     let reads : rule.with_item expression ts ≡ made W later =
@@ -233,7 +233,7 @@ one_alone e ts later rest items is colon all =
     parts W all.first later all.later only (λ same same_later.
     parts (tree.last W) items later rest
     (sym (last_full expression max_height expression_full (omega arith) (length later) list_context.WithItems W later refl (ap (ends list_context.WithItems) colon))
-    ∙ (ap (λ x. rule.listed expression list_context.WithItems x later) same ∙ (ap (λ us. rule.listed expression list_context.WithItems all.first us) same_later ∙ all.lists)))
+    ∙ (ap (λ x. rule.parse_items_from expression list_context.WithItems x later) same ∙ (ap (λ us. rule.parse_items_from expression list_context.WithItems all.first us) same_later ∙ all.lists)))
     (λ found left. sym found)))
 
 -- a `with` without parentheses of its own is not read with some
@@ -243,8 +243,8 @@ unfolding header.with_enclosed header.with_items
 clashes word_async t items ts rest r open_one all e =
     after_expected (kind.Open bracket.Round) _ ts r e (λ opening ts1 is_opening opens e1.
     bind (header.with_items expression ts1) _ r e1 (λ others ts2 are_others e2.
-    after_item expression expression_sound list_context.WithItems _ ts1 (others, ts2) are_others (λ x ts3 fitting part listed.
-    let found = listed_sound expression expression_sound list_context.WithItems x ts1 ts3 others ts2 fitting part listed in
+    after_item expression expression_sound list_context.WithItems _ ts1 (others, ts2) are_others (λ x ts3 fitting part parse_items_from.
+    let found = parse_items_from_sound expression expression_sound list_context.WithItems x ts1 ts3 others ts2 fitting part parse_items_from in
     after_expected (kind.Close bracket.Round) _ ts2 r e2 (λ closing ts4 is_closing shut e3.
     split_or others 999 found.pieces found.low
     (λ targeted.
@@ -279,7 +279,7 @@ with_refuses =
       none = λ word_async t items rest some open_one well small colon.
           by_case (header.with_enclosed expression word_async t (pieces_yield items ++ rest))
           (λ r. clashes word_async t items (pieces_yield items ++ rest) rest r open_one
-          (listed_full expression max_height expression_full (omega arith) list_context.WithItems items rest some well small (ap (ends list_context.WithItems) colon)));
+          (parse_items_from_full expression max_height expression_full (omega arith) list_context.WithItems items rest some well small (ap (ends list_context.WithItems) colon)));
     }
   where
     by_case : (o : Parsed Header) → ((r : Header × List Token) → o ≡ Some r → ⊥) → o ≡ None

@@ -28,7 +28,7 @@ use Rattle.pyc_line.proofs.CompleteTools.{step, yes, no, same_as, apart, expecte
 use Rattle.pyc_line.proofs.CompleteTables.{ends, either}
 use Rattle.pyc_line.proofs.Complete.{Full}
 use Rattle.pyc_line.proofs.CompleteItems.{Halts, halts_as, after, tail_full}
-use Rattle.pyc_line.proofs.CompleteLists.{expressions_full, targets_full, yielded_full, list_begins}
+use Rattle.pyc_line.proofs.CompleteLists.{expressions_full, targets_full, yield_expression_full, list_begins}
 use Rattle.pyc_line.proofs.CompleteNames.{ends_names, names_full, names_begin, modules_named, names_named, tokens_named, source_parts}
 
 -- ---- what a statement begins with
@@ -86,7 +86,7 @@ module _ (S : ℕ → Parser Tree) (d : ℕ) (full : Full S d) (low : d ≤ max_
   value_full e rest fit well small stop =
       either (is_yield e) (is_expression_list e) fit
       (λ yields.
-      ap (λ k. grammar.value_by S k (yield_of e ++ rest)) (yield_kind e rest yields well) ∙ yielded_full S d full low e rest yields well small stop)
+      ap (λ k. grammar.value_by S k (yield_of e ++ rest)) (yield_kind e rest yields well) ∙ yield_expression_full S d full low e rest yields well small stop)
       (λ list.
       ap (λ (p : Parser Tree). p (yield_of e ++ rest)) (by_value (kind_of (yield_of e ++ rest)) (list_begins e rest list well))
       ∙ expressions_full S d full low e rest list well small stop)
@@ -135,7 +135,7 @@ module _ (S : ℕ → Parser Tree) (d : ℕ) (full : Full S d) (low : d ≤ max_
 
   -- ---- statements that begin with an expression
 
-  by_expression : (k : Kind) → begins list_context.Items k ≡ true → grammar.statement_by S k ≡ grammar.of_expression S
+  by_expression : (k : Kind) → begins list_context.Items k ≡ true → grammar.statement_by S k ≡ grammar.expression_or_assignment S
   by_expression (kind.Keyword word.Pass) begun = never begun
   by_expression (kind.Keyword word.Break) begun = never begun
   by_expression (kind.Keyword word.Continue) begun = never begun
@@ -153,22 +153,22 @@ module _ (S : ℕ → Parser Tree) (d : ℕ) (full : Full S d) (low : d ≤ max_
   -- an expression, and what the statement makes of it
   leads : (e : Tree) (later : List Token) (r : Parsed SimpleStatement) → is_expression_list e ≡ true → IsWell e → height e ≤ d
       → ends list_context.Items (kind_of later) ≡ true
-      → (if is_colon (kind_of later) then grammar.annotated S e
-      else (if is_augmented (kind_of later) then grammar.augmented S e else grammar.assigned S e)) later ≡ r
+      → (if is_colon (kind_of later) then grammar.annotated_target S e
+      else (if is_augmented (kind_of later) then grammar.augmented_assignment S e else grammar.assigned S e)) later ≡ r
       → grammar.simple S (yield_of e ++ later) ≡ r
-  unfolding grammar.simple grammar.of_expression
+  unfolding grammar.simple grammar.expression_or_assignment
   leads e later r fit well small stop next =
       ap (λ (p : Parser SimpleStatement). p (yield_of e ++ later)) (by_expression (kind_of (yield_of e ++ later)) (list_begins e later fit well))
       ∙ step (rule.expressions S list_context.Items (yield_of e ++ later)) _ e later r (expressions_full S d full low e later fit well small stop) next
 
   expression_statement : (e : Tree) (rest : List Token) → is_value e ≡ true → IsWell e → height e ≤ d → kind_of rest ≡ end_of_line
       → grammar.simple S (yield_of e ++ rest) ≡ Some (statement.expression e, rest)
-  unfolding grammar.simple grammar.of_yield grammar.assigned
+  unfolding grammar.simple grammar.yield_statement grammar.assigned
   expression_statement e rest fit well small stop =
       either (is_yield e) (is_expression_list e) fit
       (λ yields.
       ap (λ k. grammar.statement_by S k (yield_of e ++ rest)) (yield_kind e rest yields well)
-      ∙ step (rule.yielded S (yield_of e ++ rest)) _ e rest _ (yielded_full S d full low e rest yields well small (ap (ends list_context.Items) stop)) refl)
+      ∙ step (rule.yield_expression S (yield_of e ++ rest)) _ e rest _ (yield_expression_full S d full low e rest yields well small (ap (ends list_context.Items) stop)) refl)
       (λ list.
       leads e rest _ list well small (ap (ends list_context.Items) stop)
       (no _ _ (is_colon (kind_of rest)) rest _ (ap is_colon stop)
@@ -195,7 +195,7 @@ module _ (S : ℕ → Parser Tree) (d : ℕ) (full : Full S d) (low : d ≤ max_
   annotate_full : (target : Tree) (colon : Token) (annotation : Tree) (value : Tail) (rest : List Token) → IsStatement (statement.annotate target colon annotation value)
       → height target ≤ d → height annotation ≤ d → tail_height value ≤ d → kind_of rest ≡ end_of_line
       → grammar.simple S (yield_of target ++ (colon ∷ (yield_of annotation ++ (tail_yield value ++ rest)))) ≡ Some (statement.annotate target colon annotation value, rest)
-  unfolding grammar.annotated take_one IsStatement
+  unfolding grammar.annotated_target take_one IsStatement
   annotate_full target colon annotation value rest well small_target small_annotation small_value stop =
       let left : List Token = colon ∷ (yield_of annotation ++ (tail_yield value ++ rest)) in
       leads target left _ (single_list target well.0) well.1 small_target (ap (ends list_context.Items) well.2)
@@ -212,7 +212,7 @@ module _ (S : ℕ → Parser Tree) (d : ℕ) (full : Full S d) (low : d ≤ max_
   augment_full : (target : Tree) (sign : Token) (e : Tree) (rest : List Token) → IsStatement (statement.augment target sign e)
       → height target ≤ d → height e ≤ d → kind_of rest ≡ end_of_line
       → grammar.simple S (yield_of target ++ (sign ∷ (yield_of e ++ rest))) ≡ Some (statement.augment target sign e, rest)
-  unfolding grammar.augmented take_one IsStatement
+  unfolding grammar.augmented_assignment take_one IsStatement
   augment_full target sign e rest well small_target small stop =
       let left : List Token = sign ∷ (yield_of e ++ rest) in
       let sign_ends = augmented_ends sign.kind well.2 in
@@ -247,7 +247,7 @@ module _ (S : ℕ → Parser Tree) (d : ℕ) (full : Full S d) (low : d ≤ max_
 
   return_full : (t : Token) (value : Perhaps) (rest : List Token) → IsStatement (statement.return t value) → perhaps_height value ≤ d
       → kind_of rest ≡ end_of_line → grammar.simple S (t ∷ (perhaps_yield value ++ rest)) ≡ Some (statement.return t value, rest)
-  unfolding grammar.returned take_one IsStatement IsWell yield_of height
+  unfolding grammar.return_statement take_one IsStatement IsWell yield_of height
   return_full t tree.absent rest well small stop =
       by_word t rest (kind.Keyword word.Return) _ well.0 (yes _ _ (same_kind (kind_of rest) end_of_line) rest _ (same_as (kind_of rest) end_of_line stop) refl)
   return_full t (tree.present e) rest well small stop =
@@ -267,7 +267,7 @@ module _ (S : ℕ → Parser Tree) (d : ℕ) (full : Full S d) (low : d ≤ max_
   raise_full : (t : Token) (value : Perhaps) (cause : Tail) (rest : List Token) → IsStatement (statement.raise t value cause) → perhaps_height value ≤ d
       → tail_height cause ≤ d → kind_of rest ≡ end_of_line
       → grammar.simple S (t ∷ (perhaps_yield value ++ (tail_yield cause ++ rest))) ≡ Some (statement.raise t value cause, rest)
-  unfolding grammar.raised take_one same_kind IsStatement yield_of height
+  unfolding grammar.raise_statement take_one same_kind IsStatement yield_of height
   raise_full t tree.absent tree.nothing rest well small small_cause stop =
       by_word t rest (kind.Keyword word.Raise) _ well.0 (yes _ _ (same_kind (kind_of rest) end_of_line) rest _ (same_as (kind_of rest) end_of_line stop) refl)
   raise_full t tree.absent (tree.after u x) rest well small small_cause stop = absurd well.1
@@ -285,7 +285,7 @@ module _ (S : ℕ → Parser Tree) (d : ℕ) (full : Full S d) (low : d ≤ max_
   assert_full : (t : Token) (test : Tree) (message : Tail) (rest : List Token) → IsStatement (statement.assert t test message) → height test ≤ d
       → tail_height message ≤ d → kind_of rest ≡ end_of_line
       → grammar.simple S (t ∷ (yield_of test ++ (tail_yield message ++ rest))) ≡ Some (statement.assert t test message, rest)
-  unfolding grammar.asserted take_one same_kind IsStatement
+  unfolding grammar.assert_statement take_one same_kind IsStatement
   assert_full t test message rest well small small_message stop =
       let left : List Token = tail_yield message ++ rest in
       by_word t (yield_of test ++ left) (kind.Keyword word.Assert) _ well.0
@@ -297,7 +297,7 @@ module _ (S : ℕ → Parser Tree) (d : ℕ) (full : Full S d) (low : d ≤ max_
 
   delete_full : (t : Token) (to : Tree) (rest : List Token) → IsStatement (statement.delete t to) → height to ≤ d → kind_of rest ≡ end_of_line
       → grammar.simple S (t ∷ (yield_of to ++ rest)) ≡ Some (statement.delete t to, rest)
-  unfolding grammar.deleted take_one IsStatement
+  unfolding grammar.delete_statement take_one IsStatement
   delete_full t to rest well small stop =
       by_word t (yield_of to ++ rest) (kind.Keyword word.Del) _ well.0
       (step (rule.targets S (yield_of to ++ rest)) _ to rest _ (targets_full S d full low to rest well.1 well.2 small (ap (ends list_context.Targets) stop)) refl)
@@ -350,7 +350,7 @@ module _ (S : ℕ → Parser Tree) (d : ℕ) (full : Full S d) (low : d ≤ max_
       → grammar.simple S (t ∷ (from.dots ++ (optional_path from.path ++ (word_import ∷ (optional_token opening
       ++ (separated_yield name_yield names ++ (optional_token closing ++ rest)))))))
       ≡ Some (statement.import_from t from word_import opening names closing, rest)
-  unfolding grammar.imported_from take_one IsStatement
+  unfolding grammar.import_from_statement take_one IsStatement
   import_from_full t from word_import opening names closing rest well stop =
       let left : List Token = optional_token opening ++ (separated_yield name_yield names ++ (optional_token closing ++ rest)) in
       by_word t (from.dots ++ (optional_path from.path ++ (word_import ∷ left))) (kind.Keyword word.From) _ well.0

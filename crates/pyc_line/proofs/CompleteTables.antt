@@ -82,8 +82,8 @@ is_common (kind.Keyword word.For) = true
 is_common (kind.Keyword word.Async) = true
 is_common _ = false
 
--- whether a token may follow an item at some places alone: what a statement goes on with or ends by an expression, `as` too,
--- `in` or the end of a statement targets, and a colon the items of a `with` and the parameters of a lambda
+-- whether a token may follow an item at some places alone: what a statement goes on with or ends by an expression, `as`
+-- too, `in` or the end of a statement targets, and a colon the items of a `with` and the parameters of a lambda
 abbrev pub is_special : ListContext → Kind → Bool
 is_special list_context.Items (kind.Delimiter delimiter.Semicolon) = true
 is_special list_context.Items (kind.Delimiter delimiter.Colon) = true

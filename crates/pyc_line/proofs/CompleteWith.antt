@@ -24,14 +24,14 @@ use Rattle.pyc_line.proofs.Sound.{ArePart}
 use Rattle.pyc_line.proofs.SoundTables.{never}
 use Rattle.pyc_line.proofs.SoundTools.{refused, precedence_at}
 use Rattle.pyc_line.proofs.SoundItems.{after_item}
-use Rattle.pyc_line.proofs.SoundLists.{listed_sound}
+use Rattle.pyc_line.proofs.SoundLists.{parse_items_from_sound}
 use Rattle.pyc_line.proofs.SoundExpressions.{expression_sound}
 use Rattle.pyc_line.proofs.SoundHeaders.{Opens}
 use Rattle.pyc_line.proofs.CompleteTools.{step, expected, checked_holds}
 use Rattle.pyc_line.proofs.CompleteTables.{ends}
 use Rattle.pyc_line.proofs.Complete.{Full}
 use Rattle.pyc_line.proofs.CompleteItems.{both_first, both_second}
-use Rattle.pyc_line.proofs.CompleteLists.{Listed, listed_full, one_item}
+use Rattle.pyc_line.proofs.CompleteLists.{Listed, parse_items_from_full, one_item}
 use Rattle.pyc_line.proofs.CompleteExpressions.{expression_full}
 
 -- ---- the items of a tuple, as context managers
@@ -111,7 +111,7 @@ module _ (S : ℕ → Parser Tree) (full : Full S max_height) where
   managers_full word_async t opening found closing rest some well plain small opens shut colon =
       ap (λ z. grammar.with_enclosed S word_async t (opening ∷ (z ++ (closing ∷ rest)))) (sym (managers_yield found))
       ∙ listed_managers word_async t opening (managers found) closing (pieces_yield (managers found) ++ (closing ∷ rest)) rest
-      (listed_full S max_height full (omega arith) list_context.WithItems (managers found) (closing ∷ rest) (managers_some found some)
+      (parse_items_from_full S max_height full (omega arith) list_context.WithItems (managers found) (closing ∷ rest) (managers_some found some)
       (managers_well found well plain) (omega (arith, managers_height found, small)) (ap (ends list_context.WithItems) shut)) opens shut colon
 
   -- so the only item of a header is not one in such parentheses
@@ -153,8 +153,8 @@ unfolding grammar.with_items
 with_opens =
     record {
       opens = λ word_async t ts items rest none is colon.
-          after_item expression expression_sound list_context.WithItems _ ts (items, rest) is (λ x ts1 fitting part listed.
-          let all = listed_sound expression expression_sound list_context.WithItems x ts ts1 items rest fitting part listed in
+          after_item expression expression_sound list_context.WithItems _ ts (items, rest) is (λ x ts1 fitting part parse_items_from.
+          let all = parse_items_from_sound expression expression_sound list_context.WithItems x ts ts1 items rest fitting part parse_items_from in
           open_ones expression expression_full word_async t items ts rest
           (record { pieces = all.pieces; text = all.text; low = all.low }) colon none);
     }

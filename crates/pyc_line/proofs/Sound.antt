@@ -1,5 +1,5 @@
--- What is read, said of the tree and the tokens alone: it is well-formed, its tokens are those that were taken, it is no
--- higher than the profile allows, and it stops where nothing of its precedence goes on.
+-- What is read, said of the tree and the tokens alone: it is well-formed, its tokens are those that were taken, it is
+-- no higher than the profile allows, and it stops where nothing of its precedence goes on.
 use Rattle.std.proofs.Common.{◌≡◌, ℕ, ◌≤◌, ◌<◌, Bool, true, List, ◌++◌, length, Option, Some, None}
 use Rattle.pyc_token.specs.declared.tokens.Kind.{Kind}
 use Rattle.pyc_token.specs.declared.tokens.Token.{Token}

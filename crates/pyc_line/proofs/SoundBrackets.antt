@@ -107,10 +107,10 @@ module _ (S : ℕ → Parser Tree) (good : Good S) where
       made_as (IsOf is_yield ts0) (tree.yield t (tree.present x)) u ts1 rest e1 (λ small.
       record { well = (sign, (got.passes, got.well)); text = cc; low = small; passes = refl }))
 
-  pub yielded_sound : (ts : List Token) (u : Tree) (rest : List Token) → kind_of ts ≡ kind.Keyword word.Yield → rule.yielded S ts ≡ Some (u, rest)
+  pub yield_expression_sound : (ts : List Token) (u : Tree) (rest : List Token) → kind_of ts ≡ kind.Keyword word.Yield → rule.yield_expression S ts ≡ Some (u, rest)
       → IsOf is_yield ts u rest
-  unfolding rule.yielded IsWell yield_of
-  yielded_sound ts u rest is e =
+  unfolding rule.yield_expression IsWell yield_of
+  yield_expression_sound ts u rest is e =
       after_one _ ts (u, rest) e (λ t ts1 is_one same e1.
       let sign : t.kind ≡ kind.Keyword word.Yield = same ∙ is in
       choose _ _ (same_kind (kind_of ts1) (kind.Keyword word.From)) ts1 (u, rest) e1
@@ -125,19 +125,19 @@ module _ (S : ℕ → Parser Tree) (good : Good S) where
       → kind_of ts ≡ kind.Keyword word.Yield → rule.yield_enclosed S opening ts ≡ Some (t, rest) → IsForm 16 ts0 t rest
   unfolding rule.yield_enclosed IsWell yield_of
   yield_enclosed_sound opening ts0 ts t rest sign text is e =
-      bind (rule.yielded S ts) _ (t, rest) e (λ x ts1 is_yielded e1.
-      let got = yielded_sound ts x ts1 is is_yielded in
+      bind (rule.yield_expression S ts) _ (t, rest) e (λ x ts1 is_yielded e1.
+      let got = yield_expression_sound ts x ts1 is is_yielded in
       after_expected (kind.Close bracket.Round) _ ts1 (t, rest) e1 (λ closing ts2 is_closing shut e2.
       made_as (IsForm 16 ts0) (tree.parenthesized opening x closing) t ts2 rest e2 (λ small.
       record { well = (sign, shut, either_first (is_yield x) (is_at 1 x) got.passes, got.well); text = simp append_assoc (cc); low = small; at = refl })))
 
   -- ---- displays
 
-  pub empty_sound : (sign : Bracket) (opening : Token) (ts0 ts : List Token) (t : Tree) (rest : List Token) → opening.kind ≡ kind.Open sign
+  pub parse_empty_brackets_sound : (sign : Bracket) (opening : Token) (ts0 ts : List Token) (t : Tree) (rest : List Token) → opening.kind ≡ kind.Open sign
       → ts0 ≡ opening ∷ ts
-      → same_kind (kind_of ts) (kind.Close sign) ≡ true → rule.empty S sign opening ts ≡ Some (t, rest) → IsForm 16 ts0 t rest
-  unfolding rule.empty IsWell yield_of
-  empty_sound sign opening ts0 ts t rest opens text is e =
+      → same_kind (kind_of ts) (kind.Close sign) ≡ true → rule.parse_empty_brackets S sign opening ts ≡ Some (t, rest) → IsForm 16 ts0 t rest
+  unfolding rule.parse_empty_brackets IsWell yield_of
+  parse_empty_brackets_sound sign opening ts0 ts t rest opens text is e =
       after_one _ ts (t, rest) e (λ closing ts1 is_one same e1.
       made_as (IsForm 16 ts0) (tree.display (empty_display_kind sign) opening tree.none closing) t ts1 rest e1 (λ small.
       record {
@@ -152,12 +152,12 @@ module _ (S : ℕ → Parser Tree) (good : Good S) where
         at = refl;
       }))
 
-  comprehended_sound : (sign : Bracket) (opening : Token) (x : Tree) (ts0 ts1 ts : List Token) (t : Tree) (rest : List Token)
+  parse_comprehension_display_sound : (sign : Bracket) (opening : Token) (x : Tree) (ts0 ts1 ts : List Token) (t : Tree) (rest : List Token)
       → opening.kind ≡ kind.Open sign
-      → ts0 ≡ opening ∷ ts1 → IsPart ts1 x ts → begins_comprehension (kind_of ts) ≡ true → rule.comprehended S sign opening x ts ≡ Some (t, rest)
+      → ts0 ≡ opening ∷ ts1 → IsPart ts1 x ts → begins_comprehension (kind_of ts) ≡ true → rule.parse_comprehension_display S sign opening x ts ≡ Some (t, rest)
       → IsForm 16 ts0 t rest
-  unfolding rule.comprehended IsWell yield_of
-  comprehended_sound sign opening x ts0 ts1 ts t rest opens text part begins e =
+  unfolding rule.parse_comprehension_display IsWell yield_of
+  parse_comprehension_display_sound sign opening x ts0 ts1 ts t rest opens text part begins e =
       after_comprehensions S good _ ts (t, rest) e begins (λ found ts2 comprehensions headed text_found e1.
       after_expected (kind.Close sign) _ ts2 (t, rest) e1 (λ closing ts3 is_closing shut e2.
       only _ (is_element (display_kind_of sign x) x) ts3 (t, rest) e2 (λ element e3.
@@ -201,25 +201,25 @@ module _ (S : ℕ → Parser Tree) (good : Good S) where
       (opens ∙ ap kind.Open (sym (display_kind_bracket bracket.Curly first))) (shut ∙ ap kind.Close (sym (display_kind_bracket bracket.Curly first)))
       braced.1 braced.0 text all.text is_closing e
 
-  displayed_sound : (sign : Bracket) (opening : Token) (x : Tree) (ts0 ts1 ts : List Token) (t : Tree) (rest : List Token)
+  parse_display_sound : (sign : Bracket) (opening : Token) (x : Tree) (ts0 ts1 ts : List Token) (t : Tree) (rest : List Token)
       → opening.kind ≡ kind.Open sign
-      → ts0 ≡ opening ∷ ts1 → fits (context_in sign) x ≡ true → IsPart ts1 x ts → rule.displayed S sign opening x ts ≡ Some (t, rest)
+      → ts0 ≡ opening ∷ ts1 → fits (context_in sign) x ≡ true → IsPart ts1 x ts → rule.parse_display S sign opening x ts ≡ Some (t, rest)
       → IsForm 16 ts0 t rest
-  unfolding rule.displayed
-  displayed_sound sign opening x ts0 ts1 ts t rest opens text fitting part e =
+  unfolding rule.parse_display
+  parse_display_sound sign opening x ts0 ts1 ts t rest opens text fitting part e =
       after_listed S good (context_in sign) x _ ts1 ts (t, rest) e fitting part (λ found ts2 all e1.
       after_expected (kind.Close sign) _ ts2 (t, rest) e1 (λ closing ts3 is_closing shut e2.
       enclosed_sound sign x opening found closing ts0 ts1 ts2 ts3 t rest opens shut text all is_closing e2))
 
-  pub filled_sound : (sign : Bracket) (opening : Token) (ts0 ts : List Token) (t : Tree) (rest : List Token) → opening.kind ≡ kind.Open sign
+  pub parse_filled_brackets_sound : (sign : Bracket) (opening : Token) (ts0 ts : List Token) (t : Tree) (rest : List Token) → opening.kind ≡ kind.Open sign
       → ts0 ≡ opening ∷ ts
-      → rule.filled S sign opening ts ≡ Some (t, rest) → IsForm 16 ts0 t rest
-  unfolding rule.filled
-  filled_sound sign opening ts0 ts t rest opens text e =
+      → rule.parse_filled_brackets S sign opening ts ≡ Some (t, rest) → IsForm 16 ts0 t rest
+  unfolding rule.parse_filled_brackets
+  parse_filled_brackets_sound sign opening ts0 ts t rest opens text e =
       after_item S good (context_in sign) _ ts (t, rest) e (λ x ts1 fitting part e1.
       choose _ _ (begins_comprehension (kind_of ts1)) ts1 (t, rest) e1
-      (λ begins e2. comprehended_sound sign opening x ts0 ts ts1 t rest opens text part begins e2)
-      (λ other e2. displayed_sound sign opening x ts0 ts ts1 t rest opens text fitting part e2))
+      (λ begins e2. parse_comprehension_display_sound sign opening x ts0 ts ts1 t rest opens text part begins e2)
+      (λ other e2. parse_display_sound sign opening x ts0 ts ts1 t rest opens text fitting part e2))
 
   -- ---- calls and subscripts
 
@@ -240,60 +240,60 @@ module _ (S : ℕ → Parser Tree) (good : Good S) where
         shorter = omega (arith, one_less ts opening ts1 is.text, no_more ts1 (pieces_yield found) ts2 text, one_less ts2 closing ts3 is_closing);
       })
 
-  call_empty_sound : (callee : Tree) (opening : Token) (ts ts1 : List Token) (t : Tree) (rest : List Token) → IsCalled callee opening ts ts1
-      → same_kind (kind_of ts1) (kind.Close bracket.Round) ≡ true → rule.call_empty S callee opening ts1 ≡ Some (t, rest) → Continues callee ts t rest
-  unfolding rule.call_empty IsWell yield_of
-  call_empty_sound callee opening ts ts1 t rest is shuts e =
+  parse_empty_call_sound : (callee : Tree) (opening : Token) (ts ts1 : List Token) (t : Tree) (rest : List Token) → IsCalled callee opening ts ts1
+      → same_kind (kind_of ts1) (kind.Close bracket.Round) ≡ true → rule.parse_empty_call S callee opening ts1 ≡ Some (t, rest) → Continues callee ts t rest
+  unfolding rule.parse_empty_call IsWell yield_of
+  parse_empty_call_sound callee opening ts ts1 t rest is shuts e =
       after_one _ ts1 (t, rest) e (λ closing ts2 is_one same e1.
       called_by callee opening tree.none closing ts ts1 ts1 ts2 t rest is tt refl is_one
       (same ∙ same_kind_is (kind_of ts1) (kind.Close bracket.Round) shuts) e1)
 
-  called_with_sound : (callee : Tree) (opening : Token) (x : Tree) (ts ts1 ts2 : List Token) (t : Tree) (rest : List Token)
+  parse_call_arguments_sound : (callee : Tree) (opening : Token) (x : Tree) (ts ts1 ts2 : List Token) (t : Tree) (rest : List Token)
       → IsCalled callee opening ts ts1 → fits list_context.Arguments x ≡ true → IsPart ts1 x ts2
-      → rule.called_with S callee opening x ts2 ≡ Some (t, rest) → Continues callee ts t rest
-  unfolding rule.called_with
-  called_with_sound callee opening x ts ts1 ts2 t rest is fitting part e =
+      → rule.parse_call_arguments S callee opening x ts2 ≡ Some (t, rest) → Continues callee ts t rest
+  unfolding rule.parse_call_arguments
+  parse_call_arguments_sound callee opening x ts ts1 ts2 t rest is fitting part e =
       after_listed S good list_context.Arguments x _ ts1 ts2 (t, rest) e fitting part (λ found ts3 all e1.
       after_expected (kind.Close bracket.Round) _ ts3 (t, rest) e1 (λ closing ts4 is_closing shut e2.
       called_by callee opening found closing ts ts1 ts3 ts4 t rest is (are_arguments found all.pieces) all.text is_closing shut e2))
 
-  generated_sound : (callee : Tree) (opening : Token) (x : Tree) (ts ts1 ts2 : List Token) (t : Tree) (rest : List Token)
+  parse_generator_after_sound : (callee : Tree) (opening : Token) (x : Tree) (ts ts1 ts2 : List Token) (t : Tree) (rest : List Token)
       → IsCalled callee opening ts ts1 → IsPart ts1 x ts2 → begins_comprehension (kind_of ts2) ≡ true
-      → rule.generated S callee opening x ts2 ≡ Some (t, rest) → Continues callee ts t rest
+      → rule.parse_generator_after S callee opening x ts2 ≡ Some (t, rest) → Continues callee ts t rest
   unfolding IsWell yield_of
-  generated_sound callee opening (tree.argument x) ts ts1 ts2 t rest is part begins e =
+  parse_generator_after_sound callee opening (tree.argument x) ts ts1 ts2 t rest is part begins e =
       after_comprehensions S good _ ts2 (t, rest) e begins (λ found ts3 comprehensions headed text_found e1.
       after_expected (kind.Close bracket.Round) _ ts3 (t, rest) e1 (λ closing ts4 is_closing shut e2.
       after_made (tree.generator x found) _ ts4 (t, rest) e2 (λ low_generator e3.
       after_made (tree.argument (tree.generator x found)) _ ts4 (t, rest) e3 (λ low_argument e4.
       called_by callee opening (tree.last (tree.argument (tree.generator x found))) closing ts ts1 ts3 ts4 t rest is
       (part.well.0, part.well.1, headed, comprehensions) (simp append_assoc (cc)) is_closing shut e4))))
-  generated_sound callee opening _ ts ts1 ts2 t rest is part begins e = refused _ e
+  parse_generator_after_sound callee opening _ ts ts1 ts2 t rest is part begins e = refused _ e
 
-  call_filled_sound : (callee : Tree) (opening : Token) (ts ts1 : List Token) (t : Tree) (rest : List Token) → IsCalled callee opening ts ts1
-      → rule.call_filled S callee opening ts1 ≡ Some (t, rest) → Continues callee ts t rest
-  unfolding rule.call_filled
-  call_filled_sound callee opening ts ts1 t rest is e =
+  parse_filled_call_sound : (callee : Tree) (opening : Token) (ts ts1 : List Token) (t : Tree) (rest : List Token) → IsCalled callee opening ts ts1
+      → rule.parse_filled_call S callee opening ts1 ≡ Some (t, rest) → Continues callee ts t rest
+  unfolding rule.parse_filled_call
+  parse_filled_call_sound callee opening ts ts1 t rest is e =
       after_item S good list_context.Arguments _ ts1 (t, rest) e (λ x ts2 fitting part e1.
       choose _ _ (begins_comprehension (kind_of ts2)) ts2 (t, rest) e1
-      (λ begins e2. generated_sound callee opening x ts ts1 ts2 t rest is part begins e2)
-      (λ other e2. called_with_sound callee opening x ts ts1 ts2 t rest is fitting part e2))
+      (λ begins e2. parse_generator_after_sound callee opening x ts ts1 ts2 t rest is part begins e2)
+      (λ other e2. parse_call_arguments_sound callee opening x ts ts1 ts2 t rest is fitting part e2))
 
-  pub called_sound : (callee : Tree) (ts : List Token) (t : Tree) (rest : List Token) → 15 ≤ precedence callee → IsWell callee
-      → kind_of ts ≡ kind.Open bracket.Round → rule.called S callee ts ≡ Some (t, rest) → Continues callee ts t rest
-  unfolding rule.called
-  called_sound callee ts t rest high well sign e =
+  pub parse_call_sound : (callee : Tree) (ts : List Token) (t : Tree) (rest : List Token) → 15 ≤ precedence callee → IsWell callee
+      → kind_of ts ≡ kind.Open bracket.Round → rule.parse_call S callee ts ≡ Some (t, rest) → Continues callee ts t rest
+  unfolding rule.parse_call
+  parse_call_sound callee ts t rest high well sign e =
       after_one _ ts (t, rest) e (λ opening ts1 is_one same e1.
       let is : IsCalled callee opening ts ts1 = record { high = high; well = well; sign = sign; opens = same ∙ sign; text = is_one } in
       choose _ _ (same_kind (kind_of ts1) (kind.Close bracket.Round)) ts1 (t, rest) e1
-      (λ shuts e2. call_empty_sound callee opening ts ts1 t rest is shuts e2)
-      (λ other e2. call_filled_sound callee opening ts ts1 t rest is e2))
+      (λ shuts e2. parse_empty_call_sound callee opening ts ts1 t rest is shuts e2)
+      (λ other e2. parse_filled_call_sound callee opening ts ts1 t rest is e2))
 
-  pub subscripted_sound : (x : Tree) (ts : List Token) (t : Tree) (rest : List Token) → 15 ≤ precedence x → IsWell x
+  pub parse_subscript_sound : (x : Tree) (ts : List Token) (t : Tree) (rest : List Token) → 15 ≤ precedence x → IsWell x
       → kind_of ts ≡ kind.Open bracket.Square
-      → rule.subscripted S x ts ≡ Some (t, rest) → Continues x ts t rest
-  unfolding rule.subscripted IsWell yield_of
-  subscripted_sound x ts t rest high well sign e =
+      → rule.parse_subscript S x ts ≡ Some (t, rest) → Continues x ts t rest
+  unfolding rule.parse_subscript IsWell yield_of
+  parse_subscript_sound x ts t rest high well sign e =
       after_one _ ts (t, rest) e (λ opening ts1 is_one same e1.
       after_item S good list_context.Subscript _ ts1 (t, rest) e1 (λ first ts2 fitting part e2.
       after_listed S good list_context.Subscript first _ ts1 ts2 (t, rest) e2 fitting part (λ found ts3 all e3.

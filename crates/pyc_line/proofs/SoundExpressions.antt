@@ -25,8 +25,8 @@ use Rattle.pyc_line.proofs.Sound.{IsRead, Starts, IsForm, Continues, Good}
 use Rattle.pyc_line.proofs.SoundTables.{never, same_kind_is, left_below, left_awaited, left_low, right_near, right_arithmetic, infix_precedence_comparison, left_after, left_compared}
 use Rattle.pyc_line.proofs.SoundTools.{refused, bind, choose, unless, after_one, after_expected, after_name, pure_as, checked_as, made_as, one_less, no_more}
 use Rattle.pyc_line.proofs.SoundItems.{after_self}
-use Rattle.pyc_line.proofs.SoundLists.{some_items_sound}
-use Rattle.pyc_line.proofs.SoundBrackets.{empty_sound, filled_sound, yield_enclosed_sound, called_sound, subscripted_sound}
+use Rattle.pyc_line.proofs.SoundLists.{optional_items_sound}
+use Rattle.pyc_line.proofs.SoundBrackets.{parse_empty_brackets_sound, parse_filled_brackets_sound, yield_enclosed_sound, parse_call_sound, parse_subscript_sound}
 
 -- ---- atoms
 
@@ -186,10 +186,10 @@ module _ (S : ℕ → Parser Tree) (good : Good S) where
 
   -- ---- operands
 
-  signed_sound : (loosest own : ℕ) (ts : List Token) (t : Tree) (rest : List Token) → prefix_precedence (kind_of ts) ≡ own → 1 ≤ own → own ≤ 16
-      → grammar.signed S loosest own ts ≡ Some (t, rest) → Starts loosest ts t rest
-  unfolding grammar.signed IsWell yield_of
-  signed_sound loosest own ts t rest is some high e =
+  parse_unary_sound : (loosest own : ℕ) (ts : List Token) (t : Tree) (rest : List Token) → prefix_precedence (kind_of ts) ≡ own → 1 ≤ own → own ≤ 16
+      → grammar.parse_unary S loosest own ts ≡ Some (t, rest) → Starts loosest ts t rest
+  unfolding grammar.parse_unary IsWell yield_of
+  parse_unary_sound loosest own ts t rest is some high e =
       unless _ (nat_lt own loosest) ts (t, rest) e (λ tight e0.
       let within : loosest ≤ own = ltb-false own loosest tight in
       after_one _ ts (t, rest) e0 (λ sign ts1 is_one same e1.
@@ -204,10 +204,10 @@ module _ (S : ℕ → Parser Tree) (good : Good S) where
         fits = omega (arith, left_below (kind_of ts2) own got.stop);
       }))))
 
-  awaited_sound : (loosest : ℕ) (ts : List Token) (t : Tree) (rest : List Token) → kind_of ts ≡ kind.Keyword word.Await
-      → grammar.awaited S loosest ts ≡ Some (t, rest) → Starts loosest ts t rest
-  unfolding grammar.awaited IsWell yield_of
-  awaited_sound loosest ts t rest is e =
+  await_expression_sound : (loosest : ℕ) (ts : List Token) (t : Tree) (rest : List Token) → kind_of ts ≡ kind.Keyword word.Await
+      → grammar.await_expression S loosest ts ≡ Some (t, rest) → Starts loosest ts t rest
+  unfolding grammar.await_expression IsWell yield_of
+  await_expression_sound loosest ts t rest is e =
       unless _ (nat_lt 14 loosest) ts (t, rest) e (λ tight e0.
       after_one _ ts (t, rest) e0 (λ await ts1 is_one same e1.
       after_self S good 15 _ ts1 (t, rest) e1 (omega arith) (omega arith) (λ x ts2 got e2.
@@ -226,8 +226,8 @@ module _ (S : ℕ → Parser Tree) (good : Good S) where
   lambda_sound loosest ts t rest is e =
       unless _ (nat_lt 1 loosest) ts (t, rest) e (λ tight e0.
       after_one _ ts (t, rest) e0 (λ word_lambda ts1 is_one same e1.
-      bind (rule.some_items S (list_context.Parameters false) ts1) _ (t, rest) e1 (λ found ts2 is_found e2.
-      let parameters = some_items_sound S good (list_context.Parameters false) ts1 found ts2 refl is_found in
+      bind (rule.optional_items S (list_context.Parameters false) ts1) _ (t, rest) e1 (λ found ts2 is_found e2.
+      let parameters = optional_items_sound S good (list_context.Parameters false) ts1 found ts2 refl is_found in
       after_expected (kind.Delimiter delimiter.Colon) _ ts2 (t, rest) e2 (λ colon ts3 is_colon same_colon e3.
       after_self S good 1 _ ts3 (t, rest) e3 (omega arith) (omega arith) (λ body ts4 got e4.
       made_as (Starts loosest ts) (tree.lambda word_lambda found colon body) t ts4 rest e4 (λ small.
@@ -246,10 +246,10 @@ module _ (S : ℕ → Parser Tree) (good : Good S) where
   parentheses_sound ts t rest is e =
       after_one _ ts (t, rest) e (λ opening ts1 is_one same e1.
       choose _ _ (same_kind (kind_of ts1) (kind.Close bracket.Round)) ts1 (t, rest) e1
-      (λ shut e2. empty_sound S good bracket.Round opening ts ts1 t rest (same ∙ is) is_one shut e2)
+      (λ shut e2. parse_empty_brackets_sound S good bracket.Round opening ts ts1 t rest (same ∙ is) is_one shut e2)
       (λ other e2. choose _ _ (same_kind (kind_of ts1) (kind.Keyword word.Yield)) ts1 (t, rest) e2
       (λ yields e3. yield_enclosed_sound S good opening ts ts1 t rest (same ∙ is) is_one (same_kind_is (kind_of ts1) (kind.Keyword word.Yield) yields) e3)
-      (λ any e3. filled_sound S good bracket.Round opening ts ts1 t rest (same ∙ is) is_one e3)))
+      (λ any e3. parse_filled_brackets_sound S good bracket.Round opening ts ts1 t rest (same ∙ is) is_one e3)))
 
   brackets_sound : (sign : Bracket) (ts : List Token) (t : Tree) (rest : List Token) → kind_of ts ≡ kind.Open sign
       → grammar.brackets S sign ts ≡ Some (t, rest)
@@ -258,8 +258,8 @@ module _ (S : ℕ → Parser Tree) (good : Good S) where
   brackets_sound sign ts t rest is e =
       after_one _ ts (t, rest) e (λ opening ts1 is_one same e1.
       choose _ _ (same_kind (kind_of ts1) (kind.Close sign)) ts1 (t, rest) e1
-      (λ shut e2. empty_sound S good sign opening ts ts1 t rest (same ∙ is) is_one shut e2)
-      (λ other e2. filled_sound S good sign opening ts ts1 t rest (same ∙ is) is_one e2))
+      (λ shut e2. parse_empty_brackets_sound S good sign opening ts ts1 t rest (same ∙ is) is_one shut e2)
+      (λ other e2. parse_filled_brackets_sound S good sign opening ts ts1 t rest (same ∙ is) is_one e2))
 
   constant_sound : (ts : List Token) (t : Tree) (rest : List Token) → is_constant (kind_of ts) ≡ true
       → grammar.atom tree.constant ts ≡ Some (t, rest) → IsForm 16 ts t rest
@@ -279,12 +279,12 @@ module _ (S : ℕ → Parser Tree) (good : Good S) where
   prefix_by_sound loosest (kind.Keyword word.True) ts t rest high is e = starts_form loosest ts t rest high (constant_sound ts t rest (ap is_constant is) e)
   prefix_by_sound loosest (kind.Delimiter delimiter.Ellipsis) ts t rest high is e =
       starts_form loosest ts t rest high (constant_sound ts t rest (ap is_constant is) e)
-  prefix_by_sound loosest (kind.Keyword word.Not) ts t rest high is e = signed_sound loosest 4 ts t rest (ap prefix_precedence is) (omega arith) (omega arith) e
-  prefix_by_sound loosest (kind.Arithmetic op.Plus) ts t rest high is e = signed_sound loosest 12 ts t rest (ap prefix_precedence is) (omega arith) (omega arith) e
-  prefix_by_sound loosest (kind.Arithmetic op.Minus) ts t rest high is e = signed_sound loosest 12 ts t rest (ap prefix_precedence is) (omega arith) (omega arith) e
+  prefix_by_sound loosest (kind.Keyword word.Not) ts t rest high is e = parse_unary_sound loosest 4 ts t rest (ap prefix_precedence is) (omega arith) (omega arith) e
+  prefix_by_sound loosest (kind.Arithmetic op.Plus) ts t rest high is e = parse_unary_sound loosest 12 ts t rest (ap prefix_precedence is) (omega arith) (omega arith) e
+  prefix_by_sound loosest (kind.Arithmetic op.Minus) ts t rest high is e = parse_unary_sound loosest 12 ts t rest (ap prefix_precedence is) (omega arith) (omega arith) e
   prefix_by_sound loosest (kind.Delimiter delimiter.Tilde) ts t rest high is e =
-      signed_sound loosest 12 ts t rest (ap prefix_precedence is) (omega arith) (omega arith) e
-  prefix_by_sound loosest (kind.Keyword word.Await) ts t rest high is e = awaited_sound loosest ts t rest is e
+      parse_unary_sound loosest 12 ts t rest (ap prefix_precedence is) (omega arith) (omega arith) e
+  prefix_by_sound loosest (kind.Keyword word.Await) ts t rest high is e = await_expression_sound loosest ts t rest is e
   prefix_by_sound loosest (kind.Keyword word.Lambda) ts t rest high is e = lambda_sound loosest ts t rest is e
   prefix_by_sound loosest (kind.Open bracket.Round) ts t rest high is e = starts_form loosest ts t rest high (parentheses_sound ts t rest is e)
   prefix_by_sound loosest (kind.Open bracket.Square) ts t rest high is e = starts_form loosest ts t rest high (brackets_sound bracket.Square ts t rest is e)
@@ -298,10 +298,10 @@ module _ (S : ℕ → Parser Tree) (good : Good S) where
 
   -- ---- operators
 
-  operated_sound : (left : Tree) (n : ℕ) (ts : List Token) (t : Tree) (rest : List Token) → IsWell left → left_precedence (kind_of ts) ≤ precedence left
-      → right_precedence (kind_of ts) ≡ n → 1 ≤ n → grammar.operated S left n ts ≡ Some (t, rest) → Continues left ts t rest
-  unfolding grammar.operated IsWell yield_of
-  operated_sound left n ts t rest well fits is some e =
+  parse_binary_sound : (left : Tree) (n : ℕ) (ts : List Token) (t : Tree) (rest : List Token) → IsWell left → left_precedence (kind_of ts) ≤ precedence left
+      → right_precedence (kind_of ts) ≡ n → 1 ≤ n → grammar.parse_binary S left n ts ≡ Some (t, rest) → Continues left ts t rest
+  unfolding grammar.parse_binary IsWell yield_of
+  parse_binary_sound left n ts t rest well fits is some e =
       let table = right_near (kind_of ts) (omega arith) in
       after_one _ ts (t, rest) e (λ sign ts1 is_one same e1.
       after_self S good n _ ts1 (t, rest) e1 some (omega (arith, table)) (λ x ts2 got e2.
@@ -358,10 +358,10 @@ module _ (S : ℕ → Parser Tree) (good : Good S) where
         shorter = omega (arith, one_less ts dot ts1 is_one, one_less ts1 name ts2 is_name_one);
       })))
 
-  compared_sound : (left : Tree) (ts : List Token) (t : Tree) (rest : List Token) → IsWell left → 6 ≤ precedence left → is_comparison (kind_of ts) ≡ true
-      → grammar.compared S left ts ≡ Some (t, rest) → Continues left ts t rest
-  unfolding grammar.compared grammar.all_links yield_of
-  compared_sound left ts t rest well high is e =
+  parse_comparisons_sound : (left : Tree) (ts : List Token) (t : Tree) (rest : List Token) → IsWell left → 6 ≤ precedence left → is_comparison (kind_of ts) ≡ true
+      → grammar.parse_comparisons S left ts ≡ Some (t, rest) → Continues left ts t rest
+  unfolding grammar.parse_comparisons grammar.all_links yield_of
+  parse_comparisons_sound left ts t rest well high is e =
       bind (grammar.all_links S ts) _ (t, rest) e (λ found ts1 is_found e1.
       let got = links_sound (length ts) ts found ts1 is_found in
       let five : infix_precedence (kind_of ts) ≡ 5 = infix_precedence_comparison (kind_of ts) is in
@@ -380,19 +380,19 @@ module _ (S : ℕ → Parser Tree) (good : Good S) where
       → 1 ≤ infix_precedence k → kind_of ts ≡ k
       → grammar.operation_by S left k ts ≡ Some (t, rest) → Continues left ts t rest
   operation_by_sound left (kind.Keyword word.If) ts t rest well fits some is e = conditional_sound left ts t rest well fits is e
-  operation_by_sound left (kind.Keyword word.In) ts t rest well fits some is e = compared_sound left ts t rest well fits (ap is_comparison is) e
-  operation_by_sound left (kind.Keyword word.Is) ts t rest well fits some is e = compared_sound left ts t rest well fits (ap is_comparison is) e
-  operation_by_sound left (kind.Keyword word.Not) ts t rest well fits some is e = compared_sound left ts t rest well fits (ap is_comparison is) e
-  operation_by_sound left (kind.Comparison c) ts t rest well fits some is e = compared_sound left ts t rest well fits (ap is_comparison is) e
-  operation_by_sound left (kind.Open bracket.Round) ts t rest well fits some is e = called_sound S good left ts t rest fits well is e
-  operation_by_sound left (kind.Open bracket.Square) ts t rest well fits some is e = subscripted_sound S good left ts t rest fits well is e
+  operation_by_sound left (kind.Keyword word.In) ts t rest well fits some is e = parse_comparisons_sound left ts t rest well fits (ap is_comparison is) e
+  operation_by_sound left (kind.Keyword word.Is) ts t rest well fits some is e = parse_comparisons_sound left ts t rest well fits (ap is_comparison is) e
+  operation_by_sound left (kind.Keyword word.Not) ts t rest well fits some is e = parse_comparisons_sound left ts t rest well fits (ap is_comparison is) e
+  operation_by_sound left (kind.Comparison c) ts t rest well fits some is e = parse_comparisons_sound left ts t rest well fits (ap is_comparison is) e
+  operation_by_sound left (kind.Open bracket.Round) ts t rest well fits some is e = parse_call_sound S good left ts t rest fits well is e
+  operation_by_sound left (kind.Open bracket.Square) ts t rest well fits some is e = parse_subscript_sound S good left ts t rest fits well is e
   operation_by_sound left (kind.Delimiter delimiter.Dot) ts t rest well fits some is e = attribute_sound left ts t rest well fits is e
   operation_by_sound left (kind.Keyword word.Or) ts t rest well fits some is e =
-      operated_sound left 3 ts t rest well (omega (arith, ap left_precedence is)) (ap right_precedence is) (omega arith) e
+      parse_binary_sound left 3 ts t rest well (omega (arith, ap left_precedence is)) (ap right_precedence is) (omega arith) e
   operation_by_sound left (kind.Keyword word.And) ts t rest well fits some is e =
-      operated_sound left 4 ts t rest well (omega (arith, ap left_precedence is)) (ap right_precedence is) (omega arith) e
+      parse_binary_sound left 4 ts t rest well (omega (arith, ap left_precedence is)) (ap right_precedence is) (omega arith) e
   operation_by_sound left (kind.Arithmetic o) ts t rest well fits some is e =
-      operated_sound left (right_precedence (kind.Arithmetic o)) ts t rest well (omega (arith, ap left_precedence is)) (ap right_precedence is) (right_arithmetic o) e
+      parse_binary_sound left (right_precedence (kind.Arithmetic o)) ts t rest well (omega (arith, ap left_precedence is)) (ap right_precedence is) (right_arithmetic o) e
   operation_by_sound left _ ts t rest well fits some is e = absurd (omega arith)
 
   operation_sound : (left : Tree) (ts : List Token) (t : Tree) (rest : List Token) → IsWell left → left_precedence (kind_of ts) ≤ precedence left

@@ -23,7 +23,7 @@ use Rattle.pyc_line.proofs.Sound.{Good}
 use Rattle.pyc_line.proofs.SoundTables.{same_kind_is}
 use Rattle.pyc_line.proofs.SoundTools.{refused, bind, choose, after_one, after_expected, after_name, pure_as, checked_as}
 use Rattle.pyc_line.proofs.SoundItems.{after_self, after_item, tail_sound}
-use Rattle.pyc_line.proofs.SoundLists.{is_first, listed_sound, expressions_sound, targets_sound, some_items_sound}
+use Rattle.pyc_line.proofs.SoundLists.{is_first, parse_items_from_sound, expressions_sound, targets_sound, optional_items_sound}
 use Rattle.pyc_line.proofs.SoundStatements.{alias_sound}
 
 -- a header; whether parentheses belong to that of a `with` is seen by the colon behind it
@@ -82,10 +82,10 @@ module _ (S : ℕ → Parser Tree) (good : Good S) (rule_of_with : Opens S) wher
         text = simp append_assoc (cc);
       })))))
 
-  pub excepted_sound : (ts : List Token) (h : Header) (rest : List Token) → kind_of ts ≡ kind.Keyword word.Except
-      → grammar.excepted S ts ≡ Some (h, rest) → IsHead ts h rest
-  unfolding grammar.excepted IsHeader header_yield
-  excepted_sound ts h rest is e =
+  pub except_header_sound : (ts : List Token) (h : Header) (rest : List Token) → kind_of ts ≡ kind.Keyword word.Except
+      → grammar.except_header S ts ≡ Some (h, rest) → IsHead ts h rest
+  unfolding grammar.except_header IsHeader header_yield
+  except_header_sound ts h rest is e =
       after_one _ ts (h, rest) e (λ t ts1 is_one same e1.
       choose _ _ (is_colon (kind_of ts1)) ts1 (h, rest) e1
       (λ ends e2. pure_as (IsHead ts) (line.except t) h ts1 rest e2 (record { well = λ colon. same ∙ is; text = is_one }))
@@ -102,7 +102,7 @@ module _ (S : ℕ → Parser Tree) (good : Good S) (rule_of_with : Opens S) wher
   unfolding grammar.with_items
   with_items_sound ts items rest e =
       after_item S good list_context.WithItems _ ts (items, rest) e (λ x ts1 fitting part e1.
-      let all = listed_sound S good list_context.WithItems x ts ts1 items rest fitting part e1 in
+      let all = parse_items_from_sound S good list_context.WithItems x ts ts1 items rest fitting part e1 in
       record { some = is_first items x all.first; pieces = all.pieces; text = all.text })
 
   with_enclosed_sound : (word_async : Option Token) (t : Token) (ts0 ts : List Token) (h : Header) (rest : List Token) → IsAsync word_async
@@ -120,11 +120,11 @@ module _ (S : ℕ → Parser Tree) (good : Good S) (rule_of_with : Opens S) wher
         text = simp append_assoc (cc);
       }))))
 
-  with_open_sound : (word_async : Option Token) (t : Token) (ts0 ts : List Token) (h : Header) (rest : List Token) → IsAsync word_async
+  with_unenclosed_sound : (word_async : Option Token) (t : Token) (ts0 ts : List Token) (h : Header) (rest : List Token) → IsAsync word_async
       → t.kind ≡ kind.Keyword word.With → ts0 ≡ optional_token word_async ++ t ∷ ts → grammar.with_enclosed S word_async t ts ≡ None
-      → grammar.with_open S word_async t ts ≡ Some (h, rest) → IsHead ts0 h rest
-  unfolding grammar.with_open IsHeader header_yield
-  with_open_sound word_async t ts0 ts h rest async is text none e =
+      → grammar.with_unenclosed S word_async t ts ≡ Some (h, rest) → IsHead ts0 h rest
+  unfolding grammar.with_unenclosed IsHeader header_yield
+  with_unenclosed_sound word_async t ts0 ts h rest async is text none e =
       bind (grammar.with_items S ts) _ (h, rest) e (λ items ts1 are_items e1.
       let found = with_items_sound ts items ts1 are_items in
       checked_as (IsHead ts0) (ends_without_comma items) (line.with word_async t items) h ts1 rest e1 (λ ends.
@@ -140,9 +140,9 @@ module _ (S : ℕ → Parser Tree) (good : Good S) (rule_of_with : Opens S) wher
   with_sound word_async ts0 ts h rest async text is e =
       after_one _ ts (h, rest) e (λ t ts1 is_one same e1.
       let whole : ts0 ≡ optional_token word_async ++ t ∷ ts1 = cc in
-      either_way (grammar.with_enclosed S word_async t ts1) (grammar.with_open S word_async t ts1) (h, rest) e1
+      either_way (grammar.with_enclosed S word_async t ts1) (grammar.with_unenclosed S word_async t ts1) (h, rest) e1
       (λ enclosed. with_enclosed_sound word_async t ts0 ts1 h rest async (same ∙ is) whole enclosed)
-      (λ none open_ones. with_open_sound word_async t ts0 ts1 h rest async (same ∙ is) whole none open_ones))
+      (λ none open_ones. with_unenclosed_sound word_async t ts0 ts1 h rest async (same ∙ is) whole none open_ones))
 
   -- ---- functions and classes
 
@@ -154,8 +154,8 @@ module _ (S : ℕ → Parser Tree) (good : Good S) (rule_of_with : Opens S) wher
       after_one _ ts (h, rest) e (λ t ts1 is_one same e1.
       after_name _ ts1 (h, rest) e1 (λ name ts2 is_name_one named e2.
       after_expected (kind.Open bracket.Round) _ ts2 (h, rest) e2 (λ opening ts3 is_opening opened e3.
-      bind (rule.some_items S (list_context.Parameters true) ts3) _ (h, rest) e3 (λ parameters ts4 are_parameters e4.
-      let found = some_items_sound S good (list_context.Parameters true) ts3 parameters ts4 refl are_parameters in
+      bind (rule.optional_items S (list_context.Parameters true) ts3) _ (h, rest) e3 (λ parameters ts4 are_parameters e4.
+      let found = optional_items_sound S good (list_context.Parameters true) ts3 parameters ts4 refl are_parameters in
       after_expected (kind.Close bracket.Round) _ ts4 (h, rest) e4 (λ closing ts5 is_closing shut e5.
       bind (rule.tail S (kind.Delimiter delimiter.Arrow) ts5) _ (h, rest) e5 (λ result ts6 is_result e6.
       let answer = tail_sound S good (kind.Delimiter delimiter.Arrow) ts5 result ts6 is_result in
@@ -171,8 +171,8 @@ module _ (S : ℕ → Parser Tree) (good : Good S) (rule_of_with : Opens S) wher
   unfolding grammar.class_of IsHeader header_yield
   class_of_sound t name ts0 ts h rest is named text opens e =
       after_one _ ts (h, rest) e (λ opening ts1 is_one same e1.
-      bind (rule.some_items S list_context.Arguments ts1) _ (h, rest) e1 (λ arguments ts2 are_arguments e2.
-      let found = some_items_sound S good list_context.Arguments ts1 arguments ts2 refl are_arguments in
+      bind (rule.optional_items S list_context.Arguments ts1) _ (h, rest) e1 (λ arguments ts2 are_arguments e2.
+      let found = optional_items_sound S good list_context.Arguments ts1 arguments ts2 refl are_arguments in
       after_expected (kind.Close bracket.Round) _ ts2 (h, rest) e2 (λ closing ts3 is_closing shut e3.
       pure_as (IsHead ts0) (line.class_of t name opening arguments closing) h ts3 rest e3
       (record { well = λ colon. (is, named, same ∙ opens, shut, found.pieces); text = simp append_assoc (cc) }))))

@@ -49,9 +49,9 @@ module _ (S : ℕ → Parser Tree) (good : Good S) where
       (record { follows = (same ∙ same_kind_is (kind_of ts) k is, at_precedence 1 x got.high, got.well); text = cc; low = got.low }))))
       (λ other e0. pure_as (IsTail k ts) tree.nothing found ts rest e0 (record { follows = tt; text = refl; low = omega arith }))
 
-  pub bound_sound : (ts : List Token) (found : Perhaps) (rest : List Token) → rule.bound S ts ≡ Some (found, rest) → IsBound ts found rest
-  unfolding rule.bound IsWell yield_of height
-  bound_sound ts found rest e =
+  pub optional_bound_sound : (ts : List Token) (found : Perhaps) (rest : List Token) → rule.optional_bound S ts ≡ Some (found, rest) → IsBound ts found rest
+  unfolding rule.optional_bound IsWell yield_of height
+  optional_bound_sound ts found rest e =
       choose _ _ (begins_expression (kind_of ts)) ts (found, rest) e
       (λ is e0.
       after_self 1 _ ts (found, rest) e0 (omega arith) (omega arith) (λ x ts1 got e1.
@@ -79,9 +79,9 @@ module _ (S : ℕ → Parser Tree) (good : Good S) where
       made_as (IsPart ts) (tree.mapping stars x) t ts2 rest e2 (λ small.
       record { well = (same ∙ is_double_star_is (kind_of ts) is, got.high, got.well); text = cc; low = small })))
 
-  keyed_sound : (ts : List Token) (t : Tree) (rest : List Token) → rule.keyed S ts ≡ Some (t, rest) → IsPart ts t rest
-  unfolding rule.keyed IsWell yield_of
-  keyed_sound ts t rest e =
+  element_or_entry_sound : (ts : List Token) (t : Tree) (rest : List Token) → rule.element_or_entry S ts ≡ Some (t, rest) → IsPart ts t rest
+  unfolding rule.element_or_entry IsWell yield_of
+  element_or_entry_sound ts t rest e =
       after_self 1 _ ts (t, rest) e (omega arith) (omega arith) (λ key ts1 got e1.
       choose _ _ (is_colon (kind_of ts1)) ts1 (t, rest) e1
       (λ is e2.
@@ -96,23 +96,23 @@ module _ (S : ℕ → Parser Tree) (good : Good S) where
   stride_sound : (lower : Perhaps) (colon : Token) (upper : Perhaps) (ts0 ts ts1 ts2 : List Token) (t : Tree) (rest : List Token)
       → MayBe (is_at 1) lower → ts0 ≡ perhaps_yield lower ++ ts → ts ≡ colon ∷ ts1 → colon.kind ≡ kind.Delimiter delimiter.Colon
       → IsBound ts1 upper ts2 → is_colon (kind_of ts2) ≡ true
-      → and_then (take_one ts2) (λ second. λ us. and_then (rule.bound S us) (λ step. made (tree.stride lower colon upper second step))) ≡ Some (t, rest)
+      → and_then (take_one ts2) (λ second. λ us. and_then (rule.optional_bound S us) (λ step. made (tree.stride lower colon upper second step))) ≡ Some (t, rest)
       → IsPart ts0 t rest
   unfolding IsWell yield_of
   stride_sound lower colon upper ts0 ts ts1 ts2 t rest given text is_one sign above is e =
       after_one _ ts2 (t, rest) e (λ second ts3 is_second same e1.
-      bind (rule.bound S ts3) _ (t, rest) e1 (λ step ts4 is_step e2.
-      let last = bound_sound ts3 step ts4 is_step in
+      bind (rule.optional_bound S ts3) _ (t, rest) e1 (λ step ts4 is_step e2.
+      let last = optional_bound_sound ts3 step ts4 is_step in
       made_as (IsPart ts0) (tree.stride lower colon upper second step) t ts4 rest e2 (λ small.
       record { well = (given, sign, above.given, same ∙ is_colon_is (kind_of ts2) is, last.given); text = simp append_assoc (cc); low = small })))
 
-  sliced_sound : (lower : Perhaps) (ts0 ts : List Token) (t : Tree) (rest : List Token) → MayBe (is_at 1) lower → ts0 ≡ perhaps_yield lower ++ ts
-      → is_colon (kind_of ts) ≡ true → rule.sliced S lower ts ≡ Some (t, rest) → IsPart ts0 t rest
-  unfolding rule.sliced IsWell yield_of
-  sliced_sound lower ts0 ts t rest given text is e =
+  parse_slice_sound : (lower : Perhaps) (ts0 ts : List Token) (t : Tree) (rest : List Token) → MayBe (is_at 1) lower → ts0 ≡ perhaps_yield lower ++ ts
+      → is_colon (kind_of ts) ≡ true → rule.parse_slice S lower ts ≡ Some (t, rest) → IsPart ts0 t rest
+  unfolding rule.parse_slice IsWell yield_of
+  parse_slice_sound lower ts0 ts t rest given text is e =
       after_one _ ts (t, rest) e (λ colon ts1 is_one same e1.
-      bind (rule.bound S ts1) _ (t, rest) e1 (λ upper ts2 is_upper e2.
-      let above = bound_sound ts1 upper ts2 is_upper in
+      bind (rule.optional_bound S ts1) _ (t, rest) e1 (λ upper ts2 is_upper e2.
+      let above = optional_bound_sound ts1 upper ts2 is_upper in
       let sign : colon.kind ≡ kind.Delimiter delimiter.Colon = same ∙ is_colon_is (kind_of ts) is in
       choose _ _ (is_colon (kind_of ts2)) ts2 (t, rest) e2
       (λ again e3. stride_sound lower colon upper ts0 ts ts1 ts2 t rest given text is_one sign above again e3)
@@ -123,11 +123,11 @@ module _ (S : ℕ → Parser Tree) (good : Good S) where
   unfolding rule.index IsWell yield_of
   index_sound ts t rest e =
       choose _ _ (is_colon (kind_of ts)) ts (t, rest) e
-      (λ is e0. sliced_sound tree.absent ts ts t rest tt refl is e0)
+      (λ is e0. parse_slice_sound tree.absent ts ts t rest tt refl is e0)
       (λ other e0.
       after_self 1 _ ts (t, rest) e0 (omega arith) (omega arith) (λ x ts1 got e1.
       choose _ _ (is_colon (kind_of ts1)) ts1 (t, rest) e1
-      (λ is e2. sliced_sound (tree.present x) ts ts1 t rest (at_precedence 1 x got.high, got.well) got.text is e2)
+      (λ is e2. parse_slice_sound (tree.present x) ts ts1 t rest (at_precedence 1 x got.high, got.well) got.text is e2)
       (λ no e2. pure_as (IsPart ts) x t ts1 rest e2 (read_part got))))
 
   -- ---- arguments
@@ -180,9 +180,9 @@ module _ (S : ℕ → Parser Tree) (good : Good S) where
       (λ named e2.
       after_one _ ts1 (t, rest) e2 (λ name ts2 is_name_one same_name e3.
       bind (rule.annotation S is_annotated ts2) _ (t, rest) e3 (λ annotation ts3 read_annotation e4.
-      let annotated = annotation_sound is_annotated ts2 annotation ts3 read_annotation in
+      let annotated_target = annotation_sound is_annotated ts2 annotation ts3 read_annotation in
       made_as (IsPart ts) (tree.star_parameter star name annotation) t ts3 rest e4 (λ small.
-      record { well = (sign, ap is_name same_name ∙ named, annotated.follows); text = cc; low = small }))))
+      record { well = (sign, ap is_name same_name ∙ named, annotated_target.follows); text = cc; low = small }))))
       (λ other e2. made_as (IsPart ts) (tree.bare_star star) t ts1 rest e2 (λ small. record { well = sign; text = is_one; low = small })))
 
   double_parameter_sound : (is_annotated : Bool) (ts : List Token) (t : Tree) (rest : List Token) → is_double_star (kind_of ts) ≡ true
@@ -192,9 +192,9 @@ module _ (S : ℕ → Parser Tree) (good : Good S) where
       after_one _ ts (t, rest) e (λ stars ts1 is_one same e1.
       after_name _ ts1 (t, rest) e1 (λ name ts2 is_name_one named e2.
       bind (rule.annotation S is_annotated ts2) _ (t, rest) e2 (λ annotation ts3 read_annotation e3.
-      let annotated = annotation_sound is_annotated ts2 annotation ts3 read_annotation in
+      let annotated_target = annotation_sound is_annotated ts2 annotation ts3 read_annotation in
       made_as (IsPart ts) (tree.double_parameter stars name annotation) t ts3 rest e3 (λ small.
-      record { well = (same ∙ is_double_star_is (kind_of ts) is, named, annotated.follows); text = cc; low = small }))))
+      record { well = (same ∙ is_double_star_is (kind_of ts) is, named, annotated_target.follows); text = cc; low = small }))))
 
   plain_parameter_sound : (is_annotated : Bool) (ts : List Token) (t : Tree) (rest : List Token)
       → rule.plain_parameter S is_annotated ts ≡ Some (t, rest) → IsPart ts t rest
@@ -202,11 +202,11 @@ module _ (S : ℕ → Parser Tree) (good : Good S) where
   plain_parameter_sound is_annotated ts t rest e =
       after_name _ ts (t, rest) e (λ name ts1 is_one named e1.
       bind (rule.annotation S is_annotated ts1) _ (t, rest) e1 (λ annotation ts2 read_annotation e2.
-      let annotated = annotation_sound is_annotated ts1 annotation ts2 read_annotation in
+      let annotated_target = annotation_sound is_annotated ts1 annotation ts2 read_annotation in
       bind (rule.tail S (kind.Delimiter delimiter.Equal) ts2) _ (t, rest) e2 (λ default ts3 is_default e3.
       let given = tail_sound (kind.Delimiter delimiter.Equal) ts2 default ts3 is_default in
       made_as (IsPart ts) (tree.parameter name annotation default) t ts3 rest e3 (λ small.
-      record { well = (named, annotated.follows, given.follows); text = simp append_assoc (cc); low = small }))))
+      record { well = (named, annotated_target.follows, given.follows); text = simp append_assoc (cc); low = small }))))
 
   -- ---- context managers
 
@@ -239,57 +239,57 @@ module _ (S : ℕ → Parser Tree) (good : Good S) where
 
   -- ---- by context
 
-  starred_or_sound : (loosest : ℕ) (ts : List Token) (t : Tree) (rest : List Token) → 1 ≤ loosest → loosest ≤ 16
-      → rule.starred_or S loosest (kind_of ts) ts ≡ Some (t, rest) → IsPart ts t rest
-  starred_or_sound loosest ts t rest low high e =
+  starred_or_expression_sound : (loosest : ℕ) (ts : List Token) (t : Tree) (rest : List Token) → 1 ≤ loosest → loosest ≤ 16
+      → rule.starred_or_expression S loosest (kind_of ts) ts ≡ Some (t, rest) → IsPart ts t rest
+  starred_or_expression_sound loosest ts t rest low high e =
       choose _ _ (is_star (kind_of ts)) ts (t, rest) e
       (λ is e0. starred_sound 6 ts t rest (omega arith) (omega arith) is e0)
       (λ other e0. self_part loosest ts t rest e0 low high)
 
-  brace_sound : (ts : List Token) (t : Tree) (rest : List Token) → rule.brace_by S (kind_of ts) ts ≡ Some (t, rest) → IsPart ts t rest
+  brace_sound : (ts : List Token) (t : Tree) (rest : List Token) → rule.brace_item_by_kind S (kind_of ts) ts ≡ Some (t, rest) → IsPart ts t rest
   brace_sound ts t rest e =
       choose _ _ (is_star (kind_of ts)) ts (t, rest) e
       (λ is e0. starred_sound 6 ts t rest (omega arith) (omega arith) is e0)
-      (λ other e0. choose _ _ (is_double_star (kind_of ts)) ts (t, rest) e0 (λ is e1. mapping_sound ts t rest is e1) (λ no e1. keyed_sound ts t rest e1))
+      (λ other e0. choose _ _ (is_double_star (kind_of ts)) ts (t, rest) e0 (λ is e1. mapping_sound ts t rest is e1) (λ no e1. element_or_entry_sound ts t rest e1))
 
-  argument_by_sound : (ts : List Token) (t : Tree) (rest : List Token) → rule.argument_by S (kind_of ts) ts ≡ Some (t, rest) → IsPart ts t rest
-  argument_by_sound ts t rest e =
+  argument_by_kind_sound : (ts : List Token) (t : Tree) (rest : List Token) → rule.argument_by_kind S (kind_of ts) ts ≡ Some (t, rest) → IsPart ts t rest
+  argument_by_kind_sound ts t rest e =
       choose _ _ (is_star (kind_of ts)) ts (t, rest) e
       (λ is e0. starred_sound 1 ts t rest (omega arith) (omega arith) is e0)
       (λ other e0. choose _ _ (is_double_star (kind_of ts)) ts (t, rest) e0
       (λ is e1. double_starred_sound ts t rest is e1) (λ no e1. argument_sound ts t rest e1))
 
-  parameter_by_sound : (is_annotated : Bool) (ts : List Token) (t : Tree) (rest : List Token)
-      → rule.parameter_by S is_annotated (kind_of ts) ts ≡ Some (t, rest) → IsPart ts t rest
-  parameter_by_sound is_annotated ts t rest e =
+  parameter_by_kind_sound : (is_annotated : Bool) (ts : List Token) (t : Tree) (rest : List Token)
+      → rule.parameter_by_kind S is_annotated (kind_of ts) ts ≡ Some (t, rest) → IsPart ts t rest
+  parameter_by_kind_sound is_annotated ts t rest e =
       choose _ _ (is_star (kind_of ts)) ts (t, rest) e
       (λ is e0. star_parameter_sound is_annotated ts t rest is e0)
       (λ other e0. choose _ _ (is_double_star (kind_of ts)) ts (t, rest) e0
       (λ is e1. double_parameter_sound is_annotated ts t rest is e1) (λ no e1. plain_parameter_sound is_annotated ts t rest e1))
 
-  item_by_sound : (here : ListContext) (ts : List Token) (t : Tree) (rest : List Token) → rule.item_by S here (kind_of ts) ts ≡ Some (t, rest)
+  item_by_context_sound : (here : ListContext) (ts : List Token) (t : Tree) (rest : List Token) → rule.item_by_context S here (kind_of ts) ts ≡ Some (t, rest)
       → IsPart ts t rest
-  item_by_sound list_context.Items ts t rest e = starred_or_sound 1 ts t rest (omega arith) (omega arith) e
-  item_by_sound list_context.Targets ts t rest e = starred_or_sound 6 ts t rest (omega arith) (omega arith) e
-  item_by_sound list_context.Subscript ts t rest e = index_sound ts t rest e
-  item_by_sound list_context.WithItems ts t rest e = with_item_sound ts t rest e
-  item_by_sound list_context.Braces ts t rest e = brace_sound ts t rest e
-  item_by_sound list_context.Set ts t rest e = brace_sound ts t rest e
-  item_by_sound list_context.Entries ts t rest e = brace_sound ts t rest e
-  item_by_sound list_context.Arguments ts t rest e = argument_by_sound ts t rest e
-  item_by_sound list_context.KeywordArguments ts t rest e = argument_by_sound ts t rest e
-  item_by_sound list_context.LastArguments ts t rest e = argument_by_sound ts t rest e
-  item_by_sound (list_context.Parameters is_annotated) ts t rest e = parameter_by_sound is_annotated ts t rest e
-  item_by_sound (list_context.AfterStar is_annotated) ts t rest e = parameter_by_sound is_annotated ts t rest e
-  item_by_sound (list_context.KeywordOnly is_annotated) ts t rest e = parameter_by_sound is_annotated ts t rest e
-  item_by_sound list_context.Ended ts t rest e = refused _ e
+  item_by_context_sound list_context.Items ts t rest e = starred_or_expression_sound 1 ts t rest (omega arith) (omega arith) e
+  item_by_context_sound list_context.Targets ts t rest e = starred_or_expression_sound 6 ts t rest (omega arith) (omega arith) e
+  item_by_context_sound list_context.Subscript ts t rest e = index_sound ts t rest e
+  item_by_context_sound list_context.WithItems ts t rest e = with_item_sound ts t rest e
+  item_by_context_sound list_context.Braces ts t rest e = brace_sound ts t rest e
+  item_by_context_sound list_context.Set ts t rest e = brace_sound ts t rest e
+  item_by_context_sound list_context.Entries ts t rest e = brace_sound ts t rest e
+  item_by_context_sound list_context.Arguments ts t rest e = argument_by_kind_sound ts t rest e
+  item_by_context_sound list_context.KeywordArguments ts t rest e = argument_by_kind_sound ts t rest e
+  item_by_context_sound list_context.LastArguments ts t rest e = argument_by_kind_sound ts t rest e
+  item_by_context_sound (list_context.Parameters is_annotated) ts t rest e = parameter_by_kind_sound is_annotated ts t rest e
+  item_by_context_sound (list_context.AfterStar is_annotated) ts t rest e = parameter_by_kind_sound is_annotated ts t rest e
+  item_by_context_sound (list_context.KeywordOnly is_annotated) ts t rest e = parameter_by_kind_sound is_annotated ts t rest e
+  item_by_context_sound list_context.Ended ts t rest e = refused _ e
 
   -- an item that fits its place
   pub item_sound : (here : ListContext) (ts : List Token) (t : Tree) (rest : List Token) → rule.item S here ts ≡ Some (t, rest) → IsOf (fits here) ts t rest
   unfolding rule.item
   item_sound here ts t rest e =
-      bind (rule.item_by S here (kind_of ts) ts) _ (t, rest) e (λ u later is last.
-      let part = item_by_sound here ts u later is in
+      bind (rule.item_by_context S here (kind_of ts) ts) _ (t, rest) e (λ u later is last.
+      let part = item_by_context_sound here ts u later is in
       checked_as (IsOf (fits here) ts) (fits here u) u t later rest last (λ fitting.
       record { well = part.well; text = part.text; low = part.low; passes = fitting }))
 

@@ -26,7 +26,7 @@ use Rattle.pyc_line.proofs.SoundItems.{after_self}
 use Rattle.pyc_line.proofs.SoundExpressions.{expression_sound}
 use Rattle.pyc_line.proofs.SoundStatements.{Spells, after_end, all_statements_sound}
 use Rattle.pyc_line.proofs.CompleteWith.{with_opens}
-use Rattle.pyc_line.proofs.SoundHeaders.{IsHead, Opens, word_header_sound, condition_sound, for_each_sound, excepted_sound, with_sound, function_sound, class_sound, async_sound}
+use Rattle.pyc_line.proofs.SoundHeaders.{IsHead, Opens, word_header_sound, condition_sound, for_each_sound, except_header_sound, with_sound, function_sound, class_sound, async_sound}
 
 -- statements after a colon may be there
 may_be : (found : Separated SimpleStatement) → AreStatements found → MayBeStatements found
@@ -52,7 +52,7 @@ module _ (S : ℕ → Parser Tree) (good : Good S) (rule_of_with : Opens S) wher
       let comes : is_colon (kind_of ts) ≡ true = ap (λ z. is_colon (kind_of z)) is_one ∙ ap is_colon sign in
       after_end _ ts1 (l, rest) e1 (λ is_empty e2.
       choose _ _ is_empty ts1 (l, rest) e2
-      (λ empty e3.
+      (λ parse_empty_brackets e3.
       pure_as (Spells IsLine line_yield ts0) (line.header h colon no_item) l ts1 rest e3
       (record { well = (head.well comes, sign, tt); text = simp append_assoc (cc) }))
       (λ some e3.
@@ -93,7 +93,7 @@ module _ (S : ℕ → Parser Tree) (good : Good S) (rule_of_with : Opens S) wher
   line_by_sound (kind.Keyword word.For) ts l rest is e =
       headed_sound (grammar.for_each S None) ts l rest (λ h left p. for_each_sound S good rule_of_with None ts ts h left tt refl is p) e
   line_by_sound (kind.Keyword word.Except) ts l rest is e =
-      headed_sound (grammar.excepted S) ts l rest (λ h left p. excepted_sound S good rule_of_with ts h left is p) e
+      headed_sound (grammar.except_header S) ts l rest (λ h left p. except_header_sound S good rule_of_with ts h left is p) e
   line_by_sound (kind.Keyword word.With) ts l rest is e =
       headed_sound (grammar.with S None) ts l rest (λ h left p. with_sound S good rule_of_with None ts ts h left tt refl is p) e
   line_by_sound (kind.Keyword word.Def) ts l rest is e =
@@ -121,7 +121,8 @@ completed {G = G} (Some (m, [])) l e go = low_one (nat_le (line_height m) max_he
         go (ap (λ x. Some (x, [])) same) (leb-true (line_height l) max_height (ap (λ x. nat_le (line_height x) max_height) (sym same) ∙ low))
     low_one false low e = refused l e
 
--- the tree of a line is a well-formed line, its tokens are those of the line, and it is no higher than the profile allows
+-- the tree of a line is a well-formed line, its tokens are those of the line, and it is no higher than the profile
+-- allows
 pub line_sound : (ts : List Token) (l : Line) → line_tree ts ≡ Some l → IsWellLine l × (line_yield l ≡ ts) × (line_height l ≤ max_height)
 unfolding line_tree
 line_sound ts l e =

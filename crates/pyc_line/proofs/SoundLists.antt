@@ -81,40 +81,40 @@ module _ (S : ℕ → Parser Tree) (good : Good S) where
       (λ other e0. last_sound here e ts0 ts found rest fitting part e0)
 
   -- items after the first
-  pub listed_sound : (here : ListContext) (e : Tree) (ts0 ts : List Token) (found : Pieces) (rest : List Token) → fits here e ≡ true → IsPart ts0 e ts
-      → rule.listed S here e ts ≡ Some (found, rest) → AreListed here e ts0 found rest
-  unfolding rule.listed
-  listed_sound here e ts0 ts found rest fitting part is = items_sound (length ts) here e ts0 ts found rest fitting part is
+  pub parse_items_from_sound : (here : ListContext) (e : Tree) (ts0 ts : List Token) (found : Pieces) (rest : List Token) → fits here e ≡ true → IsPart ts0 e ts
+      → rule.parse_items_from S here e ts ≡ Some (found, rest) → AreListed here e ts0 found rest
+  unfolding rule.parse_items_from
+  parse_items_from_sound here e ts0 ts found rest fitting part is = items_sound (length ts) here e ts0 ts found rest fitting part is
 
   pub after_listed : {B G : Type 0} (here : ListContext) (e : Tree) (f : Pieces → Parser B) (ts0 ts : List Token) (r : B × List Token)
-      → and_then (rule.listed S here e ts) f ≡ Some r → fits here e ≡ true → IsPart ts0 e ts
+      → and_then (rule.parse_items_from S here e ts) f ≡ Some r → fits here e ≡ true → IsPart ts0 e ts
       → ((found : Pieces) (later : List Token) → AreListed here e ts0 found later → f found later ≡ Some r → G) → G
   after_listed here e f ts0 ts r is fitting part go =
-      bind (rule.listed S here e ts) f r is (λ found later one next. go found later (listed_sound here e ts0 ts found later fitting part one) next)
+      bind (rule.parse_items_from S here e ts) f r is (λ found later one next. go found later (parse_items_from_sound here e ts0 ts found later fitting part one) next)
 
   -- items, if one begins
-  pub some_items_sound : (here : ListContext) (ts : List Token) (found : Pieces) (rest : List Token) → may_end here ≡ true
-      → rule.some_items S here ts ≡ Some (found, rest) → ArePart here ts found rest
-  unfolding rule.some_items IsWell yield_of height
-  some_items_sound here ts found rest ends is =
+  pub optional_items_sound : (here : ListContext) (ts : List Token) (found : Pieces) (rest : List Token) → may_end here ≡ true
+      → rule.optional_items S here ts ≡ Some (found, rest) → ArePart here ts found rest
+  unfolding rule.optional_items IsWell yield_of height
+  optional_items_sound here ts found rest ends is =
       choose _ _ (begins here (kind_of ts)) ts (found, rest) is
       (λ begun e0.
       after_item S good here _ ts (found, rest) e0 (λ e ts1 fitting part e1.
-      let all = listed_sound here e ts ts1 found rest fitting part e1 in
+      let all = parse_items_from_sound here e ts ts1 found rest fitting part e1 in
       record { pieces = all.pieces; text = all.text; low = all.low }))
       (λ none e0. pure_as (ArePart here ts) tree.none found ts rest e0 (record { pieces = ends; text = refl; low = omega arith }))
 
   -- ---- expressions and targets
 
-  untupled_sound : (found : Pieces) (ts0 ts : List Token) (t : Tree) (rest : List Token) → ArePieces list_context.Items found
+  single_or_tuple_sound : (found : Pieces) (ts0 ts : List Token) (t : Tree) (rest : List Token) → ArePieces list_context.Items found
       → ts0 ≡ pieces_yield found ++ ts
-      → pieces_height found ≤ max_height → has_item found ≡ true → rule.untupled S found ts ≡ Some (t, rest) → IsOf is_expression_list ts0 t rest
+      → pieces_height found ≤ max_height → has_item found ≡ true → rule.single_or_tuple S found ts ≡ Some (t, rest) → IsOf is_expression_list ts0 t rest
   unfolding IsWell yield_of height
-  untupled_sound tree.none ts0 ts t rest pieces text low some e = never some
-  untupled_sound (tree.last x) ts0 ts t rest pieces text low some e =
+  single_or_tuple_sound tree.none ts0 ts t rest pieces text low some e = never some
+  single_or_tuple_sound (tree.last x) ts0 ts t rest pieces text low some e =
       checked_as (IsOf is_expression_list ts0) (is_at 1 x) x t ts rest e (λ high.
       record { well = pieces.1; text = text; low = low; passes = list_at x high })
-  untupled_sound (tree.piece x comma more) ts0 ts t rest pieces text low some e =
+  single_or_tuple_sound (tree.piece x comma more) ts0 ts t rest pieces text low some e =
       made_as (IsOf is_expression_list ts0) (tree.bare (tree.piece x comma more)) t ts rest e (λ small.
       record { well = (refl, pieces); text = text; low = small; passes = refl })
 
@@ -125,7 +125,7 @@ module _ (S : ℕ → Parser Tree) (good : Good S) where
   expressions_at here ts t rest are_items e =
       after_item S good here _ ts (t, rest) e (λ x ts1 fitting part e1.
       after_listed here x _ ts ts1 (t, rest) e1 fitting part (λ found ts2 all e2.
-      untupled_sound found ts ts2 t rest (are_items found all.pieces) all.text all.low (is_first found x all.first) e2))
+      single_or_tuple_sound found ts ts2 t rest (are_items found all.pieces) all.text all.low (is_first found x all.first) e2))
 
   -- an expression, or a tuple without brackets
   pub expressions_sound : (ts : List Token) (t : Tree) (rest : List Token) → rule.expressions S list_context.Items ts ≡ Some (t, rest)

@@ -26,7 +26,7 @@ use Rattle.pyc_line.proofs.SoundTables.{never, same_kind_is, is_colon_is}
 use Rattle.pyc_line.proofs.SoundTools.{refused, bind, choose, only, after_one, after_expected, after_name, pure_as, either_first, either_second}
 use Rattle.pyc_line.proofs.SoundItems.{after_self, tail_sound}
 use Rattle.pyc_line.proofs.SoundLists.{expressions_sound, targets_sound}
-use Rattle.pyc_line.proofs.SoundBrackets.{yielded_sound}
+use Rattle.pyc_line.proofs.SoundBrackets.{yield_expression_sound}
 
 -- what is read is well-formed, and its tokens are those that were taken
 pub record Spells {A : Type 0} (Is : A → Type 0) (yield : A → List Token) (ts : List Token) (x : A) (rest : List Token) : Type 0 where
@@ -101,9 +101,9 @@ parts_sound (suc n) ts found rest e =
     (record { well = (same ∙ same_kind_is (kind_of ts) (kind.Delimiter delimiter.Dot) comes, named, later.well); text = cc })))))
     (λ other e0. pure_as (Spells AreParts parts_yield ts) [] found ts rest e0 (record { well = tt; text = refl }))
 
-dotted_sound : (ts : List Token) (found : Dotted) (rest : List Token) → grammar.dotted ts ≡ Some (found, rest) → Spells IsDotted dotted_yield ts found rest
-unfolding grammar.dotted grammar.all_parts
-dotted_sound ts found rest e =
+dotted_name_sound : (ts : List Token) (found : Dotted) (rest : List Token) → grammar.dotted_name ts ≡ Some (found, rest) → Spells IsDotted dotted_yield ts found rest
+unfolding grammar.dotted_name grammar.all_parts
+dotted_name_sound ts found rest e =
     after_name _ ts (found, rest) e (λ first ts1 is_one named e1.
     bind (grammar.all_parts ts1) _ (found, rest) e1 (λ more ts2 is_more e2.
     let later = parts_sound (length ts1) ts1 more ts2 is_more in
@@ -116,8 +116,8 @@ module_sound : (ts : List Token) (m : ImportedModule) (rest : List Token) → gr
     → Spells IsImportedModule module_yield ts m rest
 unfolding grammar.imported_module
 module_sound ts m rest e =
-    bind (grammar.dotted ts) _ (m, rest) e (λ path ts1 is_path e1.
-    let named = dotted_sound ts path ts1 is_path in
+    bind (grammar.dotted_name ts) _ (m, rest) e (λ path ts1 is_path e1.
+    let named = dotted_name_sound ts path ts1 is_path in
     bind (grammar.alias ts1) _ (m, rest) e1 (λ as_name ts2 is_alias e2.
     let renamed = alias_sound ts1 as_name ts2 is_alias in
     pure_as (Spells IsImportedModule module_yield ts) (record { path = path; alias = as_name }) m ts2 rest e2
@@ -168,8 +168,8 @@ path_sound : (dots : List Token) (k : Kind) (ts : List Token) (found : Option Do
 path_sound (dot ∷ more) (kind.Keyword word.Import) ts found rest are e =
     pure_as (Spells (IsSourceOf (dot ∷ more)) optional_path ts) None found ts rest e (record { well = are; text = refl })
 path_sound dots k ts found rest are e =
-    bind (grammar.dotted ts) _ (found, rest) e (λ path ts1 is_path e1.
-    let named = dotted_sound ts path ts1 is_path in
+    bind (grammar.dotted_name ts) _ (found, rest) e (λ path ts1 is_path e1.
+    let named = dotted_name_sound ts path ts1 is_path in
     pure_as (Spells (IsSourceOf dots) optional_path ts) (Some path) found ts1 rest e1 (record { well = (are, named.well); text = named.text }))
 
 source_sound : (ts : List Token) (s : Source) (rest : List Token) → grammar.source ts ≡ Some (s, rest)
@@ -216,10 +216,10 @@ open_sound t from word_import ts0 ts s rest head e =
     pure_as (Spells IsStatement statement_yield ts0) (statement.import_from t from word_import None names None) s ts1 rest e1
     (record { well = (head.sign, head.well, head.imports, found.well); text = head.text ∙ rw found.text (simp append_assoc refl) }))
 
-imported_from_sound : (ts : List Token) (s : SimpleStatement) (rest : List Token) → kind_of ts ≡ kind.Keyword word.From
-    → grammar.imported_from ts ≡ Some (s, rest) → Spells IsStatement statement_yield ts s rest
-unfolding grammar.imported_from
-imported_from_sound ts s rest is e =
+import_from_statement_sound : (ts : List Token) (s : SimpleStatement) (rest : List Token) → kind_of ts ≡ kind.Keyword word.From
+    → grammar.import_from_statement ts ≡ Some (s, rest) → Spells IsStatement statement_yield ts s rest
+unfolding grammar.import_from_statement
+import_from_statement_sound ts s rest is e =
     after_one _ ts (s, rest) e (λ t ts1 is_one same e1.
     bind (grammar.source ts1) _ (s, rest) e1 (λ from ts2 is_from e2.
     let found = source_sound ts1 from ts2 is_from in
@@ -276,10 +276,10 @@ module _ (S : ℕ → Parser Tree) (good : Good S) where
       let got = expressions_sound S good ts x rest e in
       record { well = got.well; text = got.text; low = got.low; passes = either_second (is_yield x) (is_expression_list x) got.passes }
 
-  yielded_value : (ts : List Token) (e : Tree) (rest : List Token) → kind_of ts ≡ kind.Keyword word.Yield → rule.yielded S ts ≡ Some (e, rest)
+  yielded_value : (ts : List Token) (e : Tree) (rest : List Token) → kind_of ts ≡ kind.Keyword word.Yield → rule.yield_expression S ts ≡ Some (e, rest)
       → IsOf is_value ts e rest
   yielded_value ts x rest is e =
-      let got = yielded_sound S good ts x rest is e in
+      let got = yield_expression_sound S good ts x rest is e in
       record { well = got.well; text = got.text; low = got.low; passes = either_first (is_yield x) (is_expression_list x) got.passes }
 
   value_by_sound : (k : Kind) (ts : List Token) (e : Tree) (rest : List Token) → kind_of ts ≡ k → grammar.value_by S k ts ≡ Some (e, rest)
@@ -348,57 +348,57 @@ module _ (S : ℕ → Parser Tree) (good : Good S) where
       pure_as (Spells IsStatement statement_yield ts0) (grammar.chained S found) s ts1 rest e1
       (chained_sound found ts0 ts1 (chain_sound (length ts) x ts0 ts found ts1 got is_found)))
 
-  annotated_sound : (x : Tree) (ts0 ts : List Token) (s : SimpleStatement) (rest : List Token) → IsOf is_value ts0 x ts → is_colon (kind_of ts) ≡ true
-      → grammar.annotated S x ts ≡ Some (s, rest) → Spells IsStatement statement_yield ts0 s rest
-  unfolding grammar.annotated IsStatement statement_yield
-  annotated_sound x ts0 ts s rest got is e =
+  annotated_target_sound : (x : Tree) (ts0 ts : List Token) (s : SimpleStatement) (rest : List Token) → IsOf is_value ts0 x ts → is_colon (kind_of ts) ≡ true
+      → grammar.annotated_target S x ts ≡ Some (s, rest) → Spells IsStatement statement_yield ts0 s rest
+  unfolding grammar.annotated_target IsStatement statement_yield
+  annotated_target_sound x ts0 ts s rest got is e =
       only _ (is_single_target x) ts (s, rest) e (λ single e0.
       after_one _ ts (s, rest) e0 (λ colon ts1 is_one same e1.
-      after_self S good 1 _ ts1 (s, rest) e1 (omega arith) (omega arith) (λ annotation ts2 annotated e2.
+      after_self S good 1 _ ts1 (s, rest) e1 (omega arith) (omega arith) (λ annotation ts2 annotated_target e2.
       bind (grammar.given S ts2) _ (s, rest) e2 (λ value ts3 is_value e3.
       let later = given_sound ts2 value ts3 is_value in
       pure_as (Spells IsStatement statement_yield ts0) (statement.annotate x colon annotation value) s ts3 rest e3
       (record {
-        well = (single, got.well, same ∙ is_colon_is (kind_of ts) is, annotated.high, annotated.well, later.well);
+        well = (single, got.well, same ∙ is_colon_is (kind_of ts) is, annotated_target.high, annotated_target.well, later.well);
         text = simp append_assoc (cc);
       })))))
 
-  augmented_sound : (x : Tree) (ts0 ts : List Token) (s : SimpleStatement) (rest : List Token) → IsOf is_value ts0 x ts
-      → is_augmented (kind_of ts) ≡ true → grammar.augmented S x ts ≡ Some (s, rest) → Spells IsStatement statement_yield ts0 s rest
-  unfolding grammar.augmented IsStatement statement_yield
-  augmented_sound x ts0 ts s rest got is e =
+  augmented_assignment_sound : (x : Tree) (ts0 ts : List Token) (s : SimpleStatement) (rest : List Token) → IsOf is_value ts0 x ts
+      → is_augmented (kind_of ts) ≡ true → grammar.augmented_assignment S x ts ≡ Some (s, rest) → Spells IsStatement statement_yield ts0 s rest
+  unfolding grammar.augmented_assignment IsStatement statement_yield
+  augmented_assignment_sound x ts0 ts s rest got is e =
       only _ (is_single_target x) ts (s, rest) e (λ single e0.
       after_one _ ts (s, rest) e0 (λ sign ts1 is_one same e1.
       after_value _ ts1 (s, rest) e1 (λ y ts2 value e2.
       pure_as (Spells IsStatement statement_yield ts0) (statement.augment x sign y) s ts2 rest e2
       (record { well = (single, got.well, ap is_augmented same ∙ is, value.passes, value.well); text = simp append_assoc (cc) }))))
 
-  of_expression_sound : (ts : List Token) (s : SimpleStatement) (rest : List Token) → grammar.of_expression S ts ≡ Some (s, rest)
+  expression_or_assignment_sound : (ts : List Token) (s : SimpleStatement) (rest : List Token) → grammar.expression_or_assignment S ts ≡ Some (s, rest)
       → Spells IsStatement statement_yield ts s rest
-  unfolding grammar.of_expression
-  of_expression_sound ts s rest e =
+  unfolding grammar.expression_or_assignment
+  expression_or_assignment_sound ts s rest e =
       bind (rule.expressions S list_context.Items ts) _ (s, rest) e (λ x ts1 is e1.
       let got = listed_value ts x ts1 is in
       choose _ _ (is_colon (kind_of ts1)) ts1 (s, rest) e1
-      (λ colon e2. annotated_sound x ts ts1 s rest got colon e2)
+      (λ colon e2. annotated_target_sound x ts ts1 s rest got colon e2)
       (λ other e2. choose _ _ (is_augmented (kind_of ts1)) ts1 (s, rest) e2
-      (λ augments e3. augmented_sound x ts ts1 s rest got augments e3)
+      (λ augments e3. augmented_assignment_sound x ts ts1 s rest got augments e3)
       (λ none e3. assigned_sound x ts ts1 s rest got e3)))
 
-  of_yield_sound : (ts : List Token) (s : SimpleStatement) (rest : List Token) → kind_of ts ≡ kind.Keyword word.Yield
-      → grammar.of_yield S ts ≡ Some (s, rest) → Spells IsStatement statement_yield ts s rest
-  unfolding grammar.of_yield IsStatement statement_yield
-  of_yield_sound ts s rest is e =
-      bind (rule.yielded S ts) _ (s, rest) e (λ x ts1 is_yielded e1.
+  yield_statement_sound : (ts : List Token) (s : SimpleStatement) (rest : List Token) → kind_of ts ≡ kind.Keyword word.Yield
+      → grammar.yield_statement S ts ≡ Some (s, rest) → Spells IsStatement statement_yield ts s rest
+  unfolding grammar.yield_statement IsStatement statement_yield
+  yield_statement_sound ts s rest is e =
+      bind (rule.yield_expression S ts) _ (s, rest) e (λ x ts1 is_yielded e1.
       let got = yielded_value ts x ts1 is is_yielded in
       pure_as (Spells IsStatement statement_yield ts) (statement.expression x) s ts1 rest e1 (record { well = (got.passes, got.well); text = got.text }))
 
   -- ---- statements of a keyword
 
-  returned_sound : (ts : List Token) (s : SimpleStatement) (rest : List Token) → kind_of ts ≡ kind.Keyword word.Return
-      → grammar.returned S ts ≡ Some (s, rest) → Spells IsStatement statement_yield ts s rest
-  unfolding grammar.returned IsStatement statement_yield IsWell yield_of
-  returned_sound ts s rest is e =
+  return_statement_sound : (ts : List Token) (s : SimpleStatement) (rest : List Token) → kind_of ts ≡ kind.Keyword word.Return
+      → grammar.return_statement S ts ≡ Some (s, rest) → Spells IsStatement statement_yield ts s rest
+  unfolding grammar.return_statement IsStatement statement_yield IsWell yield_of
+  return_statement_sound ts s rest is e =
       after_one _ ts (s, rest) e (λ t ts1 is_one same e1.
       choose _ _ (same_kind (kind_of ts1) end_of_line) ts1 (s, rest) e1
       (λ ends e2. pure_as (Spells IsStatement statement_yield ts) (statement.return t tree.absent) s ts1 rest e2
@@ -409,10 +409,10 @@ module _ (S : ℕ → Parser Tree) (good : Good S) where
       pure_as (Spells IsStatement statement_yield ts) (statement.return t (tree.present x)) s ts2 rest e3
       (record { well = (same ∙ is, (got.passes, got.well)); text = cc }))))
 
-  raised_sound : (ts : List Token) (s : SimpleStatement) (rest : List Token) → kind_of ts ≡ kind.Keyword word.Raise
-      → grammar.raised S ts ≡ Some (s, rest) → Spells IsStatement statement_yield ts s rest
-  unfolding grammar.raised IsStatement statement_yield yield_of
-  raised_sound ts s rest is e =
+  raise_statement_sound : (ts : List Token) (s : SimpleStatement) (rest : List Token) → kind_of ts ≡ kind.Keyword word.Raise
+      → grammar.raise_statement S ts ≡ Some (s, rest) → Spells IsStatement statement_yield ts s rest
+  unfolding grammar.raise_statement IsStatement statement_yield yield_of
+  raise_statement_sound ts s rest is e =
       after_one _ ts (s, rest) e (λ t ts1 is_one same e1.
       choose _ _ (same_kind (kind_of ts1) end_of_line) ts1 (s, rest) e1
       (λ ends e2. pure_as (Spells IsStatement statement_yield ts) (statement.raise t tree.absent tree.nothing) s ts1 rest e2
@@ -424,10 +424,10 @@ module _ (S : ℕ → Parser Tree) (good : Good S) where
       pure_as (Spells IsStatement statement_yield ts) (statement.raise t (tree.present x) cause) s ts3 rest e4
       (record { well = (same ∙ is, (got.high, got.well, later.follows)); text = simp append_assoc (cc) })))))
 
-  asserted_sound : (ts : List Token) (s : SimpleStatement) (rest : List Token) → kind_of ts ≡ kind.Keyword word.Assert
-      → grammar.asserted S ts ≡ Some (s, rest) → Spells IsStatement statement_yield ts s rest
-  unfolding grammar.asserted IsStatement statement_yield
-  asserted_sound ts s rest is e =
+  assert_statement_sound : (ts : List Token) (s : SimpleStatement) (rest : List Token) → kind_of ts ≡ kind.Keyword word.Assert
+      → grammar.assert_statement S ts ≡ Some (s, rest) → Spells IsStatement statement_yield ts s rest
+  unfolding grammar.assert_statement IsStatement statement_yield
+  assert_statement_sound ts s rest is e =
       after_one _ ts (s, rest) e (λ t ts1 is_one same e1.
       after_self S good 1 _ ts1 (s, rest) e1 (omega arith) (omega arith) (λ x ts2 got e2.
       bind (rule.tail S (kind.Delimiter delimiter.Comma) ts2) _ (s, rest) e2 (λ message ts3 is_message e3.
@@ -435,10 +435,10 @@ module _ (S : ℕ → Parser Tree) (good : Good S) where
       pure_as (Spells IsStatement statement_yield ts) (statement.assert t x message) s ts3 rest e3
       (record { well = (same ∙ is, got.high, got.well, later.follows); text = simp append_assoc (cc) }))))
 
-  deleted_sound : (ts : List Token) (s : SimpleStatement) (rest : List Token) → kind_of ts ≡ kind.Keyword word.Del
-      → grammar.deleted S ts ≡ Some (s, rest) → Spells IsStatement statement_yield ts s rest
-  unfolding grammar.deleted IsStatement statement_yield
-  deleted_sound ts s rest is e =
+  delete_statement_sound : (ts : List Token) (s : SimpleStatement) (rest : List Token) → kind_of ts ≡ kind.Keyword word.Del
+      → grammar.delete_statement S ts ≡ Some (s, rest) → Spells IsStatement statement_yield ts s rest
+  unfolding grammar.delete_statement IsStatement statement_yield
+  delete_statement_sound ts s rest is e =
       after_one _ ts (s, rest) e (λ t ts1 is_one same e1.
       bind (rule.targets S ts1) _ (s, rest) e1 (λ to ts2 is_to e2.
       let got = targets_sound S good ts1 to ts2 is_to in
@@ -450,16 +450,16 @@ module _ (S : ℕ → Parser Tree) (good : Good S) where
   statement_by_sound (kind.Keyword word.Pass) ts s rest is e = word_sound ts s rest (ap is_word_statement is) e
   statement_by_sound (kind.Keyword word.Break) ts s rest is e = word_sound ts s rest (ap is_word_statement is) e
   statement_by_sound (kind.Keyword word.Continue) ts s rest is e = word_sound ts s rest (ap is_word_statement is) e
-  statement_by_sound (kind.Keyword word.Return) ts s rest is e = returned_sound ts s rest is e
-  statement_by_sound (kind.Keyword word.Raise) ts s rest is e = raised_sound ts s rest is e
-  statement_by_sound (kind.Keyword word.Assert) ts s rest is e = asserted_sound ts s rest is e
-  statement_by_sound (kind.Keyword word.Del) ts s rest is e = deleted_sound ts s rest is e
+  statement_by_sound (kind.Keyword word.Return) ts s rest is e = return_statement_sound ts s rest is e
+  statement_by_sound (kind.Keyword word.Raise) ts s rest is e = raise_statement_sound ts s rest is e
+  statement_by_sound (kind.Keyword word.Assert) ts s rest is e = assert_statement_sound ts s rest is e
+  statement_by_sound (kind.Keyword word.Del) ts s rest is e = delete_statement_sound ts s rest is e
   statement_by_sound (kind.Keyword word.Global) ts s rest is e = declared_sound ts s rest (ap is_declaration is) e
   statement_by_sound (kind.Keyword word.Nonlocal) ts s rest is e = declared_sound ts s rest (ap is_declaration is) e
   statement_by_sound (kind.Keyword word.Import) ts s rest is e = imported_sound ts s rest is e
-  statement_by_sound (kind.Keyword word.From) ts s rest is e = imported_from_sound ts s rest is e
-  statement_by_sound (kind.Keyword word.Yield) ts s rest is e = of_yield_sound ts s rest is e
-  statement_by_sound _ ts s rest is e = of_expression_sound ts s rest e
+  statement_by_sound (kind.Keyword word.From) ts s rest is e = import_from_statement_sound ts s rest is e
+  statement_by_sound (kind.Keyword word.Yield) ts s rest is e = yield_statement_sound ts s rest is e
+  statement_by_sound _ ts s rest is e = expression_or_assignment_sound ts s rest e
 
   -- a simple statement
   pub simple_sound : (ts : List Token) (s : SimpleStatement) (rest : List Token) → grammar.simple S ts ≡ Some (s, rest)

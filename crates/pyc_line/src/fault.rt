@@ -21,7 +21,7 @@ pub enum What {
     Memory,
 }
 
-/// What is wrong, and the physical line on which it is told, counted from 1; 0 where no line is told.
+/// What is wrong, and the physical line on which it is reported, counted from 1; 0 where no line is reported.
 #[derive(Clone, Copy, Debug, PartialEq, Eq)]
 pub struct ParseFault {
     pub line: usize,

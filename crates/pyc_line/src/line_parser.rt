@@ -13,7 +13,7 @@ ghost use Rattle.pyc_tree.specs.WellLines.{IsWellLine};
 use crate::fault::{ParseFault, What, line_fault, line_number};
 use pyc_build::{MAX_HEIGHT, ParseError};
 use pyc_cursor::Cursor;
-use pyc_item::ItemRules;
+use pyc_list_rules::ItemRules;
 use pyc_precedence::expr;
 use pyc_statement::StatementRules;
 use pyc_token::Token;
@@ -22,7 +22,7 @@ use std::alloc::Global;
 
 /// The tree of a line, if it has one.
 #[tactic(auto, unfolding(pyc_tree::specs::Headers::line_tree))]
-fn line_in(alloc: Global, tokens: &[Token]) -> Result<Line, ParseError>
+fn line_of_tokens(alloc: Global, tokens: &[Token]) -> Result<Line, ParseError>
     ensures { AnswersLine line_of (line_tree tokens.now) result }
 {
     let rules = ItemRules {
@@ -34,9 +34,9 @@ fn line_in(alloc: Global, tokens: &[Token]) -> Result<Line, ParseError>
 }
 
 /// The tree of a logical line: the only one that is well-formed, has just the line's tokens, and is at most 1,000 nodes
-/// high. Where there is none, what is wrong with the line, told where its first token stands: it is outside the profile
-/// where it has `:=`, begins with `from` and ends with `import *`, begins with `def` or `async def` and has `/`, or
-/// begins with the name `match`, `case` or `type`. `Memory` comes only from a growth that was refused.
+/// high. Where there is none, what is wrong with the line, reported where its first token stands: it is outside the
+/// profile where it has `:=`, begins with `from` and ends with `import *`, begins with `def` or `async def` and has
+/// `/`, or begins with the name `match`, `case` or `type`. `Memory` comes only from a growth that was refused.
 pub fn parse_line(alloc: Global, tokens: &[Token]) -> Result<Line, ParseFault>
     ensures tree { IfOk result (λ line. line_tree tokens.now ≡ Some (line_of line)) }
     ensures well { IfOk result (λ line. IsWellLine (line_of line)) }
@@ -51,7 +51,7 @@ pub fn parse_line(alloc: Global, tokens: &[Token]) -> Result<Line, ParseFault>
     ensures what { IfErr result (λ fault. fault.what ≢ What.Memory → fault.what ≡ fault_of tokens.now) }
     ensures line { IfErr result (λ fault. fault.line ≡ number_of tokens.now) }
 {
-    match line_in(alloc, tokens) {
+    match line_of_tokens(alloc, tokens) {
         Ok(line) => Ok(line),
         Err(ParseError::Refused) => Err(ParseFault {
             line: line_number(tokens),

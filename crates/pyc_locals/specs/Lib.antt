@@ -1,3 +1,4 @@
 pub mod Locals
-pub mod Points
+pub mod FlowStates
 pub mod Views
+pub mod AssignedPlaces

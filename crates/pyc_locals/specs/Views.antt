@@ -4,9 +4,9 @@ use Rattle.indexmap.specs.IndexMap.{get_by}
 use Rattle.pyc_locals.specs.declared.locals.LocalType.{LocalType as LocalTypeOf}
 use Rattle.pyc_locals.specs.declared.locals.LocalType.TheVariants as l
 use Rattle.pyc_locals.specs.declared.locals.Locals.{Locals as LocalsOf}
-use Rattle.pyc_locals.specs.declared.points.Point.{Point as PointOf}
+use Rattle.pyc_locals.specs.declared.flow_states.FlowState.{FlowState as FlowStateOf}
 use Rattle.pyc_locals.specs.Locals.{LocalType, Locals, undeclared, declared, bound}
-use Rattle.pyc_locals.specs.Points.{Point}
+use Rattle.pyc_locals.specs.FlowStates.{FlowState}
 use Rattle.pyc_places.specs.StateView.{state_of}
 use Rattle.pyc_type_forms.specs.TypeView.{ty_of}
 
@@ -18,5 +18,5 @@ local_type_of (l.Bound ty) = bound (ty_of ty)
 abbrev pub locals_in : LocalsOf → Locals
 locals_in locals x = option_map local_type_of (get_by (bytes_eq x) locals.types)
 
-abbrev pub point_in : PointOf → Point
-point_in p = record { locals = locals_in p.locals; state = state_of p.state }
+abbrev pub flow_state_in : FlowStateOf → FlowState
+flow_state_in p = record { locals = locals_in p.locals; state = state_of p.state }

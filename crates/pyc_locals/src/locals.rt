@@ -93,7 +93,7 @@ impl Locals {
     }
 
     /// What is known of the local of a name, if the name is one. It takes no memory.
-    pub fn named(&self, name: &Text) -> Option<&LocalType>
+    pub fn resolve_name(&self, name: &Text) -> Option<&LocalType>
         ensures { option_map (λ ty. local_type_of ty.now) result ≡ spec.local_of (locals_in self.now) name.now }
     {
         self.types.get(name)

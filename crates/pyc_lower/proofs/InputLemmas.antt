@@ -7,7 +7,7 @@ use Rattle.std.specs.declared.boxed.Box.{Box}
 use Rattle.std.specs.List.{list_any}
 use Rattle.pyc_lex.specs.declared.logical_lines.LogicalLine.{LogicalLine}
 use Rattle.pyc_lex.specs.View.{line_in}
-use Rattle.pyc_lower.specs.ExpressionInput.{is_input, of_simple_statement, of_statements, only_tree}
+use Rattle.pyc_lower.specs.ExpressionInput.{is_input, expression_of_statement, expression_of_statements, only_tree}
 use Rattle.pyc_lower_expression.proofs.ItemLemmas.{pieces_of-fields}
 use Rattle.pyc_token.specs.declared.tokens.Token.{Token}
 use Rattle.pyc_tree.specs.declared.statement.Item.{Item}
@@ -48,7 +48,7 @@ input_other _ n0 n1 n2 = refl
 
 -- what is no expression
 pub statement_other : (x : SimpleStatementOf) → ((a : Box Expr Global) → x ≡ s.Expression a → ⊥)
-    → None ≡ of_simple_statement (statement_of x)
+    → None ≡ expression_of_statement (statement_of x)
 statement_other (s.Expression inner) other = absurd (other _ refl)
 statement_other _ other = refl
 
@@ -83,13 +83,13 @@ suc_is_zero : (n : ℕ) → (suc n == 0) ≡ false
 suc_is_zero n = grind (arith, nat_tests)
 
 statements_before : (items : List (Item SimpleStatementOf)) (end : Separated SimpleStatement)
-    → (length items == 0) ≡ false → None ≡ of_statements (separated_before statement_of items end)
+    → (length items == 0) ≡ false → None ≡ expression_of_statements (separated_before statement_of items end)
 statements_before [] end more = cc
 statements_before (x ∷ items) end more = refl
 
 -- statements with a semicolon
 pub statements_more : (found : SeparatedOf SimpleStatementOf) → (length found.each.items == 0) ≡ false
-    → None ≡ of_statements (separated_of statement_of found)
+    → None ≡ expression_of_statements (separated_of statement_of found)
 statements_more found more = statements_before found.each.items _ more
 
 -- no line, and two and more

@@ -12,7 +12,7 @@ use Rattle.pyc_line.specs.declared.fault.What.TheVariants as what
 use Rattle.pyc_lower.specs.declared.parts.Lowered.{Lowered}
 use Rattle.pyc_lower.specs.declared.parts.Parts.{Parts}
 use Rattle.pyc_lower.specs.declared.parts.Parts.TheVariants as parts
-use Rattle.pyc_lower.specs.Parts.{Statements, alone, statements_in, part_in, added, lowered_of, of_what, of_part, AddsPart, AnswersParts}
+use Rattle.pyc_lower.specs.Parts.{Statements, alone, statements_in, part_in, added, lowered_of, of_what, parts_of_fault, AddsPart, AnswersParts}
 use Rattle.pyc_lower_atom.specs.Origins.{Origin}
 use Rattle.pyc_lower_block.specs.Blocks.{stmts_in, stmt_in}
 use Rattle.pyc_lower_block.specs.Suspends.{stmts_suspend, stmt_suspends}
@@ -85,28 +85,28 @@ module _ (spelled : List ℕ → Position → Option Expr) (o : Origin) where
 
   bad_by : (lines part more : List lex.Line) (now : Statements) (fault : ParseFault) → IsLowered lines now → (m : Result concrete.Module ParseFault) → module_of (alone part) ≡ m
       → statements_in spelled o m ≡ Err fault → fault.what ≢ what.Block → part_in spelled o (lines ++ (part ++ more)) ≡ Err fault
-  bad_by lines part more now fault is (Ok m) read e of_line = absurd (cc)
-  bad_by lines part more now fault is (Err told) read e of_line =
-      let same : told ≡ fault = cc in
-      let bad = bad_in (alone part) fault (read ∙ ap {B = Result concrete.Module ParseFault} Err same) of_line in
+  bad_by lines part more now fault is (Ok m) read e expression_of_line = absurd (cc)
+  bad_by lines part more now fault is (Err reported) read e expression_of_line =
+      let same : reported ≡ fault = cc in
+      let bad = bad_in (alone part) fault (read ∙ ap {B = Result concrete.Module ParseFault} Err same) expression_of_line in
       ap (statements_in spelled o) (bad_out (alone (lines ++ (part ++ more))) fault
       (placed_on lines (part ++ more) is.read.lines is.read.placed ∙ ap (with_placed is.read.lines) (placed_bad_on part more fault bad)))
 
   -- the fault of a line of a part is that of the whole
   pub part_bad : (lines part more : List lex.Line) (now : Statements) (fault : ParseFault) → IsLowered lines now → part_in spelled o part ≡ Err fault
       → fault.what ≢ what.Block → part_in spelled o (lines ++ (part ++ more)) ≡ Err fault
-  part_bad lines part more now fault is e of_line = bad_by lines part more now fault is (module_of (alone part)) refl e of_line
+  part_bad lines part more now fault is e expression_of_line = bad_by lines part more now fault is (module_of (alone part)) refl e expression_of_line
 
   -- ---- the lines of a loop
 
   -- the lines that are lowered, then those of the part, then those that are left are all
   pub record IsParted (all part rest : List lex.Line) (now : Statements) : Type 0 where
     pub lines : List lex.Line
-    pub lowered : IsLowered lines now
+    pub lowered_lines : IsLowered lines now
     pub whole : lines ++ (part ++ rest) ≡ all
 
   pub parted_first : (all : List lex.Line) → IsParted all [] all ([], false)
-  parted_first all = record { lines = []; lowered = none_lowered; whole = refl }
+  parted_first all = record { lines = []; lowered_lines = none_lowered; whole = refl }
 
   -- one more line in the part
   pub parted_more : (all part rest after : List lex.Line) (l : lex.Line) (now : Statements) → IsParted all part rest now → rest ≡ l ∷ after
@@ -114,7 +114,7 @@ module _ (spelled : List ℕ → Position → Option Expr) (o : Origin) where
   parted_more all part rest after l now is next =
       record {
         lines = is.lines;
-        lowered = is.lowered;
+        lowered_lines = is.lowered_lines;
         whole = ap (λ ls. is.lines ++ ls) (append_assoc part (l ∷ []) after ∙ ap (λ ls. part ++ ls) (sym next)) ∙ is.whole;
       }
 
@@ -124,23 +124,23 @@ module _ (spelled : List ℕ → Position → Option Expr) (o : Origin) where
   parted_added all part rest old new is e =
       record {
         lines = is.lines ++ part;
-        lowered = part_lowered is.lines part old new is.lowered e;
+        lowered_lines = part_lowered is.lines part old new is.lowered_lines e;
         whole = append_assoc is.lines part rest ∙ is.whole;
       }
 
   pub parted_bad : (all part rest : List lex.Line) (now : Statements) (fault : ParseFault) → IsParted all part rest now → part_in spelled o part ≡ Err fault
       → fault.what ≢ what.Block → part_in spelled o all ≡ Err fault
-  parted_bad all part rest now fault is e of_line =
-      ap (part_in spelled o) (sym is.whole) ∙ part_bad is.lines part rest now fault is.lowered e of_line
+  parted_bad all part rest now fault is e expression_of_line =
+      ap (part_in spelled o) (sym is.whole) ∙ part_bad is.lines part rest now fault is.lowered_lines e expression_of_line
 
   -- no line is left
   pub parted_last : (all part : List lex.Line) (old new : Statements) → IsParted all part [] old → added old (part_in spelled o part) ≡ Ok new
       → part_in spelled o all ≡ Ok new
   parted_last all part old new is e =
       ap (part_in spelled o) (sym is.whole ∙ (ap (λ ls. is.lines ++ ls) (append-nil part)))
-      ∙ all_lowered (is.lines ++ part) new (part_lowered is.lines part old new is.lowered e)
+      ∙ all_lowered (is.lines ++ part) new (part_lowered is.lines part old new is.lowered_lines e)
 
-  -- ---- the same of the code's values
+  -- ---- the lines of a loop, as values of the code
 
   pub parted_as : (all rest : List lex.Line) {p q : List LogicalLine} {x y : Statements} → p ≡ q → x ≡ y → IsParted all (map line_in q) rest y
       → IsParted all (map line_in p) rest x
@@ -158,24 +158,24 @@ module _ (spelled : List ℕ → Position → Option Expr) (o : Origin) where
 -- what a part was found to be
 pub adds_some : (part : Result Statements ParseFault) (old new : Statements) (o : Option ParseFault) (fault : ParseFault) → AddsPart part old o new → o ≡ Some fault
     → part ≡ Err fault
-adds_some part old new (Some told) fault is so = is ∙ ap {B = Result Statements ParseFault} Err (cc)
+adds_some part old new (Some reported) fault is so = is ∙ ap {B = Result Statements ParseFault} Err (cc)
 adds_some part old new None fault is so = absurd (cc)
 
 pub adds_none : (part : Result Statements ParseFault) (old new : Statements) (o : Option ParseFault) → AddsPart part old o new → o ≡ None → added old part ≡ Ok new
 adds_none part old new None is so = is
-adds_none part old new (Some told) is so = absurd (cc)
+adds_none part old new (Some reported) is so = absurd (cc)
 
 answers_by : (expected : Result Statements ParseFault) (fault : ParseFault) (w : What) → fault.what ≡ w → (fault.what ≢ what.Block → expected ≡ Err fault)
     → AnswersParts expected (of_what w fault)
-answers_by expected fault what.Block is told = tt
-answers_by expected fault what.Line is told = told (λ same. absurd (cc))
-answers_by expected fault what.OutsideProfile is told = told (λ same. absurd (cc))
-answers_by expected fault what.Memory is told = told (λ same. absurd (cc))
+answers_by expected fault what.Block is reported = tt
+answers_by expected fault what.Line is reported = reported (λ same. absurd (cc))
+answers_by expected fault what.OutsideProfile is reported = reported (λ same. absurd (cc))
+answers_by expected fault what.Memory is reported = reported (λ same. absurd (cc))
 
 -- what is answered where a part has a fault
-pub answers_part : (expected : Result Statements ParseFault) (fault : ParseFault) (r : Parts) → r ≡ of_part fault → (fault.what ≢ what.Block → expected ≡ Err fault)
+pub answers_part : (expected : Result Statements ParseFault) (fault : ParseFault) (r : Parts) → r ≡ parts_of_fault fault → (fault.what ≢ what.Block → expected ≡ Err fault)
     → AnswersParts expected r
-answers_part expected fault r is told = subst (AnswersParts expected) (sym is) (answers_by expected fault fault.what refl told)
+answers_part expected fault r is reported = subst (AnswersParts expected) (sym is) (answers_by expected fault fault.what refl reported)
 
 pub answers_lowered : (expected : Result Statements ParseFault) (r : Parts) (found : Lowered) → AnswersParts expected r → r ≡ parts.Lowered found
     → expected ≡ Ok (lowered_of found)

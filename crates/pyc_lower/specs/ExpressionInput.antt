@@ -18,19 +18,19 @@ is_input (bare items) = has_no_star items
 is_input e = not (is_yield e)
 
 -- the expression that a simple statement is
-abbrev pub of_simple_statement : SimpleStatement → Option Tree
-of_simple_statement (expression e) = if is_input e then Some e else None
-of_simple_statement _ = None
+abbrev pub expression_of_statement : SimpleStatement → Option Tree
+expression_of_statement (expression e) = if is_input e then Some e else None
+expression_of_statement _ = None
 
 -- that of simple statements: of one with no semicolon
-abbrev pub of_statements : Separated SimpleStatement → Option Tree
-of_statements (last_item found) = of_simple_statement found
-of_statements _ = None
+abbrev pub expression_of_statements : Separated SimpleStatement → Option Tree
+expression_of_statements (last_item found) = expression_of_statement found
+expression_of_statements _ = None
 
 -- that of a line
-abbrev pub of_line : Line → Option Tree
-of_line (simple statements) = of_statements statements
-of_line _ = None
+abbrev pub expression_of_line : Line → Option Tree
+expression_of_line (simple statements) = expression_of_statements statements
+expression_of_line _ = None
 
 -- the tree of the only one of some logical lines: it may stand at any indent
 abbrev pub only_tree : List lex.Line → Option Line
@@ -40,8 +40,8 @@ only_tree _ = None
 -- that of a source with these logical lines: one with a lexical fault has none
 abbrev pub tree_read : Result Lexis LexFault → Option Line
 tree_read (Ok lexis) = only_tree lexis.lines
-tree_read (Err told) = None
+tree_read (Err reported) = None
 
 -- the expression that a source is
 unfoldable pub expression_input : List ℕ → Option Tree
-expression_input source = option_and_then of_line (tree_read (lines_of source))
+expression_input source = option_and_then expression_of_line (tree_read (lines_of source))

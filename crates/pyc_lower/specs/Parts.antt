@@ -60,8 +60,8 @@ of_what what.Block fault = parts.Misplaced
 of_what _ fault = parts.Fault fault
 
 -- what comes of lines of which a part has this fault: one of its blocks need not be one of theirs
-abbrev pub of_part : ParseFault → Parts
-of_part fault = of_what fault.what fault
+abbrev pub parts_of_fault : ParseFault → Parts
+parts_of_fault fault = of_what fault.what fault
 
 -- what is answered is what the lines are; that a part's blocks have a fault says nothing
 abbrev pub AnswersParts : Result Statements ParseFault → Parts → Type 0

@@ -18,8 +18,8 @@ abbrev pub has_backslash : List ℕ → Bool
 has_backslash text = list_any (λ byte. byte == 92) text
 
 -- what stands between the quotes of a string without prefix ("String and Bytes literals")
-abbrev pub quoted_part : List ℕ → List ℕ
-quoted_part text = let quotes = quotes_len text in slice_range text quotes (length text - quotes)
+abbrev pub string_annotation_part : List ℕ → List ℕ
+string_annotation_part text = let quotes = quotes_len text in slice_range text quotes (length text - quotes)
 
 -- a text without the spaces at its ends
 abbrev pub without_spaces : List ℕ → List ℕ
@@ -29,7 +29,7 @@ without_spaces text =
 
 -- the source that stands in a string
 unfoldable pub content : List ℕ → List ℕ
-content text = without_spaces (quoted_part text)
+content text = without_spaces (string_annotation_part text)
 
 -- whether a byte order mark stands at the front of a text
 abbrev pub has_mark : List ℕ → Bool
@@ -37,14 +37,14 @@ has_mark text = starts_with nat_eq text byte_order_mark
 
 -- whether a string spells nothing whatever stands in it: with a backslash, or with a byte order mark, which is for the
 -- front of a file alone
-abbrev pub is_passed_over : List ℕ → Bool
-is_passed_over text = has_backslash text || has_mark (content text)
+abbrev pub is_skipped : List ℕ → Bool
+is_skipped text = has_backslash text || has_mark (content text)
 
 -- the expression that a string of this text spells: one that is not passed over and whose content is an expression, on
 -- one logical line of any indent, each part of it at the string's position, while the strings in it spell these
 unfoldable pub spelled_in : (List ℕ → Position → Option Expr) → List ℕ → Position → Option Expr
 spelled_in inner text at =
-    if is_passed_over text then None
+    if is_skipped text then None
     else option_map (expr_in inner (record { source = content text; string = Some at }) Annotation)
     (expression_input (content text))
 

@@ -28,8 +28,8 @@ fn quotes_len(text: &[u8]) -> usize
 }
 
 /// What stands between the quotes of a string without prefix.
-fn quoted_part(text: &[u8]) -> &[u8]
-    ensures { result.now ≡ spec.quoted_part text.now }
+fn string_annotation_part(text: &[u8]) -> &[u8]
+    ensures { result.now ≡ spec.string_annotation_part text.now }
 {
     let quotes = quotes_len(text);
     text.get(quotes..text.len().saturating_sub(quotes))
@@ -66,7 +66,7 @@ fn without_spaces(text: &[u8]) -> &[u8]
 pub fn content(text: &[u8]) -> &[u8]
     ensures { result.now ≡ spec.content text.now }
 {
-    without_spaces(quoted_part(text))
+    without_spaces(string_annotation_part(text))
 }
 
 /// Whether a byte order mark stands at the front of a text.
@@ -78,8 +78,8 @@ fn has_mark(text: &[u8]) -> bool
 
 /// Whether a string spells nothing whatever stands in it: with a backslash, or with a byte order mark at the front of
 /// its content.
-pub fn is_passed_over(text: &[u8]) -> bool
-    ensures { result ≡ spec.is_passed_over text.now }
+pub fn is_skipped(text: &[u8]) -> bool
+    ensures { result ≡ spec.is_skipped text.now }
 {
     has_backslash(text) || has_mark(content(text))
 }

@@ -60,8 +60,8 @@ fn is_input(tree: &Expr) -> bool
 }
 
 /// The expression that a simple statement is.
-fn of_simple_statement(statement: &SimpleStatement) -> Option<&Expr>
-    ensures { option_map (λ tree. tree_of tree.now) result ≡ spec.of_simple_statement (statement_of statement.now) }
+fn expression_of_statement(statement: &SimpleStatement) -> Option<&Expr>
+    ensures { option_map (λ tree. tree_of tree.now) result ≡ spec.expression_of_statement (statement_of statement.now) }
 {
     let SimpleStatement::Expression(tree) = statement else {
         return None;
@@ -70,25 +70,25 @@ fn of_simple_statement(statement: &SimpleStatement) -> Option<&Expr>
 }
 
 /// The expression that simple statements are.
-fn of_statements(statements: &Separated<SimpleStatement>) -> Option<&Expr>
+fn expression_of_statements(statements: &Separated<SimpleStatement>) -> Option<&Expr>
     ensures { option_map (λ tree. tree_of tree.now) result
-        ≡ spec.of_statements (separated_of statement_of statements.now) }
+        ≡ spec.expression_of_statements (separated_of statement_of statements.now) }
 {
     if !statements.each.is_empty() {
         return None;
     }
     match &statements.last {
-        Some(last) => of_simple_statement(last),
+        Some(last) => expression_of_statement(last),
         None => None,
     }
 }
 
 /// The expression that a line is.
-pub fn of_line(line: &Line) -> Option<&Expr>
-    ensures { option_map (λ tree. tree_of tree.now) result ≡ spec.of_line (line_of line.now) }
+pub fn expression_of_line(line: &Line) -> Option<&Expr>
+    ensures { option_map (λ tree. tree_of tree.now) result ≡ spec.expression_of_line (line_of line.now) }
 {
     match line {
-        Line::Simple(statements) => of_statements(statements),
+        Line::Simple(statements) => expression_of_statements(statements),
         Line::Header(_, _, _) => None,
         Line::Decorator(_, _) => None,
     }

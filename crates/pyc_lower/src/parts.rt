@@ -127,8 +127,8 @@ pub fn lower_whole<Q: Quotes>(
 }
 
 /// What comes of lines of which a part has this fault.
-fn of_part(fault: ParseFault) -> Parts
-    ensures { result ≡ spec.of_part fault }
+fn parts_of_fault(fault: ParseFault) -> Parts
+    ensures { result ≡ spec.parts_of_fault fault }
 {
     match fault.what {
         What::Block => Parts::Misplaced,
@@ -152,13 +152,13 @@ pub fn lower_parts<Q: Quotes>(
             let next = Vec::with_capacity(lowering.alloc, PART_LINES)?;
             let whole = mem::replace(&mut part, next);
             if let Some(fault) = add_part(lowering, whole, &mut found, names)? {
-                return Ok(of_part(fault));
+                return Ok(parts_of_fault(fault));
             }
         }
         part.push(line)?;
     }
     match add_part(lowering, part, &mut found, names)? {
-        Some(fault) => Ok(of_part(fault)),
+        Some(fault) => Ok(parts_of_fault(fault)),
         None => Ok(Parts::Lowered(found)),
     }
 }

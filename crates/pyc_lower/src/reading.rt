@@ -6,7 +6,7 @@ ghost use Rattle.pyc_lex.specs.View.{line_in, lexis_in};
 ghost use Rattle.pyc_lower.specs.Parts.{lines_in, AnswersParts, AnswersWhole};
 ghost use Rattle.pyc_lower.specs.Reading.{read_of, outcome_in};
 ghost use Rattle.pyc_parse.specs.Modules as concrete;
-ghost use Rattle.pyc_parse.specs.Outcome.{fault_in, parsed};
+ghost use Rattle.pyc_parse.specs.Outcome.{fault_in, parse_outcome};
 
 use crate::ignores::ignores;
 use crate::parts::{Parts, lower_parts, lower_whole};
@@ -14,7 +14,7 @@ use crate::strings::Inside;
 use pyc_ast::{Fault, Module, Outcome};
 use pyc_lex::{LogicalLine, Scan, scan};
 use pyc_lower_expression::{Lowering, Names, Origin, Unread};
-use pyc_parse::{Fault as Told, lexical_fault, parse_fault};
+use pyc_parse::{Fault as Reported, lexical_fault, parse_fault};
 use std::alloc::{AllocError, Global};
 
 /// The reader of the strings of a file. Without a backslash a string holds no quotes like its own, and there are four
@@ -28,7 +28,7 @@ const STRINGS: Inside<Inside<Inside<Inside<Unread>>>> = Inside {
 };
 
 /// What the lines of a source are, read as a whole or in parts. The only error is that memory runs out.
-fn lowered(
+fn lowered_lines(
     alloc: Global,
     source: &[u8],
     lines: Vec<LogicalLine>,
@@ -55,7 +55,7 @@ fn lowered(
 }
 
 /// What a source with a fault is.
-fn told(fault: Told) -> Outcome
+fn reported(fault: Reported) -> Outcome
     ensures { outcome_of result ≡ outcome_in [] (fault_in fault) }
 {
     Outcome::Fault(Fault {
@@ -66,24 +66,24 @@ fn told(fault: Told) -> Outcome
 
 /// What a source with these logical lines is. Nothing where these are read in parts and one has a fault in its blocks.
 /// The only error is that memory runs out.
-fn scanned(
+fn scan_outcome(
     alloc: Global,
     source: &[u8],
     scan: Scan,
     is_whole: bool,
 ) -> Result<Option<Outcome>, AllocError>
     ensures outcome { IfOk result (λ found. IfSome found
-        (λ outcome. outcome_of outcome ≡ outcome_in source.now (parsed (concrete.module_of (lexis_in scan))))) }
+        (λ outcome. outcome_of outcome ≡ outcome_in source.now (parse_outcome (concrete.module_of (lexis_in scan))))) }
     ensures whole { is_whole ≡ true → IfOk result (λ found. is_some found ≡ true) }
 {
-    match lowered(alloc, source, scan.lines, is_whole)? {
+    match lowered_lines(alloc, source, scan.lines, is_whole)? {
         Parts::Lowered(found) => Ok(Some(Outcome::Tree(Module {
             statements: found.statements,
             suspends: found.suspends,
             ignores: ignores(alloc, source, &scan.ignores)?,
             whole_file: scan.whole_file,
         }))),
-        Parts::Fault(fault) => Ok(Some(told(parse_fault(fault)?))),
+        Parts::Fault(fault) => Ok(Some(reported(parse_fault(fault)?))),
         Parts::Misplaced => Ok(None),
     }
 }
@@ -91,13 +91,13 @@ fn scanned(
 /// What a source is. Nothing where its lines are read in parts and one has a fault in its blocks. The only error is
 /// that memory runs out.
 #[tactic(auto, unfolding(crate::specs::Reading::read_of))]
-fn read_by(alloc: Global, bytes: &[u8], is_whole: bool) -> Result<Option<Outcome>, AllocError>
+fn read_source(alloc: Global, bytes: &[u8], is_whole: bool) -> Result<Option<Outcome>, AllocError>
     ensures outcome { IfOk result (λ found. IfSome found (λ outcome. outcome_of outcome ≡ read_of bytes.now)) }
     ensures whole { is_whole ≡ true → IfOk result (λ found. is_some found ≡ true) }
 {
     match scan(alloc, bytes) {
-        Ok(scan) => scanned(alloc, bytes, scan, is_whole),
-        Err(fault) => Ok(Some(told(lexical_fault(fault)?))),
+        Ok(scan) => scan_outcome(alloc, bytes, scan, is_whole),
+        Err(fault) => Ok(Some(reported(lexical_fault(fault)?))),
     }
 }
 
@@ -107,10 +107,10 @@ fn read_by(alloc: Global, bytes: &[u8], is_whole: bool) -> Result<Option<Outcome
 pub fn read(alloc: Global, bytes: &[u8]) -> Result<Outcome, AllocError>
     ensures { IfOk result (λ outcome. outcome_of outcome ≡ read_of bytes.now) }
 {
-    if let Some(outcome) = read_by(alloc, bytes, false)? {
+    if let Some(outcome) = read_source(alloc, bytes, false)? {
         return Ok(outcome);
     }
-    match read_by(alloc, bytes, true)? {
+    match read_source(alloc, bytes, true)? {
         Some(outcome) => Ok(outcome),
         None => unreachable!(),
     }

@@ -2,8 +2,8 @@
 
 ghost use Rattle.std.specs.Prelude.{◌≡◌, IfOk, option_map};
 
-use crate::content::{content, is_passed_over};
-use crate::expression_input::of_line;
+use crate::content::{content, is_skipped};
+use crate::expression_input::expression_of_line;
 use crate::only_line::only_line;
 use pyc_ast::{Expr, Position};
 use pyc_lower_expression::{Lowering, Names, Origin, Quotes, Role};
@@ -30,14 +30,14 @@ impl<Q: Quotes> Quotes for Inside<Q> {
         at: Position,
     ) -> Result<Option<Expr>, AllocError> {
         let text = text.as_bytes();
-        if is_passed_over(text) {
+        if is_skipped(text) {
             return Ok(None);
         }
         let source = content(text);
         let Some(line) = only_line(alloc, source)? else {
             return Ok(None);
         };
-        let Some(tree) = of_line(&line) else {
+        let Some(tree) = expression_of_line(&line) else {
             return Ok(None);
         };
         let lowering = Lowering {

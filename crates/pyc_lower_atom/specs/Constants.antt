@@ -4,8 +4,8 @@ use Rattle.std.specs.Prelude.{None, Some}
 use Rattle.std.specs.List.{list_any}
 use Rattle.pyc_ast.specs.declared.constant.Constant.{Constant}
 use Rattle.pyc_ast.specs.declared.constant.Constant.TheVariants as constant
-use Rattle.pyc_ast.specs.declared.constant.Opaque.{Opaque}
-use Rattle.pyc_ast.specs.declared.constant.Opaque.TheVariants as opaque
+use Rattle.pyc_ast.specs.declared.constant.Unchecked.{Unchecked}
+use Rattle.pyc_ast.specs.declared.constant.Unchecked.TheVariants as opaque
 use Rattle.pyc_token.specs.declared.tokens.Keyword.TheVariants as word
 use Rattle.pyc_token.specs.declared.tokens.Kind.{Kind}
 use Rattle.pyc_token.specs.declared.tokens.Kind.TheVariants as kind
@@ -60,7 +60,7 @@ is_plain (kind.String prefix.Plain) = true
 is_plain _ = false
 
 -- a comprehension in brackets, by what it makes
-abbrev pub comprehension : DisplayKind → Opaque
+abbrev pub comprehension : DisplayKind → Unchecked
 comprehension display.Tuple = opaque.Generator
 comprehension display.List = opaque.ListComprehension
 comprehension display.Set = opaque.SetComprehension

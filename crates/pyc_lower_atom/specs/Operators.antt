@@ -33,9 +33,9 @@ arithmetic sign.RightShift = op.RShift
 arithmetic sign.DoubleStar = op.Pow
 
 -- the operator of an augmented assignment; no other token is one
-abbrev pub augmented : Kind → Operator
-augmented (kind.Augmented o) = arithmetic o
-augmented _ = op.Add
+abbrev pub augmented_operator : Kind → Operator
+augmented_operator (kind.Augmented o) = arithmetic o
+augmented_operator _ = op.Add
 
 -- `not`, `-` and `~`; no other token but `+` stands before an operand
 abbrev pub unary_operator : Kind → UnaryOperator

@@ -4,7 +4,7 @@ ghost use Rattle.std.specs.Prelude.{◌≡◌};
 ghost use Rattle.std.specs.List.{list_any};
 ghost use Rattle.pyc_lower_atom.specs.Constants as spec;
 
-use pyc_ast::{Constant, Opaque};
+use pyc_ast::{Constant, Unchecked};
 use pyc_token::{Keyword, Kind, Number, Prefix, Token};
 use pyc_tree::DisplayKind;
 
@@ -88,13 +88,13 @@ pub fn is_plain(kind: Kind) -> bool
 }
 
 /// A comprehension in brackets, by what it makes.
-pub fn comprehension(made: DisplayKind) -> Opaque
+pub fn comprehension(made: DisplayKind) -> Unchecked
     ensures { result ≡ spec.comprehension made }
 {
     match made {
-        DisplayKind::Tuple => Opaque::Generator,
-        DisplayKind::List => Opaque::ListComprehension,
-        DisplayKind::Set => Opaque::SetComprehension,
-        DisplayKind::Dict => Opaque::DictComprehension,
+        DisplayKind::Tuple => Unchecked::Generator,
+        DisplayKind::List => Unchecked::ListComprehension,
+        DisplayKind::Set => Unchecked::SetComprehension,
+        DisplayKind::Dict => Unchecked::DictComprehension,
     }
 }

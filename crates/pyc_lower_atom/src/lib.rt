@@ -10,7 +10,7 @@ mod role;
 
 pub use constants::{comprehension, is_plain, number_constant, strings_constant, word_constant};
 pub use names::Names;
-pub use operators::{augmented, comparison_operator, operation, unary_operator};
+pub use operators::{augmented_operator, comparison_operator, operation, unary_operator};
 pub use origin::{Origin, text_at};
 pub use quotes::{Quotes, Unread};
 pub use role::Role;

@@ -29,8 +29,8 @@ fn arithmetic(sign: Arithmetic) -> Operator
 }
 
 /// The operator of an augmented assignment, by its token's kind.
-pub fn augmented(kind: Kind) -> Operator
-    ensures { result ≡ spec.augmented kind }
+pub fn augmented_operator(kind: Kind) -> Operator
+    ensures { result ≡ spec.augmented_operator kind }
 {
     match kind {
         Kind::Augmented(sign) => arithmetic(sign),

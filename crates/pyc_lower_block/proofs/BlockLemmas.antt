@@ -13,7 +13,7 @@ use Rattle.pyc_ast.specs.Statements as plain
 use Rattle.pyc_ast.specs.StatementView.{block_of, stmt_of as made_of}
 use Rattle.pyc_ast.proofs.StatementViewLemmas.{view_Of}
 use Rattle.pyc_lower_block.specs.declared.ending.Ending.{Ending}
-use Rattle.pyc_lower_block.specs.Blocks.{Parts, is_ending, decorators_in, branch_in, handler_in, form_in, stmts_in, stmt_in, suite_in, branches_in, handlers_in, ended_in, parts_in}
+use Rattle.pyc_lower_block.specs.Blocks.{Parts, is_ending, decorators_in, branch_in, handler_in, form_in, stmts_in, stmt_in, suite_in, branches_in, handlers_in, ending_block_in, parts_in}
 use Rattle.pyc_lower_block.specs.Suspends.{suite_suspends}
 use Rattle.pyc_lower_block.proofs.JoinLemmas.{cons_first}
 use Rattle.pyc_lower_atom.specs.declared.role.Role.TheVariants.{Value}
@@ -115,7 +115,7 @@ pub branch_Condition : (spelled : List ℕ → Position → Option Plain) (o : O
 unfolding branches_in
 branch_Condition spelled o c t x is = ap (λ (y : HeaderOf). cons_option (branch_in spelled o (header_of y) (stmts (suite_in spelled o (suite_of c.suite)))) []) is
 
--- the same, by what is made of its parts
+-- a clause with a condition is the branch `made`, where `y` is its condition and `body` is what its suite is lowered to
 pub branch_made : (spelled : List ℕ → Position → Option Plain) (o : Origin) (c : CompoundClauseOf) (t : Token) (x : Box Expr Global) (y : Expr) (body : plain.Stmts) {made : plain.Branch} → c.header.value ≡ h.Condition t x
     → made ≡ plain.branch (position_at o t) (expr_in spelled o Value (tree_of y)) body → y ≡ x.value → body ≡ stmts (suite_in spelled o (suite_of c.suite)) → branches_of spelled o c ≡ made ∷ []
 branch_made spelled o c t x y body is made_is y_is body_is =
@@ -159,7 +159,7 @@ pub handler_ExceptOf : (spelled : List ℕ → Position → Option Plain) (o : O
 unfolding handlers_in
 handler_ExceptOf spelled o c t x name is = ap (λ (y : HeaderOf). cons_option (handler_in spelled o (header_of y) (stmts (suite_in spelled o (suite_of c.suite)))) []) is
 
--- the same, by what is made of their parts
+-- a clause with `except` is the handler `made`, where `body` is what its suite is lowered to
 pub handler_of_all_made : (spelled : List ℕ → Position → Option Plain) (o : Origin) (c : CompoundClauseOf) (t : Token) (body : plain.Stmts) {made : plain.Handler} → c.header.value ≡ h.Except t
     → made ≡ plain.handler (position_at o t) None None body → body ≡ stmts (suite_in spelled o (suite_of c.suite)) → handlers_of spelled o c ≡ made ∷ []
 handler_of_all_made spelled o c t body is made_is body_is =
@@ -188,13 +188,13 @@ handler_other spelled o c n0 n1 = ap (λ (x : Option plain.Handler). cons_option
 -- ---- clauses that end a statement
 
 pub lowered_ended : (spelled : List ℕ → Position → Option Plain) (o : Origin) (ending : Ending) (c : CompoundClauseOf) (cs : List CompoundClauseOf)
-    → ended_in spelled o ending (clauses_before (c ∷ cs) tree.no_clause)
-    ≡ (if is_ending ending (header_of c.header.value) then suite_in spelled o (suite_of c.suite) else ended_in spelled o ending (clauses_before cs tree.no_clause))
-unfolding ended_in
+    → ending_block_in spelled o ending (clauses_before (c ∷ cs) tree.no_clause)
+    ≡ (if is_ending ending (header_of c.header.value) then suite_in spelled o (suite_of c.suite) else ending_block_in spelled o ending (clauses_before cs tree.no_clause))
+unfolding ending_block_in
 lowered_ended spelled o ending c cs = refl
 
-pub lowered_not_ended : (spelled : List ℕ → Position → Option Plain) (o : Origin) (ending : Ending) → ended_in spelled o ending tree.no_clause ≡ []
-unfolding ended_in
+pub lowered_not_ended : (spelled : List ℕ → Position → Option Plain) (o : Origin) (ending : Ending) → ending_block_in spelled o ending tree.no_clause ≡ []
+unfolding ending_block_in
 lowered_not_ended spelled o ending = refl
 
 -- what each form of the code is

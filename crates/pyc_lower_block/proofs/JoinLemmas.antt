@@ -16,7 +16,7 @@ joined_next f h step left x rest found is e made =
     ap (λ all. all ++ f rest) made ∙ append_assoc found (h x) (f rest)
     ∙ ap (λ more. found ++ more) (sym (step x rest) ∙ ap f (sym is)) ∙ e
 
--- the same by the index of that item
+-- a list is made list by list: what the item at index `i` is, is put behind `found`
 pub joined_at : {A B : Type 0} (f : List A → List B) (h : A → List B) → ((x : A) (xs : List A) → f (x ∷ xs) ≡ h x ++ f xs)
     → (xs : List A) (i : ℕ) (x : A) (found : List B) {new whole : List B} → i < length xs → x ≡ get_or xs i x → found ++ f (drop i xs) ≡ whole → new ≡ found ++ h x → new ++ f (drop (i + 1) xs) ≡ whole
 joined_at f h step xs i x found below is e made = joined_next f h step (drop i xs) x (drop (i + 1) xs) found (drop_at xs i x below is) e made

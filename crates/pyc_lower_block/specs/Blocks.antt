@@ -102,8 +102,8 @@ module _ (spelled : List ℕ → Position → Option Expr) where
           body = stmts (suite_in o s);
           branches = branches_in o clauses;
           handlers = handlers_in o clauses;
-          orelse = stmts (ended_in o Else clauses);
-          finally = stmts (ended_in o Finally clauses);
+          orelse = stmts (ending_block_in o Else clauses);
+          finally = stmts (ending_block_in o Finally clauses);
         })) ∷ []
 
     -- what a header heads
@@ -124,10 +124,10 @@ module _ (spelled : List ℕ → Position → Option Expr) where
         cons_option (handler_in o h (stmts (suite_in o s))) (handlers_in o clauses)
 
     -- the block of the clause that ends a statement in this way, empty where there is none
-    pub ended_in : Origin → Ending → CompoundClauses → List Stmt
-    ended_in o ending tree.no_clause = []
-    ended_in o ending (tree.another (tree.clause h colon s) clauses) =
-        if is_ending ending h then suite_in o s else ended_in o ending clauses
+    pub ending_block_in : Origin → Ending → CompoundClauses → List Stmt
+    ending_block_in o ending tree.no_clause = []
+    ending_block_in o ending (tree.another (tree.clause h colon s) clauses) =
+        if is_ending ending h then suite_in o s else ending_block_in o ending clauses
 
   -- what stands in a compound statement beside its header, by its decorators, its first block and the clauses after
   -- the first
@@ -138,6 +138,6 @@ module _ (spelled : List ℕ → Position → Option Expr) where
         body = body;
         branches = branches_in o clauses;
         handlers = handlers_in o clauses;
-        orelse = stmts (ended_in o Else clauses);
-        finally = stmts (ended_in o Finally clauses);
+        orelse = stmts (ending_block_in o Else clauses);
+        finally = stmts (ending_block_in o Finally clauses);
       }

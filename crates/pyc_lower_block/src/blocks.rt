@@ -13,7 +13,7 @@ ghost use Rattle.pyc_tree.specs.BlockView.{decorator_of, stmt_of, suite_of, clau
 ghost use Rattle.pyc_tree.specs.StatementView.{separated_of, statement_of};
 
 use crate::ending::Ending;
-use crate::forms::{Parts, branch, form, handler, handler_of_all, is_ending};
+use crate::forms::{Parts, bare_handler, branch, form, handler, is_ending};
 use pyc_ast::{Block, Branch, Expr, Handler, Stmt};
 use pyc_lower_expression::{Lowering, Names, Quotes, Role};
 use pyc_lower_statement::{header_at, statement};
@@ -138,8 +138,8 @@ fn parts<Q: Quotes>(
         body,
         branches: branches(lowering, clauses, names)?,
         handlers: handlers(lowering, clauses, names)?,
-        orelse: Block::Of(ended(lowering, clauses, Ending::Else, names)?),
-        finally: Block::Of(ended(lowering, clauses, Ending::Finally, names)?),
+        orelse: Block::Of(ending_block(lowering, clauses, Ending::Else, names)?),
+        finally: Block::Of(ending_block(lowering, clauses, Ending::Finally, names)?),
     })
 }
 
@@ -218,7 +218,7 @@ fn push_handler<Q: Quotes>(
     match &*clause.header {
         Header::Except(word) => {
             let body = Block::Of(suite(lowering, &clause.suite, names)?);
-            let handler = handler_of_all(lowering, *word, body);
+            let handler = bare_handler(lowering, *word, body);
             Ok(found.push(handler)?)
         }
         Header::ExceptOf(word, caught, name) => {
@@ -250,14 +250,14 @@ fn handlers<Q: Quotes>(
 
 /// The block of the clause that ends a statement in this way, empty where there is none.
 #[cycle(blocks)]
-fn ended<Q: Quotes>(
+fn ending_block<Q: Quotes>(
     lowering: &Lowering<'_, Q>,
     clauses: &[CompoundClause],
     ending: Ending,
     names: &mut Names,
 ) -> Result<Vec<Stmt>, AllocError>
     ensures { IfOk result (λ found. map made_of found.items
-        ≡ spec.ended_in (Q.spelled lowering.now.quotes.now) (origin_of lowering.now.origin) ending
+        ≡ spec.ending_block_in (Q.spelled lowering.now.quotes.now) (origin_of lowering.now.origin) ending
         (clauses_before clauses.now tree.no_clause)) }
 {
     for clause in clauses {

@@ -86,7 +86,7 @@ pub fn branch<Q: Quotes>(
 }
 
 /// A handler of a `try` that catches all.
-pub fn handler_of_all<Q: Quotes>(lowering: &Lowering<'_, Q>, word: Token, body: Block) -> Handler
+pub fn bare_handler<Q: Quotes>(lowering: &Lowering<'_, Q>, word: Token, body: Block) -> Handler
     ensures { handler_of result
         ≡ plain.handler (position_at (origin_of lowering.now.origin) word) None None (block_of body) }
 {

@@ -41,7 +41,7 @@ pub fn statements_suspend(statements: &[Tree]) -> bool
     false
 }
 
-/// The same of a statement.
+/// Whether a statement suspends.
 #[cycle(suspends)]
 fn statement_suspends(statement: &Tree) -> bool
     ensures { result ≡ spec.stmt_suspends (stmt_of statement.now) }
@@ -52,7 +52,7 @@ fn statement_suspends(statement: &Tree) -> bool
     }
 }
 
-/// The same of a clause; a definition does not count.
+/// Whether a clause suspends. A definition never does.
 #[cycle(suspends)]
 fn clause_suspends(clause: &CompoundClause) -> bool
     ensures { result ≡ spec.clause_suspends (clause_of clause.now) }
@@ -63,7 +63,7 @@ fn clause_suspends(clause: &CompoundClause) -> bool
     header_suspends(&clause.header) || suite_suspends(&clause.suite)
 }
 
-/// The same of clauses.
+/// Whether one of some clauses suspends.
 #[cycle(suspends)]
 fn clauses_suspend(clauses: &[CompoundClause]) -> bool
     ensures { result ≡ spec.clauses_suspend (clauses_before clauses.now tree.no_clause) }
@@ -76,7 +76,7 @@ fn clauses_suspend(clauses: &[CompoundClause]) -> bool
     false
 }
 
-/// The same of what a header heads.
+/// Whether what a header heads suspends.
 #[cycle(suspends)]
 pub fn suite_suspends(suite: &Suite) -> bool
     ensures { result ≡ spec.suite_suspends (suite_of suite.now) }

@@ -58,7 +58,8 @@ cons_before : {A : Type 0} (x : Option A) (xs : List A) → cons_option x xs ≡
 cons_before None xs = refl
 cons_before (Some x) xs = refl
 
--- a list is made of at most one item each, with a state: what the item at an index is, is put behind those that were made
+-- a list is made of at most one item each, with a state: what the item at an index is, is put behind those that were
+-- made
 pub put_at : {A B S : Type 0} (f : S → List A → List B) (m : S → A → Option B) (next : S → A → S) → ((s : S) (x : A) (xs : List A) → f s (x ∷ xs) ≡ cons_option (m s x) (f (next s x) xs))
     → (xs : List A) (i : ℕ) (x : A) (s after : S) (found : List B) {new whole : List B} → i < length xs → x ≡ get_or xs i x → found ++ f s (drop i xs) ≡ whole
     → new ≡ found ++ cons_option (m s x) [] → after ≡ next s x → new ++ f after (drop (i + 1) xs) ≡ whole
@@ -72,7 +73,7 @@ put_at f m next step xs i x s after found {new} below is e made then_is =
 pub started_at : {A B C : Type 0} (view : C → B) (f : List A → List B) (found : List C) (all each : List A) {whole : List B} → found ≡ [] → all ≡ each → f each ≡ whole → map view found ++ f (drop 0 all) ≡ whole
 started_at view f found all each none same e = ap (λ xs. map view xs ++ f (drop 0 all)) none ∙ ap f same ∙ e
 
--- the same where what is made of the rest differs from what was made so far
+-- a list is made item by item: what the item at index `i` is, is put behind `found`, and then `f'` makes the rest
 pub turned_at : {A B : Type 0} (f f' : List A → List B) (h : A → B) → ((x : A) (xs : List A) → f (x ∷ xs) ≡ h x ∷ f' xs)
     → (xs : List A) (i : ℕ) (x : A) (found : List B) {new whole : List B} → i < length xs → x ≡ get_or xs i x → found ++ f (drop i xs) ≡ whole → new ≡ found ++ (h x ∷ []) → new ++ f' (drop (i + 1) xs) ≡ whole
 turned_at f f' h step xs i x found {new} below is e made =

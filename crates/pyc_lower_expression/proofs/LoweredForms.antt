@@ -4,13 +4,13 @@ use Rattle.std.specs.declared.alloc.Global.{Global}
 use Rattle.std.specs.declared.boxed.Box.{Box}
 use Rattle.std.specs.declared.vec.Vec.{Vec}
 use Rattle.std.specs.Option.{is_some}
-use Rattle.pyc_ast.specs.declared.constant.Opaque.TheVariants.{Lambda}
+use Rattle.pyc_ast.specs.declared.constant.Unchecked.TheVariants.{Lambda}
 use Rattle.pyc_ast.specs.declared.position.Position.{Position}
 use Rattle.pyc_ast.specs.Exprs.{elements, arguments, comparisons}
 use Rattle.pyc_ast.specs.Exprs as plain
 use Rattle.pyc_lower_atom.specs.declared.role.Role.{Role}
 use Rattle.pyc_lower_atom.specs.Constants.{number_constant, word_constant, comprehension}
-use Rattle.pyc_lower_expression.specs.Expressions.{begun, following, enclosed, display_form, first_at, first_role, only_or, subscript_of, last_index, many_indices, is_single, strings_form, expr_in, optional_in, elements_in, dict_items_in, dict_item_in, arguments_in, comparisons_in, index_in, indices_in, optional_at, element_of, argument_of}
+use Rattle.pyc_lower_expression.specs.Expressions.{with_position, following, in_parentheses, display_form, first_at, first_role, arguments_or_generator, subscript_of, last_index, many_indices, is_single, strings_form, expr_in, optional_in, elements_in, dict_items_in, dict_item_in, arguments_in, comparisons_in, index_in, indices_in, optional_at, element_of, argument_of}
 use Rattle.pyc_lower_atom.specs.Operators.{unary_operator, operation, comparison_operator}
 use Rattle.pyc_lower_atom.specs.Origins.{Origin, name_at, position_at, text_at}
 use Rattle.pyc_token.specs.declared.tokens.Token.{Token}
@@ -26,37 +26,37 @@ use Rattle.pyc_tree.specs.View.{tree_of, pieces_of, perhaps_of, links_before}
 use Rattle.pyc_tree.proofs.ViewLemmas.{view_Compare, view_Comprehension, view_Yield, view_Slice, view_Stride}
 
 pub lowered_Name : (s : List ℕ → Position → Option plain.Expr) (o : Origin) (r : Role) (t : Token)
-    → expr_in s o r (tree_of (e.Name t)) ≡ begun (position_at o t) (plain.name (name_at o t))
+    → expr_in s o r (tree_of (e.Name t)) ≡ with_position (position_at o t) (plain.name (name_at o t))
 unfolding tree_of expr_in
 lowered_Name s o r t = refl
 
 pub lowered_Number : (s : List ℕ → Position → Option plain.Expr) (o : Origin) (r : Role) (t : Token)
-    → expr_in s o r (tree_of (e.Number t)) ≡ begun (position_at o t) (plain.constant (number_constant t.kind (text_at o.source t.span)))
+    → expr_in s o r (tree_of (e.Number t)) ≡ with_position (position_at o t) (plain.constant (number_constant t.kind (text_at o.source t.span)))
 unfolding tree_of expr_in
 lowered_Number s o r t = refl
 
 pub lowered_Constant : (s : List ℕ → Position → Option plain.Expr) (o : Origin) (r : Role) (t : Token)
-    → expr_in s o r (tree_of (e.Constant t)) ≡ begun (position_at o t) (plain.constant (word_constant t.kind))
+    → expr_in s o r (tree_of (e.Constant t)) ≡ with_position (position_at o t) (plain.constant (word_constant t.kind))
 unfolding tree_of expr_in
 lowered_Constant s o r t = refl
 
 pub lowered_Strings : (s : List ℕ → Position → Option plain.Expr) (o : Origin) (r : Role) (t : Token) (more : Vec Token Global)
-    → expr_in s o r (tree_of (e.Strings t more)) ≡ begun (position_at o t) (strings_form s o r t more.items)
+    → expr_in s o r (tree_of (e.Strings t more)) ≡ with_position (position_at o t) (strings_form s o r t more.items)
 unfolding tree_of expr_in
 lowered_Strings s o r t more = refl
 
 pub lowered_Parenthesized : (s : List ℕ → Position → Option plain.Expr) (o : Origin) (r : Role) (t : Token) (x : Box Expr Global) (c : Token)
-    → expr_in s o r (tree_of (e.Parenthesized t x c)) ≡ enclosed (position_at o t) (expr_in s o r (tree_of x.value))
+    → expr_in s o r (tree_of (e.Parenthesized t x c)) ≡ in_parentheses (position_at o t) (expr_in s o r (tree_of x.value))
 unfolding tree_of expr_in
 lowered_Parenthesized s o r t x c = refl
 
 pub lowered_Display : (s : List ℕ → Position → Option plain.Expr) (o : Origin) (r : Role) (m : DisplayKind) (t : Token) (items : Items) (c : Token)
-    → expr_in s o r (tree_of (e.Display m t items c)) ≡ begun (position_at o t) (display_form m (elements_in s o r (pieces_of items)) (dict_items_in s o r (pieces_of items)))
+    → expr_in s o r (tree_of (e.Display m t items c)) ≡ with_position (position_at o t) (display_form m (elements_in s o r (pieces_of items)) (dict_items_in s o r (pieces_of items)))
 unfolding tree_of expr_in
 lowered_Display s o r m t items c = refl
 
 pub lowered_ComprehensionDisplay : (s : List ℕ → Position → Option plain.Expr) (o : Origin) (r : Role) (m : DisplayKind) (t : Token) (x : Box Expr Global) (cs : Vec Comprehension Global) (c : Token)
-    → expr_in s o r (tree_of (e.ComprehensionDisplay m t x cs c)) ≡ begun (position_at o t) (plain.opaque (comprehension m))
+    → expr_in s o r (tree_of (e.ComprehensionDisplay m t x cs c)) ≡ with_position (position_at o t) (plain.unchecked (comprehension m))
 unfolding tree_of expr_in
 lowered_ComprehensionDisplay s o r m t x cs c = ap (expr_in s o r) ((view_Comprehension m t x cs c))
 
@@ -66,7 +66,7 @@ unfolding tree_of expr_in
 lowered_Attribute s o r x d n = refl
 
 pub lowered_Call : (s : List ℕ → Position → Option plain.Expr) (o : Origin) (r : Role) (x : Box Expr Global) (t : Token) (items : Items) (c : Token)
-    → expr_in s o r (tree_of (e.Call x t items c)) ≡ following (expr_in s o r (tree_of x.value)) (plain.call (expr_in s o r (tree_of x.value)) (arguments (only_or (position_at o t) (pieces_of items) (arguments_in s o (first_role r (pieces_of items)) r (pieces_of items)))))
+    → expr_in s o r (tree_of (e.Call x t items c)) ≡ following (expr_in s o r (tree_of x.value)) (plain.call (expr_in s o r (tree_of x.value)) (arguments (arguments_or_generator (position_at o t) (pieces_of items) (arguments_in s o (first_role r (pieces_of items)) r (pieces_of items)))))
 unfolding tree_of expr_in
 lowered_Call s o r x t items c = refl
 
@@ -76,12 +76,12 @@ unfolding tree_of expr_in
 lowered_Subscript s o r x t items c = refl
 
 pub lowered_Await : (s : List ℕ → Position → Option plain.Expr) (o : Origin) (r : Role) (t : Token) (x : Box Expr Global)
-    → expr_in s o r (tree_of (e.Await t x)) ≡ begun (position_at o t) (plain.await (expr_in s o r (tree_of x.value)))
+    → expr_in s o r (tree_of (e.Await t x)) ≡ with_position (position_at o t) (plain.await (expr_in s o r (tree_of x.value)))
 unfolding tree_of expr_in
 lowered_Await s o r t x = refl
 
 pub lowered_Unary : (s : List ℕ → Position → Option plain.Expr) (o : Origin) (r : Role) (t : Token) (x : Box Expr Global)
-    → expr_in s o r (tree_of (e.Unary t x)) ≡ begun (position_at o t) (plain.unary (unary_operator t.kind) (expr_in s o r (tree_of x.value)))
+    → expr_in s o r (tree_of (e.Unary t x)) ≡ with_position (position_at o t) (plain.unary (unary_operator t.kind) (expr_in s o r (tree_of x.value)))
 unfolding tree_of expr_in
 lowered_Unary s o r t x = refl
 
@@ -101,22 +101,22 @@ unfolding tree_of expr_in
 lowered_Conditional s o r x t y c z = refl
 
 pub lowered_Lambda : (s : List ℕ → Position → Option plain.Expr) (o : Origin) (r : Role) (t : Token) (items : Items) (c : Token) (x : Box Expr Global)
-    → expr_in s o r (tree_of (e.Lambda t items c x)) ≡ begun (position_at o t) (plain.opaque Lambda)
+    → expr_in s o r (tree_of (e.Lambda t items c x)) ≡ with_position (position_at o t) (plain.unchecked Lambda)
 unfolding tree_of expr_in
 lowered_Lambda s o r t items c x = refl
 
 pub lowered_Bare : (s : List ℕ → Position → Option plain.Expr) (o : Origin) (r : Role) (items : Items)
-    → expr_in s o r (tree_of (e.Bare items)) ≡ begun (first_at o (pieces_of items) (elements_in s o r (pieces_of items))) (plain.tuple (elements (elements_in s o r (pieces_of items))))
+    → expr_in s o r (tree_of (e.Bare items)) ≡ with_position (first_at o (pieces_of items) (elements_in s o r (pieces_of items))) (plain.tuple (elements (elements_in s o r (pieces_of items))))
 unfolding tree_of expr_in
 lowered_Bare s o r items = refl
 
 pub lowered_Yield : (s : List ℕ → Position → Option plain.Expr) (o : Origin) (r : Role) (t : Token) (x : Option (Box Expr Global))
-    → expr_in s o r (tree_of (e.Yield t x)) ≡ begun (position_at o t) (plain.yield (optional_in s o r (perhaps_of x)))
+    → expr_in s o r (tree_of (e.Yield t x)) ≡ with_position (position_at o t) (plain.yield (optional_in s o r (perhaps_of x)))
 unfolding tree_of expr_in
 lowered_Yield s o r t x = ap (expr_in s o r) ((view_Yield t x))
 
 pub lowered_YieldFrom : (s : List ℕ → Position → Option plain.Expr) (o : Origin) (r : Role) (t f : Token) (x : Box Expr Global)
-    → expr_in s o r (tree_of (e.YieldFrom t f x)) ≡ begun (position_at o t) (plain.yield_from (expr_in s o r (tree_of x.value)))
+    → expr_in s o r (tree_of (e.YieldFrom t f x)) ≡ with_position (position_at o t) (plain.yield_from (expr_in s o r (tree_of x.value)))
 unfolding tree_of expr_in
 lowered_YieldFrom s o r t f x = refl
 

@@ -8,7 +8,7 @@ use Rattle.pyc_ast.specs.declared.position.Position.{Position}
 use Rattle.pyc_ast.specs.Exprs.{at_of}
 use Rattle.pyc_ast.specs.Exprs as plain
 use Rattle.pyc_lower_atom.specs.declared.role.Role.{Role}
-use Rattle.pyc_lower_expression.specs.Expressions.{star_at, optional_at, element_of, argument_of, is_generator, nowhere, expr_in, dict_item_in, index_in}
+use Rattle.pyc_lower_expression.specs.Expressions.{star_at, optional_at, element_of, argument_of, is_generator, placeholder, expr_in, dict_item_in, index_in}
 use Rattle.pyc_lower_expression.specs.Forms.{is_atom, is_operation}
 use Rattle.pyc_lower_atom.specs.Origins.{Origin}
 use Rattle.pyc_token.specs.declared.tokens.Token.{Token}
@@ -99,36 +99,36 @@ operation_other (e.Yield' t0 (Some' p0 x0)) n0 n1 n2 n3 n4 n5 n6 n7 n8 n9 = absu
 operation_other (e.YieldFrom' t0 t1 p0 x0) n0 n1 n2 n3 n4 n5 n6 n7 n8 n9 = absurd (n9 _ _ _ refl)
 operation_other _ n0 n1 n2 n3 n4 n5 n6 n7 n8 n9 = refl
 
-pub nowhere_other : (spelled : List ℕ → Position → Option plain.Expr) (o : Origin) (role : Role) (x : Expr) → is_atom (tree_of x) ≡ false → is_operation (tree_of x) ≡ false → ((a : Token) (b : Box Expr Global) → x ≡ e.Starred a b → ⊥) → ((a : Token) (b : Box Expr Global) → x ≡ e.DoubleStarred a b → ⊥) → ((a : Box Expr Global) (b : Token) (d : Box Expr Global) → x ≡ e.Entry a b d → ⊥) → ((a : Token) (b : Box Expr Global) → x ≡ e.Mapping a b → ⊥) → ((a : Box Expr Global) → x ≡ e.Argument a → ⊥) → ((a : Token) (b : Token) (d : Box Expr Global) → x ≡ e.Keyword a b d → ⊥) → ((a : Box Expr Global) (b : Tail) → x ≡ e.WithItem a b → ⊥) → nowhere ≡ expr_in spelled o role (tree_of x)
+pub placeholder_other : (spelled : List ℕ → Position → Option plain.Expr) (o : Origin) (role : Role) (x : Expr) → is_atom (tree_of x) ≡ false → is_operation (tree_of x) ≡ false → ((a : Token) (b : Box Expr Global) → x ≡ e.Starred a b → ⊥) → ((a : Token) (b : Box Expr Global) → x ≡ e.DoubleStarred a b → ⊥) → ((a : Box Expr Global) (b : Token) (d : Box Expr Global) → x ≡ e.Entry a b d → ⊥) → ((a : Token) (b : Box Expr Global) → x ≡ e.Mapping a b → ⊥) → ((a : Box Expr Global) → x ≡ e.Argument a → ⊥) → ((a : Token) (b : Token) (d : Box Expr Global) → x ≡ e.Keyword a b d → ⊥) → ((a : Box Expr Global) (b : Tail) → x ≡ e.WithItem a b → ⊥) → placeholder ≡ expr_in spelled o role (tree_of x)
 unfolding tree_of expr_in
-nowhere_other spelled o role (e.Starred' t0 p0 x0) h0 h1 n0 n1 n2 n3 n4 n5 n6 = absurd (n0 _ _ refl)
-nowhere_other spelled o role (e.DoubleStarred' t0 p0 x0) h0 h1 n0 n1 n2 n3 n4 n5 n6 = absurd (n1 _ _ refl)
-nowhere_other spelled o role (e.Entry' p0 x0 t1 p1 x1) h0 h1 n0 n1 n2 n3 n4 n5 n6 = absurd (n2 _ _ _ refl)
-nowhere_other spelled o role (e.Mapping' t0 p0 x0) h0 h1 n0 n1 n2 n3 n4 n5 n6 = absurd (n3 _ _ refl)
-nowhere_other spelled o role (e.Argument' p0 x0) h0 h1 n0 n1 n2 n3 n4 n5 n6 = absurd (n4 _ refl)
-nowhere_other spelled o role (e.Keyword' t0 t1 p0 x0) h0 h1 n0 n1 n2 n3 n4 n5 n6 = absurd (n5 _ _ _ refl)
-nowhere_other spelled o role (e.WithItem' p0 x0 t1) h0 h1 n0 n1 n2 n3 n4 n5 n6 = absurd (n6 _ _ refl)
-nowhere_other spelled o role (e.Name t0) h0 h1 n0 n1 n2 n3 n4 n5 n6 = cc
-nowhere_other spelled o role (e.Number t0) h0 h1 n0 n1 n2 n3 n4 n5 n6 = cc
-nowhere_other spelled o role (e.Constant t0) h0 h1 n0 n1 n2 n3 n4 n5 n6 = cc
-nowhere_other spelled o role (e.Strings t0 t1) h0 h1 n0 n1 n2 n3 n4 n5 n6 = cc
-nowhere_other spelled o role (e.Parenthesized' t0 p0 x0 t2) h0 h1 n0 n1 n2 n3 n4 n5 n6 = cc
-nowhere_other spelled o role (e.Display t0 t1 t2 t3) h0 h1 n0 n1 n2 n3 n4 n5 n6 = cc
-nowhere_other spelled o role (e.ComprehensionDisplay' t0 t1 p0 x0 s row t4) h0 h1 n0 n1 n2 n3 n4 n5 n6 = cc
-nowhere_other spelled o role (e.Lambda' t0 t1 t2 p0 x0) h0 h1 n0 n1 n2 n3 n4 n5 n6 = cc
-nowhere_other spelled o role (e.Bare t0) h0 h1 n0 n1 n2 n3 n4 n5 n6 = cc
-nowhere_other spelled o role (e.Attribute' p0 x0 t1 t2) h0 h1 n0 n1 n2 n3 n4 n5 n6 = cc
-nowhere_other spelled o role (e.Call' p0 x0 t1 t2 t3) h0 h1 n0 n1 n2 n3 n4 n5 n6 = cc
-nowhere_other spelled o role (e.Subscript' p0 x0 t1 t2 t3) h0 h1 n0 n1 n2 n3 n4 n5 n6 = cc
-nowhere_other spelled o role (e.Await' t0 p0 x0) h0 h1 n0 n1 n2 n3 n4 n5 n6 = cc
-nowhere_other spelled o role (e.Unary' t0 p0 x0) h0 h1 n0 n1 n2 n3 n4 n5 n6 = cc
-nowhere_other spelled o role (e.Binary' p0 x0 t1 p1 x1) h0 h1 n0 n1 n2 n3 n4 n5 n6 = cc
-nowhere_other spelled o role (e.Compare' p0 x0 s row) h0 h1 n0 n1 n2 n3 n4 n5 n6 = cc
-nowhere_other spelled o role (e.Conditional' p0 x0 t1 p1 x1 t3 p2 x2) h0 h1 n0 n1 n2 n3 n4 n5 n6 = cc
-nowhere_other spelled o role (e.Yield' t0 None') h0 h1 n0 n1 n2 n3 n4 n5 n6 = cc
-nowhere_other spelled o role (e.Yield' t0 (Some' p0 x0)) h0 h1 n0 n1 n2 n3 n4 n5 n6 = cc
-nowhere_other spelled o role (e.YieldFrom' t0 t1 p0 x0) h0 h1 n0 n1 n2 n3 n4 n5 n6 = cc
-nowhere_other spelled o role _ h0 h1 n0 n1 n2 n3 n4 n5 n6 = refl
+placeholder_other spelled o role (e.Starred' t0 p0 x0) h0 h1 n0 n1 n2 n3 n4 n5 n6 = absurd (n0 _ _ refl)
+placeholder_other spelled o role (e.DoubleStarred' t0 p0 x0) h0 h1 n0 n1 n2 n3 n4 n5 n6 = absurd (n1 _ _ refl)
+placeholder_other spelled o role (e.Entry' p0 x0 t1 p1 x1) h0 h1 n0 n1 n2 n3 n4 n5 n6 = absurd (n2 _ _ _ refl)
+placeholder_other spelled o role (e.Mapping' t0 p0 x0) h0 h1 n0 n1 n2 n3 n4 n5 n6 = absurd (n3 _ _ refl)
+placeholder_other spelled o role (e.Argument' p0 x0) h0 h1 n0 n1 n2 n3 n4 n5 n6 = absurd (n4 _ refl)
+placeholder_other spelled o role (e.Keyword' t0 t1 p0 x0) h0 h1 n0 n1 n2 n3 n4 n5 n6 = absurd (n5 _ _ _ refl)
+placeholder_other spelled o role (e.WithItem' p0 x0 t1) h0 h1 n0 n1 n2 n3 n4 n5 n6 = absurd (n6 _ _ refl)
+placeholder_other spelled o role (e.Name t0) h0 h1 n0 n1 n2 n3 n4 n5 n6 = cc
+placeholder_other spelled o role (e.Number t0) h0 h1 n0 n1 n2 n3 n4 n5 n6 = cc
+placeholder_other spelled o role (e.Constant t0) h0 h1 n0 n1 n2 n3 n4 n5 n6 = cc
+placeholder_other spelled o role (e.Strings t0 t1) h0 h1 n0 n1 n2 n3 n4 n5 n6 = cc
+placeholder_other spelled o role (e.Parenthesized' t0 p0 x0 t2) h0 h1 n0 n1 n2 n3 n4 n5 n6 = cc
+placeholder_other spelled o role (e.Display t0 t1 t2 t3) h0 h1 n0 n1 n2 n3 n4 n5 n6 = cc
+placeholder_other spelled o role (e.ComprehensionDisplay' t0 t1 p0 x0 s row t4) h0 h1 n0 n1 n2 n3 n4 n5 n6 = cc
+placeholder_other spelled o role (e.Lambda' t0 t1 t2 p0 x0) h0 h1 n0 n1 n2 n3 n4 n5 n6 = cc
+placeholder_other spelled o role (e.Bare t0) h0 h1 n0 n1 n2 n3 n4 n5 n6 = cc
+placeholder_other spelled o role (e.Attribute' p0 x0 t1 t2) h0 h1 n0 n1 n2 n3 n4 n5 n6 = cc
+placeholder_other spelled o role (e.Call' p0 x0 t1 t2 t3) h0 h1 n0 n1 n2 n3 n4 n5 n6 = cc
+placeholder_other spelled o role (e.Subscript' p0 x0 t1 t2 t3) h0 h1 n0 n1 n2 n3 n4 n5 n6 = cc
+placeholder_other spelled o role (e.Await' t0 p0 x0) h0 h1 n0 n1 n2 n3 n4 n5 n6 = cc
+placeholder_other spelled o role (e.Unary' t0 p0 x0) h0 h1 n0 n1 n2 n3 n4 n5 n6 = cc
+placeholder_other spelled o role (e.Binary' p0 x0 t1 p1 x1) h0 h1 n0 n1 n2 n3 n4 n5 n6 = cc
+placeholder_other spelled o role (e.Compare' p0 x0 s row) h0 h1 n0 n1 n2 n3 n4 n5 n6 = cc
+placeholder_other spelled o role (e.Conditional' p0 x0 t1 p1 x1 t3 p2 x2) h0 h1 n0 n1 n2 n3 n4 n5 n6 = cc
+placeholder_other spelled o role (e.Yield' t0 None') h0 h1 n0 n1 n2 n3 n4 n5 n6 = cc
+placeholder_other spelled o role (e.Yield' t0 (Some' p0 x0)) h0 h1 n0 n1 n2 n3 n4 n5 n6 = cc
+placeholder_other spelled o role (e.YieldFrom' t0 t1 p0 x0) h0 h1 n0 n1 n2 n3 n4 n5 n6 = cc
+placeholder_other spelled o role _ h0 h1 n0 n1 n2 n3 n4 n5 n6 = refl
 
 -- a slice of equal parts at an equal place
 pub slice_at : {here here' : Position} {a a' b b' c c' : plain.OptionalExpr} → here ≡ here' → a ≡ a' → b ≡ b' → c ≡ c'

@@ -1,9 +1,9 @@
 -- The abstract expression that a tree of the grammar is: without its tokens and parentheses (Python reference 3.13,
--- "Expressions"; CPython's `ast`). What no well-formed tree holds is `nowhere`.
+-- "Expressions"; CPython's `ast`). What no well-formed tree holds is `placeholder`.
 use Rattle.std.specs.Prelude.{ℕ, Bool, true, false, ◌&&◌, if◌then◌else◌, List, [], ◌∷◌, Option, None, Some}
 use Rattle.std.specs.Prelude.{is_some, unwrap_or, option_and_then, ◌==◌, length}
 use Rattle.pyc_ast.specs.declared.constant.Constant.TheVariants.{Ellipsis}
-use Rattle.pyc_ast.specs.declared.constant.Opaque.TheVariants.{Lambda, Generator}
+use Rattle.pyc_ast.specs.declared.constant.Unchecked.TheVariants.{Lambda, Generator}
 use Rattle.pyc_ast.specs.declared.expr.ArgumentKind.TheVariants.{Positional, Starred, Keyword, DoubleStarred}
 use Rattle.pyc_ast.specs.declared.position.Position.{Position}
 use Rattle.pyc_ast.specs.Exprs.{Expr, Form, OptionalExpr, Element, DictItem, Argument, Comparison, Index, IndexForm}
@@ -25,25 +25,25 @@ use Rattle.pyc_tree.specs.Tree as tree
 -- ---- one form, of parts that are lowered
 
 -- an expression that begins at its own first token
-abbrev pub begun : Position → Form → Expr
-begun at form = plain.expr at at form
+abbrev pub with_position : Position → Form → Expr
+with_position at form = plain.expr at at form
 
 -- an expression that begins with its first part
 abbrev pub following : Expr → Form → Expr
-following first form = begun (at_of first) form
+following first form = with_position (at_of first) form
 
 -- an expression in parentheses
-abbrev pub enclosed : Position → Expr → Expr
-enclosed at e = plain.expr at (inside_of e) (form_in e)
+abbrev pub in_parentheses : Position → Expr → Expr
+in_parentheses at e = plain.expr at (inside_of e) (form_in e)
 
 -- what stands where no well-formed tree has an expression
-abbrev pub nowhere : Expr
-nowhere = begun (record { line = 0; column = 0 }) (plain.constant Ellipsis)
+abbrev pub placeholder : Expr
+placeholder = with_position (record { line = 0; column = 0 }) (plain.constant Ellipsis)
 
 -- a string that may be an annotation, by the expression that its text spells
-abbrev pub quoted_or : Form → Option Expr → Form
-quoted_or otherwise None = otherwise
-quoted_or otherwise (Some e) = plain.quoted e
+abbrev pub string_annotation_or : Form → Option Expr → Form
+string_annotation_or otherwise None = otherwise
+string_annotation_or otherwise (Some e) = plain.string_annotation e
 
 -- a display in brackets
 abbrev pub display_form : DisplayKind → List Element → List DictItem → Form
@@ -69,7 +69,7 @@ star_at o _ = None
 
 -- where the first of some items begins: at its star, else with its value
 abbrev pub value_at : List Element → Position
-value_at [] = at_of nowhere
+value_at [] = at_of placeholder
 value_at (x ∷ found) = at_of (value_of x)
 
 abbrev pub first_at : Origin → Pieces → List Element → Position
@@ -86,7 +86,7 @@ index_at (plain.index at form) = at
 
 -- where the first of some indices begins
 abbrev pub indices_at : List Index → Position
-indices_at [] = at_of nowhere
+indices_at [] = at_of placeholder
 indices_at (x ∷ found) = index_at x
 
 abbrev pub many_indices : List Index → Index
@@ -129,9 +129,10 @@ is_only_generator (tree.last e) = is_generator e
 is_only_generator _ = false
 
 -- the arguments of a call whose parenthesis stands here: a generator that is the only one stands in these parentheses
-abbrev pub only_or : Position → Pieces → List Argument → List Argument
-only_or here items found =
-    if is_only_generator items then plain.argument here Positional (begun here (plain.opaque Generator)) ∷ [] else found
+abbrev pub arguments_or_generator : Position → Pieces → List Argument → List Argument
+arguments_or_generator here items found =
+    if is_only_generator items then plain.argument here Positional (with_position here (plain.unchecked Generator)) ∷
+    [] else found
 
 -- whether there is one item, without a comma
 abbrev pub is_single : Pieces → Bool
@@ -152,55 +153,58 @@ subscript_of items found = if is_single items then last_index found else many_in
 
 module _ (spelled : List ℕ → Position → Option Expr) where
   -- a string that may be an annotation
-  abbrev pub quoted_form : Origin → Token → Form
-  quoted_form origin t =
+  abbrev pub string_annotation_form : Origin → Token → Form
+  string_annotation_form origin t =
       let otherwise = plain.constant (strings_constant t.kind []) in
-      if is_plain t.kind then quoted_or otherwise (spelled (text_at origin.source t.span) (position_at origin t))
+      if is_plain t.kind then string_annotation_or otherwise (spelled (text_at origin.source t.span)
+      (position_at origin t))
       else otherwise
 
   -- strings one after another: one alone may be an annotation
   abbrev pub strings_form : Origin → Role → Token → List Token → Form
   strings_form origin role t more =
-      if is_annotation role && (length more == 0) then quoted_form origin t
+      if is_annotation role && (length more == 0) then string_annotation_form origin t
       else plain.constant (strings_constant t.kind more)
 
   unfoldable mutual
     -- the expression that a tree is
     pub expr_in : Origin → Role → Tree → Expr
-    expr_in o role (tree.name t) = begun (position_at o t) (plain.name (name_at o t))
+    expr_in o role (tree.name t) = with_position (position_at o t) (plain.name (name_at o t))
     expr_in o role (tree.number t) =
-        begun (position_at o t) (plain.constant (number_constant t.kind (text_at o.source t.span)))
-    expr_in o role (tree.constant t) = begun (position_at o t) (plain.constant (word_constant t.kind))
-    expr_in o role (tree.strings t more) = begun (position_at o t) (strings_form o role t more)
-    expr_in o role (tree.parenthesized opening e closing) = enclosed (position_at o opening) (expr_in o role e)
+        with_position (position_at o t) (plain.constant (number_constant t.kind (text_at o.source t.span)))
+    expr_in o role (tree.constant t) = with_position (position_at o t) (plain.constant (word_constant t.kind))
+    expr_in o role (tree.strings t more) = with_position (position_at o t) (strings_form o role t more)
+    expr_in o role (tree.parenthesized opening e closing) = in_parentheses (position_at o opening) (expr_in o role e)
     expr_in o role (tree.display made opening items closing) =
-        begun (position_at o opening) (display_form made (elements_in o role items) (dict_items_in o role items))
+        with_position (position_at o opening) (display_form made (elements_in o role items)
+        (dict_items_in o role items))
     expr_in o role (tree.comprehension_display made opening e clauses closing) =
-        begun (position_at o opening) (plain.opaque (comprehension made))
+        with_position (position_at o opening) (plain.unchecked (comprehension made))
     expr_in o role (tree.attribute e dot name) =
         let value = expr_in o role e in following value (plain.attribute value (name_at o name))
     expr_in o role (tree.call e opening items closing) =
         let callee = expr_in o role e in
         following callee
         (plain.call callee
-        (arguments (only_or (position_at o opening) items (arguments_in o (first_role role items) role items))))
+        (arguments (arguments_or_generator (position_at o opening) items
+        (arguments_in o (first_role role items) role items))))
     expr_in o role (tree.subscript e opening items closing) =
         let value = expr_in o role e in
         following value (plain.subscript value (subscript_of items (indices_in o role items)))
-    expr_in o role (tree.await t e) = begun (position_at o t) (plain.await (expr_in o role e))
+    expr_in o role (tree.await t e) = with_position (position_at o t) (plain.await (expr_in o role e))
     expr_in o role (tree.unary sign e) =
-        begun (position_at o sign) (plain.unary (unary_operator sign.kind) (expr_in o role e))
+        with_position (position_at o sign) (plain.unary (unary_operator sign.kind) (expr_in o role e))
     expr_in o role (tree.binary a sign b) =
         let left = expr_in o role a in following left (operation sign.kind left (expr_in o role b))
     expr_in o role (tree.compare a links) =
         let left = expr_in o role a in following left (plain.compare left (comparisons (comparisons_in o role links)))
     expr_in o role (tree.conditional a word_if test word_else b) =
         let body = expr_in o role a in following body (plain.conditional (expr_in o role test) body (expr_in o role b))
-    expr_in o role (tree.lambda t parameters colon body) = begun (position_at o t) (plain.opaque Lambda)
+    expr_in o role (tree.lambda t parameters colon body) = with_position (position_at o t) (plain.unchecked Lambda)
     expr_in o role (tree.bare items) =
-        let found = elements_in o role items in begun (first_at o items found) (plain.tuple (elements found))
-    expr_in o role (tree.yield t value) = begun (position_at o t) (plain.yield (optional_in o role value))
-    expr_in o role (tree.yield_from t from e) = begun (position_at o t) (plain.yield_from (expr_in o role e))
+        let found = elements_in o role items in with_position (first_at o items found) (plain.tuple (elements found))
+    expr_in o role (tree.yield t value) = with_position (position_at o t) (plain.yield (optional_in o role value))
+    expr_in o role (tree.yield_from t from e) = with_position (position_at o t) (plain.yield_from (expr_in o role e))
     -- an item is its value
     expr_in o role (tree.starred star e) = expr_in o role e
     expr_in o role (tree.double_starred stars e) = expr_in o role e
@@ -209,7 +213,7 @@ module _ (spelled : List ℕ → Position → Option Expr) where
     expr_in o role (tree.argument e) = expr_in o role e
     expr_in o role (tree.keyword name equal e) = expr_in o role e
     expr_in o role (tree.with_item e target) = expr_in o role e
-    expr_in o role _ = nowhere
+    expr_in o role _ = placeholder
 
     pub optional_in : Origin → Role → Perhaps → OptionalExpr
     optional_in o role tree.absent = plain.absent

@@ -8,14 +8,14 @@ ghost use Rattle.pyc_ast.specs.ExprView.{element_of, index_of};
 ghost use Rattle.pyc_tree.specs.Tree.{last};
 ghost use Rattle.pyc_tree.specs.View.{tree_of, pieces_of};
 ghost use Rattle.pyc_lower_atom.specs.OriginView.{origin_of};
-ghost use Rattle.pyc_ast.specs.declared.constant.Opaque.TheVariants.{Generator};
+ghost use Rattle.pyc_ast.specs.declared.constant.Unchecked.TheVariants.{Generator};
 ghost use Rattle.pyc_ast.specs.declared.expr.ArgumentKind.TheVariants.{Positional};
 ghost use Rattle.pyc_lower_expression.specs.Expressions as spec;
 ghost use Rattle.pyc_lower_atom.specs.Operators.{operation};
 
 use pyc_ast::{
     Argument, ArgumentKind, Comparison, Constant, DictItem, Element, Expr, Form, Index, IndexForm,
-    Opaque, OptionalExpr, Position, Text, UnaryOperator,
+    OptionalExpr, Position, Text, UnaryOperator, Unchecked,
 };
 use pyc_lower_atom::{Names, Origin, Role};
 use pyc_token::Kind;
@@ -23,8 +23,8 @@ use pyc_tree::{Expr as Tree, Pieces};
 use std::alloc::{AllocError, Global};
 
 /// An expression that begins at its own first token.
-pub fn begun(at: Position, form: Form) -> Expr
-    ensures { expr_of result ≡ spec.begun at (form_of form) }
+pub fn with_position(at: Position, form: Form) -> Expr
+    ensures { expr_of result ≡ spec.with_position at (form_of form) }
 {
     Expr {
         at,
@@ -34,18 +34,18 @@ pub fn begun(at: Position, form: Form) -> Expr
 }
 
 /// An expression in parentheses.
-pub fn enclosed(at: Position, mut expr: Expr) -> Expr
-    ensures { expr_of result ≡ spec.enclosed at (expr_of expr) }
+pub fn in_parentheses(at: Position, mut expr: Expr) -> Expr
+    ensures { expr_of result ≡ spec.in_parentheses at (expr_of expr) }
 {
     expr.at = at;
     expr
 }
 
 /// What stands where no well-formed tree has an expression.
-pub fn nowhere() -> Expr
-    ensures { expr_of result ≡ spec.nowhere }
+pub fn placeholder() -> Expr
+    ensures { expr_of result ≡ spec.placeholder }
 {
-    begun(
+    with_position(
         Position { line: 0, column: 0 },
         Form::Constant(Constant::Ellipsis),
     )
@@ -53,23 +53,23 @@ pub fn nowhere() -> Expr
 
 /// A name.
 pub fn name(at: Position, name: Text) -> Expr
-    ensures { expr_of result ≡ spec.begun at (plain.name name) }
+    ensures { expr_of result ≡ spec.with_position at (plain.name name) }
 {
-    begun(at, Form::Name(name))
+    with_position(at, Form::Name(name))
 }
 
 /// A literal.
 pub fn constant(at: Position, constant: Constant) -> Expr
-    ensures { expr_of result ≡ spec.begun at (plain.constant constant) }
+    ensures { expr_of result ≡ spec.with_position at (plain.constant constant) }
 {
-    begun(at, Form::Constant(constant))
+    with_position(at, Form::Constant(constant))
 }
 
 /// What is not looked into.
-pub fn opaque(at: Position, opaque: Opaque) -> Expr
-    ensures { expr_of result ≡ spec.begun at (plain.opaque opaque) }
+pub fn unchecked(at: Position, unchecked: Unchecked) -> Expr
+    ensures { expr_of result ≡ spec.with_position at (plain.unchecked unchecked) }
 {
-    begun(at, Form::Opaque(opaque))
+    with_position(at, Form::Unchecked(unchecked))
 }
 
 /// An attribute of an object.
@@ -78,7 +78,7 @@ pub fn attribute(alloc: Global, value: Expr, name: Text) -> Result<Expr, AllocEr
 {
     let at = value.at;
     let value = Box::new(alloc, value)?;
-    Ok(begun(at, Form::Attribute { value, name }))
+    Ok(with_position(at, Form::Attribute { value, name }))
 }
 
 /// A call of a callee.
@@ -89,11 +89,11 @@ pub fn call(alloc: Global, callee: Expr, arguments: Vec<Argument>) -> Result<Exp
 {
     let at = callee.at;
     let callee = Box::new(alloc, callee)?;
-    Ok(begun(at, Form::Call { callee, arguments }))
+    Ok(with_position(at, Form::Call { callee, arguments }))
 }
 
 /// A call whose parenthesis stands here, with the arguments that its items are.
-pub fn called(
+pub fn call_with_items(
     alloc: Global,
     callee: Expr,
     here: Position,
@@ -102,9 +102,9 @@ pub fn called(
 ) -> Result<Expr, AllocError>
     ensures { IfOk result (λ e. expr_of e
         ≡ spec.following (expr_of callee) (plain.call (expr_of callee) (plain.arguments
-        (spec.only_or here (pieces_of items.now) (map argument_of found.items))))) }
+        (spec.arguments_or_generator here (pieces_of items.now) (map argument_of found.items))))) }
 {
-    let found = only_or(alloc, here, items, found)?;
+    let found = arguments_or_generator(alloc, here, items, found)?;
     call(alloc, callee, found)
 }
 
@@ -116,14 +116,14 @@ pub fn subscript(alloc: Global, value: Expr, index: Index) -> Result<Expr, Alloc
     let at = value.at;
     let value = Box::new(alloc, value)?;
     let index = Box::new(alloc, index)?;
-    Ok(begun(at, Form::Subscript { value, index }))
+    Ok(with_position(at, Form::Subscript { value, index }))
 }
 
 /// `await` and its operand.
-pub fn awaited(alloc: Global, at: Position, operand: Expr) -> Result<Expr, AllocError>
-    ensures { IfOk result (λ e. expr_of e ≡ spec.begun at (plain.await (expr_of operand))) }
+pub fn await_expression(alloc: Global, at: Position, operand: Expr) -> Result<Expr, AllocError>
+    ensures { IfOk result (λ e. expr_of e ≡ spec.with_position at (plain.await (expr_of operand))) }
 {
-    Ok(begun(at, Form::Await(Box::new(alloc, operand)?)))
+    Ok(with_position(at, Form::Await(Box::new(alloc, operand)?)))
 }
 
 /// An operator before its operand.
@@ -133,10 +133,10 @@ pub fn unary(
     operator: UnaryOperator,
     operand: Expr,
 ) -> Result<Expr, AllocError>
-    ensures { IfOk result (λ e. expr_of e ≡ spec.begun at (plain.unary operator (expr_of operand))) }
+    ensures { IfOk result (λ e. expr_of e ≡ spec.with_position at (plain.unary operator (expr_of operand))) }
 {
     let operand = Box::new(alloc, operand)?;
-    Ok(begun(at, Form::Unary { operator, operand }))
+    Ok(with_position(at, Form::Unary { operator, operand }))
 }
 
 /// An operator between its operands, by its token's kind.
@@ -147,7 +147,7 @@ pub fn binary(alloc: Global, left: Expr, sign: Kind, right: Expr) -> Result<Expr
     let at = left.at;
     let left = Box::new(alloc, left)?;
     let right = Box::new(alloc, right)?;
-    Ok(begun(at, pyc_lower_atom::operation(sign, left, right)))
+    Ok(with_position(at, pyc_lower_atom::operation(sign, left, right)))
 }
 
 /// A chain of comparisons.
@@ -158,7 +158,7 @@ pub fn compare(alloc: Global, left: Expr, rest: Vec<Comparison>) -> Result<Expr,
 {
     let at = left.at;
     let left = Box::new(alloc, left)?;
-    Ok(begun(at, Form::Compare { left, rest }))
+    Ok(with_position(at, Form::Compare { left, rest }))
 }
 
 /// `body if test else orelse`
@@ -170,21 +170,21 @@ pub fn conditional(alloc: Global, test: Expr, body: Expr, orelse: Expr) -> Resul
     let test = Box::new(alloc, test)?;
     let body = Box::new(alloc, body)?;
     let orelse = Box::new(alloc, orelse)?;
-    Ok(begun(at, Form::Conditional { test, body, orelse }))
+    Ok(with_position(at, Form::Conditional { test, body, orelse }))
 }
 
 /// `yield`, perhaps with a value.
-pub fn yielded(at: Position, value: OptionalExpr) -> Expr
-    ensures { expr_of result ≡ spec.begun at (plain.yield (optional_of value)) }
+pub fn yield_expression(at: Position, value: OptionalExpr) -> Expr
+    ensures { expr_of result ≡ spec.with_position at (plain.yield (optional_of value)) }
 {
-    begun(at, Form::Yield(value))
+    with_position(at, Form::Yield(value))
 }
 
 /// `yield from` and its value.
-pub fn yielded_from(alloc: Global, at: Position, value: Expr) -> Result<Expr, AllocError>
-    ensures { IfOk result (λ e. expr_of e ≡ spec.begun at (plain.yield_from (expr_of value))) }
+pub fn yield_from_expression(alloc: Global, at: Position, value: Expr) -> Result<Expr, AllocError>
+    ensures { IfOk result (λ e. expr_of e ≡ spec.with_position at (plain.yield_from (expr_of value))) }
 {
-    Ok(begun(at, Form::YieldFrom(Box::new(alloc, value)?)))
+    Ok(with_position(at, Form::YieldFrom(Box::new(alloc, value)?)))
 }
 
 /// An expression in a box.
@@ -195,38 +195,38 @@ pub fn present(alloc: Global, value: Expr) -> Result<OptionalExpr, AllocError>
 }
 
 /// A string that spells an expression.
-pub fn quoted(alloc: Global, at: Position, expr: Expr) -> Result<Expr, AllocError>
-    ensures { IfOk result (λ e. expr_of e ≡ spec.begun at (plain.quoted (expr_of expr))) }
+pub fn string_annotation(alloc: Global, at: Position, expr: Expr) -> Result<Expr, AllocError>
+    ensures { IfOk result (λ e. expr_of e ≡ spec.with_position at (plain.string_annotation (expr_of expr))) }
 {
-    Ok(begun(at, Form::Quoted(Box::new(alloc, expr)?)))
+    Ok(with_position(at, Form::StringAnnotation(Box::new(alloc, expr)?)))
 }
 
 /// A dictionary.
 pub fn dict(at: Position, items: Vec<DictItem>) -> Expr
-    ensures { expr_of result ≡ spec.begun at (plain.dict (plain.dict_items (map dict_item_of items.items))) }
+    ensures { expr_of result ≡ spec.with_position at (plain.dict (plain.dict_items (map dict_item_of items.items))) }
 {
-    begun(at, Form::Dict(items))
+    with_position(at, Form::Dict(items))
 }
 
 /// A tuple.
 pub fn tuple(at: Position, items: Vec<Element>) -> Expr
-    ensures { expr_of result ≡ spec.begun at (plain.tuple (plain.elements (map element_of items.items))) }
+    ensures { expr_of result ≡ spec.with_position at (plain.tuple (plain.elements (map element_of items.items))) }
 {
-    begun(at, Form::Tuple(items))
+    with_position(at, Form::Tuple(items))
 }
 
 /// A list.
 pub fn list(at: Position, items: Vec<Element>) -> Expr
-    ensures { expr_of result ≡ spec.begun at (plain.list (plain.elements (map element_of items.items))) }
+    ensures { expr_of result ≡ spec.with_position at (plain.list (plain.elements (map element_of items.items))) }
 {
-    begun(at, Form::List(items))
+    with_position(at, Form::List(items))
 }
 
 /// A set.
 pub fn set(at: Position, items: Vec<Element>) -> Expr
-    ensures { expr_of result ≡ spec.begun at (plain.set (plain.elements (map element_of items.items))) }
+    ensures { expr_of result ≡ spec.with_position at (plain.set (plain.elements (map element_of items.items))) }
 {
-    begun(at, Form::Set(items))
+    with_position(at, Form::Set(items))
 }
 
 /// The position of the star of a tree, where it has one.
@@ -278,11 +278,11 @@ fn first_at(origin: Origin<'_>, items: &Pieces, found: &[Element]) -> Position
 /// A tuple without brackets.
 pub fn bare(origin: Origin<'_>, items: &Pieces, found: Vec<Element>) -> Expr
     ensures { expr_of result
-        ≡ spec.begun (spec.first_at (origin_of origin.entry) (pieces_of items.now) (map element_of found.items))
+        ≡ spec.with_position (spec.first_at (origin_of origin.entry) (pieces_of items.now) (map element_of found.items))
         (plain.tuple (plain.elements (map element_of found.items))) }
 {
     let at = first_at(origin, items, &found);
-    begun(at, Form::Tuple(found))
+    with_position(at, Form::Tuple(found))
 }
 
 /// How many items there are.
@@ -379,13 +379,13 @@ fn is_generator(item: &Tree) -> bool
 /// A generator that is the only argument of a call.
 fn only_generator(alloc: Global, here: Position) -> Result<Vec<Argument>, AllocError>
     ensures { IfOk result (λ found. map argument_of found.items
-        ≡ plain.argument here Positional (spec.begun here (plain.opaque Generator)) ∷ []) }
+        ≡ plain.argument here Positional (spec.with_position here (plain.unchecked Generator)) ∷ []) }
 {
     let mut found = Vec::with_capacity(alloc, 1)?;
     found.push(Argument {
         at: here,
         kind: ArgumentKind::Positional,
-        value: opaque(here, Opaque::Generator),
+        value: unchecked(here, Unchecked::Generator),
     })?;
     Ok(found)
 }
@@ -401,14 +401,14 @@ fn is_only_generator(items: &Pieces) -> bool
 }
 
 /// The arguments of a call whose parenthesis stands here: a generator that is the only one stands in these parentheses.
-pub fn only_or(
+pub fn arguments_or_generator(
     alloc: Global,
     here: Position,
     items: &Pieces,
     found: Vec<Argument>,
 ) -> Result<Vec<Argument>, AllocError>
     ensures { IfOk result (λ all. map argument_of all.items
-        ≡ spec.only_or here (pieces_of items.now) (map argument_of found.items)) }
+        ≡ spec.arguments_or_generator here (pieces_of items.now) (map argument_of found.items)) }
 {
     if is_only_generator(items) {
         only_generator(alloc, here)
@@ -434,7 +434,7 @@ pub fn slice(here: Position, lower: OptionalExpr, upper: OptionalExpr, step: Opt
 }
 
 /// An index that is no slice.
-pub fn indexed(value: Expr) -> Index
+pub fn single_index(value: Expr) -> Index
     ensures { index_of result ≡ plain.index (plain.at_of (expr_of value)) (plain.item (expr_of value)) }
 {
     Index {

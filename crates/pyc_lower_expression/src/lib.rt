@@ -6,6 +6,6 @@ mod lower;
 
 pub use lower::Lowering;
 pub use pyc_lower_atom::{
-    Names, Origin, Quotes, Role, Unread, augmented, comparison_operator, comprehension, is_plain,
-    number_constant, operation, strings_constant, text_at, unary_operator, word_constant,
+    Names, Origin, Quotes, Role, Unread, augmented_operator, comparison_operator, comprehension,
+    is_plain, number_constant, operation, strings_constant, text_at, unary_operator, word_constant,
 };

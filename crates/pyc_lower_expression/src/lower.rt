@@ -15,7 +15,7 @@ ghost use Rattle.pyc_tree.specs.View.{tree_of, pieces_of, perhaps_of, links_befo
 ghost use Rattle.pyc_tree.specs.Tree as tree;
 
 use crate::build;
-use pyc_ast::{Argument, Comparison, DictItem, Element, Expr, Index, Opaque, OptionalExpr};
+use pyc_ast::{Argument, Comparison, DictItem, Element, Expr, Index, OptionalExpr, Unchecked};
 use pyc_lower_atom::{
     Names, Origin, Quotes, Role, comparison_operator, comprehension, is_plain, number_constant,
     strings_constant, unary_operator, word_constant,
@@ -36,7 +36,8 @@ impl<Q: Quotes> Lowering<'_, Q> {
     /// A name.
     fn name(&self, token: Token, names: &mut Names) -> Result<Expr, AllocError>
         ensures { IfOk result (λ e. expr_of e
-            ≡ (let o = origin_of self.now.origin in spec.begun (position_at o token) (plain.name (name_at o token)))) }
+            ≡ (let o = origin_of self.now.origin in spec.with_position (position_at o token)
+            (plain.name (name_at o token)))) }
     {
         let name = names.shared(self.alloc, self.origin.text(token))?;
         Ok(build::name(self.origin.position(token), name))
@@ -45,7 +46,7 @@ impl<Q: Quotes> Lowering<'_, Q> {
     /// A number.
     fn number(&self, token: Token) -> Expr
         ensures { expr_of result ≡ (let o = origin_of self.now.origin in
-            spec.begun (position_at o token)
+            spec.with_position (position_at o token)
             (plain.constant (constants.number_constant token.kind (text_at o.source token.span)))) }
     {
         let text = self.origin.text(token);
@@ -56,9 +57,10 @@ impl<Q: Quotes> Lowering<'_, Q> {
     }
 
     /// A string that may be an annotation.
-    fn quoted(&self, token: Token, names: &mut Names) -> Result<Expr, AllocError>
+    fn string_annotation(&self, token: Token, names: &mut Names) -> Result<Expr, AllocError>
         ensures { IfOk result (λ e. expr_of e ≡ (let o = origin_of self.now.origin in
-            spec.begun (position_at o token) (spec.quoted_form (Q.spelled self.now.quotes.now) o token))) }
+            spec.with_position (position_at o token) (spec.string_annotation_form (Q.spelled self.now.quotes.now) o
+            token))) }
     {
         let at = self.origin.position(token);
         let constant = strings_constant(token.kind, &[]);
@@ -69,7 +71,7 @@ impl<Q: Quotes> Lowering<'_, Q> {
             .quotes
             .read(self.alloc, names, self.origin.text(token), at)?
         {
-            Some(expr) => build::quoted(self.alloc, at, expr),
+            Some(expr) => build::string_annotation(self.alloc, at, expr),
             None => Ok(build::constant(at, constant)),
         }
     }
@@ -83,11 +85,11 @@ impl<Q: Quotes> Lowering<'_, Q> {
         names: &mut Names,
     ) -> Result<Expr, AllocError>
         ensures { IfOk result (λ e. expr_of e ≡ (let o = origin_of self.now.origin in
-            spec.begun (position_at o first)
+            spec.with_position (position_at o first)
             (spec.strings_form (Q.spelled self.now.quotes.now) o role first more.now))) }
     {
         if role.is_annotation() && more.is_empty() {
-            return self.quoted(first, names);
+            return self.string_annotation(first, names);
         }
         let constant = strings_constant(first.kind, more);
         Ok(build::constant(self.origin.position(first), constant))
@@ -119,17 +121,17 @@ impl<Q: Quotes> Lowering<'_, Q> {
             Tree::Strings(first, more) => self.strings(*first, more, role, names),
             Tree::Parenthesized(opening, inner, _) => {
                 let inner = self.expr(inner, role, names)?;
-                Ok(build::enclosed(self.origin.position(*opening), inner))
+                Ok(build::in_parentheses(self.origin.position(*opening), inner))
             }
             Tree::Display(made, opening, items, _) => self.display(
                 items, *made, *opening, role, names,
             ),
             Tree::ComprehensionDisplay(made, opening, _, _, _) => {
-                Ok(build::opaque(self.origin.position(*opening), comprehension(*made)))
+                Ok(build::unchecked(self.origin.position(*opening), comprehension(*made)))
             }
-            Tree::Lambda(word, _, _, _) => Ok(build::opaque(
+            Tree::Lambda(word, _, _, _) => Ok(build::unchecked(
                 self.origin.position(*word),
-                Opaque::Lambda,
+                Unchecked::Lambda,
             )),
             Tree::Bare(items) => {
                 let found = self.elements(items, role, names)?;
@@ -153,7 +155,7 @@ impl<Q: Quotes> Lowering<'_, Q> {
             ≡ (let s = Q.spelled self.now.quotes.now in
             let o = origin_of self.now.origin in
             let p = pieces_of items.now in
-            spec.begun (position_at o opening)
+            spec.with_position (position_at o opening)
             (spec.display_form made (spec.elements_in s o role p) (spec.dict_items_in s o role p)))) }
     {
         let at = self.origin.position(opening);
@@ -195,11 +197,11 @@ impl<Q: Quotes> Lowering<'_, Q> {
             }
             Tree::Subscript(value, _, items, _) => {
                 let value = self.expr(value, role, names)?;
-                self.subscripted(items, value, role, names)
+                self.lower_subscript(items, value, role, names)
             }
             Tree::Await(word, operand) => {
                 let operand = self.expr(operand, role, names)?;
-                build::awaited(self.alloc, self.origin.position(*word), operand)
+                build::await_expression(self.alloc, self.origin.position(*word), operand)
             }
             Tree::Unary(sign, operand) => {
                 let operand = self.expr(operand, role, names)?;
@@ -212,7 +214,7 @@ impl<Q: Quotes> Lowering<'_, Q> {
             }
             Tree::Compare(left, links) => {
                 let left = self.expr(left, role, names)?;
-                self.compared(links, left, role, names)
+                self.lower_comparisons(links, left, role, names)
             }
             Tree::Conditional(body, _, test, _, orelse) => {
                 let body = self.expr(body, role, names)?;
@@ -221,11 +223,11 @@ impl<Q: Quotes> Lowering<'_, Q> {
             }
             Tree::Yield(word, value) => {
                 let value = self.optional(value, role, names)?;
-                Ok(build::yielded(self.origin.position(*word), value))
+                Ok(build::yield_expression(self.origin.position(*word), value))
             }
             Tree::YieldFrom(word, _, value) => {
                 let value = self.expr(value, role, names)?;
-                build::yielded_from(self.alloc, self.origin.position(*word), value)
+                build::yield_from_expression(self.alloc, self.origin.position(*word), value)
             }
             _ => self.item(expr, role, names),
         }
@@ -245,11 +247,11 @@ impl<Q: Quotes> Lowering<'_, Q> {
             ≡ (let o = origin_of self.now.origin in
             let p = pieces_of items.now in
             spec.following (expr_of callee) (plain.call (expr_of callee) (plain.arguments
-            (spec.only_or (position_at o opening) p
+            (spec.arguments_or_generator (position_at o opening) p
             (spec.arguments_in (Q.spelled self.now.quotes.now) o (spec.first_role role p) role p)))))) }
     {
         let found = self.arguments(items, role, names)?;
-        build::called(
+        build::call_with_items(
             self.alloc,
             callee,
             self.origin.position(opening),
@@ -260,7 +262,7 @@ impl<Q: Quotes> Lowering<'_, Q> {
 
     /// A subscript of an object by what its items are.
     #[cycle(lower)]
-    fn subscripted(
+    fn lower_subscript(
         &self,
         items: &Pieces,
         value: Expr,
@@ -296,7 +298,7 @@ impl<Q: Quotes> Lowering<'_, Q> {
 
     /// A chain of the comparisons that links are, after its first operand.
     #[cycle(lower)]
-    fn compared(
+    fn lower_comparisons(
         &self,
         links: &[Link],
         left: Expr,
@@ -346,7 +348,7 @@ impl<Q: Quotes> Lowering<'_, Q> {
             Tree::Argument(value) => self.expr(value, role, names),
             Tree::Keyword(_, _, value) => self.expr(value, role, names),
             Tree::WithItem(value, _) => self.expr(value, role, names),
-            _ => Ok(build::nowhere()),
+            _ => Ok(build::placeholder()),
         }
     }
 
@@ -511,7 +513,7 @@ impl<Q: Quotes> Lowering<'_, Q> {
                 let step = self.optional(step, role, names)?;
                 Ok(build::slice(self.origin.position(*colon), lower, upper, step))
             }
-            _ => Ok(build::indexed(self.expr(item, role, names)?)),
+            _ => Ok(build::single_index(self.expr(item, role, names)?)),
         }
     }
 

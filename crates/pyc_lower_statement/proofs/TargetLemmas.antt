@@ -18,29 +18,29 @@ use Rattle.pyc_tree.specs.View.{tree_of, pieces_of, pieces_before, last_of}
 use Rattle.pyc_tree.proofs.ViewLemmas.{view_Name, view_Attribute, view_Subscript, view_Parenthesized, view_Display, view_Bare, view_Starred}
 use Rattle.pyc_ast.specs.Targets.{target_elements}
 use Rattle.pyc_ast.specs.Targets as plain
-use Rattle.pyc_lower_statement.specs.Targets.{begun, enclosed, nowhere, target_in, elements_in, element_of, first_at}
+use Rattle.pyc_lower_statement.specs.Targets.{with_position, in_parentheses, placeholder, target_in, elements_in, element_of, first_at}
 
-pub target_Name : (spelled : List ℕ → Position → Option Plain) (o : Origin) (a : Token) → target_in spelled o (tree_of (e.Name a)) ≡ begun (position_at o a) (plain.name (name_at o a))
+pub target_Name : (spelled : List ℕ → Position → Option Plain) (o : Origin) (a : Token) → target_in spelled o (tree_of (e.Name a)) ≡ with_position (position_at o a) (plain.name (name_at o a))
 unfolding target_in
 target_Name spelled o a = ap (target_in spelled o) (view_Name a)
 
-pub target_Attribute : (spelled : List ℕ → Position → Option Plain) (o : Origin) (x : Box Expr Global) (a : Token) (b : Token) → target_in spelled o (tree_of (e.Attribute x a b)) ≡ begun (at_of (expr_in spelled o Value (tree_of x.value))) (plain.attribute (expr_in spelled o Value (tree_of x.value)) (name_at o b))
+pub target_Attribute : (spelled : List ℕ → Position → Option Plain) (o : Origin) (x : Box Expr Global) (a : Token) (b : Token) → target_in spelled o (tree_of (e.Attribute x a b)) ≡ with_position (at_of (expr_in spelled o Value (tree_of x.value))) (plain.attribute (expr_in spelled o Value (tree_of x.value)) (name_at o b))
 unfolding target_in
 target_Attribute spelled o x a b = ap (target_in spelled o) (view_Attribute x a b)
 
-pub target_Subscript : (spelled : List ℕ → Position → Option Plain) (o : Origin) (x : Box Expr Global) (a : Token) (items : Items) (b : Token) → target_in spelled o (tree_of (e.Subscript x a items b)) ≡ begun (at_of (expr_in spelled o Value (tree_of x.value))) (plain.subscript (expr_in spelled o Value (tree_of x.value)) (subscript_of (pieces_of items) (indices_in spelled o Value (pieces_of items))))
+pub target_Subscript : (spelled : List ℕ → Position → Option Plain) (o : Origin) (x : Box Expr Global) (a : Token) (items : Items) (b : Token) → target_in spelled o (tree_of (e.Subscript x a items b)) ≡ with_position (at_of (expr_in spelled o Value (tree_of x.value))) (plain.subscript (expr_in spelled o Value (tree_of x.value)) (subscript_of (pieces_of items) (indices_in spelled o Value (pieces_of items))))
 unfolding target_in
 target_Subscript spelled o x a items b = ap (target_in spelled o) (view_Subscript x a items b)
 
-pub target_Parenthesized : (spelled : List ℕ → Position → Option Plain) (o : Origin) (a : Token) (x : Box Expr Global) (b : Token) → target_in spelled o (tree_of (e.Parenthesized a x b)) ≡ enclosed (position_at o a) (target_in spelled o (tree_of x.value))
+pub target_Parenthesized : (spelled : List ℕ → Position → Option Plain) (o : Origin) (a : Token) (x : Box Expr Global) (b : Token) → target_in spelled o (tree_of (e.Parenthesized a x b)) ≡ in_parentheses (position_at o a) (target_in spelled o (tree_of x.value))
 unfolding target_in
 target_Parenthesized spelled o a x b = ap (target_in spelled o) (view_Parenthesized a x b)
 
-pub target_Display : (spelled : List ℕ → Position → Option Plain) (o : Origin) (s : DisplayKind) (a : Token) (items : Items) (b : Token) → target_in spelled o (tree_of (e.Display s a items b)) ≡ begun (position_at o a) (plain.unpacking (target_elements (elements_in spelled o (pieces_of items))))
+pub target_Display : (spelled : List ℕ → Position → Option Plain) (o : Origin) (s : DisplayKind) (a : Token) (items : Items) (b : Token) → target_in spelled o (tree_of (e.Display s a items b)) ≡ with_position (position_at o a) (plain.unpacking (target_elements (elements_in spelled o (pieces_of items))))
 unfolding target_in
 target_Display spelled o s a items b = ap (target_in spelled o) (view_Display s a items b)
 
-pub target_Bare : (spelled : List ℕ → Position → Option Plain) (o : Origin) (items : Items) → target_in spelled o (tree_of (e.Bare items)) ≡ begun (first_at o (pieces_of items) (elements_in spelled o (pieces_of items))) (plain.unpacking (target_elements (elements_in spelled o (pieces_of items))))
+pub target_Bare : (spelled : List ℕ → Position → Option Plain) (o : Origin) (items : Items) → target_in spelled o (tree_of (e.Bare items)) ≡ with_position (first_at o (pieces_of items) (elements_in spelled o (pieces_of items))) (plain.unpacking (target_elements (elements_in spelled o (pieces_of items))))
 unfolding target_in
 target_Bare spelled o items = ap (target_in spelled o) (view_Bare items)
 
@@ -49,7 +49,7 @@ unfolding target_in
 target_Starred spelled o a x = ap (target_in spelled o) (view_Starred a x)
 
 -- any other form is no target
-pub target_other : (spelled : List ℕ → Position → Option Plain) (o : Origin) (x : Expr) → ((a : Token) → x ≡ e.Name a → ⊥) → ((a : Box Expr Global) (b : Token) (c : Token) → x ≡ e.Attribute a b c → ⊥) → ((a : Box Expr Global) (b : Token) (c : Items) (d : Token) → x ≡ e.Subscript a b c d → ⊥) → ((a : Token) (b : Box Expr Global) (c : Token) → x ≡ e.Parenthesized a b c → ⊥) → ((a : DisplayKind) (b : Token) (c : Items) (d : Token) → x ≡ e.Display a b c d → ⊥) → ((a : Items) → x ≡ e.Bare a → ⊥) → ((a : Token) (b : Box Expr Global) → x ≡ e.Starred a b → ⊥) → target_in spelled o (tree_of x) ≡ nowhere
+pub target_other : (spelled : List ℕ → Position → Option Plain) (o : Origin) (x : Expr) → ((a : Token) → x ≡ e.Name a → ⊥) → ((a : Box Expr Global) (b : Token) (c : Token) → x ≡ e.Attribute a b c → ⊥) → ((a : Box Expr Global) (b : Token) (c : Items) (d : Token) → x ≡ e.Subscript a b c d → ⊥) → ((a : Token) (b : Box Expr Global) (c : Token) → x ≡ e.Parenthesized a b c → ⊥) → ((a : DisplayKind) (b : Token) (c : Items) (d : Token) → x ≡ e.Display a b c d → ⊥) → ((a : Items) → x ≡ e.Bare a → ⊥) → ((a : Token) (b : Box Expr Global) → x ≡ e.Starred a b → ⊥) → target_in spelled o (tree_of x) ≡ placeholder
 unfolding target_in tree_of
 target_other spelled o (e.Name a) n0 n1 n2 n3 n4 n5 n6 = absurd (n0 _ refl)
 target_other spelled o (e.Attribute' p x a b) n0 n1 n2 n3 n4 n5 n6 = absurd (n1 _ _ _ refl)

@@ -8,10 +8,10 @@ use Rattle.pyc_ast.specs.Statements as plain
 use Rattle.pyc_ast.specs.Targets.{Target}
 use Rattle.pyc_lower_atom.specs.declared.role.Role.TheVariants.{Value, Annotation}
 use Rattle.pyc_lower_expression.specs.Expressions.{expr_in}
-use Rattle.pyc_lower_atom.specs.Operators.{augmented}
+use Rattle.pyc_lower_atom.specs.Operators.{augmented_operator}
 use Rattle.pyc_lower_atom.specs.Origins.{Origin, name_at, position_at}
 use Rattle.pyc_lower_statement.specs.Parameters.{perhaps_in, tail_in}
-use Rattle.pyc_lower_statement.specs.Targets.{target_in, target_at, nowhere}
+use Rattle.pyc_lower_statement.specs.Targets.{target_in, target_at, placeholder}
 use Rattle.pyc_token.specs.declared.tokens.Delimiter.TheVariants as delimiter
 use Rattle.pyc_token.specs.declared.tokens.Keyword.TheVariants as word
 use Rattle.pyc_token.specs.declared.tokens.Kind.{Kind}
@@ -83,7 +83,7 @@ declared_form _ names = plain.global names
 
 -- where the first of some targets begins
 abbrev pub targets_at : List Target → Position
-targets_at [] = target_at nowhere
+targets_at [] = target_at placeholder
 targets_at (to ∷ targets) = target_at to
 
 module _ (spelled : List ℕ → Position → Option Expr) where
@@ -113,7 +113,7 @@ module _ (spelled : List ℕ → Position → Option Expr) where
       let target = target_in spelled o to in
       stmt (target_at target) (plain.augment (record {
         target = target;
-        operator = augmented sign.kind;
+        operator = augmented_operator sign.kind;
         value = expr_in spelled o Value e;
       }))
   statement_in o (tree.word t) = stmt (position_at o t) (word_form t.kind)

@@ -15,7 +15,7 @@ use pyc_tree::{Expr as Tree, Pieces, Tail};
 use std::alloc::AllocError;
 
 /// An expression in a box, where there is one.
-pub fn perhaps<Q: Quotes>(
+pub fn optional_expression<Q: Quotes>(
     lowering: &Lowering<'_, Q>,
     tree: &Option<Box<Tree>>,
     role: Role,
@@ -50,7 +50,7 @@ pub fn tail<Q: Quotes>(
     }
 }
 
-/// The same in a box.
+/// The expression after a token in a box, where there is one.
 pub fn boxed_tail<Q: Quotes>(
     lowering: &Lowering<'_, Q>,
     tail: &Tail,

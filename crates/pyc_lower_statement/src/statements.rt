@@ -9,7 +9,7 @@ ghost use Rattle.pyc_ast.specs.TargetView.{target_of};
 ghost use Rattle.pyc_lower_expression.specs.Expressions.{expr_in};
 ghost use Rattle.pyc_lower_atom.specs.Origins.{position_at};
 ghost use Rattle.pyc_lower_atom.specs.OriginView.{origin_of};
-ghost use Rattle.pyc_lower_atom.specs.Operators.{augmented};
+ghost use Rattle.pyc_lower_atom.specs.Operators.{augmented_operator};
 ghost use Rattle.pyc_lower_statement.specs.Parameters.{tail_in};
 ghost use Rattle.pyc_lower_statement.specs.Statements as spec;
 ghost use Rattle.pyc_lower_statement.specs.Targets.{target_in};
@@ -19,10 +19,10 @@ ghost use Rattle.pyc_tree.specs.View.{tree_of, perhaps_of, tail_of};
 ghost use Rattle.pyc_tree.specs.Statements as tree;
 
 use crate::imports::{declared_names, import_from, modules};
-use crate::parameters::{boxed_tail, perhaps, tail};
+use crate::parameters::{boxed_tail, optional_expression, tail};
 use crate::targets::target;
 use pyc_ast::{AnnotatedAssignment, AugmentedAssignment, Position, Stmt, StmtForm, Target, Text};
-use pyc_lower_expression::{Lowering, Names, Quotes, Role, augmented};
+use pyc_lower_expression::{Lowering, Names, Quotes, Role, augmented_operator};
 use pyc_token::{Keyword, Kind, Token};
 use pyc_tree::{
     Assigned, Expr as Tree, ImportFrom, ImportedModule, Separated, SimpleStatement, Tail,
@@ -116,7 +116,7 @@ fn augment<Q: Quotes>(
 {
     let made = AugmentedAssignment {
         target: target(lowering, to, names)?,
-        operator: augmented(sign.kind),
+        operator: augmented_operator(sign.kind),
         value: lowering.expr(value, Role::Value, names)?,
     };
     Ok(Stmt {
@@ -147,7 +147,7 @@ fn declared_form(kind: Kind, names: Vec<Text>) -> StmtForm
 }
 
 /// A statement that begins with a word.
-fn begun<Q: Quotes>(lowering: &Lowering<'_, Q>, word: Token, form: StmtForm) -> Stmt
+fn with_position<Q: Quotes>(lowering: &Lowering<'_, Q>, word: Token, form: StmtForm) -> Stmt
     ensures { stmt_of result ≡ plain.stmt (position_at (origin_of lowering.now.origin) word) (stmt_form_of form) }
 {
     Stmt {
@@ -174,7 +174,7 @@ fn expression<Q: Quotes>(
 }
 
 /// `return`, perhaps with a value.
-fn returned<Q: Quotes>(
+fn lower_return<Q: Quotes>(
     lowering: &Lowering<'_, Q>,
     word: Token,
     value: &Option<Box<Tree>>,
@@ -184,8 +184,8 @@ fn returned<Q: Quotes>(
         ≡ spec.statement_in (Q.spelled lowering.now.quotes.now) (origin_of lowering.now.origin)
         (tree.return word (perhaps_of value.now))) }
 {
-    let value = perhaps(lowering, value, Role::Value, names)?;
-    Ok(begun(lowering, word, StmtForm::Return(value)))
+    let value = optional_expression(lowering, value, Role::Value, names)?;
+    Ok(with_position(lowering, word, StmtForm::Return(value)))
 }
 
 /// `raise`, perhaps with an exception and its cause.
@@ -200,9 +200,9 @@ fn raise<Q: Quotes>(
         ≡ spec.statement_in (Q.spelled lowering.now.quotes.now) (origin_of lowering.now.origin)
         (tree.raise word (perhaps_of exception.now) (tail_of cause.now))) }
 {
-    let exception = perhaps(lowering, exception, Role::Value, names)?;
+    let exception = optional_expression(lowering, exception, Role::Value, names)?;
     let cause = boxed_tail(lowering, cause, Role::Value, names)?;
-    Ok(begun(lowering, word, StmtForm::Raise { exception, cause }))
+    Ok(with_position(lowering, word, StmtForm::Raise { exception, cause }))
 }
 
 /// `assert` and a test, perhaps with a message.
@@ -220,7 +220,7 @@ fn assertion<Q: Quotes>(
     let test = lowering.expr(test, Role::Value, names)?;
     let test = Box::new(lowering.alloc, test)?;
     let message = boxed_tail(lowering, message, Role::Value, names)?;
-    Ok(begun(lowering, word, StmtForm::Assert { test, message }))
+    Ok(with_position(lowering, word, StmtForm::Assert { test, message }))
 }
 
 /// `del` and a target.
@@ -236,7 +236,7 @@ fn delete<Q: Quotes>(
 {
     let to = target(lowering, to, names)?;
     let to = Box::new(lowering.alloc, to)?;
-    Ok(begun(lowering, word, StmtForm::Delete(to)))
+    Ok(with_position(lowering, word, StmtForm::Delete(to)))
 }
 
 /// `global` or `nonlocal`, and names.
@@ -251,7 +251,7 @@ fn declare<Q: Quotes>(
         (tree.declare word (separated_of token_of tokens.now))) }
 {
     let found = declared_names(lowering, tokens, names)?;
-    Ok(begun(lowering, word, declared_form(word.kind, found)))
+    Ok(with_position(lowering, word, declared_form(word.kind, found)))
 }
 
 /// `import` and modules.
@@ -266,11 +266,11 @@ fn import<Q: Quotes>(
         (tree.import word (separated_of module_of trees.now))) }
 {
     let found = modules(lowering, trees, names)?;
-    Ok(begun(lowering, word, StmtForm::Import(found)))
+    Ok(with_position(lowering, word, StmtForm::Import(found)))
 }
 
 /// Names imported from a module.
-fn imported_from<Q: Quotes>(
+fn lower_import_from<Q: Quotes>(
     lowering: &Lowering<'_, Q>,
     imported: &ImportFrom,
     names: &mut Names,
@@ -281,7 +281,7 @@ fn imported_from<Q: Quotes>(
 {
     let found = import_from(lowering, imported, names)?;
     let found = Rc::new(lowering.alloc, found)?;
-    Ok(begun(lowering, imported.word, StmtForm::ImportFrom(found)))
+    Ok(with_position(lowering, imported.word, StmtForm::ImportFrom(found)))
 }
 
 /// The statement that a simple statement is; the only error is that memory runs out.
@@ -301,8 +301,8 @@ pub fn statement<Q: Quotes>(
             annotate(lowering, to, annotation, value, names)
         }
         SimpleStatement::Augment(to, sign, value) => augment(lowering, to, *sign, value, names),
-        SimpleStatement::Word(word) => Ok(begun(lowering, *word, word_form(word.kind))),
-        SimpleStatement::Return(word, value) => returned(lowering, *word, value, names),
+        SimpleStatement::Word(word) => Ok(with_position(lowering, *word, word_form(word.kind))),
+        SimpleStatement::Return(word, value) => lower_return(lowering, *word, value, names),
         SimpleStatement::Raise(word, exception, cause) => {
             raise(lowering, *word, exception, cause, names)
         }
@@ -312,6 +312,6 @@ pub fn statement<Q: Quotes>(
         SimpleStatement::Delete(word, to) => delete(lowering, *word, to, names),
         SimpleStatement::Declare(word, tokens) => declare(lowering, *word, tokens, names),
         SimpleStatement::Import(word, trees) => import(lowering, *word, trees, names),
-        SimpleStatement::ImportFrom(found) => imported_from(lowering, found, names),
+        SimpleStatement::ImportFrom(found) => lower_import_from(lowering, found, names),
     }
 }

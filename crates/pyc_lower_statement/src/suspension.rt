@@ -61,7 +61,7 @@ fn suspends(tree: &Tree) -> bool
     }
 }
 
-/// The same of items with commas.
+/// Whether one of some items with commas suspends.
 #[cycle(suspends)]
 fn pieces_suspend(items: &Pieces) -> bool
     ensures { result ≡ spec.pieces_suspend (pieces_of items.now) }
@@ -74,7 +74,7 @@ fn pieces_suspend(items: &Pieces) -> bool
     perhaps_suspends(&items.last)
 }
 
-/// The same of comparisons.
+/// Whether the right operand of one of some comparisons suspends.
 #[cycle(suspends)]
 fn links_suspend(links: &[Link]) -> bool
     ensures { result ≡ spec.links_suspend (links_before links.now tree.unlinked) }
@@ -87,7 +87,7 @@ fn links_suspend(links: &[Link]) -> bool
     false
 }
 
-/// The same of a clause of a comprehension.
+/// Whether a clause of a comprehension suspends.
 #[cycle(suspends)]
 fn clause_suspends(clause: &Comprehension) -> bool
     ensures { result ≡ spec.comprehensions_suspend (comprehensions_before (clause.now ∷ []) tree.no_comprehension) }
@@ -98,7 +98,7 @@ fn clause_suspends(clause: &Comprehension) -> bool
     }
 }
 
-/// The same of the clauses of a comprehension.
+/// Whether one of the clauses of a comprehension suspends.
 #[cycle(suspends)]
 fn comprehensions_suspend(clauses: &[Comprehension]) -> bool
     ensures { result ≡ spec.comprehensions_suspend (comprehensions_before clauses.now tree.no_comprehension) }
@@ -111,7 +111,7 @@ fn comprehensions_suspend(clauses: &[Comprehension]) -> bool
     false
 }
 
-/// The same of an expression, where there is one.
+/// Whether `value` is some expression that suspends.
 #[cycle(suspends)]
 fn perhaps_suspends(value: &Option<Box<Tree>>) -> bool
     ensures { result ≡ spec.perhaps_suspends (perhaps_of value.now) }
@@ -122,7 +122,7 @@ fn perhaps_suspends(value: &Option<Box<Tree>>) -> bool
     }
 }
 
-/// The same of the expression after a token, where there is one.
+/// Whether `tail` has some expression that suspends.
 #[cycle(suspends)]
 fn tail_suspends(tail: &Tail) -> bool
     ensures { result ≡ spec.tail_suspends (tail_of tail.now) }
@@ -133,7 +133,7 @@ fn tail_suspends(tail: &Tail) -> bool
     }
 }
 
-/// The same of targets.
+/// Whether one of the targets of an assignment suspends.
 fn targets_suspend(targets: &[Assigned]) -> bool
     ensures { result ≡ list_any (λ found. spec.suspends found.target) (map assigned_of targets.now) }
 {
@@ -145,7 +145,7 @@ fn targets_suspend(targets: &[Assigned]) -> bool
     false
 }
 
-/// The same of a simple statement.
+/// Whether a simple statement suspends.
 fn statement_suspends(statement: &SimpleStatement) -> bool
     ensures { result ≡ spec.statement_suspends (statement_of statement.now) }
 {
@@ -169,7 +169,7 @@ fn statement_suspends(statement: &SimpleStatement) -> bool
     }
 }
 
-/// The same of statements on one line.
+/// Whether one of the statements on a line suspends.
 pub fn statements_suspend(statements: &Separated<SimpleStatement>) -> bool
     ensures { result ≡ spec.separated_suspend (separated_of statement_of statements.now) }
 {
@@ -184,7 +184,7 @@ pub fn statements_suspend(statements: &Separated<SimpleStatement>) -> bool
     }
 }
 
-/// The same of a header; one of a definition does not count.
+/// Whether a header suspends. That of a definition never does.
 pub fn header_suspends(header: &Header) -> bool
     ensures { result ≡ spec.header_suspends (header_of header.now) }
 {

@@ -17,8 +17,8 @@ use pyc_tree::{Expr as Tree, Pieces};
 use std::alloc::{AllocError, Global};
 
 /// A target that begins at its own first token.
-fn begun(at: Position, form: TargetForm) -> Target
-    ensures { target_of result ≡ spec.begun at (target_form_of form) }
+fn with_position(at: Position, form: TargetForm) -> Target
+    ensures { target_of result ≡ spec.with_position at (target_form_of form) }
 {
     Target {
         at,
@@ -28,40 +28,40 @@ fn begun(at: Position, form: TargetForm) -> Target
 }
 
 /// A target in parentheses.
-fn enclosed(at: Position, mut target: Target) -> Target
-    ensures { target_of result ≡ spec.enclosed at (target_of target) }
+fn in_parentheses(at: Position, mut target: Target) -> Target
+    ensures { target_of result ≡ spec.in_parentheses at (target_of target) }
 {
     target.at = at;
     target
 }
 
 /// What stands where no well-formed tree has a target.
-fn nowhere(alloc: Global) -> Target
-    ensures { target_of result ≡ spec.nowhere }
+fn placeholder(alloc: Global) -> Target
+    ensures { target_of result ≡ spec.placeholder }
 {
     let at = Position { line: 0, column: 0 };
-    begun(at, TargetForm::Unpacking(Vec::new(alloc)))
+    with_position(at, TargetForm::Unpacking(Vec::new(alloc)))
 }
 
 /// An attribute of an object.
 fn attribute(alloc: Global, value: Expr, name: Text) -> Result<Target, AllocError>
     ensures { IfOk result (λ found. target_of found
-        ≡ spec.begun (at_of (expr_of value)) (plain.attribute (expr_of value) name)) }
+        ≡ spec.with_position (at_of (expr_of value)) (plain.attribute (expr_of value) name)) }
 {
     let at = value.at;
     let value = Box::new(alloc, value)?;
-    Ok(begun(at, TargetForm::Attribute { value, name }))
+    Ok(with_position(at, TargetForm::Attribute { value, name }))
 }
 
 /// A subscript of an object.
 fn subscript(alloc: Global, value: Expr, index: Index) -> Result<Target, AllocError>
     ensures { IfOk result (λ found. target_of found
-        ≡ spec.begun (at_of (expr_of value)) (plain.subscript (expr_of value) (index_of index))) }
+        ≡ spec.with_position (at_of (expr_of value)) (plain.subscript (expr_of value) (index_of index))) }
 {
     let at = value.at;
     let value = Box::new(alloc, value)?;
     let index = Box::new(alloc, index)?;
-    Ok(begun(at, TargetForm::Subscript { value, index }))
+    Ok(with_position(at, TargetForm::Subscript { value, index }))
 }
 
 /// The position of the star of a tree, where it has one.
@@ -136,7 +136,7 @@ pub fn target<Q: Quotes>(
     match tree {
         Tree::Name(token) => {
             let name = names.shared(lowering.alloc, lowering.origin.text(*token))?;
-            Ok(begun(lowering.origin.position(*token), TargetForm::Name(name)))
+            Ok(with_position(lowering.origin.position(*token), TargetForm::Name(name)))
         }
         Tree::Attribute(value, _, name) => {
             let value = lowering.expr(value, Role::Value, names)?;
@@ -150,20 +150,20 @@ pub fn target<Q: Quotes>(
         }
         Tree::Parenthesized(opening, inner, _) => {
             let inner = target(lowering, inner, names)?;
-            Ok(enclosed(lowering.origin.position(*opening), inner))
+            Ok(in_parentheses(lowering.origin.position(*opening), inner))
         }
         Tree::Display(_, opening, items, _) => {
             let found = elements(lowering, items, names)?;
             let at = lowering.origin.position(*opening);
-            Ok(begun(at, TargetForm::Unpacking(found)))
+            Ok(with_position(at, TargetForm::Unpacking(found)))
         }
         Tree::Bare(items) => {
             let found = elements(lowering, items, names)?;
             let at = first_at(lowering.origin, items, &found);
-            Ok(begun(at, TargetForm::Unpacking(found)))
+            Ok(with_position(at, TargetForm::Unpacking(found)))
         }
         Tree::Starred(_, value) => target(lowering, value, names),
-        _ => Ok(nowhere(lowering.alloc)),
+        _ => Ok(placeholder(lowering.alloc)),
     }
 }
 

@@ -17,7 +17,7 @@ pub(crate) struct Found<'a> {
 }
 
 /// The plain parameter before which stand so many others.
-pub(crate) fn plain_at<'a>(params: &'a [Param], before: usize) -> Option<Found<'a>>
+pub(crate) fn find_plain_param<'a>(params: &'a [Param], before: usize) -> Option<Found<'a>>
     ensures { option_map found_in result ≡ spec.plain_from 0 (param_row params.now) before }
 {
     let mut left = before;

@@ -6,7 +6,7 @@ ghost use Rattle.pyc_matching.specs.Views.{fill_of, found_in, given_in, match_in
 ghost use Rattle.pyc_type_forms.specs.TypeView.{param_row};
 ghost use Rattle.pyc_type_forms.specs.Types.{no_param};
 
-use crate::lookup::{Found, first_double_star, first_named, first_star, plain_at};
+use crate::lookup::{Found, find_plain_param, first_double_star, first_named, first_star};
 use crate::{Fill, Given, Match};
 use pyc_type_forms::Param;
 
@@ -15,7 +15,7 @@ pub fn matched<'a>(fill: &Fill, params: &'a [Param], given: Given<'_>) -> Match<
     ensures { match_in result ≡ spec.match_of (fill_of fill.now) (param_row params.now) (given_in given.entry) }
 {
     match given {
-        Given::ByPlace => placed_match(params, plain_at(params, fill.places())),
+        Given::ByPlace => placed_match(params, find_plain_param(params, fill.places())),
         Given::ByName(name) => named_match(fill, params, first_named(params, name)),
     }
 }

@@ -15,7 +15,7 @@ use pyc_bindings::{Decorator, Part, PartForm, decorator_of, scope_parts};
 use std::alloc::{AllocError, Global};
 use std::rc::Rc;
 
-/// The kind of a method, told by the spelling of its decorators.
+/// The kind of a method, reported by the spelling of its decorators.
 #[derive(Clone, Copy, Debug, PartialEq, Eq)]
 pub enum MethodKind {
     /// Under `@property` or `@NAME.setter`.

@@ -1,12 +1,12 @@
 //! Sources with the messages that are found in them.
 
 use crate::sources::file_of;
-use pyc_body::{Checked, Checker, Meter, unsilenced};
-use pyc_iface::{Options, World};
-use pyc_known_answers::AnsweredKeys;
+use pyc_body::{Checked, Checker, Meter, numbered_units, unsuppressed};
+use pyc_iface::{Options, PlainWorld};
+use pyc_known_answers::World;
 use pyc_names::SourceFile;
 use pyc_report::Message;
-use std::alloc::Global;
+use std::alloc::{AllocError, Global};
 use std::fmt::Write;
 use std::rc::Rc;
 use std::slice;
@@ -48,26 +48,35 @@ fn write_checks(checks: &[Checked], shown: &mut String) -> Result<(), Fail> {
     Ok(())
 }
 
-/// The lines of what is told of a file that is the only one there is, or what is found in its units.
-fn shown_alone(alloc: Global, file: &Rc<SourceFile>, is_told: bool) -> Result<String, Fail> {
-    let world = World::build(alloc, slice::from_ref(file.shared_interface()))?;
+/// Checks of the units of a file that is the only one there is.
+fn checks_alone(alloc: Global, file: &Rc<SourceFile>) -> Result<Vec<Checked>, AllocError> {
+    let world = PlainWorld::build(alloc, slice::from_ref(file.shared_interface()))?;
     let mut meter = Meter::new(alloc);
-    let mut keys = AnsweredKeys::new(alloc, Rc::new(alloc, world)?);
+    let mut keys = World::new(alloc, Rc::new(alloc, world)?);
     let checker = Checker::new(alloc, OPTIONS);
-    let checks = checker.check_files(&mut meter, &mut keys, slice::from_ref(file))?;
+    let mut checks = Vec::new(alloc);
+    for unit in &numbered_units(alloc, file)? {
+        checks.push(checker.check_unit(&mut meter, &mut keys, unit)?)?;
+    }
+    Ok(checks)
+}
+
+/// The lines of what is reported of a file that is the only one there is, or what is found in its units.
+fn shown_alone(alloc: Global, file: &Rc<SourceFile>, is_reported: bool) -> Result<String, Fail> {
+    let checks = checks_alone(alloc, file)?;
     let mut shown = String::new(alloc);
-    if is_told {
-        write_lines(&unsilenced(alloc, file, &checks)?, &mut shown)?;
+    if is_reported {
+        write_lines(&unsuppressed(alloc, file, &checks)?, &mut shown)?;
     } else {
         write_checks(&checks, &mut shown)?;
     }
     Ok(shown)
 }
 
-/// The lines of what is told of a file of this source that is the only one there is, or what is found in its units.
-fn shown(alloc: Global, source: &[u8], is_told: bool) -> Result<String, Fail> {
+/// The lines of what is reported of a file of this source that is the only one there is, or what is found in its units.
+fn shown(alloc: Global, source: &[u8], is_reported: bool) -> Result<String, Fail> {
     let file = Rc::new(alloc, file_of(alloc, "a.py", source)?)?;
-    shown_alone(alloc, &file, is_told)
+    shown_alone(alloc, &file, is_reported)
 }
 
 /// Sources with annotated values, and sources that have no tree, with what is found in them.
@@ -121,7 +130,7 @@ const SOURCES: &[(&[u8], &str)] = &[
     (b"x: int = 1\ny = (1 +\n", "2:1 syntax: Unmatched bracket;"),
 ];
 
-/// Sources with ignore comments, with the lines that are told.
+/// Sources with ignore comments, with the lines that are reported.
 const IGNORED: &[(&[u8], &str)] = &[
     (
         b"x: int = ''\ny: int = '' # type: ignore\nz: int = ''\n",
@@ -137,14 +146,14 @@ const IGNORED: &[(&[u8], &str)] = &[
     (b"# type: ignore\nx = = 1 # type: ignore[syntax]\n", "2 "),
 ];
 
-/// These tables, with whether what is told is looked at, or what is found.
+/// These tables, with whether what is reported is looked at, or what is found.
 const TABLES: &[(bool, &[(&[u8], &str)])] = &[(false, SOURCES), (true, IGNORED)];
 
 #[test]
-fn what_is_found_and_told(rt: HostRuntime) -> Result<(), Fail> {
-    for (is_told, sources) in TABLES {
+fn what_is_found_and_reported(rt: HostRuntime) -> Result<(), Fail> {
+    for (is_reported, sources) in TABLES {
         for (source, want) in *sources {
-            let shown = shown(rt.alloc(), source, *is_told)?;
+            let shown = shown(rt.alloc(), source, *is_reported)?;
             assert_eq!(rt; shown.as_str(), *want);
         }
     }

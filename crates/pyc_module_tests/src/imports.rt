@@ -1,8 +1,8 @@
 //! Modules that imports name, and which modules are there.
 
-use crate::sources::dotted;
+use crate::sources::{dotted, interfaces_of};
 use pyc_names::{
-    FixedModule, FixedName, ModuleName, fixed_module, fixed_name, is_there, named_module,
+    FixedModule, FixedName, ModuleName, Table, fixed_module, fixed_name, named_module,
 };
 use std::alloc::{AllocError, Global};
 use std::test::Fail;
@@ -50,14 +50,13 @@ fn imports_name_modules(rt: HostRuntime) -> Result<(), Fail> {
     Ok(())
 }
 
-/// Whether a module is there where three files are.
+/// A file, one in a folder of a folder, and one of a package.
+const FILES: &[(&str, &str)] = &[("a.py", ""), ("p/q/r.py", ""), ("pkg/__init__.py", "")];
+
+/// Whether a module is there where these files are.
 fn is_found(alloc: Global, name: &str) -> Result<bool, AllocError> {
-    let files = vec![in alloc;
-        ModuleName::of_path(alloc, "a.py")?,
-        ModuleName::of_path(alloc, "p/q/r.py")?,
-        ModuleName::of_path(alloc, "pkg/__init__.py")?,
-    ]?;
-    Ok(is_there(&files, &dotted(alloc, name)?))
+    let table = Table::build(alloc, &interfaces_of(alloc, FILES)?)?;
+    Ok(table.has_module(&dotted(alloc, name)?))
 }
 
 /// Modules, with whether they are there.
@@ -125,8 +124,11 @@ fn names_of_fixed_modules(rt: HostRuntime) -> Result<(), Fail> {
     for (name, wanted) in FIXED_MODULES {
         assert!(rt; fixed_module(&dotted(a, name)?) == *wanted, "{name}");
     }
-    for (home, name, wanted) in FIXED_NAMES {
-        assert!(rt; fixed_name(*home, name) == *wanted, "{home:?} {name}");
+    for (module_path, name, wanted) in FIXED_NAMES {
+        assert!(rt;
+            fixed_name(*module_path, name) == *wanted,
+            "{module_path:?} {name}"
+        );
     }
     Ok(())
 }

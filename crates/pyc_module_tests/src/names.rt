@@ -2,7 +2,7 @@
 
 use crate::sources::{dotted, file_of, interfaces_of, module_of, name_of};
 use pyc_ast::Outcome;
-use pyc_names::{ModuleName, QualifiedName, Referent, SourceFile, Table, joined};
+use pyc_names::{ModuleName, QualifiedName, Referent, SourceFile, Table, module_of_parts};
 use std::alloc::{AllocError, Global};
 use std::test::Fail;
 
@@ -38,22 +38,22 @@ fn write_followed(
     Ok(())
 }
 
-/// The same, as text.
+/// The word for what `name` stands for in `table`, and whether it is on a ring there.
 fn followed_in(alloc: Global, table: &Table, name: &QualifiedName) -> Result<String, AllocError> {
     let mut shown = String::new(alloc);
     write_followed(alloc, table, name, &mut shown)?;
     Ok(shown)
 }
 
-/// The same of a name of a module in these files.
+/// The word for what `name` of the module `module_path` stands for among `sources`, and whether it is on a ring there.
 fn followed(
     alloc: Global,
     sources: &[(&str, &str)],
-    home: &str,
+    module_path: &str,
     name: &str,
 ) -> Result<String, AllocError> {
     let table = table_of(alloc, sources)?;
-    followed_in(alloc, &table, &name_of(alloc, home, name)?)
+    followed_in(alloc, &table, &name_of(alloc, module_path, name)?)
 }
 
 /// Three files in a ring, one that leads into it, and one that leads away from all.
@@ -144,9 +144,9 @@ const FOLLOWED: &[(&[(&str, &str)], &str, &str, &str)] = &[
 
 #[test]
 fn names_are_followed(rt: HostRuntime) -> Result<(), Fail> {
-    for (sources, home, name, want) in FOLLOWED {
-        let found = followed(rt.alloc(), sources, home, name)?;
-        assert_eq!(rt; found.as_str(), *want, "{home}:{name}");
+    for (sources, module_path, name, want) in FOLLOWED {
+        let found = followed(rt.alloc(), sources, module_path, name)?;
+        assert_eq!(rt; found.as_str(), *want, "{module_path}:{name}");
     }
     Ok(())
 }
@@ -205,35 +205,35 @@ fn marks(file: &SourceFile) -> (bool, bool, usize) {
 }
 
 /// A file: its path and source, the name of its module, and its marks.
-struct Told {
+struct Reported {
     path: &'static str,
     source: &'static str,
     name: &'static str,
     marks: (bool, bool, usize),
 }
 
-/// Whether a file tells its path, the name of its module, and its marks.
-fn is_told(alloc: Global, told: &Told) -> Result<bool, AllocError> {
-    let file = file_of(alloc, told.path, told.source.as_bytes())?;
-    let is_named = *file.name() == module_of(alloc, told.name)?;
-    Ok(is_named && file.path() == told.path && marks(&file) == told.marks)
+/// Whether a file gives its path, the name of its module, and its marks.
+fn is_reported(alloc: Global, reported: &Reported) -> Result<bool, AllocError> {
+    let file = file_of(alloc, reported.path, reported.source.as_bytes())?;
+    let is_named = *file.name() == module_of(alloc, reported.name)?;
+    Ok(is_named && file.path() == reported.path && marks(&file) == reported.marks)
 }
 
 /// Files with what they tell.
-const TOLD: &[Told] = &[
-    Told {
+const TOLD: &[Reported] = &[
+    Reported {
         path: "p/q/__init__.py",
         source: "x: int = 1\nimport m\n",
         name: "p.q",
         marks: (true, true, 2),
     },
-    Told {
+    Reported {
         path: "p/q.py",
         source: "x: int = 1\ndef (\n",
         name: "p.q",
         marks: (false, false, 0),
     },
-    Told {
+    Reported {
         path: "p/my__init__.py",
         source: "",
         name: "p.my__init__",
@@ -242,10 +242,10 @@ const TOLD: &[Told] = &[
 ];
 
 #[test]
-fn files_tell_what_they_are(rt: HostRuntime) -> Result<(), Fail> {
-    for told in TOLD {
-        let is_told = is_told(rt.alloc(), told)?;
-        assert!(rt; is_told, "{}", told.path);
+fn files_say_what_they_are(rt: HostRuntime) -> Result<(), Fail> {
+    for reported in TOLD {
+        let is_reported = is_reported(rt.alloc(), reported)?;
+        assert!(rt; is_reported, "{}", reported.path);
     }
     Ok(())
 }
@@ -257,9 +257,9 @@ fn same(first: &QualifiedName, second: &QualifiedName) -> Result<(bool, bool), A
 }
 
 /// Whether the name `x` of `p.q` is this one, and so its copy.
-fn is_x(alloc: Global, home: &str, name: &str) -> Result<(bool, bool), AllocError> {
+fn is_x(alloc: Global, module_path: &str, name: &str) -> Result<(bool, bool), AllocError> {
     let first = name_of(alloc, "p.q", "x")?;
-    same(&first, &name_of(alloc, home, name)?)
+    same(&first, &name_of(alloc, module_path, name)?)
 }
 
 /// Names of modules, with whether they are the name `x` of `p.q`.
@@ -267,9 +267,9 @@ const SAME: &[(&str, &str, bool)] = &[("p.q", "x", true), ("p.q", "y", false), (
 
 #[test]
 fn names_are_told_apart(rt: HostRuntime) -> Result<(), Fail> {
-    for (home, name, want) in SAME {
-        let found = is_x(rt.alloc(), home, name)?;
-        assert!(rt; found == (*want, *want), "{home}:{name}");
+    for (module_path, name, want) in SAME {
+        let found = is_x(rt.alloc(), module_path, name)?;
+        assert!(rt; found == (*want, *want), "{module_path}:{name}");
     }
     Ok(())
 }
@@ -277,7 +277,7 @@ fn names_are_told_apart(rt: HostRuntime) -> Result<(), Fail> {
 /// The module whose parts are those of both dotted names.
 fn joined_name(alloc: Global, base: &str, path: &str) -> Result<ModuleName, AllocError> {
     let base = dotted(alloc, base)?;
-    joined(alloc, &base, &dotted(alloc, path)?)
+    module_of_parts(alloc, &base, &dotted(alloc, path)?)
 }
 
 /// Whether the parts of two dotted names make a third.

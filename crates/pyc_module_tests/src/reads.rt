@@ -3,9 +3,9 @@
 use crate::sources::file_of;
 use pyc_ast::Text;
 use pyc_body::{Checker, Meter, numbered_units};
-use pyc_iface::{Key, Options, World};
+use pyc_iface::{Key, Options, PlainWorld};
 use pyc_keys::ReadSet;
-use pyc_known_answers::AnsweredKeys;
+use pyc_known_answers::World;
 use pyc_names::QualifiedName;
 use std::alloc::{AllocError, Global};
 use std::rc::Rc;
@@ -45,16 +45,16 @@ fn push_names(names: &[Text], shown: &mut String) -> Result<(), AllocError> {
 
 /// Writes a name of a module.
 fn push_qualified(name: &QualifiedName, shown: &mut String) -> Result<(), AllocError> {
-    push_names(name.home.parts(), shown)?;
+    push_names(name.module_path.parts(), shown)?;
     push_names(slice::from_ref(&name.name), shown)
 }
 
 /// Writes a key: what is asked, and of which names.
 fn push_key(key: &Key, shown: &mut String) -> Result<(), AllocError> {
     match key {
-        Key::HasModule(home) => {
+        Key::HasModule(module_path) => {
             shown.push_str("module")?;
-            push_names(home.parts(), shown)
+            push_names(module_path.parts(), shown)
         }
         Key::HasName(name) => {
             shown.push_str("has")?;
@@ -79,10 +79,10 @@ fn push_key(key: &Key, shown: &mut String) -> Result<(), AllocError> {
 /// The reads of a unit of the only file there is.
 fn reads_shown(alloc: Global, source: &[u8], number: usize) -> Result<String, Fail> {
     let file = Rc::new(alloc, file_of(alloc, "a.py", source)?)?;
-    let world = World::build(alloc, slice::from_ref(file.shared_interface()))?;
+    let world = PlainWorld::build(alloc, slice::from_ref(file.shared_interface()))?;
     let checker = Checker::new(alloc, OPTIONS);
     let mut meter = Meter::new(alloc);
-    let mut keys = AnsweredKeys::new(alloc, Rc::new(alloc, world)?);
+    let mut keys = World::new(alloc, Rc::new(alloc, world)?);
     let units = numbered_units(alloc, &file)?;
     let mut shown = String::new(alloc);
     if let Some(unit) = units.get(number) {

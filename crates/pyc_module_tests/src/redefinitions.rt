@@ -32,7 +32,8 @@ fn marks(found: &[Expr]) -> (Option<Decorator>, (bool, bool)) {
     (first, (has_other(found), has_setter(found)))
 }
 
-/// The same of the decorators of the function that a source begins with.
+/// Of the decorators of the function that `source` begins with: what the first is, whether one is an unknown one, and
+/// whether one makes a setter.
 fn decorated(alloc: Global, source: &str) -> Result<(Option<Decorator>, (bool, bool)), Fail> {
     Ok(marks(decorators(&tree_of(alloc, source)?.statements)))
 }

@@ -1,6 +1,6 @@
 //! What was found in files, with the report of it.
 
-use pyc_report::{Duty, Found, Message, MessageKind, report};
+use pyc_report::{Found, Message, MessageKind, ObligationKind, report};
 use std::alloc::{AllocError, Global};
 use std::test::Fail;
 
@@ -39,7 +39,7 @@ fn messages(
 const ONE_ERROR: &[(usize, usize, MessageKind, &str)] = &[(
     1,
     10,
-    MessageKind::Owed(Duty::Assignment),
+    MessageKind::FailedObligation(ObligationKind::Assignment),
     INCOMPATIBLE,
 )];
 

@@ -2,7 +2,7 @@
 
 use pyc_ast::{Module, Outcome, Text};
 use pyc_lower::read;
-use pyc_names::{Interface, ModuleName, QualifiedName, SourceFile, joined};
+use pyc_names::{Interface, ModuleName, QualifiedName, SourceFile, module_of_parts};
 use std::alloc::{AllocError, Global};
 use std::rc::Rc;
 use std::test::Fail;
@@ -47,13 +47,17 @@ pub(crate) fn dotted(alloc: Global, name: &str) -> Result<Vec<Text>, AllocError>
 
 /// The module that a dotted name names.
 pub(crate) fn module_of(alloc: Global, name: &str) -> Result<ModuleName, AllocError> {
-    joined(alloc, &[], &dotted(alloc, name)?)
+    module_of_parts(alloc, &[], &dotted(alloc, name)?)
 }
 
 /// A name of the module that a dotted name names.
-pub(crate) fn name_of(alloc: Global, home: &str, name: &str) -> Result<QualifiedName, AllocError> {
+pub(crate) fn name_of(
+    alloc: Global,
+    module_path: &str,
+    name: &str,
+) -> Result<QualifiedName, AllocError> {
     Ok(QualifiedName {
-        home: module_of(alloc, home)?,
+        module_path: module_of(alloc, module_path)?,
         name: Text::new(alloc, name)?,
     })
 }

@@ -1,18 +1,15 @@
-//! Keys, with what the files of a workspace answer; the types of annotations and of literals.
+//! Keys, with what the files of a workspace answer; the types of literals.
 
 use crate::sources::{file_of, interfaces_of, module_of, name_of};
 use pyc_ast::{Outcome, Stmt, StmtForm};
-use pyc_iface::{
-    Answer, Key, NameAnswer, NameKind, Presence, World, annotation_builtin, literal_type,
-};
-use pyc_names::SourceFile;
+use pyc_iface::{Answer, Key, NameAnswer, NameKind, PlainWorld, Presence, literal_type};
 use pyc_types::{Builtin, show};
 use std::alloc::{AllocError, Global};
 use std::test::Fail;
 
 /// What the world of these files answers to a key.
 fn answer(alloc: Global, sources: &[(&str, &str)], key: &Key) -> Result<Answer, AllocError> {
-    let world = World::build(alloc, &interfaces_of(alloc, sources)?)?;
+    let world = PlainWorld::build(alloc, &interfaces_of(alloc, sources)?)?;
     world.ask(alloc, key)
 }
 
@@ -25,11 +22,11 @@ fn is_presence(found: &Answer, want: Presence) -> bool {
 }
 
 /// The key on whether a module is there, or a name of it, where one is given.
-fn presence_key(alloc: Global, home: &str, name: &str) -> Result<Key, AllocError> {
+fn presence_key(alloc: Global, module_path: &str, name: &str) -> Result<Key, AllocError> {
     if name.is_empty() {
-        Ok(Key::HasModule(module_of(alloc, home)?))
+        Ok(Key::HasModule(module_of(alloc, module_path)?))
     } else {
-        Ok(Key::HasName(name_of(alloc, home, name)?))
+        Ok(Key::HasName(name_of(alloc, module_path, name)?))
     }
 }
 
@@ -37,11 +34,11 @@ fn presence_key(alloc: Global, home: &str, name: &str) -> Result<Key, AllocError
 fn is_answered(
     alloc: Global,
     sources: &[(&str, &str)],
-    home: &str,
+    module_path: &str,
     name: &str,
     want: Presence,
 ) -> Result<bool, AllocError> {
-    let key = presence_key(alloc, home, name)?;
+    let key = presence_key(alloc, module_path, name)?;
     Ok(is_presence(&answer(alloc, sources, &key)?, want))
 }
 
@@ -88,17 +85,10 @@ const ASKED: &[(&[(&str, &str)], &str, &str, Presence)] = &[
 
 #[test]
 fn modules_and_names_are_asked_for(rt: HostRuntime) -> Result<(), Fail> {
-    for (sources, home, name, want) in ASKED {
-        let is_answered = is_answered(rt.alloc(), sources, home, name, *want)?;
-        assert!(rt; is_answered, "{home}:{name}");
+    for (sources, module_path, name, want) in ASKED {
+        let is_answered = is_answered(rt.alloc(), sources, module_path, name, *want)?;
+        assert!(rt; is_answered, "{module_path}:{name}");
     }
-    Ok(())
-}
-
-#[test]
-fn worlds_have_their_files(rt: HostRuntime) -> Result<(), Fail> {
-    let interfaces = interfaces_of(rt.alloc(), FILES)?;
-    assert_eq!(rt; World::build(rt.alloc(), &interfaces)?.files().len(), 5);
     Ok(())
 }
 
@@ -127,7 +117,7 @@ fn shown(alloc: Global, found: &NameAnswer) -> Result<String, AllocError> {
     format!(in alloc; "{word}: {ty}")
 }
 
-/// What is told of a name in an answer.
+/// What is reported of a name in an answer.
 fn name_in(alloc: Global, found: &Answer) -> Result<String, Fail> {
     match found {
         Answer::Name(found) => Ok(shown(alloc, found)?),
@@ -139,10 +129,10 @@ fn name_in(alloc: Global, found: &Answer) -> Result<String, Fail> {
 fn name_shown(
     alloc: Global,
     sources: &[(&str, &str)],
-    home: &str,
+    module_path: &str,
     name: &str,
 ) -> Result<String, Fail> {
-    let key = Key::Name(name_of(alloc, home, name)?);
+    let key = Key::Name(name_of(alloc, module_path, name)?);
     name_in(alloc, &answer(alloc, sources, &key)?)
 }
 
@@ -206,70 +196,58 @@ const DECLARED_NAMES: &[(&[(&str, &str)], &str, &str, &str)] = &[
 
 #[test]
 fn names_are_declared(rt: HostRuntime) -> Result<(), Fail> {
-    for (sources, home, name, want) in DECLARED_NAMES {
+    for (sources, module_path, name, want) in DECLARED_NAMES {
         assert_eq!(rt;
-            name_shown(rt.alloc(), sources, home, name)?.as_str(),
+            name_shown(rt.alloc(), sources, module_path, name)?.as_str(),
             *want,
-            "{home}:{name}"
+            "{module_path}:{name}"
         );
     }
     Ok(())
 }
 
-/// The types of the annotation and of the value of a statement of a file.
-fn types_at(file: &SourceFile, statement: &Stmt) -> (Option<Builtin>, Option<Builtin>) {
+/// The type of the value of a statement, where it annotates a name and has a value that is one literal.
+fn type_at(statement: &Stmt) -> Option<Builtin> {
     let StmtForm::Annotate(found) = &statement.form else {
-        return (None, None);
+        return None;
     };
-    let value = match &found.value {
+    match &found.value {
         Some(value) => literal_type(value),
         None => None,
-    };
-    (
-        annotation_builtin(file.interface(), &found.annotation),
-        value,
-    )
-}
-
-/// The same of the first statement of a file.
-fn first_types(file: &SourceFile) -> (Option<Builtin>, Option<Builtin>) {
-    let Outcome::Tree(module) = file.outcome() else {
-        return (None, None);
-    };
-    match module.statements.first() {
-        Some(statement) => types_at(file, statement),
-        None => (None, None),
     }
 }
 
-/// The same of the first statement of the file of a source.
-fn types_of(alloc: Global, source: &str) -> Result<(Option<Builtin>, Option<Builtin>), AllocError> {
-    Ok(first_types(&file_of(alloc, "a.py", source.as_bytes())?))
+/// The type of the value of the first statement of a source.
+fn first_type(alloc: Global, source: &str) -> Result<Option<Builtin>, AllocError> {
+    let file = file_of(alloc, "a.py", source.as_bytes())?;
+    let Outcome::Tree(module) = file.outcome() else {
+        return Ok(None);
+    };
+    Ok(match module.statements.first() {
+        Some(statement) => type_at(statement),
+        None => None,
+    })
 }
 
-/// Annotated names: the types of the annotation and of the value, where they have one.
-const TYPES: &[(&str, Option<Builtin>, Option<Builtin>)] = &[
-    ("x: int = 1\n", Some(Builtin::Int), Some(Builtin::Int)),
-    ("x: str = 'a'\n", Some(Builtin::Str), Some(Builtin::Str)),
-    ("x: bool = True\n", Some(Builtin::Bool), Some(Builtin::Bool)),
-    (
-        "x: float = 1.5\n",
-        Some(Builtin::Float),
-        Some(Builtin::Float),
-    ),
-    ("x: None = None\n", Some(Builtin::None), Some(Builtin::None)),
-    ("x: bytes = b''\n", None, Some(Builtin::Bytes)),
-    ("x: 'int' = f''\n", None, Some(Builtin::Str)),
-    ("x: list = 1j\n", None, None),
-    ("x: int = ...\nclass int: ...\n", None, None),
-    ("x: m.int = y\n", None, None),
+/// Annotated names, with the types of their values, where they have one.
+const TYPES: &[(&str, Option<Builtin>)] = &[
+    ("x: int = 1\n", Some(Builtin::Int)),
+    ("x: str = 'a'\n", Some(Builtin::Str)),
+    ("x: bool = True\n", Some(Builtin::Bool)),
+    ("x: float = 1.5\n", Some(Builtin::Float)),
+    ("x: None = None\n", Some(Builtin::None)),
+    ("x: bytes = b''\n", Some(Builtin::Bytes)),
+    ("x: 'int' = f''\n", Some(Builtin::Str)),
+    ("x: list = 1j\n", None),
+    ("x: int = ...\n", None),
+    ("x: m.int = y\n", None),
 ];
 
 #[test]
-fn types_of_annotations_and_literals(rt: HostRuntime) -> Result<(), Fail> {
-    for (source, annotation, value) in TYPES {
-        let found = types_of(rt.alloc(), source)?;
-        assert!(rt; found == (*annotation, *value), "{source}");
+fn types_of_literals(rt: HostRuntime) -> Result<(), Fail> {
+    for (source, want) in TYPES {
+        let found = first_type(rt.alloc(), source)?;
+        assert!(rt; found == *want, "{source}");
     }
     Ok(())
 }

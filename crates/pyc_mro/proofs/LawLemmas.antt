@@ -3,14 +3,14 @@ use Rattle.std.proofs.Common.{◌≡◌, ℕ, zero, suc, ◌<◌, ◌==◌, ◌�
 use Rattle.std.specs.List.{list_any, slice_get}
 use Rattle.std.proofs.lemmas.Bool.{cases_lt, and_from, or_cases, or_parts, or_left, or_right, eqb-true, eq-eqb, lt-ltb, le-ltb, cond-true, cond-false, true≢false, false≢true, false_from_ne_true, not_from_false}
 use Rattle.std.proofs.lemmas.Option.{none-some, same_Some}
-use Rattle.pyc_class.specs.declared.order.UnknownOrder.TheVariants as unknown
+use Rattle.pyc_class_ids.specs.declared.order.UnknownMro.TheVariants as unknown
 use Rattle.pyc_mro.specs.declared.table.Base.{Base}
 use Rattle.pyc_mro.specs.declared.table.Base.TheVariants as base
 use Rattle.pyc_mro.specs.Merge.{contains, merge}
-use Rattle.pyc_mro.specs.Orders.{Order, is_unknown, known, alone, no_order, base_order, base_orders, merged_rows, merged_order, linear_order, order_within, order_below, class_order, order_of}
-use Rattle.pyc_mro.specs.OrderLaws.{IsKnown, classes_of, is_distinct, Sublist, left_out, KnownAreOfTheTable, BeginsWithItself, HoldsAncestors, HoldsEachOnce, KeepsOrders, KeepsWrittenBases, HoldsItself, HoldsOrders}
+use Rattle.pyc_mro.specs.MroTable.{Mro, is_unknown, known, unknown_of, no_order, base_order, base_orders, merged_rows, merged_order, linear_order, order_within, order_below, class_order, order_of}
+use Rattle.pyc_mro.specs.MroLaws.{IsKnown, classes_of, is_distinct, Sublist, left_out, KnownAreOfTheTable, BeginsWithItself, HoldsAncestors, HoldsEachOnce, KeepsMros, KeepsWrittenBases, HoldsItself, HoldsMros}
 use Rattle.pyc_mro.specs.Tables.{Table, classes_among, bases_of, parents, reaches, is_own_ancestor}
-use Rattle.pyc_mro.proofs.OrderLemmas.{with_order-parts, bases-made, order_within-more, made-apart, settled-is, order_of-within, order_of-past}
+use Rattle.pyc_mro.proofs.MroLemmas.{with_order-parts, bases-made, order_within-more, made-apart, settled-is, order_of-within, order_of-past}
 use Rattle.pyc_mro.proofs.RowLemmas.{Sublist-itself, Sublist-trans, Sublist-contains, Row, here, later, Row-before, Row-last, Row-cases, merge-keeps, merge-row, merge-once}
 use Rattle.pyc_mro.proofs.TableLemmas.{reaches-base, reaches-through, reaches-parts}
 
@@ -21,7 +21,7 @@ none_from None e = refl
 none_from (Some x) e = absurd (true≢false e)
 
 -- an order that is known
-known-is : (order : Order) → order.unknown ≡ None → order ≡ known order.classes
+known-is : (order : Mro) → order.unknown ≡ None → order ≡ known order.classes
 known-is order e = ap (λ u. record { classes = order.classes; unknown = u }) e
 
 known-classes : (a b : List ℕ) → known a ≡ known b → a ≡ b
@@ -30,13 +30,13 @@ known-classes a b e = ap (λ order. order.classes) e
 -- ---- bases whose orders are known
 
 -- bases are classes of the table, and these are their orders, which are known
-data AreKnown (count : ℕ) (f : ℕ → Option Order) : List Base → List Order → Type 0 where
+data AreKnown (count : ℕ) (f : ℕ → Option Mro) : List Base → List Mro → Type 0 where
   no_base : AreKnown count f [] []
-  one_base : {c : ℕ} {row : List ℕ} {bases : List Base} {orders : List Order} → c < count → f c ≡ Some (known row) → AreKnown count f bases orders
+  one_base : {c : ℕ} {row : List ℕ} {bases : List Base} {orders : List Mro} → c < count → f c ≡ Some (known row) → AreKnown count f bases orders
       → AreKnown count f (base.Class c ∷ bases) (known row ∷ orders)
 
-module _ (count : ℕ) (f : ℕ → Option Order) where
-  are-known : (bases : List Base) (orders : List Order) → base_orders count f bases ≡ Some orders → list_any is_unknown orders ≡ false → AreKnown count f bases orders
+module _ (count : ℕ) (f : ℕ → Option Mro) where
+  are-known : (bases : List Base) (orders : List Mro) → base_orders count f bases ≡ Some orders → list_any is_unknown orders ≡ false → AreKnown count f bases orders
   are-known [] orders is all = subst (AreKnown count f []) (same_Some [] orders is) no_base
   are-known (base.Unknown ∷ bases) orders is all =
       let parts = with_order-parts (Some no_order) (base_orders count f bases) orders is in
@@ -61,7 +61,7 @@ module _ (count : ℕ) (f : ℕ → Option Order) where
       ]
 
   -- a base has an order, which is one of the rows
-  base-row : {bases : List Base} {orders : List Order} → AreKnown count f bases orders → (b : ℕ) → contains (classes_among bases) b ≡ true
+  base-row : {bases : List Base} {orders : List Mro} → AreKnown count f bases orders → (b : ℕ) → contains (classes_among bases) b ≡ true
       → (row : List ℕ) × Row row (map (λ order. order.classes) orders) × (f b ≡ Some (known row)) × (b < count)
   base-row no_base b in' = absurd (false≢true in')
   base-row (one_base {c = c} {row = row} {bases = bases} below made rest) b in' = elim (or_cases (c == b) (contains (classes_among bases) b) in') [
@@ -72,7 +72,7 @@ module _ (count : ℕ) (f : ℕ → Option Order) where
   ]
 
   -- each row is the order of a base
-  row-base : {bases : List Base} {orders : List Order} → AreKnown count f bases orders → (row : List ℕ) → Row row (map (λ order. order.classes) orders)
+  row-base : {bases : List Base} {orders : List Mro} → AreKnown count f bases orders → (row : List ℕ) → Row row (map (λ order. order.classes) orders)
       → (b : ℕ) × (contains (classes_among bases) b ≡ true) × (f b ≡ Some (known row)) × (b < count)
   row-base no_base row at = elim at [ ]
   row-base (one_base {c = c} {bases = bases} below made rest) row here = (c, or_left (c == c) (contains (classes_among bases) c) (eq-eqb c c refl), made, below)
@@ -83,7 +83,7 @@ module _ (count : ℕ) (f : ℕ → Option Order) where
 
 -- the orders of the bases, and their merge
 record Made (table : Table) (depth c : ℕ) (classes : List ℕ) : Type 0 where
-  orders : List Order
+  orders : List Mro
   merged : List ℕ
   bases : AreKnown (length table) (order_within table depth) (bases_of table c) orders
   merges : merge (merged_rows (bases_of table c) orders) ≡ Some merged
@@ -100,7 +100,7 @@ module _ (table : Table) where
       let found = bases-made table depth c (known classes) is in
       by found.0 found.1 (list_any is_unknown found.0) refl found.2
     where
-      merged-by : (orders : List Order) → base_orders (length table) (order_within table depth) (bases_of table c) ≡ Some orders → list_any is_unknown orders ≡ false
+      merged-by : (orders : List Mro) → base_orders (length table) (order_within table depth) (bases_of table c) ≡ Some orders → list_any is_unknown orders ≡ false
           → (o : Option (List ℕ)) → merge (merged_rows (bases_of table c) orders) ≡ o → merged_order c o ≡ known classes → Made table depth c classes
       merged-by orders made all None e linear = absurd (none-some unknown.Merge (sym (ap (λ order. order.unknown) linear)))
       merged-by orders made all (Some merged) e linear = record {
@@ -111,15 +111,15 @@ module _ (table : Table) where
         whole = sym (known-classes (c ∷ merged) classes linear);
       }
 
-      by : (orders : List Order) → base_orders (length table) (order_within table depth) (bases_of table c) ≡ Some orders → (b : Bool) → list_any is_unknown orders ≡ b
+      by : (orders : List Mro) → base_orders (length table) (order_within table depth) (bases_of table c) ≡ Some orders → (b : Bool) → list_any is_unknown orders ≡ b
           → linear_order c (bases_of table c) orders ≡ known classes → Made table depth c classes
       by orders made true e linear =
-          let first : alone c unknown.Base ≡ known classes =
-          sym (cond-true (list_any is_unknown orders) (alone c unknown.Base) (merged_order c (merge (merged_rows (bases_of table c) orders))) e) ∙ linear in
+          let first : unknown_of c unknown.Base ≡ known classes =
+          sym (cond-true (list_any is_unknown orders) (unknown_of c unknown.Base) (merged_order c (merge (merged_rows (bases_of table c) orders))) e) ∙ linear in
           absurd (none-some unknown.Base (sym (ap (λ order. order.unknown) first)))
       by orders made false e linear =
           merged-by orders made e (merge (merged_rows (bases_of table c) orders)) refl
-          (sym (cond-false (list_any is_unknown orders) (alone c unknown.Base) (merged_order c (merge (merged_rows (bases_of table c) orders))) e) ∙ linear)
+          (sym (cond-false (list_any is_unknown orders) (unknown_of c unknown.Base) (merged_order c (merge (merged_rows (bases_of table c) orders))) e) ∙ linear)
 
   -- ---- what it holds
 
@@ -236,7 +236,7 @@ module _ (table : Table) where
     within : c < length table
     has : Has (suc (length table)) c (classes_of table c)
 
-  class-known : (c : ℕ) (b : Bool) (made : Option Order) (order : Order) → order ≡ cond b (alone c unknown.Cycle) (order_below c made) → order.unknown ≡ None → made ≡ Some (known order.classes)
+  class-known : (c : ℕ) (b : Bool) (made : Option Mro) (order : Mro) → order ≡ cond b (unknown_of c unknown.Cycle) (order_below c made) → order.unknown ≡ None → made ≡ Some (known order.classes)
   class-known c true made order e is = absurd (none-some unknown.Cycle (sym (sym (ap (λ o. o.unknown) e) ∙ is)))
   class-known c false None order e is = absurd (none-some unknown.Base (sym (sym (ap (λ o. o.unknown) e) ∙ is)))
   class-known c false (Some made) order e is = ap Some (sym e ∙ known-is order is)
@@ -262,10 +262,10 @@ module _ (table : Table) where
       ap (λ l. contains l c) made.whole ∙ or_left (c == c) (contains made.merged c) (eq-eqb c c refl)
 
   -- an order begins with its class
-  linear-first : (c : ℕ) (bases : List Base) (orders : List Order) → slice_get (linear_order c bases orders).classes 0 ≡ Some c
+  linear-first : (c : ℕ) (bases : List Base) (orders : List Mro) → slice_get (linear_order c bases orders).classes 0 ≡ Some c
   linear-first c bases orders = by (list_any is_unknown orders) (merge (merged_rows bases orders))
     where
-      by : (b : Bool) (o : Option (List ℕ)) → slice_get (cond b (alone c unknown.Base) (merged_order c o)).classes 0 ≡ Some c
+      by : (b : Bool) (o : Option (List ℕ)) → slice_get (cond b (unknown_of c unknown.Base) (merged_order c o)).classes 0 ≡ Some c
       by true o = refl
       by false None = refl
       by false (Some merged) = refl
@@ -273,7 +273,7 @@ module _ (table : Table) where
   class-first : (c : ℕ) → slice_get (class_order table c).classes 0 ≡ Some c
   class-first c = by (is_own_ancestor table c) (order_within table (suc (length table)) c) refl
     where
-      by : (b : Bool) (o : Option Order) → order_within table (suc (length table)) c ≡ o → slice_get (cond b (alone c unknown.Cycle) (order_below c o)).classes 0 ≡ Some c
+      by : (b : Bool) (o : Option Mro) → order_within table (suc (length table)) c ≡ o → slice_get (cond b (unknown_of c unknown.Cycle) (order_below c o)).classes 0 ≡ Some c
       by true o e = refl
       by false None e = refl
       by false (Some order) e =
@@ -300,7 +300,7 @@ holds_ancestors table c d is = (
 pub holds_each_once : HoldsEachOnce
 holds_each_once table c is = let own = known-order table c is in once-in table (suc (length table)) c (classes_of table c) own.within own.has
 
-pub keeps_orders : KeepsOrders
+pub keeps_orders : KeepsMros
 keeps_orders table c d is in' =
     let own = known-order table c is in
     let found = order-in table (suc (length table)) c (classes_of table c) d own.within own.has in' in
@@ -316,5 +316,5 @@ keeps_written_bases table c is =
 pub holds_itself : HoldsItself
 holds_itself table c is = holds-own table c is
 
-pub holds_orders : HoldsOrders
+pub holds_orders : HoldsMros
 holds_orders table c d e is in' among = Sublist-contains (keeps_orders table c d is in').1 e among

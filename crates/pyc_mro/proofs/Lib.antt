@@ -1,6 +1,6 @@
 pub mod MergeLemmas
 pub mod TableLemmas
-pub mod OrderLemmas
+pub mod MroLemmas
 pub mod PassLemmas
 pub mod SearchLemmas
 pub mod RowLemmas

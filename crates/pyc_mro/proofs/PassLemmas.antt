@@ -7,12 +7,12 @@ use Rattle.std.specs.Option.{option_or}
 use Rattle.std.proofs.lemmas.Bool.{cases_eq, false≢true}
 use Rattle.std.proofs.lemmas.List.{length-replicate}
 use Rattle.std.proofs.lemmas.Option.{slice_get-map, slice_get-get_or}
-use Rattle.pyc_mro.specs.declared.stored.StoredOrder.{StoredOrder}
+use Rattle.pyc_mro.specs.declared.stored.StoredMro.{StoredMro}
 use Rattle.pyc_mro.specs.declared.table.Base.{Base}
-use Rattle.pyc_mro.specs.Orders.{Order, next_order, order_within, linear_order}
+use Rattle.pyc_mro.specs.MroTable.{Mro, next_order, order_within, linear_order}
 use Rattle.pyc_mro.specs.Passes.{made_in, made_at, AreMade, IsNextPass}
 use Rattle.pyc_mro.specs.Tables.{Table, bases_of}
-use Rattle.pyc_mro.proofs.OrderLemmas.{base_orders-same, kept_or_within, order_within-stays}
+use Rattle.pyc_mro.proofs.MroLemmas.{base_orders-same, kept_or_within, order_within-stays}
 
 -- ---- lists that grow
 
@@ -51,13 +51,13 @@ module _ {X Y : Type 0} (v : X → Y) (d : Y) where
 -- ---- what the code reads
 
 -- what is made of a class is what stands at its place
-pub made_at-read : (made : List (Option (Rc StoredOrder Global))) (c : ℕ) (x : Option (Rc StoredOrder Global)) → c < length made → x ≡ get_or made c x → made_at made c ≡ made_in x
+pub made_at-read : (made : List (Option (Rc StoredMro Global))) (c : ℕ) (x : Option (Rc StoredMro Global)) → c < length made → x ≡ get_or made c x → made_at made c ≡ made_in x
 made_at-read made c x below is =
     let got : slice_get made c ≡ Some x = slice_get-get_or made c x below ∙ ap Some (sym is) in
     ap (λ o. unwrap_or o None) (slice_get-map made_in made c ∙ ap (option_map made_in) got)
 
 -- an order that is not new is the one that was there
-pub kept-same : (before next o : Option Order) → o ≡ option_or before next → (is_some o && not (is_some before)) ≡ false → o ≡ before
+pub kept-same : (before next o : Option Mro) → o ≡ option_or before next → (is_some o && not (is_some before)) ≡ false → o ≡ before
 kept-same (Some x) next o is old = is
 kept-same None next None is old = refl
 kept-same None next (Some x) is old = absurd (false≢true (sym old))
@@ -71,14 +71,14 @@ made_at-none (suc count) (suc c) = made_at-none count c
 
 module _ (table : Table) where
   -- before the first pass
-  pub AreMade-none : (made : List (Option (Rc StoredOrder Global))) → made ≡ replicate (length table) None → AreMade table 0 made
+  pub AreMade-none : (made : List (Option (Rc StoredMro Global))) → made ≡ replicate (length table) None → AreMade table 0 made
   AreMade-none made is =
       record {
         count = ap length is ∙ length-replicate (length table) None;
         each = λ c below. ap (λ l. made_at l c) is ∙ made_at-none (length table) c;
       }
 
-  module _ (depth : ℕ) (made next : List (Option (Rc StoredOrder Global))) (has_new : Bool) (are : AreMade table depth made) (pass : IsNextPass table made next has_new) where
+  module _ (depth : ℕ) (made next : List (Option (Rc StoredMro Global))) (has_new : Bool) (are : AreMade table depth made) (pass : IsNextPass table made next has_new) where
     -- a pass goes to bases once more
     next-each : (c : ℕ) → c < length table → made_at next c ≡ order_within table (suc depth) c
     next-each c below =

@@ -5,7 +5,7 @@ use Rattle.std.specs.Option.{option_or}
 use Rattle.std.proofs.lemmas.Bool.{cases_Bool, and_parts, and_from, or_cases, or_parts, or_left, or_right, not-true, eqb-true, eq-eqb, false≢true, false_from_ne_true, not_from_false}
 use Rattle.std.proofs.lemmas.Option.{none-some, same_Some, cond_some}
 use Rattle.pyc_mro.specs.Merge.{contains, without, stands_in_tail, is_free, free_head, first_free, is_empty, merge_from, merge_within, entry_count, merge}
-use Rattle.pyc_mro.specs.OrderLaws.{is_distinct, Sublist, ended, kept, left_out}
+use Rattle.pyc_mro.specs.MroLaws.{is_distinct, Sublist, ended, kept, left_out}
 use Rattle.pyc_mro.proofs.MergeLemmas.{first_free-free, without-absent}
 
 -- ---- rows with some classes left out
@@ -178,7 +178,7 @@ merge_within-once (suc n) rows merged is = elim (merge-parts n rows merged is) [
       ∙ and_from (not (contains rest c)) (is_distinct rest) (not_from_false (contains rest c) (merge_within-gone n c rows rest onward)) (merge_within-once n (map (without c) rows) rest onward)
 ]
 
--- ---- the same of the whole merge
+-- ---- rows and classes of the whole merge
 
 module _ (rows : List (List ℕ)) (merged : List ℕ) (is : merge rows ≡ Some merged) where
   pub merge-keeps : (row : List ℕ) → Row row rows → Sublist row merged

@@ -310,8 +310,8 @@ module _ (table : Table) (start : ℕ) where
   ]
 
   -- a class that any number of steps leads back to is its own ancestor in as many as there are classes
-  pub own_ancestor-told : (n : ℕ) → start < length table → reaches table n start start ≡ true → is_own_ancestor table start ≡ true
-  own_ancestor-told n below there =
+  pub own_ancestor-reported : (n : ℕ) → start < length table → reaches table n start start ≡ true → is_own_ancestor table start ≡ true
+  own_ancestor-reported n below there =
       let first : Marks = mark_all (parents table start) (no_marks (length table)) in
       let ended = search-run (suc ((length first.marks + length first.work) - count_marks first.marks)) first (search-first table start first refl) (omega arith) in
       let over : Marks = ended.0 in
@@ -324,7 +324,7 @@ module _ (table : Table) (start : ℕ) where
 
 -- ---- the code's steps
 
--- the same bases, marks and work
+-- to mark the classes among equal bases, with equal marks and work, comes to equal marks and work
 pub mark_all-same : (bases bases' : List Base) (marks marks' : List Bool) (work work' : List ℕ) → bases ≡ bases' → marks ≡ marks' → work ≡ work'
     → mark_all (classes_among bases) (record { marks = marks; work = work }) ≡ mark_all (classes_among bases') (record { marks = marks'; work = work' })
 mark_all-same bases bases' marks marks' work work' e f g =

@@ -2,8 +2,8 @@ pub mod Tables
 pub mod TableView
 pub mod Merge
 pub mod Rows
-pub mod Orders
-pub mod OrderView
+pub mod MroTable
+pub mod MroView
 pub mod Passes
 pub mod Marks
-pub mod OrderLaws
+pub mod MroLaws

@@ -1,8 +1,8 @@
 //! Laws of the orders, proved for all tables.
 
-ghost use Rattle.pyc_mro.specs.OrderLaws.{CyclesAreTold, HasEnoughDepth};
-ghost use Rattle.pyc_mro.specs.OrderLaws.{KeepsOrders, KeepsWrittenBases, HoldsItself, HoldsOrders};
-ghost use Rattle.pyc_mro.specs.OrderLaws.{KnownAreOfTheTable, BeginsWithItself, HoldsAncestors, HoldsEachOnce};
+ghost use Rattle.pyc_mro.specs.MroLaws.{CyclesAreReported, HasEnoughDepth};
+ghost use Rattle.pyc_mro.specs.MroLaws.{KeepsMros, KeepsWrittenBases, HoldsItself, HoldsMros};
+ghost use Rattle.pyc_mro.specs.MroLaws.{KnownAreOfTheTable, BeginsWithItself, HoldsAncestors, HoldsEachOnce};
 
 /// The order of each class of a table begins with the class. A known one is that of a class of the table, and holds
 /// exactly the class and its ancestors, each once.
@@ -16,7 +16,7 @@ pub fn ancestors()
 /// In a known order each class stands before its own ancestors: its order is known too, and stands there in the same
 /// sequence.
 pub fn orders_kept()
-    ensures { KeepsOrders }
+    ensures { KeepsMros }
 {}
 
 /// In a known order the bases of the class stand in the sequence in which they are written.
@@ -27,12 +27,12 @@ pub fn written_bases_kept()
 /// A known order holds its class and the order of each class in it.
 pub fn orders_held()
     ensures itself { HoldsItself }
-    ensures others { HoldsOrders }
+    ensures others { HoldsMros }
 {}
 
-/// An order is told as a cycle exactly where its class is its own ancestor, however long the way back; and no class has
-/// another order by going to bases more often than the definition does.
+/// An order is reported as a cycle exactly where its class is its own ancestor, however long the way back; and no class
+/// has another order by going to bases more often than the definition does.
 pub fn unknown_orders()
-    ensures cycles { CyclesAreTold }
+    ensures cycles { CyclesAreReported }
     ensures depth { HasEnoughDepth }
 {}

@@ -9,5 +9,5 @@ mod orders;
 mod stored;
 mod table;
 
-pub use orders::{Order, Orders};
+pub use orders::{Mro, MroTable};
 pub use table::Base;

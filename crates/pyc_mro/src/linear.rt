@@ -2,17 +2,17 @@
 
 ghost use Rattle.std.specs.Prelude.{◌≡◌, ◌<◌, IfOk, length, map, option_map, ◌++◌, ◌∷◌, []};
 ghost use Rattle.std.specs.List.{list_any};
-ghost use Rattle.pyc_mro.specs.Orders as spec;
-ghost use Rattle.pyc_mro.specs.OrderView.{order_in, stored_in};
+ghost use Rattle.pyc_mro.specs.MroTable as spec;
+ghost use Rattle.pyc_mro.specs.MroView.{order_in, stored_in};
 ghost use Rattle.pyc_mro.specs.Passes.{made_in, made_at};
 ghost use Rattle.pyc_mro.specs.Rows.{rows_in};
 
 use crate::Base;
 use crate::merging::merge;
-use crate::orders::{NO_ORDER, Order};
-use crate::stored::StoredOrder;
+use crate::orders::{Mro, NO_ORDER};
+use crate::stored::StoredMro;
 use crate::table::classes_among;
-use pyc_class::UnknownOrder;
+use pyc_class_ids::UnknownMro;
 use std::alloc::{AllocError, Global};
 use std::rc::Rc;
 
@@ -22,8 +22,8 @@ pub(crate) fn next_order(
     alloc: Global,
     class: usize,
     bases: &[Base],
-    made: &[Option<Rc<StoredOrder>>],
-) -> Result<Option<Rc<StoredOrder>>, AllocError>
+    made: &[Option<Rc<StoredMro>>],
+) -> Result<Option<Rc<StoredMro>>, AllocError>
     ensures { IfOk result (λ order. made_in order
         ≡ spec.next_order (length made.now) (made_at made.now) class bases.now) }
 {
@@ -37,8 +37,8 @@ pub(crate) fn next_order(
 fn base_orders<'a>(
     alloc: Global,
     bases: &[Base],
-    made: &'a [Option<Rc<StoredOrder>>],
-) -> Result<Option<Vec<Order<'a>>>, AllocError>
+    made: &'a [Option<Rc<StoredMro>>],
+) -> Result<Option<Vec<Mro<'a>>>, AllocError>
     ensures { IfOk result (λ orders. option_map (λ found. map order_in found.items) orders
         ≡ spec.base_orders (length made.now) (made_at made.now) bases.now) }
 {
@@ -53,7 +53,7 @@ fn base_orders<'a>(
 }
 
 /// The order of a base, if it has one.
-fn base_order<'a>(base: &Base, made: &'a [Option<Rc<StoredOrder>>]) -> Option<Order<'a>>
+fn base_order<'a>(base: &Base, made: &'a [Option<Rc<StoredMro>>]) -> Option<Mro<'a>>
     ensures { option_map order_in result ≡ spec.base_order (length made.now) (made_at made.now) base.now }
 {
     match base {
@@ -70,22 +70,22 @@ fn linear_order(
     alloc: Global,
     class: usize,
     bases: &[Base],
-    orders: &[Order],
-) -> Result<StoredOrder, AllocError>
+    orders: &[Mro],
+) -> Result<StoredMro, AllocError>
     ensures { IfOk result (λ order. stored_in order ≡ spec.linear_order class bases.now (map order_in orders.now)) }
 {
     if has_unknown(orders) {
-        return StoredOrder::alone(alloc, class, UnknownOrder::Base);
+        return StoredMro::unknown_of(alloc, class, UnknownMro::Base);
     }
     let written = classes_among(alloc, bases)?;
     match merge(alloc, merged_rows(alloc, orders, &written)?)? {
-        Some(others) => StoredOrder::known(class, others),
-        None => StoredOrder::alone(alloc, class, UnknownOrder::Merge),
+        Some(others) => StoredMro::known(class, others),
+        None => StoredMro::unknown_of(alloc, class, UnknownMro::Merge),
     }
 }
 
 /// Whether one of these orders is not known.
-fn has_unknown(orders: &[Order]) -> bool
+fn has_unknown(orders: &[Mro]) -> bool
     ensures { result ≡ list_any spec.is_unknown (map order_in orders.now) }
 {
     for order in orders {
@@ -99,7 +99,7 @@ fn has_unknown(orders: &[Order]) -> bool
 /// The classes of each of these orders, and last the bases as they are written.
 fn merged_rows<'a, 'b: 'a>(
     alloc: Global,
-    orders: &[Order<'b>],
+    orders: &[Mro<'b>],
     written: &'a [usize],
 ) -> Result<Vec<&'a [usize]>, AllocError>
     ensures { IfOk result (λ rows. rows_in rows.items

@@ -1,43 +1,43 @@
 //! The order of each class of a table.
 
 ghost use Rattle.std.specs.Prelude.{◌≡◌, ◌<◌, IfOk, ℕ, suc, ◌&&◌, not, is_some, length, replicate, None};
-ghost use Rattle.pyc_mro.specs.Orders.{order_of};
-ghost use Rattle.pyc_mro.specs.OrderView.{order_in, stored_in, order_at};
+ghost use Rattle.pyc_mro.specs.MroTable.{order_of};
+ghost use Rattle.pyc_mro.specs.MroView.{order_in, stored_in, order_at};
 ghost use Rattle.pyc_mro.specs.TableView.{table_in};
 ghost use Rattle.pyc_mro.specs.Passes.{made_in, settled_order, kept_or_next, AreMade, IsNextPass};
 
 use crate::Base;
 use crate::ancestors::is_own_ancestor;
 use crate::linear::next_order;
-use crate::stored::StoredOrder;
+use crate::stored::StoredMro;
 use crate::table::bases_of;
-use pyc_class::UnknownOrder;
+use pyc_class_ids::UnknownMro;
 use std::alloc::{AllocError, Global};
 use std::rc::Rc;
 
 /// The order of a class: itself first, then its ancestors in method resolution order; and why the order is not known,
 /// if it is not.
 #[derive(Clone, Copy, Debug)]
-pub struct Order<'a> {
+pub struct Mro<'a> {
     pub classes: &'a [usize],
-    pub unknown: Option<UnknownOrder>,
+    pub unknown: Option<UnknownMro>,
 }
 
 /// The order of what is no class of the table.
-pub(crate) const NO_ORDER: Order<'static> = Order {
+pub(crate) const NO_ORDER: Mro<'static> = Mro {
     classes: &[],
-    unknown: Some(UnknownOrder::Base),
+    unknown: Some(UnknownMro::Base),
 };
 
 /// The order of each class of a table.
 #[derive(Debug, Drop)]
-pub struct Orders {
-    orders: Vec<Rc<StoredOrder>>,
+pub struct MroTable {
+    orders: Vec<Rc<StoredMro>>,
 }
 
-impl Orders {
+impl MroTable {
     /// The order of each class of the table that lists the bases of each. The only error is that memory runs out.
-    pub fn build(alloc: Global, bases: &[Vec<Base>]) -> Result<Orders, AllocError>
+    pub fn build(alloc: Global, bases: &[Vec<Base>]) -> Result<MroTable, AllocError>
         ensures { IfOk result (λ orders. (class : ℕ) → order_at orders class ≡ order_of (table_in bases.now) class) }
     {
         let made = made_orders(alloc, bases)?;
@@ -45,11 +45,11 @@ impl Orders {
         for class in 0..bases.len() {
             orders.push(class_order(alloc, bases, class, &made[class])?)?;
         }
-        Ok(Orders { orders })
+        Ok(MroTable { orders })
     }
 
     /// The order of the class of this number; a number that is no class of the table has no classes. Takes no memory.
-    pub fn order(&self, class: usize) -> Order<'_>
+    pub fn order(&self, class: usize) -> Mro<'_>
         ensures { order_in result ≡ order_at self.now class }
     {
         match self.orders.get(class) {
@@ -64,8 +64,8 @@ fn class_order(
     alloc: Global,
     bases: &[Vec<Base>],
     class: usize,
-    made: &Option<Rc<StoredOrder>>,
-) -> Result<Rc<StoredOrder>, AllocError>
+    made: &Option<Rc<StoredMro>>,
+) -> Result<Rc<StoredMro>, AllocError>
     requires { class < length bases.now }
     ensures { IfOk result (λ order. stored_in order.value
         ≡ settled_order (table_in bases.now) class (made_in made.now)) }
@@ -74,20 +74,17 @@ fn class_order(
         Some(order) => order.clone(),
         None => {
             let why = if is_own_ancestor(alloc, bases, class)? {
-                UnknownOrder::Cycle
+                UnknownMro::Cycle
             } else {
-                UnknownOrder::Base
+                UnknownMro::Base
             };
-            Ok(Rc::new(alloc, StoredOrder::alone(alloc, class, why)?)?)
+            Ok(Rc::new(alloc, StoredMro::unknown_of(alloc, class, why)?)?)
         }
     }
 }
 
 /// The orders that are made of those of the bases: in each pass a class gets one whose bases had theirs before it.
-fn made_orders(
-    alloc: Global,
-    bases: &[Vec<Base>],
-) -> Result<Vec<Option<Rc<StoredOrder>>>, AllocError>
+fn made_orders(alloc: Global, bases: &[Vec<Base>]) -> Result<Vec<Option<Rc<StoredMro>>>, AllocError>
     ensures { IfOk result (λ made.
         AreMade (table_in bases.now) (suc (length (table_in bases.now))) made.items) }
 {
@@ -103,7 +100,7 @@ fn made_orders(
 }
 
 /// So many classes without an order.
-fn no_orders(alloc: Global, count: usize) -> Result<Vec<Option<Rc<StoredOrder>>>, AllocError>
+fn no_orders(alloc: Global, count: usize) -> Result<Vec<Option<Rc<StoredMro>>>, AllocError>
     ensures { IfOk result (λ orders. orders.items ≡ replicate count None) }
 {
     let mut orders = Vec::with_capacity(alloc, count)?;
@@ -116,7 +113,7 @@ fn no_orders(alloc: Global, count: usize) -> Result<Vec<Option<Rc<StoredOrder>>>
 /// What a pass over a table makes.
 #[derive(Drop)]
 struct Pass {
-    orders: Vec<Option<Rc<StoredOrder>>>,
+    orders: Vec<Option<Rc<StoredMro>>>,
     /// Whether a class has an order that had none before.
     has_new: bool,
 }
@@ -125,7 +122,7 @@ struct Pass {
 fn next_orders(
     alloc: Global,
     bases: &[Vec<Base>],
-    made: &[Option<Rc<StoredOrder>>],
+    made: &[Option<Rc<StoredMro>>],
 ) -> Result<Pass, AllocError>
     requires { length bases.now ≡ length made.now }
     ensures { IfOk result (λ pass. IsNextPass (table_in bases.now) made.now pass.orders.items pass.has_new) }
@@ -142,7 +139,7 @@ fn next_orders(
 }
 
 /// Whether a class has an order that had none before.
-fn is_new(order: &Option<Rc<StoredOrder>>, before: &Option<Rc<StoredOrder>>) -> bool
+fn is_new(order: &Option<Rc<StoredMro>>, before: &Option<Rc<StoredMro>>) -> bool
     ensures { result ≡ (is_some (made_in order.now) && not (is_some (made_in before.now))) }
 {
     order.is_some() && before.is_none()
@@ -153,8 +150,8 @@ fn kept_or_next(
     alloc: Global,
     class: usize,
     bases: &[Base],
-    made: &[Option<Rc<StoredOrder>>],
-) -> Result<Option<Rc<StoredOrder>>, AllocError>
+    made: &[Option<Rc<StoredMro>>],
+) -> Result<Option<Rc<StoredMro>>, AllocError>
     requires { class < length made.now }
     ensures { IfOk result (λ order. made_in order ≡ kept_or_next made.now class bases.now) }
 {

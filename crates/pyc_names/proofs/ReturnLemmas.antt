@@ -1,5 +1,5 @@
--- Coming back: each name of a ring is bound by a from-import of its own, so as many steps as there are from-imports come
--- back.
+-- Coming back: each name of a ring is bound by a from-import of its own, so as many steps as there are from-imports
+-- come back.
 use Rattle.std.proofs.Common.{◌≡◌, ℕ, zero, suc, ◌+◌, ◌<◌, ◌≤◌, ◌⊎◌, ◌&&◌, ◌||◌, Bool, true, false, cond, not, List, [], ◌∷◌, if◌then◌else◌, Option, None, Some, IsTrue, bytes_eq, find, sum_by, count_by, inl, inr, refl, sym, ap, ap₂, subst, ◌∙◌, arith}
 use Rattle.std.proofs.lemmas.Bool.{and_from, and_left, and_parts, and_right, cases_Bool, cond-false, cond-true, or_left, or_right}
 use Rattle.std.proofs.lemmas.List.Sums.{sum_by-cons}
@@ -11,7 +11,7 @@ use Rattle.pyc_names.specs.Following.{QualifiedName, Step, ends, leads, no_modul
 use Rattle.pyc_names.specs.declared.fixed.FixedModule.{FixedModule}
 use Rattle.pyc_names.specs.FixedModules.{fixed_module}
 use Rattle.pyc_names.specs.ModuleName.{same_module}
-use Rattle.pyc_names.specs.Rings.{onward, reached, RingsAreTold}
+use Rattle.pyc_names.specs.Rings.{onward, reached, RingsAreReported}
 use Rattle.pyc_names.specs.Interfaces.{Interface, file_of}
 use Rattle.pyc_names.proofs.RingLemmas.{same_module-is, same_name-is}
 
@@ -20,8 +20,8 @@ use Rattle.pyc_names.proofs.RingLemmas.{same_module-is, same_name-is}
 -- a name is the same name as itself
 same_name-itself : (a b : QualifiedName) → a ≡ b → IsTrue (same_name a b)
 same_name-itself a b e =
-    and_from (same_module a.home b.home) (bytes_eq a.name b.name)
-    ((slice_eq-Decides bytes_eq-Decides a.home b.home (same_module a.home b.home) refl).1 (ap (λ q. q.home) e))
+    and_from (same_module a.module_path b.module_path) (bytes_eq a.name b.name)
+    ((slice_eq-Decides bytes_eq-Decides a.module_path b.module_path (same_module a.module_path b.module_path) refl).1 (ap (λ q. q.module_path) e))
     ((bytes_eq-Decides a.name b.name).1 (ap (λ q. q.name) e))
 
 -- ---- sums
@@ -57,7 +57,7 @@ one-le false b more = omega arith
 
 -- the name that a binding of a file binds
 abbrev bound_in : Interface → Binding → QualifiedName
-bound_in file b = record { home = file.name; name = b.name }
+bound_in file b = record { module_path = file.name; name = b.name }
 
 -- whether a binding is a from-import of such a name
 abbrev is_open : (QualifiedName → Bool) → Interface → Binding → Bool
@@ -103,7 +103,7 @@ module _ (may : QualifiedName → Bool) (out : QualifiedName) where
 record IsImported (files : List Interface) (q : QualifiedName) : Type 0 where
   file : Interface
   b : Binding
-  is_file : file_of files q.home ≡ Some file
+  is_file : file_of files q.module_path ≡ Some file
   is_declaration : declaration file.bindings q.name ≡ Some b
   is_import : IsTrue (is_import_from b.form)
 
@@ -119,30 +119,30 @@ module _ (files : List Interface) (q next : QualifiedName) where
   leads_by_form file other e = absurd (cc)
 
   -- a name without a declaration does not lead on
-  leads_by_binding : (file : Interface) (found : Option Binding) → file_of files q.home ≡ Some file → declaration file.bindings q.name ≡ found → binding_step files q file found ≡ leads next → IsImported files q
+  leads_by_binding : (file : Interface) (found : Option Binding) → file_of files q.module_path ≡ Some file → declaration file.bindings q.name ≡ found → binding_step files q file found ≡ leads next → IsImported files q
   leads_by_binding file None is_file is e = absurd (cc)
   leads_by_binding file (Some b) is_file is e = record { file = file; b = b; is_file = is_file; is_declaration = is; is_import = leads_by_form file b.form e }
 
   -- nor does a name of a file with a fault
-  leads_by_source : (file : Interface) (has_fault : Bool) → file_of files q.home ≡ Some file → source_step files q file has_fault ≡ leads next → IsImported files q
+  leads_by_source : (file : Interface) (has_fault : Bool) → file_of files q.module_path ≡ Some file → source_step files q file has_fault ≡ leads next → IsImported files q
   leads_by_source file false is_file e = leads_by_binding file (declaration file.bindings q.name) is_file refl e
   leads_by_source file true is_file e = absurd (cc)
 
   -- nor a name of a module that no file names
-  leads_by_file : (found : Option Interface) → file_of files q.home ≡ found → file_step files q found ≡ leads next → IsImported files q
+  leads_by_file : (found : Option Interface) → file_of files q.module_path ≡ found → file_step files q found ≡ leads next → IsImported files q
   leads_by_file None is e = absurd (cc)
   leads_by_file (Some file) is e = leads_by_source file file.has_fault is e
 
   -- nor a name of a fixed module
   leads_by_module : (fixed : Option FixedModule) → module_step files q fixed ≡ leads next → IsImported files q
   leads_by_module (Some fixed) e = absurd (cc)
-  leads_by_module None e = leads_by_file (file_of files q.home) refl e
+  leads_by_module None e = leads_by_file (file_of files q.module_path) refl e
 
   -- a name that leads on is bound by a from-import
   leads_by : step files q ≡ leads next → IsImported files q
   unfolding step
-  leads_by e = elim (has_module files q.home) as (λ there. (if there then module_step files q (fixed_module q.home) else ends no_module) ≡ leads next → IsImported files q) [
-    | true ↦ λ e. leads_by_module (fixed_module q.home) e
+  leads_by e = elim (has_module files q.module_path) as (λ there. (if there then module_step files q (fixed_module q.module_path) else ends no_module) ≡ leads next → IsImported files q) [
+    | true ↦ λ e. leads_by_module (fixed_module q.module_path) e
     | false ↦ λ e. absurd (cc)
   ] e
 
@@ -151,13 +151,13 @@ open_count-lt : (files : List Interface) (may : QualifiedName → Bool) (q : Qua
 open_count-lt files may q at it =
     let count : (QualifiedName → Bool) → Interface → ℕ = λ may file. count_by (is_open may file) file.bindings in
     let one : (QualifiedName → Bool) → Interface → Binding → ℕ = λ may file b. cond (is_open may file b) 1 0 in
-    let named : List (List ℕ) → List ℕ → QualifiedName = λ home name. record { home = home; name = name } in
-    let home : at.file.name ≡ q.home = sym (same_module-is q.home at.file.name (find_passes (λ file. same_module q.home file.name) files at.file at.is_file)) in
+    let named : List (List ℕ) → List ℕ → QualifiedName = λ module_path name. record { module_path = module_path; name = name } in
+    let module_path : at.file.name ≡ q.module_path = sym (same_module-is q.module_path at.file.name (find_passes (λ file. same_module q.module_path file.name) files at.file at.is_file)) in
     let name : at.b.name ≡ q.name = (bytes_eq-Decides at.b.name q.name).0 (find_passes (λ b. bytes_eq b.name q.name) at.file.bindings at.b at.is_declaration) in
-    let is : bound_in at.file at.b ≡ q = ap₂ named home name in
+    let is : bound_in at.file at.b ≡ q = ap₂ named module_path name in
     sum_by-lt (count (without may q)) (count may)
     (λ file. sum_by-le (one (without may q) file) (one may file) (one_without-le may q file) file.bindings)
-    (λ file. same_module q.home file.name) files at.file at.is_file
+    (λ file. same_module q.module_path file.name) files at.file at.is_file
     (sum_by-lt (one (without may q) at.file) (one may at.file) (one_without-le may q at.file) (λ b. bytes_eq b.name q.name) at.file.bindings at.b at.is_declaration
     (one_without-lt may q at.file at.b is it at.is_import))
 
@@ -235,7 +235,7 @@ module _ (files : List Interface) where
         ] later
       ] ahead.1
 
--- a name on a ring is told to be on one
-pub rings_are_told : RingsAreTold
+-- a name on a ring is reported to be on one
+pub rings_are_reported : RingsAreReported
 unfolding on_ring
-rings_are_told files q (n, ring) = short files (import_count files) (λ r. true) n q q (let e = open_count-all files in omega arith) (way-reached files (suc n) q q ring)
+rings_are_reported files q (n, ring) = short files (import_count files) (λ r. true) n q q (let e = open_count-all files in omega arith) (way-reached files (suc n) q q ring)

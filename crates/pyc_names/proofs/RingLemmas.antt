@@ -5,7 +5,7 @@ use Rattle.std.proofs.lemmas.Option.{none-some}
 use Rattle.std.proofs.lemmas.Slice.Eq.{slice_eq-Decides, bytes_eq-Decides}
 use Rattle.pyc_names.specs.Following.{QualifiedName, cycle, ends, leads, step, same_name, arrive, walk, follow, import_count, comes_to, leads_to, on_ring}
 use Rattle.pyc_names.specs.ModuleName.{same_module}
-use Rattle.pyc_names.specs.Rings.{onward, reached, IsOnRing, RingsAreCycles, RingsStayRings, ToldRingsAreRings}
+use Rattle.pyc_names.specs.Rings.{onward, reached, IsOnRing, RingsAreCycles, RingsStayRings, ReportedRingsAreRings}
 use Rattle.pyc_names.specs.Interfaces.{Interface}
 
 -- ---- equal names
@@ -20,9 +20,9 @@ same_module-same a b = (slice_eq-Decides bytes_eq-Decides a b (same_module a b) 
 -- names of one module that are spelled alike are one name
 pub same_name-is : (a b : QualifiedName) → IsTrue (same_name a b) → a ≡ b
 same_name-is a b same =
-    let parts = and_parts (same_module a.home b.home) (bytes_eq a.name b.name) same in
-    let named : List (List ℕ) → List ℕ → QualifiedName = λ home name. record { home = home; name = name } in
-    ap₂ named (same_module-is a.home b.home parts.0) ((bytes_eq-Decides a.name b.name).0 parts.1)
+    let parts = and_parts (same_module a.module_path b.module_path) (bytes_eq a.name b.name) same in
+    let named : List (List ℕ) → List ℕ → QualifiedName = λ module_path name. record { module_path = module_path; name = name } in
+    ap₂ named (same_module-is a.module_path b.module_path parts.0) ((bytes_eq-Decides a.name b.name).0 parts.1)
 
 -- ---- steps in a row
 
@@ -67,18 +67,18 @@ module _ (files : List Interface) where
   around : (q r : QualifiedName) (n : ℕ) → IsOnRing files q → reached n files q ≡ Some r → IsOnRing files r
   around q r n ring to =
       let back = come_back q ring n in
-      let home : reached (suc back.0) files r ≡ Some q = sym (reached-then n (suc back.0) q r to) ∙ back.1 in
+      let module_path : reached (suc back.0) files r ≡ Some q = sym (reached-then n (suc back.0) q r to) ∙ back.1 in
       let e : suc (back.0 + n) ≡ suc back.0 + n = omega arith in
-      (back.0 + n, ap (λ j. reached j files r) e ∙ reached-then (suc back.0) n r q home ∙ to)
+      (back.0 + n, ap (λ j. reached j files r) e ∙ reached-then (suc back.0) n r q module_path ∙ to)
 
   -- a name that at most so many steps lead to is reached
-  told : (n : ℕ) (to q : QualifiedName) → IsTrue (leads_to n files to q) → (k : ℕ) × (reached (suc k) files q ≡ Some to)
-  told zero to q is = absurd (false≢true is)
-  told (suc n) to q is = elim (step files q) as (λ s. IsTrue (comes_to (leads_to n files to) to s) → (k : ℕ) × (onward (reached k files) s ≡ Some to)) [
+  reported : (n : ℕ) (to q : QualifiedName) → IsTrue (leads_to n files to q) → (k : ℕ) × (reached (suc k) files q ≡ Some to)
+  reported zero to q is = absurd (false≢true is)
+  reported (suc n) to q is = elim (step files q) as (λ s. IsTrue (comes_to (leads_to n files to) to s) → (k : ℕ) × (onward (reached k files) s ≡ Some to)) [
     | ends found ↦ λ is. absurd (false≢true is)
     | leads next ↦ λ is. elim (or_cases (same_name next to) (leads_to n files to next) is) [
       | inl same ↦ (zero, ap Some (same_name-is next to same))
-      | inr later ↦ let rest = told n to next later in (suc rest.0, rest.1)
+      | inr later ↦ let rest = reported n to next later in (suc rest.0, rest.1)
     ]
   ] is
 
@@ -93,7 +93,7 @@ rings_are_cycles files q ring =
 pub rings_stay_rings : RingsStayRings
 rings_stay_rings files q r n ring to = around files q r n ring to
 
--- a name that is told to be on a ring is on one
-pub told_rings_are_rings : ToldRingsAreRings
+-- a name that is reported to be on a ring is on one
+pub reported_rings_are_rings : ReportedRingsAreRings
 unfolding on_ring
-told_rings_are_rings files q is = told files (import_count files) q q is
+reported_rings_are_rings files q is = reported files (import_count files) q q is

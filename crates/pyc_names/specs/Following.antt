@@ -14,7 +14,7 @@ use Rattle.pyc_names.specs.Interfaces.{Interface, file_of}
 
 -- a name of a module
 pub record QualifiedName : Type 0 where
-  pub home : List (List ℕ)
+  pub module_path : List (List ℕ)
   pub name : List ℕ
 
 -- what a name stands for
@@ -40,7 +40,7 @@ pub data Step : Type 0 where
   leads : QualifiedName → Step
 
 abbrev pub same_name : QualifiedName → QualifiedName → Bool
-same_name a b = same_module a.home b.home && bytes_eq a.name b.name
+same_name a b = same_module a.module_path b.module_path && bytes_eq a.name b.name
 
 -- whether a module is there among files
 abbrev pub has_module : List Interface → List (List ℕ) → Bool
@@ -52,7 +52,7 @@ module_referent files m = if has_module files m then module_itself m else no_mod
 
 -- the module that lies under another by a name
 abbrev pub submodule : QualifiedName → List (List ℕ)
-submodule q = q.home ++ (q.name ∷ [])
+submodule q = q.module_path ++ (q.name ∷ [])
 
 -- a name that its module does not bind: its submodule of that name, if it is there
 abbrev pub unbound_referent : List Interface → QualifiedName → Referent
@@ -66,7 +66,7 @@ step_to files q next =
 -- a from-import of a name from a module, or from above the root
 abbrev pub import_step : List Interface → QualifiedName → Option (List (List ℕ)) → List ℕ → Step
 import_step files q None name = ends no_module
-import_step files q (Some m) name = step_to files q (record { home = m; name = name })
+import_step files q (Some m) name = step_to files q (record { module_path = m; name = name })
 
 -- the step from a declaration in a file
 abbrev pub form_step : List Interface → QualifiedName → Interface → BindingForm → Step
@@ -97,12 +97,12 @@ fixed_referent q None = fixed_any
 -- the step from a name of a module that is there; a file that is named as a fixed module never stands in its place
 abbrev pub module_step : List Interface → QualifiedName → Option FixedModule → Step
 module_step files q (Some fixed) = ends (fixed_referent q (fixed_name fixed q.name))
-module_step files q None = file_step files q (file_of files q.home)
+module_step files q None = file_step files q (file_of files q.module_path)
 
 -- the step from a name
 unfoldable pub step : List Interface → QualifiedName → Step
 step files q =
-    if has_module files q.home then module_step files q (fixed_module q.home) else ends no_module
+    if has_module files q.module_path then module_step files q (fixed_module q.module_path) else ends no_module
 
 -- ---- steps in a row
 

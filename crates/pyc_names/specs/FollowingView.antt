@@ -8,7 +8,7 @@ use Rattle.pyc_names.specs.Following.{QualifiedName, Referent, declared, module_
 use Rattle.pyc_names.specs.Following.{no_module, no_name, cycle, Step, ends, leads}
 
 abbrev pub qualified_of : QualifiedNameOf → QualifiedName
-qualified_of q = record { home = q.home; name = q.name }
+qualified_of q = record { module_path = q.module_path; name = q.name }
 
 abbrev pub referent_of : ReferentOf → Referent
 referent_of (r.Declared q) = declared (qualified_of q)

@@ -27,10 +27,10 @@ RingsStayRings =
     (files : List Interface) (q r : QualifiedName) (n : ℕ) → IsOnRing files q → reached n files q ≡ Some r
     → IsOnRing files r
 
--- a name that is told to be on a ring is on one
-abbrev pub ToldRingsAreRings : Type 0
-ToldRingsAreRings = (files : List Interface) (q : QualifiedName) → IsTrue (on_ring files q) → IsOnRing files q
+-- a name that is reported to be on a ring is on one
+abbrev pub ReportedRingsAreRings : Type 0
+ReportedRingsAreRings = (files : List Interface) (q : QualifiedName) → IsTrue (on_ring files q) → IsOnRing files q
 
--- a name that is on a ring is told to be on one
-abbrev pub RingsAreTold : Type 0
-RingsAreTold = (files : List Interface) (q : QualifiedName) → IsOnRing files q → IsTrue (on_ring files q)
+-- a name that is on a ring is reported to be on one
+abbrev pub RingsAreReported : Type 0
+RingsAreReported = (files : List Interface) (q : QualifiedName) → IsOnRing files q → IsTrue (on_ring files q)

@@ -1,7 +1,5 @@
 -- The plain file that one of the code is.
-use Rattle.std.specs.Prelude.{List, map, string_bytes}
-use Rattle.std.specs.declared.alloc.Global.{Global}
-use Rattle.std.specs.declared.rc.Rc.{Rc}
+use Rattle.std.specs.Prelude.{map, string_bytes}
 use Rattle.pyc_ast.specs.Modules.{outcome_of}
 use Rattle.pyc_bindings.specs.BindingView.{binding_of}
 use Rattle.pyc_bindings.specs.RedefinitionView.{redefinition_of}
@@ -21,7 +19,3 @@ source_in file =
       again = map redefinition_of file.again.items;
       classes = map declared_class_in file.interface.value.classes.items;
     }
-
--- the plain files that shared ones are
-abbrev pub sources_in : List (Rc SourceFileOf Global) → List SourceFile
-sources_in files = map (λ file. source_in file.value) files

@@ -20,10 +20,10 @@ pub fn named_module(
     ensures { IfOk result (λ name. name ≡ spec.named_module is_package own.now dots path.now) }
 {
     if dots == 0 {
-        return Ok(Some(joined(alloc, &[], path)?));
+        return Ok(Some(module_of_parts(alloc, &[], path)?));
     }
     match package_at(own.parts(), is_package, dots - 1) {
-        Some(base) => Ok(Some(joined(alloc, base, path)?)),
+        Some(base) => Ok(Some(module_of_parts(alloc, base, path)?)),
         None => Ok(None),
     }
 }
@@ -42,7 +42,11 @@ fn package_at(own: &[Text], is_package: bool, levels: usize) -> Option<&[Text]>
 }
 
 /// The module with these parts as its name, one after another. The only error is that memory runs out.
-pub fn joined(alloc: Global, base: &[Text], path: &[Text]) -> Result<ModuleName, AllocError>
+pub fn module_of_parts(
+    alloc: Global,
+    base: &[Text],
+    path: &[Text],
+) -> Result<ModuleName, AllocError>
     ensures { IfOk result (λ name. name ≡ base.now ++ path.now) }
 {
     let mut parts = Vec::new(alloc);

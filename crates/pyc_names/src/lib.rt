@@ -7,16 +7,14 @@ mod interface;
 pub mod laws;
 mod module_name;
 mod outer_modules;
-mod presence;
 mod qualified_name;
 mod source_file;
 mod table;
 
 pub use fixed::{FixedModule, FixedName, fixed_module, fixed_name};
-pub use imports::{joined, named_module};
+pub use imports::{module_of_parts, named_module};
 pub use interface::Interface;
 pub use module_name::ModuleName;
-pub use presence::is_there;
 pub use qualified_name::{QualifiedName, Referent};
 pub use source_file::SourceFile;
 pub use table::Table;

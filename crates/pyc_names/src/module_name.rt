@@ -49,7 +49,7 @@ impl ModuleName {
 impl Clone for ModuleName {
     ghost is_clone = { λ name copy. copy ≡ name };
 
-    /// The same name, whose parts are shared. The only error is that memory runs out.
+    /// A clone shares the parts of the name. The only error is that memory runs out.
     fn clone(&self) -> Result<ModuleName, AllocError> {
         Ok(ModuleName {
             parts: self.parts.clone()?,

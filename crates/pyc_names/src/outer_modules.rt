@@ -7,7 +7,7 @@ ghost use Rattle.pyc_names.specs.ModuleName.{same_module};
 ghost use Rattle.pyc_names.specs.Presence.{is_within};
 ghost use Rattle.pyc_names.specs.InterfaceView.{interfaces_in};
 
-use crate::imports::joined;
+use crate::imports::module_of_parts;
 use crate::interface::Interface;
 use indexmap::IndexSet;
 use pyc_ast::Text;
@@ -56,7 +56,7 @@ fn insert_module(
     if outer.contains(parts) {
         return Ok(());
     }
-    let name = joined(alloc, &[], parts)?;
+    let name = module_of_parts(alloc, &[], parts)?;
     outer.insert(name.parts)?;
     Ok(())
 }

@@ -11,7 +11,7 @@ use std::alloc::AllocError;
 /// A name of a module: the module, and the name in it.
 #[derive(Debug, Drop)]
 pub struct QualifiedName {
-    pub home: ModuleName,
+    pub module_path: ModuleName,
     pub name: Text,
 }
 
@@ -46,17 +46,17 @@ impl QualifiedName {
     pub fn is_same(&self, other: &QualifiedName) -> bool
         ensures { result ≡ same_name (qualified_of self.now) (qualified_of other.now) }
     {
-        self.home == other.home && self.name == other.name
+        self.module_path == other.module_path && self.name == other.name
     }
 }
 
 impl Clone for QualifiedName {
     ghost is_clone = { λ q copy. qualified_of copy ≡ qualified_of q };
 
-    /// The same name, whose parts are shared. The only error is that memory runs out.
+    /// A clone shares the parts of the name. The only error is that memory runs out.
     fn clone(&self) -> Result<QualifiedName, AllocError> {
         Ok(QualifiedName {
-            home: self.home.clone()?,
+            module_path: self.module_path.clone()?,
             name: self.name.clone()?,
         })
     }

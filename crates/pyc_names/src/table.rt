@@ -15,7 +15,7 @@ ghost use Rattle.indexmap.specs.IndexMap.{get_by};
 ghost use Rattle.indexmap.specs.IndexSet.{contains_by};
 
 use crate::fixed::{FixedName, fixed_module, fixed_name};
-use crate::imports::{joined, named_module};
+use crate::imports::{module_of_parts, named_module};
 use crate::interface::Interface;
 use crate::module_name::ModuleName;
 use crate::outer_modules::outer_modules;
@@ -127,7 +127,7 @@ impl Table {
     fn step(&self, alloc: Global, q: &QualifiedName) -> Result<Step, AllocError>
         ensures { IfOk result (λ found. step_of found ≡ spec.step (table_in self.now) (qualified_of q.now)) }
     {
-        if !self.has_module(q.home.parts()) {
+        if !self.has_module(q.module_path.parts()) {
             return Ok(Step::Ends(Referent::NoModule));
         }
         self.module_step(alloc, q)
@@ -136,9 +136,9 @@ impl Table {
     /// The step from a name of a module that is there.
     fn module_step(&self, alloc: Global, q: &QualifiedName) -> Result<Step, AllocError>
         ensures { IfOk result (λ found. step_of found
-            ≡ spec.module_step (table_in self.now) (qualified_of q.now) (fixed_module_of q.now.home)) }
+            ≡ spec.module_step (table_in self.now) (qualified_of q.now) (fixed_module_of q.now.module_path)) }
     {
-        match fixed_module(q.home.parts()) {
+        match fixed_module(q.module_path.parts()) {
             Some(fixed) => Ok(Step::Ends(fixed_referent(q, fixed_name(fixed, q.name.as_str()))?)),
             None => self.file_step(alloc, q),
         }
@@ -148,9 +148,9 @@ impl Table {
     fn file_step(&self, alloc: Global, q: &QualifiedName) -> Result<Step, AllocError>
         ensures { IfOk result (λ found. step_of found
             ≡ spec.file_step (table_in self.now) (qualified_of q.now)
-            (file_of (table_in self.now) q.now.home)) }
+            (file_of (table_in self.now) q.now.module_path)) }
     {
-        match self.file(q.home.parts()) {
+        match self.file(q.module_path.parts()) {
             Some(file) => self.source_step(alloc, q, file),
             None => Ok(Step::Ends(self.unbound_referent(alloc, q)?)),
         }
@@ -205,14 +205,14 @@ impl Table {
     {
         match form {
             BindingForm::ImportFrom(from, name) => {
-                let home = named_module(
+                let module_path = named_module(
                     alloc,
                     file.name(),
                     file.is_package(),
                     from.dots,
                     &from.path,
                 )?;
-                self.import_step(alloc, q, home, name)
+                self.import_step(alloc, q, module_path, name)
             }
             BindingForm::Import(imported) => {
                 Ok(Step::Ends(self.module_referent(alloc, &imported.path)?))
@@ -229,18 +229,18 @@ impl Table {
         &self,
         alloc: Global,
         q: &QualifiedName,
-        home: Option<ModuleName>,
+        module_path: Option<ModuleName>,
         name: &Text,
     ) -> Result<Step, AllocError>
         ensures { IfOk result (λ found. step_of found
-            ≡ spec.import_step (table_in self.now) (qualified_of q.now) home name.now) }
+            ≡ spec.import_step (table_in self.now) (qualified_of q.now) module_path name.now) }
     {
-        match home {
-            Some(home) => self.step_to(
+        match module_path {
+            Some(module_path) => self.step_to(
                 alloc,
                 q,
                 QualifiedName {
-                    home,
+                    module_path,
                     name: name.clone()?,
                 },
             ),
@@ -259,7 +259,7 @@ impl Table {
             ≡ spec.step_to (table_in self.now) (qualified_of q.now) (qualified_of next)) }
     {
         if next.is_same(q) {
-            let under = joined(alloc, q.home.parts(), slice::from_ref(&q.name))?;
+            let under = module_of_parts(alloc, q.module_path.parts(), slice::from_ref(&q.name))?;
             if self.has_module(under.parts()) {
                 return Ok(Step::Ends(Referent::Module(under)));
             }
@@ -272,7 +272,7 @@ impl Table {
         ensures { IfOk result (λ found. referent_of found
             ≡ spec.unbound_referent (table_in self.now) (qualified_of q.now)) }
     {
-        let under = joined(alloc, q.home.parts(), slice::from_ref(&q.name))?;
+        let under = module_of_parts(alloc, q.module_path.parts(), slice::from_ref(&q.name))?;
         if self.has_module(under.parts()) {
             Ok(Referent::Module(under))
         } else {
@@ -286,7 +286,7 @@ impl Table {
             ≡ spec.module_referent (table_in self.now) parts.now) }
     {
         if self.has_module(parts) {
-            Ok(Referent::Module(joined(alloc, &[], parts)?))
+            Ok(Referent::Module(module_of_parts(alloc, &[], parts)?))
         } else {
             Ok(Referent::NoModule)
         }

@@ -7,52 +7,52 @@ ghost use Rattle.pyc_ast.specs.ExprView.{expr_of, element_of};
 ghost use Rattle.pyc_narrowing.specs.Splitting as spec;
 ghost use Rattle.pyc_obligations.specs.Judging.{classes_asked};
 ghost use Rattle.pyc_places.specs.StateView.{state_of};
-ghost use Rattle.pyc_reading.specs.Desks.{Performs};
+ghost use Rattle.pyc_reading.specs.Traces.{Performs};
 ghost use Rattle.pyc_type_forms.specs.TypeView.{ty_of};
 
-use crate::looking::{Looks, looked};
+use crate::looking::{InferOperand, look_quietly};
 use pyc_ast::{Element, Expr, Form};
-use pyc_class::ClassId;
-use pyc_obligations::{Judge, ask_class};
+use pyc_class_ids::ClassId;
+use pyc_obligations::{AskTypes, ask_class};
 use pyc_places::State;
 use pyc_type_forms::Ty;
 use std::alloc::{AllocError, Global};
 
 /// The classes of a tuple display of class objects, or of one class object; none where something is no class object.
 /// The only error is that memory runs out.
-pub(crate) fn classes_at<N: Judge, L: Looks<N>>(
+pub(crate) fn classes_at<N: AskTypes, L: InferOperand<N>>(
     alloc: Global,
-    notes: &mut N,
+    recorder: &mut N,
     looks: &L,
     state: &State,
     e: &Expr,
 ) -> Result<Option<Vec<ClassId>>, AllocError>
     requires { L.ready looks.now }
     ensures { Performs (option_map (λ (classes : Vec ClassId Global). classes.items))
-        (spec.classes_at (L.looks looks.now) (state_of state.now) (expr_of e.now)) (N.desk notes.old) result
-        (N.desk notes.new) }
+        (spec.classes_at (L.looks looks.now) (state_of state.now) (expr_of e.now)) (N.trace recorder.old) result
+        (N.trace recorder.new) }
 {
     match &e.form {
-        Form::Tuple(items) => item_classes(alloc, notes, looks, state, items),
-        _ => one_class(alloc, notes, looks, state, e),
+        Form::Tuple(items) => item_classes(alloc, recorder, looks, state, items),
+        _ => one_class(alloc, recorder, looks, state, e),
     }
 }
 
 /// The class of one class object.
 #[tactic(auto, using(pyc_obligations::proofs::Steps::performing), unfolding(crate::specs::Splitting::one_class))]
-fn one_class<N: Judge, L: Looks<N>>(
+fn one_class<N: AskTypes, L: InferOperand<N>>(
     alloc: Global,
-    notes: &mut N,
+    recorder: &mut N,
     looks: &L,
     state: &State,
     e: &Expr,
 ) -> Result<Option<Vec<ClassId>>, AllocError>
     requires { L.ready looks.now }
     ensures { Performs (option_map (λ (classes : Vec ClassId Global). classes.items))
-        (spec.one_class (L.looks looks.now) (state_of state.now) (expr_of e.now)) (N.desk notes.old) result
-        (N.desk notes.new) }
+        (spec.one_class (L.looks looks.now) (state_of state.now) (expr_of e.now)) (N.trace recorder.old) result
+        (N.trace recorder.new) }
 {
-    let class = class_at(alloc, notes, looks, state, e)?;
+    let class = class_at(alloc, recorder, looks, state, e)?;
     just(alloc, class)
 }
 
@@ -72,9 +72,9 @@ fn just(alloc: Global, class: Option<ClassId>) -> Result<Option<Vec<ClassId>>, A
 
 /// The classes of items that are all class objects, in turn.
 #[tactic(auto, using(pyc_obligations::proofs::Steps::performing), unfolding(crate::specs::Splitting::more_classes))]
-fn item_classes<N: Judge, L: Looks<N>>(
+fn item_classes<N: AskTypes, L: InferOperand<N>>(
     alloc: Global,
-    notes: &mut N,
+    recorder: &mut N,
     looks: &L,
     state: &State,
     items: &[Element],
@@ -82,11 +82,11 @@ fn item_classes<N: Judge, L: Looks<N>>(
     requires { L.ready looks.now }
     ensures { Performs (option_map (λ (classes : Vec ClassId Global). classes.items))
         (spec.more_classes (L.looks looks.now) (state_of state.now) [] (elements (map element_of items.now)))
-        (N.desk notes.old) result (N.desk notes.new) }
+        (N.trace recorder.old) result (N.trace recorder.new) }
 {
     let mut classes = Vec::with_capacity(alloc, items.len())?;
     for item in items {
-        match item_class(alloc, notes, looks, state, item)? {
+        match item_class(alloc, recorder, looks, state, item)? {
             Some(class) => classes.push(class)?,
             None => return Ok(None),
         }
@@ -95,40 +95,40 @@ fn item_classes<N: Judge, L: Looks<N>>(
 }
 
 /// The class that an item of a tuple is, if it is a class object: one after `*` is none, and is not looked at.
-fn item_class<N: Judge, L: Looks<N>>(
+fn item_class<N: AskTypes, L: InferOperand<N>>(
     alloc: Global,
-    notes: &mut N,
+    recorder: &mut N,
     looks: &L,
     state: &State,
     item: &Element,
 ) -> Result<Option<ClassId>, AllocError>
     requires { L.ready looks.now }
     ensures { Performs (λ class. class)
-        (spec.item_class (L.looks looks.now) (state_of state.now) (element_of item.now)) (N.desk notes.old) result
-        (N.desk notes.new) }
+        (spec.item_class (L.looks looks.now) (state_of state.now) (element_of item.now)) (N.trace recorder.old) result
+        (N.trace recorder.new) }
 {
     if item.is_starred {
         Ok(None)
     } else {
-        class_at(alloc, notes, looks, state, &item.value)
+        class_at(alloc, recorder, looks, state, &item.value)
     }
 }
 
 /// The class that an expression is, if it is a class object.
 #[tactic(auto, using(pyc_obligations::proofs::Steps::performing), unfolding(crate::specs::Splitting::class_at))]
-fn class_at<N: Judge, L: Looks<N>>(
+fn class_at<N: AskTypes, L: InferOperand<N>>(
     alloc: Global,
-    notes: &mut N,
+    recorder: &mut N,
     looks: &L,
     state: &State,
     e: &Expr,
 ) -> Result<Option<ClassId>, AllocError>
     requires { L.ready looks.now }
     ensures { Performs (λ class. class)
-        (spec.class_at (L.looks looks.now) (state_of state.now) (expr_of e.now)) (N.desk notes.old) result
-        (N.desk notes.new) }
+        (spec.class_at (L.looks looks.now) (state_of state.now) (expr_of e.now)) (N.trace recorder.old) result
+        (N.trace recorder.new) }
 {
-    let found = looked(alloc, notes, looks, state, e)?;
+    let found = look_quietly(alloc, recorder, looks, state, e)?;
     class_in(&found.ty)
 }
 
@@ -144,15 +144,15 @@ fn class_in(ty: &Ty) -> Result<Option<ClassId>, AllocError>
 
 /// Asks the orders of classes, in turn. The only error is that memory runs out.
 #[tactic(auto, using(pyc_obligations::proofs::Steps::performing))]
-pub(crate) fn ask_classes<N: Judge>(
+pub(crate) fn ask_classes<N: AskTypes>(
     alloc: Global,
-    notes: &mut N,
+    recorder: &mut N,
     classes: &[ClassId],
 ) -> Result<(), AllocError>
-    ensures { Performs (λ u. u) (classes_asked classes.now) (N.desk notes.old) result (N.desk notes.new) }
+    ensures { Performs (λ u. u) (classes_asked classes.now) (N.trace recorder.old) result (N.trace recorder.new) }
 {
     for class in classes {
-        ask_class(alloc, notes, class)?;
+        ask_class(alloc, recorder, class)?;
     }
     Ok(())
 }

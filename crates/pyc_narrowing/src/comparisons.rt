@@ -8,55 +8,62 @@ ghost use Rattle.pyc_narrowing.specs.SplitStates as states;
 ghost use Rattle.pyc_narrowing.specs.SplitView.{states_of};
 ghost use Rattle.pyc_places.specs.Places.{place_of};
 ghost use Rattle.pyc_places.specs.StateView.{state_of};
-ghost use Rattle.pyc_reading.specs.Desks.{Performs};
+ghost use Rattle.pyc_reading.specs.Traces.{Performs};
 ghost use Rattle.pyc_type_forms.specs.TypeView.{ty_of};
 
 use crate::literals::is_none_literal;
-use crate::looking::{Looks, looked};
+use crate::looking::{InferOperand, look_quietly};
 use crate::narrowed::none_states;
-use crate::split_states::{States, in_sense, unchanged};
+use crate::split_states::{SplitStates, in_sense, unchanged};
 use pyc_ast::{Comparison, ComparisonOperator, Expr};
-use pyc_obligations::Judge;
+use pyc_obligations::AskTypes;
 use pyc_places::{Place, State, place_of};
 use pyc_type_forms::Ty;
 use std::alloc::{AllocError, Global};
 
 /// Comparisons: a chain says nothing. The only error is that memory runs out.
-pub(crate) fn comparison_states<N: Judge, L: Looks<N>>(
+pub(crate) fn comparison_states<N: AskTypes, L: InferOperand<N>>(
     alloc: Global,
-    notes: &mut N,
+    recorder: &mut N,
     looks: &L,
     state: &State,
     left: &Expr,
     rest: &[Comparison],
-) -> Result<States, AllocError>
+) -> Result<SplitStates, AllocError>
     requires { L.ready looks.now }
     ensures { Performs states_of
         (spec.comparison_rule (L.looks looks.now) (state_of state.now) (expr_of left.now)
-        (comparisons (map comparison_of rest.now))) (N.desk notes.old) result (N.desk notes.new) }
+        (comparisons (map comparison_of rest.now))) (N.trace recorder.old) result (N.trace recorder.new) }
 {
     match rest {
-        [found] => one_comparison(alloc, notes, looks, state, left, found),
+        [found] => one_comparison(alloc, recorder, looks, state, left, found),
         _ => Ok(unchanged(state)?),
     }
 }
 
 /// One comparison, which says nothing where its right side is not the literal None.
-fn one_comparison<N: Judge, L: Looks<N>>(
+fn one_comparison<N: AskTypes, L: InferOperand<N>>(
     alloc: Global,
-    notes: &mut N,
+    recorder: &mut N,
     looks: &L,
     state: &State,
     left: &Expr,
     found: &Comparison,
-) -> Result<States, AllocError>
+) -> Result<SplitStates, AllocError>
     requires { L.ready looks.now }
     ensures { Performs states_of
         (spec.one_comparison (L.looks looks.now) (state_of state.now) (expr_of left.now) (comparison_of found.now))
-        (N.desk notes.old) result (N.desk notes.new) }
+        (N.trace recorder.old) result (N.trace recorder.new) }
 {
     if is_none_literal(&found.right) {
-        compared_with_none(alloc, notes, looks, state, left, sense_of(found.operator))
+        compared_with_none(
+            alloc,
+            recorder,
+            looks,
+            state,
+            left,
+            sense_of(found.operator),
+        )
     } else {
         unchanged(state)
     }
@@ -74,81 +81,81 @@ fn sense_of(operator: ComparisonOperator) -> Option<bool>
 }
 
 /// What is compared with None, by the operator's sense.
-fn compared_with_none<N: Judge, L: Looks<N>>(
+fn compared_with_none<N: AskTypes, L: InferOperand<N>>(
     alloc: Global,
-    notes: &mut N,
+    recorder: &mut N,
     looks: &L,
     state: &State,
     left: &Expr,
     sense: Option<bool>,
-) -> Result<States, AllocError>
+) -> Result<SplitStates, AllocError>
     requires { L.ready looks.now }
     ensures { Performs states_of
         (spec.compared_with_none (L.looks looks.now) (state_of state.now) (expr_of left.now) sense)
-        (N.desk notes.old) result (N.desk notes.new) }
+        (N.trace recorder.old) result (N.trace recorder.new) }
 {
     match sense {
-        Some(sense) => in_a_sense(alloc, notes, looks, state, left, sense),
+        Some(sense) => in_a_sense(alloc, recorder, looks, state, left, sense),
         None => unchanged(state),
     }
 }
 
 /// What is compared with None in this sense: it says nothing where it is no place.
-fn in_a_sense<N: Judge, L: Looks<N>>(
+fn in_a_sense<N: AskTypes, L: InferOperand<N>>(
     alloc: Global,
-    notes: &mut N,
+    recorder: &mut N,
     looks: &L,
     state: &State,
     left: &Expr,
     sense: bool,
-) -> Result<States, AllocError>
+) -> Result<SplitStates, AllocError>
     requires { L.ready looks.now }
     ensures { Performs states_of
         (spec.sense_rule (L.looks looks.now) (state_of state.now) sense (expr_of left.now)
-        (place_of (expr_of left.now))) (N.desk notes.old) result (N.desk notes.new) }
+        (place_of (expr_of left.now))) (N.trace recorder.old) result (N.trace recorder.new) }
 {
     let place = place_of(alloc, left)?;
-    by_place(alloc, notes, looks, state, left, sense, &place)
+    split_by_place(alloc, recorder, looks, state, left, sense, &place)
 }
 
-/// The same, by the place that it is.
-fn by_place<N: Judge, L: Looks<N>>(
+/// A comparison of `left` with None in `sense`, where `left` is some `place`. Without a place it says nothing.
+fn split_by_place<N: AskTypes, L: InferOperand<N>>(
     alloc: Global,
-    notes: &mut N,
+    recorder: &mut N,
     looks: &L,
     state: &State,
     left: &Expr,
     sense: bool,
     place: &Option<Place>,
-) -> Result<States, AllocError>
+) -> Result<SplitStates, AllocError>
     requires { L.ready looks.now }
     ensures { Performs states_of
         (spec.sense_rule (L.looks looks.now) (state_of state.now) sense (expr_of left.now) place.now)
-        (N.desk notes.old) result (N.desk notes.new) }
+        (N.trace recorder.old) result (N.trace recorder.new) }
 {
     match place {
-        Some(place) => place_with_none(alloc, notes, looks, state, left, sense, place),
+        Some(place) => place_with_none(alloc, recorder, looks, state, left, sense, place),
         None => unchanged(state),
     }
 }
 
 /// A place that is compared with None.
 #[tactic(auto, using(pyc_obligations::proofs::Steps::performing), unfolding(crate::specs::Splitting::none_rule))]
-fn place_with_none<N: Judge, L: Looks<N>>(
+fn place_with_none<N: AskTypes, L: InferOperand<N>>(
     alloc: Global,
-    notes: &mut N,
+    recorder: &mut N,
     looks: &L,
     state: &State,
     left: &Expr,
     sense: bool,
     place: &Place,
-) -> Result<States, AllocError>
+) -> Result<SplitStates, AllocError>
     requires { L.ready looks.now }
     ensures { Performs states_of
         (spec.none_rule (L.looks looks.now) (state_of state.now) sense place.now (expr_of left.now))
-        (N.desk notes.old) result (N.desk notes.new) }
+        (N.trace recorder.old) result (N.trace recorder.new) }
 {
-    let found = looked(alloc, notes, looks, state, left)?;
+    let found = look_quietly(alloc, recorder, looks, state, left)?;
     none_in_sense(alloc, state, sense, place, &found.ty)
 }
 
@@ -159,7 +166,7 @@ fn none_in_sense(
     sense: bool,
     place: &Place,
     ty: &Ty,
-) -> Result<States, AllocError>
+) -> Result<SplitStates, AllocError>
     ensures { IfOk result (λ found. states_of found
         ≡ states.in_sense sense (states.none_states (state_of state.now) place.now (ty_of ty.now))) }
 {

@@ -11,6 +11,6 @@ mod split_states;
 mod splitting;
 mod truth;
 
-pub use looking::Looks;
-pub use split_states::States;
+pub use looking::InferOperand;
+pub use split_states::SplitStates;
 pub use splitting::split;

@@ -7,13 +7,13 @@ ghost use Rattle.pyc_narrowing.specs.Splitting.{is_none_constant, is_none_litera
 ghost use Rattle.pyc_narrowing.specs.SplitView.{states_of};
 ghost use Rattle.pyc_places.specs.StateView.{state_of};
 
-use crate::split_states::{States, always, never, unchanged};
+use crate::split_states::{SplitStates, always, never, unchanged};
 use pyc_ast::{Constant, Expr, Form};
 use pyc_places::State;
 use std::alloc::AllocError;
 
 /// What a literal says. The only error is that memory runs out.
-pub(crate) fn literal_states(state: &State, found: Constant) -> Result<States, AllocError>
+pub(crate) fn literal_states(state: &State, found: Constant) -> Result<SplitStates, AllocError>
     ensures { IfOk result (λ states. states_of states ≡ spec.literal_states (state_of state.now) found) }
 {
     match found {
@@ -25,7 +25,7 @@ pub(crate) fn literal_states(state: &State, found: Constant) -> Result<States, A
 }
 
 /// What a digit says.
-fn digit_states(state: &State, digit: Option<u8>) -> Result<States, AllocError>
+fn digit_states(state: &State, digit: Option<u8>) -> Result<SplitStates, AllocError>
     ensures { IfOk result (λ states. states_of states ≡ spec.digit_states (state_of state.now) digit) }
 {
     match digit {

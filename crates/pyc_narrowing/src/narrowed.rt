@@ -7,14 +7,14 @@ ghost use Rattle.pyc_narrowing.specs.SplitView.{states_of};
 ghost use Rattle.pyc_places.specs.StateView.{state_of};
 ghost use Rattle.pyc_type_forms.specs.TypeView.{ty_of};
 
-use crate::split_states::States;
-use pyc_class::{BuiltinClass, ClassId, Lins};
+use crate::split_states::SplitStates;
+use pyc_class_ids::{BuiltinClass, ClassId, Lins};
 use pyc_places::{Place, State};
 use pyc_type_forms::{Ty, items_of, narrow_away, narrow_to, same_type, without_none};
 use std::alloc::{AllocError, Global};
 
 /// A state in which what is left of the type of a place is this. The only error is that memory runs out.
-fn narrowed_state(
+fn narrow_state(
     alloc: Global,
     state: &State,
     place: &Place,
@@ -22,16 +22,16 @@ fn narrowed_state(
     left: Option<Ty>,
 ) -> Result<State, AllocError>
     ensures { IfOk result (λ narrowed. state_of narrowed
-        ≡ spec.narrowed_state (state_of state.now) place.now (ty_of ty.now) (option_map ty_of left)) }
+        ≡ spec.narrow_state (state_of state.now) place.now (ty_of ty.now) (option_map ty_of left)) }
 {
     match left {
-        Some(left) => narrowed_to(alloc, state, place, ty, left),
+        Some(left) => narrow_state_to(alloc, state, place, ty, left),
         None => Ok(State::Unreachable),
     }
 }
 
-/// The same where something is left.
-fn narrowed_to(
+/// The state after `place`, whose type is `ty`, is narrowed to `left`.
+fn narrow_state_to(
     alloc: Global,
     state: &State,
     place: &Place,
@@ -39,7 +39,7 @@ fn narrowed_to(
     left: Ty,
 ) -> Result<State, AllocError>
     ensures { IfOk result (λ narrowed. state_of narrowed
-        ≡ spec.narrowed_state (state_of state.now) place.now (ty_of ty.now) (Some (ty_of left))) }
+        ≡ spec.narrow_state (state_of state.now) place.now (ty_of ty.now) (Some (ty_of left))) }
 {
     if same_type(&left, ty) {
         state.clone()
@@ -54,12 +54,12 @@ pub(crate) fn truth_states(
     state: &State,
     place: &Place,
     ty: &Ty,
-) -> Result<States, AllocError>
+) -> Result<SplitStates, AllocError>
     ensures { IfOk result (λ states. states_of states
         ≡ spec.truth_states (state_of state.now) place.now (ty_of ty.now)) }
 {
-    Ok(States {
-        if_true: narrowed_state(alloc, state, place, ty, without_none(alloc, ty)?)?,
+    Ok(SplitStates {
+        if_true: narrow_state(alloc, state, place, ty, without_none(alloc, ty)?)?,
         if_false: state.clone()?,
     })
 }
@@ -70,13 +70,13 @@ pub(crate) fn none_states(
     state: &State,
     place: &Place,
     ty: &Ty,
-) -> Result<States, AllocError>
+) -> Result<SplitStates, AllocError>
     ensures { IfOk result (λ states. states_of states
         ≡ spec.none_states (state_of state.now) place.now (ty_of ty.now)) }
 {
-    Ok(States {
-        if_true: narrowed_state(alloc, state, place, ty, none_of(alloc, ty)?)?,
-        if_false: narrowed_state(alloc, state, place, ty, without_none(alloc, ty)?)?,
+    Ok(SplitStates {
+        if_true: narrow_state(alloc, state, place, ty, none_of(alloc, ty)?)?,
+        if_false: narrow_state(alloc, state, place, ty, without_none(alloc, ty)?)?,
     })
 }
 
@@ -88,15 +88,15 @@ pub(crate) fn instance_states<O: Lins>(
     place: &Place,
     ty: &Ty,
     classes: &[ClassId],
-) -> Result<States, AllocError>
+) -> Result<SplitStates, AllocError>
     ensures { IfOk result (λ states. states_of states
         ≡ spec.instance_states (O.orders lins.now) (state_of state.now) place.now (ty_of ty.now) classes.now) }
 {
     let within = narrow_to(alloc, lins, ty, classes)?;
     let outside = narrow_away(alloc, lins, ty, classes)?;
-    Ok(States {
-        if_true: narrowed_state(alloc, state, place, ty, within)?,
-        if_false: narrowed_state(alloc, state, place, ty, outside)?,
+    Ok(SplitStates {
+        if_true: narrow_state(alloc, state, place, ty, within)?,
+        if_false: narrow_state(alloc, state, place, ty, outside)?,
     })
 }
 

@@ -2,12 +2,12 @@
 use Rattle.std.proofs.Common.{◌≡◌, Bool, true, false, ◌||◌, List, [], ◌∷◌, map, inl, inr, refl, ap, ◌∙◌, subst}
 use Rattle.std.specs.List.{list_any}
 use Rattle.std.proofs.lemmas.Bool.{false≢true, or_cases, or_left, or_right}
-use Rattle.pyc_builtins.specs.Orders.{builtin_order, builtin_orders}
-use Rattle.pyc_class.specs.declared.builtin_class.BuiltinClass.{BuiltinClass}
-use Rattle.pyc_class.specs.declared.builtin_class.BuiltinClass.TheVariants as class
-use Rattle.pyc_class.specs.Class.{Id, builtin, same_class}
-use Rattle.pyc_class.specs.Order.{leads}
-use Rattle.pyc_classes.proofs.BuiltinLemmas.{same_class-is}
+use Rattle.pyc_builtins.specs.MroTable.{builtin_order, builtin_orders}
+use Rattle.pyc_class_ids.specs.declared.builtin_class.BuiltinClass.{BuiltinClass}
+use Rattle.pyc_class_ids.specs.declared.builtin_class.BuiltinClass.TheVariants as class
+use Rattle.pyc_class_ids.specs.Class.{Id, builtin, same_class}
+use Rattle.pyc_class_ids.specs.Mro.{leads}
+use Rattle.pyc_class_table.proofs.BuiltinLemmas.{same_class-is}
 use Rattle.pyc_narrowing_laws.specs.TypeLaws.{BuiltinValuesMeetThePremises, RulesLoseValues}
 
 -- each class of a row has the rest of the row as its order, itself at the front

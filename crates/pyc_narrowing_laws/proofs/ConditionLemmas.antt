@@ -13,49 +13,49 @@ use Rattle.pyc_ast.specs.declared.operator.UnaryOperator.TheVariants as changes
 use Rattle.pyc_ast.specs.declared.position.Position.{Position}
 use Rattle.pyc_ast.specs.Exprs.{Expr, expr, Form, call, unary, boolean, compare, Argument, argument, Arguments, no_argument, another_argument, comparison, Comparison, Comparisons, no_comparison, another_comparison}
 use Rattle.pyc_ast.specs.Exprs as form
-use Rattle.pyc_class.specs.Class.{Id}
-use Rattle.pyc_class.specs.Order.{Orders}
+use Rattle.pyc_class_ids.specs.Class.{Id}
+use Rattle.pyc_class_ids.specs.Mro.{MroTable}
 use Rattle.pyc_names.specs.declared.fixed.FixedName.TheVariants as fixed
-use Rattle.pyc_narrowing.specs.SplitStates.{States, unchanged, always, never, literal_states, digit_states, truth_states, none_of, none_states, in_sense, swapped, and_states, or_states, instance_states}
-use Rattle.pyc_narrowing.specs.Splitting.{Looks, Splits, looked, classes_at, split, form_rule, unary_rule, boolean_rule, place_rule, truth_rule, valued, comparison_rule, one_comparison, compared_with_none, sense_rule, none_rule, is_none_literal, sense_of, call_rule, two_arguments, is_positional, pair_rule, callee_rule, called, isinstance_rule, test_by}
+use Rattle.pyc_narrowing.specs.SplitStates.{SplitStates, unchanged, always, never, literal_states, digit_states, truth_states, none_of, none_states, in_sense, swapped, and_states, or_states, instance_states}
+use Rattle.pyc_narrowing.specs.Splitting.{InferOperand, Splits, look_quietly, classes_at, split, form_rule, unary_rule, boolean_rule, place_rule, truth_rule, split_typed_place, comparison_rule, one_comparison, compared_with_none, sense_rule, none_rule, is_none_literal, sense_of, call_rule, two_arguments, is_positional, pair_rule, callee_rule, call_result, isinstance_rule, test_by}
 use Rattle.pyc_narrowing_laws.specs.ConditionLaws.{SplitKeeps}
-use Rattle.pyc_narrowing_laws.specs.TestLaws.{state_where, MeetsWhere, IsTold}
+use Rattle.pyc_narrowing_laws.specs.TestLaws.{state_where, MeetsWhere, IsReported}
 use Rattle.pyc_narrowing_laws.specs.Conditions.{DigitComesTo, LiteralComesTo, TruthComesTo, PlaceComesTo, ComparisonComesTo, two_given, CallComesTo, UnaryComesTo, BooleanComesTo, right_state, ComesTo, FormComesTo, LooksRightly, found_at, states_after}
 use Rattle.pyc_narrowing_laws.specs.StateLaws.{Values, Meets}
 use Rattle.pyc_narrowing_laws.specs.Values.{Value, is_none_value, is_of}
 use Rattle.pyc_narrowing_laws.proofs.ReadingLemmas.{then_result, not_result, and_result, or_result, test_result}
 use Rattle.pyc_narrowing_laws.proofs.StateLemmas.{left-met, right-met}
 use Rattle.pyc_narrowing_laws.proofs.TestLemmas.{truth_keeps, comparison_keeps, instance_test_keeps}
-use Rattle.pyc_obligations.specs.Values.{Thing, plain_thing, fixed_thing, reveal_type_thing, isinstance_thing}
+use Rattle.pyc_obligations.specs.Values.{SpecialForm, plain_special_form, fixed_special_form, reveal_type_special_form, isinstance_special_form}
 use Rattle.pyc_obligations.specs.Values as found
 use Rattle.pyc_places.specs.Places.{Place, place_of}
 use Rattle.pyc_places.specs.States.{State, unreachable, reachable}
 use Rattle.pyc_reading.specs.Answers.{Answer}
-use Rattle.pyc_reading.specs.Desks.{Step}
+use Rattle.pyc_reading.specs.Traces.{Step}
 use Rattle.pyc_reading.specs.Keys.{Key}
 use Rattle.pyc_reading.specs.Owing.{orders_by}
 use Rattle.pyc_reading.specs.Readings.{Done, and_then, result_of}
 use Rattle.pyc_type_forms.specs.Types.{Ty}
 
-swapped-where : (b : Bool) (found : States) → state_where b (swapped found) ≡ state_where (not b) found
+swapped-where : (b : Bool) (found : SplitStates) → state_where b (swapped found) ≡ state_where (not b) found
 swapped-where true found = refl
 swapped-where false found = refl
 
-sense-where : (b sense : Bool) (found : States) → state_where b (in_sense sense found) ≡ state_where (if sense then b else not b) found
+sense-where : (b sense : Bool) (found : SplitStates) → state_where b (in_sense sense found) ≡ state_where (if sense then b else not b) found
 sense-where b true found = refl
 sense-where b false found = swapped-where b found
 
-module _ (answers : Key → Answer) (look : Looks) (values : Values) where
-  abbrev orders : Orders
+module _ (answers : Key → Answer) (look : InferOperand) (values : Values) where
+  abbrev orders : MroTable
   orders = orders_by answers
 
   abbrev Met : State → Type 0
   Met = Meets orders values
 
-  abbrev MetWhere : Bool → States → Type 0
+  abbrev MetWhere : Bool → SplitStates → Type 0
   MetWhere = MeetsWhere orders values
 
-  abbrev come : Step States → States
+  abbrev come : Step SplitStates → SplitStates
   come = result_of answers
 
   unchanged-met : (b : Bool) (s : State) → Met s → MetWhere b (unchanged s)
@@ -94,10 +94,10 @@ module _ (answers : Key → Answer) (look : Looks) (values : Values) where
 
   -- ---- places
 
-  valued-met : (b : Bool) (s : State) (place : Place) (ty : Ty) (thing : Thing) → Met s → is_of orders (values place) ty ≡ true
-      → TruthComesTo b (values place) thing → MetWhere b (valued s place ty thing)
-  valued-met b s place ty (fixed_thing fixed.TypeChecking) met here comes = always-met b s comes met
-  valued-met b s place ty thing met here comes = truth_keeps orders values b s place ty (met, here) comes
+  split_typed_place-met : (b : Bool) (s : State) (place : Place) (ty : Ty) (special_form : SpecialForm) → Met s → is_of orders (values place) ty ≡ true
+      → TruthComesTo b (values place) special_form → MetWhere b (split_typed_place s place ty special_form)
+  split_typed_place-met b s place ty (fixed_special_form fixed.TypeChecking) met here comes = always-met b s comes met
+  split_typed_place-met b s place ty special_form met here comes = truth_keeps orders values b s place ty (met, here) comes
 
   module _ (right : LooksRightly answers look values) where
     place-met : (b : Bool) (s : State) (x : Expr) → Met s → PlaceComesTo answers look values b s x → MetWhere b (come (place_rule look s x (place_of x)))
@@ -108,8 +108,8 @@ module _ (answers : Key → Answer) (look : Looks) (values : Values) where
         by_place None is = unchanged-met b s met
         by_place (Some place) is =
             let f = found_at answers look s x in
-            subst (λ found. MetWhere b found) (sym (then_result answers (looked look s x) (λ found. Done (valued s place found.ty found.thing))))
-            (valued-met b s place f.ty f.thing met (right s x place met is) (comes place is))
+            subst (λ found. MetWhere b found) (sym (then_result answers (look_quietly look s x) (λ found. Done (split_typed_place s place found.ty found.special_form))))
+            (split_typed_place-met b s place f.ty f.special_form met (right s x place met is) (comes place is))
 
     -- ---- comparisons with None
 
@@ -125,7 +125,7 @@ module _ (answers : Key → Answer) (look : Looks) (values : Values) where
         by_place sense its literal None is = unchanged-met b s met
         by_place sense its literal (Some place) is =
             let f = found_at answers look s x in
-            subst (λ found. MetWhere b found) (sym (then_result answers (looked look s x) (λ found. Done (in_sense sense (none_states s place found.ty)))))
+            subst (λ found. MetWhere b found) (sym (then_result answers (look_quietly look s x) (λ found. Done (in_sense sense (none_states s place found.ty)))))
             (subst Met (sym (sense-where b sense (none_states s place f.ty)))
             (subst (λ c. MetWhere c (none_states s place f.ty)) (sym (comes place operator y sense is refl literal its))
             (comparison_keeps orders values s place f.ty (met, right s x place met is))))
@@ -141,7 +141,7 @@ module _ (answers : Key → Answer) (look : Looks) (values : Values) where
 
     -- ---- `isinstance`
 
-    module _ (told : (place : Place) → IsTold orders (values place)) where
+    module _ (reported : (place : Place) → IsReported orders (values place)) where
       call-met : (b : Bool) (s : State) (callee : Expr) (given : Arguments) → Met s → CallComesTo answers look values b s callee given
           → MetWhere b (come (call_rule look s callee given))
       unfolding callee_rule isinstance_rule
@@ -151,31 +151,31 @@ module _ (answers : Key → Answer) (look : Looks) (values : Values) where
       call-met b s callee (another_argument (argument at given.Positional x) (another_argument (argument other given.Positional y) no_argument)) met comes =
           by_place (place_of x) refl
         where
-          by_classes : (place : Place) → place_of x ≡ Some place → (found_at answers look s callee).thing ≡ isinstance_thing
+          by_classes : (place : Place) → place_of x ≡ Some place → (found_at answers look s callee).special_form ≡ isinstance_special_form
               → (classes : Option (List Id)) → result_of answers (classes_at look s y) ≡ classes
               → MetWhere b (come (test_by s place (found_at answers look s x).ty classes))
-          by_classes place is thing None found = unchanged-met b s met
-          by_classes place is thing (Some classes) found =
+          by_classes place is special_form None found = unchanged-met b s met
+          by_classes place is special_form (Some classes) found =
               subst (λ states. MetWhere b states) (sym (test_result answers s place (found_at answers look s x).ty classes))
-              (instance_test_keeps orders values b s place (found_at answers look s x).ty classes (told place) met
-              (comes at other x y place classes refl is thing found))
+              (instance_test_keeps orders values b s place (found_at answers look s x).ty classes (reported place) met
+              (comes at other x y place classes refl is special_form found))
 
-          by_thing : (place : Place) → place_of x ≡ Some place → (thing : Thing) → (found_at answers look s callee).thing ≡ thing
-              → MetWhere b (come (called look s place x y thing))
-          by_thing place is isinstance_thing thing =
+          by_special_form : (place : Place) → place_of x ≡ Some place → (special_form : SpecialForm) → (found_at answers look s callee).special_form ≡ special_form
+              → MetWhere b (come (call_result look s place x y special_form))
+          by_special_form place is isinstance_special_form special_form =
               let ty = (found_at answers look s x).ty in
               subst (λ states. MetWhere b states)
-              (sym (then_result answers (looked look s x) (λ found. and_then (classes_at look s y) (test_by s place found.ty))
+              (sym (then_result answers (look_quietly look s x) (λ found. and_then (classes_at look s y) (test_by s place found.ty))
               ∙ then_result answers (classes_at look s y) (test_by s place ty)))
-              (by_classes place is thing (result_of answers (classes_at look s y)) refl)
-          by_thing place is thing its = unchanged-met b s met
+              (by_classes place is special_form (result_of answers (classes_at look s y)) refl)
+          by_special_form place is special_form its = unchanged-met b s met
 
           by_place : (place : Option Place) → place_of x ≡ place → MetWhere b (come (pair_rule look s callee x y place))
           by_place None is = unchanged-met b s met
           by_place (Some place) is =
               subst (λ states. MetWhere b states)
-              (sym (then_result answers (looked look s callee) (λ found. called look s place x y found.thing)))
-              (by_thing place is (found_at answers look s callee).thing refl)
+              (sym (then_result answers (look_quietly look s callee) (λ found. call_result look s place x y found.special_form)))
+              (by_special_form place is (found_at answers look s callee).special_form refl)
       call-met b s callee (another_argument (argument at given.Positional x) (another_argument (argument other kind y) no_argument)) met comes =
           unchanged-met b s met
       call-met b s callee (another_argument (argument at kind x) (another_argument (argument other more y) no_argument)) met comes =
@@ -237,4 +237,4 @@ module _ (answers : Key → Answer) (look : Looks) (values : Values) where
         form-met b s whole found met comes = place-met b s whole met comes
 
 pub split_keeps : SplitKeeps
-split_keeps answers look values told right b s x met comes = split-met answers look values right told b s x met comes
+split_keeps answers look values reported right b s x met comes = split-met answers look values right reported b s x met comes

@@ -2,12 +2,12 @@
 use Rattle.std.proofs.Common.{◌≡◌, Bool, true, false, not, ◌&&◌, ◌||◌, if◌then◌else◌, List, [], ◌∷◌, Option, None, Some, map, inl, inr, refl, sym, ap, ◌⊎◌, ◌∙◌, subst}
 use Rattle.std.specs.List.{list_any, flat_map}
 use Rattle.std.proofs.lemmas.Bool.{and_from, and_parts, false_from_ne_true, false≢true, not-true, or_cases, or_from, or_left, or_parts, or_right, true≢false}
-use Rattle.pyc_builtins.specs.Orders.{builtin_order}
-use Rattle.pyc_class.specs.declared.builtin_class.BuiltinClass.TheVariants as class
-use Rattle.pyc_class.specs.Class.{Id, builtin, user, same_class, object_id, int_id, float_id}
-use Rattle.pyc_class.specs.ClassEquality.{same_class_equiv}
-use Rattle.pyc_class.specs.Order.{Orders, is_unknown, leads}
-use Rattle.pyc_classes.proofs.BuiltinLemmas.{same_class-is}
+use Rattle.pyc_builtins.specs.MroTable.{builtin_order}
+use Rattle.pyc_class_ids.specs.declared.builtin_class.BuiltinClass.TheVariants as class
+use Rattle.pyc_class_ids.specs.Class.{Id, builtin, user, same_class, object_id, int_id, float_id}
+use Rattle.pyc_class_ids.specs.ClassEquality.{same_class_equiv}
+use Rattle.pyc_class_ids.specs.Mro.{MroTable, is_unknown, leads}
+use Rattle.pyc_class_table.proofs.BuiltinLemmas.{same_class-is}
 use Rattle.pyc_narrowing_laws.specs.TypeLaws.{is_of_left, is_accepted, IsInLine, is_tested, stands_in, is_seen_by_yes, is_seen_by_no, is_of_seen, NarrowToKeeps, NarrowAwayKeeps}
 use Rattle.pyc_narrowing_laws.specs.Values.{Value, none_value, instance_value, other_value, fits, has_known_order, is_instance, stands_for, is_of}
 use Rattle.pyc_narrowing_laws.proofs.Rows.{any-one, any-more, any-flat_from}
@@ -16,7 +16,7 @@ use Rattle.pyc_type_forms.specs.Instances.{instance_of}
 use Rattle.pyc_type_forms.specs.Narrowing.{class_of, is_within, may_be_within, is_taken, is_taken_class, narrowed_instance, narrowed_item, narrowed_items, unless}
 use Rattle.pyc_type_forms.specs.Types.{Ty, any, none, module_type, instance, class_object, list, dict, tuple, tuple_of, union, callable}
 use Rattle.pyc_type_forms.specs.Unions.{items_of}
-use Rattle.pyc_types.specs.OrderLaws.{AreOrderly}
+use Rattle.pyc_types.specs.MroLaws.{AreOrderly}
 use Rattle.pyc_types.specs.Ways.{is_any}
 
 -- the other of two, where one does not hold
@@ -28,7 +28,7 @@ not_not : (b : Bool) → not (not b) ≡ true → b ≡ true
 not_not true is = refl
 not_not false is = is
 
-module _ (orders : Orders) (v : Value) where
+module _ (orders : MroTable) (v : Value) where
   abbrev has : Ty → Bool
   has = is_of orders v
 
@@ -190,7 +190,7 @@ module _ (orders : Orders) (v : Value) where
         | inr nothing ↦ absurd (false≢true nothing)
       ]
 
-module _ (orders : Orders) (orderly : AreOrderly orders) where
+module _ (orders : MroTable) (orderly : AreOrderly orders) where
   alone-above : (d e : Id) → same_class d object_id ≡ true → leads orders d e ≡ true → same_class e object_id ≡ true
   alone-above d e own led =
       above_object orders none_value orderly e (sym (ap (λ c. leads orders c e) (same_class-is d object_id own)) ∙ led)
@@ -238,9 +238,9 @@ module _ (orders : Orders) (orderly : AreOrderly orders) where
 
         neither : (cs : List Id) → is_tested cs float_id ≡ false → is_accepted orders cs v ≡ false
             → list_any (λ e. same_class e float_id || is_instance orders v e) cs ≡ false
-        neither [] untold unmet = refl
-        neither (c ∷ cs) untold unmet =
-            let first = or_parts (same_class c float_id) (is_tested cs float_id) untold in
+        neither [] unreported unmet = refl
+        neither (c ∷ cs) unreported unmet =
+            let first = or_parts (same_class c float_id) (is_tested cs float_id) unreported in
             let second = or_parts (is_instance orders v c) (is_accepted orders cs v) unmet in
             or_from (same_class c float_id || is_instance orders v c) (list_any (λ e. same_class e float_id || is_instance orders v e) cs)
             (or_from (same_class c float_id) (is_instance orders v c) first.0 second.0) (neither cs first.1 second.1)

@@ -1,8 +1,8 @@
 -- What the readings of conditions come to.
 use Rattle.std.proofs.Common.{◌≡◌, List, [], refl, sym, ap, ◌∙◌}
 use Rattle.pyc_ast.specs.declared.operator.BooleanOperator.TheVariants as joins
-use Rattle.pyc_class.specs.Class.{Id}
-use Rattle.pyc_narrowing.specs.SplitStates.{States, swapped, and_states, or_states, instance_states}
+use Rattle.pyc_class_ids.specs.Class.{Id}
+use Rattle.pyc_narrowing.specs.SplitStates.{SplitStates, swapped, and_states, or_states, instance_states}
 use Rattle.pyc_narrowing.specs.Splitting.{Splits, instance_test, not_rule, boolean_rule, and_right, or_right, right_rule}
 use Rattle.pyc_narrowing.proofs.Known.{tested_done}
 use Rattle.pyc_obligations.specs.Judging.{classes_asked}
@@ -10,10 +10,10 @@ use Rattle.pyc_places.specs.Places.{Place}
 use Rattle.pyc_places.specs.States.{State}
 use Rattle.pyc_reading.proofs.RunLemmas.{runs_are_folds}
 use Rattle.pyc_reading.specs.Answers.{Answer}
-use Rattle.pyc_reading.specs.Desks.{Step, Desk, run}
+use Rattle.pyc_reading.specs.Traces.{Step, Trace, run}
 use Rattle.pyc_reading.specs.Keys.{Key}
 use Rattle.pyc_reading.specs.Owing.{orders_by, written}
-use Rattle.pyc_reading.specs.Readings.{Done, Ask, Tell, Owe, and_then, result_of}
+use Rattle.pyc_reading.specs.Readings.{Done, Ask, Report, Require, and_then, result_of}
 use Rattle.pyc_type_forms.specs.Types.{Ty}
 
 module _ (answers : Key → Answer) where
@@ -22,8 +22,8 @@ module _ (answers : Key → Answer) where
   unfolding and_then
   then_result (Done a) next = refl
   then_result (Ask key go) next = then_result (go (answers key)) next
-  then_result (Tell remark rest) next = then_result rest next
-  then_result (Owe row rest) next = then_result rest next
+  then_result (Report diagnostic rest) next = then_result rest next
+  then_result (Require row rest) next = then_result rest next
 
   -- ---- conditions of conditions
 
@@ -50,19 +50,19 @@ module _ (answers : Key → Answer) where
   -- ---- tests
 
   -- a reading keeps the answers
-  same_answers : {A : Type 0} (r : Step A) (desk : Desk) → (run r desk).1.answers ≡ desk.answers
-  same_answers {A} r desk = ap (λ (found : A × Desk). found.1.answers) (runs_are_folds r desk)
+  same_answers : {A : Type 0} (r : Step A) (trace : Trace) → (run r trace).1.answers ≡ trace.answers
+  same_answers {A} r trace = ap (λ (found : A × Trace). found.1.answers) (runs_are_folds r trace)
 
   -- a test by classes goes by the orders of the answers
   pub test_result : (s : State) (place : Place) (ty : Ty) (classes : List Id)
       → result_of answers (instance_test s place ty classes) ≡ instance_states (orders_by answers) s place ty classes
   test_result s place ty classes =
-      let start : Desk = record { answers = answers; keys = []; messages = [] } in
-      let middle : Desk = (run (classes_asked (written ty)) start).1 in
-      let end : Desk = (run (classes_asked classes) middle).1 in
+      let start : Trace = record { answers = answers; keys = []; messages = [] } in
+      let middle : Trace = (run (classes_asked (written ty)) start).1 in
+      let end : Trace = (run (classes_asked classes) middle).1 in
       let same : end.answers ≡ answers = same_answers (classes_asked classes) middle ∙ same_answers (classes_asked (written ty)) start in
       let test = instance_test s place ty classes in
-      let found : States = instance_states (orders_by end.answers) s place ty classes in
-      sym (ap (λ (done : States × Desk). done.0) (runs_are_folds test start))
-      ∙ ap (λ (done : States × Desk). done.0) (tested_done s place ty classes start middle end found refl refl same refl)
+      let found : SplitStates = instance_states (orders_by end.answers) s place ty classes in
+      sym (ap (λ (done : SplitStates × Trace). done.0) (runs_are_folds test start))
+      ∙ ap (λ (done : SplitStates × Trace). done.0) (tested_done s place ty classes start middle end found refl refl same refl)
       ∙ ap (λ a. instance_states (orders_by a) s place ty classes) same

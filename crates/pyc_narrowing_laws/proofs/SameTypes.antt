@@ -1,11 +1,11 @@
--- Types that are told to be one are one.
+-- Types that are reported to be one are one.
 use Rattle.std.proofs.Common.{◌≡◌, ℕ, Bool, true, false, ◌&&◌, List, bytes_eq, Option, None, Some, refl, ap, ap₂, ◌∙◌}
 use Rattle.std.specs.Bool.{beq}
 use Rattle.std.specs.Cmp.Lexicographic.{pointwise}
 use Rattle.std.proofs.lemmas.Bool.{and_parts, false≢true}
 use Rattle.std.proofs.lemmas.Slice.Eq.{bytes_eq-Decides, slice_eq-Decides}
-use Rattle.pyc_class.specs.Class.{Id, same_class}
-use Rattle.pyc_classes.proofs.BuiltinLemmas.{same_class-is}
+use Rattle.pyc_class_ids.specs.Class.{Id, same_class}
+use Rattle.pyc_class_table.proofs.BuiltinLemmas.{same_class-is}
 use Rattle.pyc_type_forms.specs.Equality.{same_name, same_kind, same_slot, same_type, same_types, same_params, same_listed}
 use Rattle.pyc_type_forms.specs.Types.{Kind, plain, star, keyword_only, double_star, Slot, Ty, Tys, Params, Listed}
 use Rattle.pyc_type_forms.specs.Types.{any, none, module_type, instance, class_object, list, dict, tuple, tuple_of}
@@ -14,7 +14,7 @@ use Rattle.pyc_type_forms.specs.Types.{union, callable, nil, cons, dots, listed,
 bytes-are : (m n : List ℕ) → bytes_eq m n ≡ true → m ≡ n
 bytes-are m n same = (bytes_eq-Decides m n).0 same
 
--- lists of texts that are told to be one are one
+-- lists of texts that are reported to be one are one
 pub texts-are : (m n : List (List ℕ)) → pointwise bytes_eq m n ≡ true → m ≡ n
 texts-are m n same = (slice_eq-Decides bytes_eq-Decides m n (pointwise bytes_eq m n) refl).0 same
 

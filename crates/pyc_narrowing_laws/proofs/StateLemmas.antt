@@ -3,16 +3,16 @@ use Rattle.std.proofs.Common.{◌≡◌, ◌⊎◌, Bool, true, false, not, ◌|
 use Rattle.std.specs.List.{list_any, flat_map}
 use Rattle.std.proofs.lemmas.Bool.{false≢true, or_left, or_right}
 use Rattle.std.proofs.lemmas.Option.{none-some, same_Some}
-use Rattle.pyc_class.specs.Order.{Orders}
+use Rattle.pyc_class_ids.specs.Mro.{MroTable}
 use Rattle.pyc_narrowing_laws.specs.StateLaws.{Values, MeetsEach, Meets, NothingNarrowedIsMet, WithPlaceKeeps, JoinedKeeps, ChangesAt, DroppedKeeps, AssignedKeeps}
 use Rattle.pyc_narrowing_laws.specs.Values.{Value, is_of}
 use Rattle.pyc_narrowing_laws.proofs.SameTypes.{texts-are}
 use Rattle.pyc_narrowing_laws.proofs.UnionLemmas.{union-has}
 use Rattle.pyc_places.specs.Places.{Place, same_place, is_at_or_below}
-use Rattle.pyc_places.specs.States.{Narrowing, State, unreachable, reachable, type_of, others, with_place, dropped_at, on_both, joined_states}
+use Rattle.pyc_places.specs.States.{Narrowing, State, unreachable, reachable, type_of, without_place, with_place, drop_place, on_both, joined_states}
 use Rattle.pyc_type_forms.specs.Types.{Ty}
 
-module _ (orders : Orders) (values : Values) where
+module _ (orders : MroTable) (values : Values) where
   abbrev MetEach : List Narrowing → Type 0
   MetEach = MeetsEach orders values
 
@@ -34,7 +34,7 @@ module _ (orders : Orders) (values : Values) where
   pub with_place-met : (place : Place) (ty : Ty) (s : State) → Met s → is_of orders (values place) ty ≡ true → Met (with_place place ty s)
   with_place-met place ty unreachable met here = met
   with_place-met place ty (reachable ns) met here =
-      both-met (others place ns) (record { place = place; ty = ty } ∷ []) (filter-met (λ n. not (same_place n.place place)) ns met) (here, tt)
+      both-met (without_place place ns) (record { place = place; ty = ty } ∷ []) (filter-met (λ n. not (same_place n.place place)) ns met) (here, tt)
 
   -- ---- where two ways meet
 
@@ -92,7 +92,7 @@ module _ (orders : Orders) (values : Values) where
 
 -- ---- assignments
 
-dropped-each : (orders : Orders) (place : Place) (before after : Values) (ns : List Narrowing) → ChangesAt place before after
+dropped-each : (orders : MroTable) (place : Place) (before after : Values) (ns : List Narrowing) → ChangesAt place before after
     → MeetsEach orders before ns → MeetsEach orders after (filter (λ n. not (is_at_or_below place n.place)) ns)
 dropped-each orders place before after [] changes met = tt
 dropped-each orders place before after (n ∷ ns) changes met =
@@ -119,4 +119,4 @@ dropped_keeps orders place before after (reachable ns) changes met = dropped-eac
 
 pub assigned_keeps : AssignedKeeps
 assigned_keeps orders place before after ty s changes met here =
-    with_place-met orders after place ty (dropped_at place s) (dropped_keeps orders place before after s changes met) here
+    with_place-met orders after place ty (drop_place place s) (dropped_keeps orders place before after s changes met) here

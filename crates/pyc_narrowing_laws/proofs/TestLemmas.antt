@@ -1,8 +1,8 @@
 -- What the tests of one place keep.
 use Rattle.std.proofs.Common.{◌≡◌, Bool, true, false, not, if◌then◌else◌, List, Option, None, Some, refl}
 use Rattle.std.proofs.lemmas.Bool.{false≢true, not_from_false}
-use Rattle.pyc_class.specs.Order.{Orders}
-use Rattle.pyc_narrowing.specs.SplitStates.{narrowed_state, none_of, none_states}
+use Rattle.pyc_class_ids.specs.Mro.{MroTable}
+use Rattle.pyc_narrowing.specs.SplitStates.{narrow_state, none_of, none_states}
 use Rattle.pyc_narrowing_laws.specs.StateLaws.{Values, Meets}
 use Rattle.pyc_narrowing_laws.specs.TestLaws.{MeetsWhere, TruthKeeps, ComparisonKeeps, InstanceTestKeeps}
 use Rattle.pyc_narrowing_laws.specs.TypeLaws.{is_of_left}
@@ -16,10 +16,10 @@ use Rattle.pyc_type_forms.specs.Equality.{same_type}
 use Rattle.pyc_type_forms.specs.Narrowing.{narrow_to, narrow_away, without_none}
 use Rattle.pyc_type_forms.specs.Types.{Ty}
 
-module _ (orders : Orders) (values : Values) where
+module _ (orders : MroTable) (values : Values) where
   -- what a test leaves of the type of a place
   narrowed-met : (s : State) (place : Place) (ty : Ty) (left : Option Ty) → Meets orders values s → is_of_left orders (values place) left ≡ true
-      → Meets orders values (narrowed_state s place ty left)
+      → Meets orders values (narrow_state s place ty left)
   narrowed-met s place ty None met here = absurd (false≢true here)
   narrowed-met s place ty (Some left) met here = by_same (same_type left ty)
     where
@@ -45,9 +45,9 @@ comparison_keeps orders values s place ty met =
     none-met orders values (is_none_value (values place)) s place ty met.0 met.1 refl
 
 pub instance_test_keeps : InstanceTestKeeps
-instance_test_keeps orders values true s place ty classes told met test =
+instance_test_keeps orders values true s place ty classes reported met test =
     narrowed-met orders values s place ty (narrow_to orders ty classes) met
-    (narrow_to_keeps orders (values place) ty classes told.1 test.1 test.0)
-instance_test_keeps orders values false s place ty classes told met test =
+    (narrow_to_keeps orders (values place) ty classes reported.1 test.1 test.0)
+instance_test_keeps orders values false s place ty classes reported met test =
     narrowed-met orders values s place ty (narrow_away orders ty classes) met
-    (narrow_away_keeps orders (values place) ty classes told.0 told.2 test.1 test.0)
+    (narrow_away_keeps orders (values place) ty classes reported.0 reported.2 test.1 test.0)

@@ -3,20 +3,20 @@ use Rattle.std.proofs.Common.{◌≡◌, Bool, true, false, not, ◌&&◌, ◌||
 use Rattle.std.specs.List.{list_any, list_all, flat_map}
 use Rattle.std.proofs.lemmas.Bool.{and_from, false≢true, not-true, or_cases, or_left, or_right, true≢false}
 use Rattle.std.proofs.lemmas.List.Folds.{list_any-append, list_all-append}
-use Rattle.pyc_class.specs.declared.builtin_class.BuiltinClass.TheVariants as class
-use Rattle.pyc_class.specs.Class.{builtin, same_class, object_id}
-use Rattle.pyc_class.specs.Order.{Orders}
+use Rattle.pyc_class_ids.specs.declared.builtin_class.BuiltinClass.TheVariants as class
+use Rattle.pyc_class_ids.specs.Class.{builtin, same_class, object_id}
+use Rattle.pyc_class_ids.specs.Mro.{MroTable}
 use Rattle.pyc_narrowing.specs.SplitStates.{may_be_none, none_of}
 use Rattle.pyc_narrowing_laws.specs.TypeLaws.{is_of_left, UnionKeeps, UnionIsItsItems, WithoutNoneKeeps, NoneKeeps}
 use Rattle.pyc_narrowing_laws.specs.Values.{Value, none_value, instance_value, other_value, is_none_value, is_instance, is_of, is_of_some}
 use Rattle.pyc_narrowing_laws.proofs.Rows.{or_false, or_assoc, absorbed, any-more, any-alike, any-all, any-flat, any-flat_from}
 use Rattle.pyc_narrowing_laws.proofs.SameTypes.{types-are, rows-are}
 use Rattle.pyc_type_forms.specs.Equality.{same_type, same_types}
-use Rattle.pyc_type_forms.specs.Narrowing.{left_of, unless, is_none, without_none}
+use Rattle.pyc_type_forms.specs.Narrowing.{remaining_type, unless, is_none, without_none}
 use Rattle.pyc_type_forms.specs.Size.{size}
 use Rattle.pyc_type_forms.specs.Types.{Ty, Tys, any, none, module_type, instance, class_object, list, dict, tuple, tuple_of, union, callable, nil, cons}
 use Rattle.pyc_type_forms.specs.TypeView.{tys_of}
-use Rattle.pyc_type_forms.specs.Unions.{items_of, row_items, is_among, with_item, with_items, joined, limited, most_types, union_of}
+use Rattle.pyc_type_forms.specs.Unions.{items_of, row_items, is_among, with_item, with_items, joined, any_if_too_large, most_types, union_of}
 use Rattle.pyc_types.specs.Assignable.{is_union}
 
 -- ---- items
@@ -46,7 +46,7 @@ mutual
       list_all-append is_single (items_of x) (row_items xs)
       ∙ and_from (list_all is_single (items_of x)) (list_all is_single (row_items xs)) (items_are_single x) (row_items_are_single xs)
 
-module _ (orders : Orders) (v : Value) where
+module _ (orders : MroTable) (v : Value) where
   abbrev has : Ty → Bool
   has = is_of orders v
 
@@ -110,8 +110,8 @@ module _ (orders : Orders) (v : Value) where
   joined-has (ty ∷ []) = one_item ty
   joined-has (ty ∷ other ∷ tys) = row-any (ty ∷ other ∷ tys)
 
-  limited-has : (ty : Ty) → has ty ≡ true → has (limited ty) ≡ true
-  limited-has ty here = by_size (nat_lt most_types (size ty))
+  any_if_too_large-has : (ty : Ty) → has ty ≡ true → has (any_if_too_large ty) ≡ true
+  any_if_too_large-has ty here = by_size (nat_lt most_types (size ty))
     where
       by_size : (b : Bool) → has (if b then any else ty) ≡ true
       by_size true = refl
@@ -119,7 +119,7 @@ module _ (orders : Orders) (v : Value) where
 
   pub union-has : (tys : List Ty) → list_any has tys ≡ true → has (union_of tys) ≡ true
   union-has tys some =
-      limited-has (joined (with_items [] (flat_map items_of tys)))
+      any_if_too_large-has (joined (with_items [] (flat_map items_of tys)))
       (joined-has (with_items [] (flat_map items_of tys))
       ∙ with_items-has [] (flat_map items_of tys)
       ∙ any-flat has items_of tys
@@ -128,7 +128,7 @@ module _ (orders : Orders) (v : Value) where
 
   -- ---- what is left
 
-  pub left-has : (ty : Ty) (items : List Ty) → list_any has items ≡ true → is_of_left orders v (left_of ty items) ≡ true
+  pub left-has : (ty : Ty) (items : List Ty) → list_any has items ≡ true → is_of_left orders v (remaining_type ty items) ≡ true
   left-has ty [] some = some
   left-has ty (x ∷ xs) some = by_same (same_types (tys_of (x ∷ xs)) (tys_of (items_of ty))) refl
     where
@@ -174,7 +174,7 @@ without_none_keeps orders v ty here other =
     (λ item found. kept-has orders v item (is_none item) (no_none orders v item found (not-true (is_none_value v) other)) found)
     (items_of ty) (sym (has-items orders v ty) ∙ here))
 
-none_may : (orders : Orders) (item : Ty) → is_single item && is_of orders none_value item ≡ true → may_be_none item ≡ true
+none_may : (orders : MroTable) (item : Ty) → is_single item && is_of orders none_value item ≡ true → may_be_none item ≡ true
 none_may orders any here = refl
 none_may orders none here = refl
 none_may orders (module_type m) here = absurd (false≢true here)
@@ -187,7 +187,7 @@ none_may orders (tuple_of x) here = absurd (false≢true here)
 none_may orders (union xs) here = absurd (false≢true here)
 none_may orders (callable ps r) here = absurd (false≢true here)
 
-some_none : (orders : Orders) (b : Bool) → b ≡ true → is_of_left orders none_value (if b then Some none else None) ≡ true
+some_none : (orders : MroTable) (b : Bool) → b ≡ true → is_of_left orders none_value (if b then Some none else None) ≡ true
 some_none orders true is = refl
 some_none orders false is = is
 

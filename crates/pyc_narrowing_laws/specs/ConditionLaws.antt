@@ -2,10 +2,10 @@
 use Rattle.std.specs.Prelude.{◌≡◌, Bool, IsTrue, Option, Some}
 use Rattle.std.specs.Option.{unwrap_or}
 use Rattle.pyc_ast.specs.Exprs.{Expr}
-use Rattle.pyc_narrowing.specs.Splitting.{Looks}
+use Rattle.pyc_narrowing.specs.Splitting.{InferOperand}
 use Rattle.pyc_narrowing_laws.specs.Conditions.{ComesTo, LooksRightly, states_after}
 use Rattle.pyc_narrowing_laws.specs.StateLaws.{Values, Meets}
-use Rattle.pyc_narrowing_laws.specs.TestLaws.{IsTold, MeetsWhere}
+use Rattle.pyc_narrowing_laws.specs.TestLaws.{IsReported, MeetsWhere}
 use Rattle.pyc_narrowing_laws.specs.Values.{is_of}
 use Rattle.pyc_obligations.specs.Values.{plain_value}
 use Rattle.pyc_places.specs.Places.{Place, place_of}
@@ -19,13 +19,13 @@ use Rattle.pyc_type_forms.specs.Types.{Ty}
 -- values that meet a state meet the state after a condition that may come to yes, or to no, of them
 abbrev pub SplitKeeps : Type 0
 SplitKeeps =
-    (answers : Key → Answer) (look : Looks) (values : Values)
-    → ((place : Place) → IsTold (orders_by answers) (values place)) → LooksRightly answers look values
+    (answers : Key → Answer) (look : InferOperand) (values : Values)
+    → ((place : Place) → IsReported (orders_by answers) (values place)) → LooksRightly answers look values
     → (b : Bool) (s : State) (x : Expr) → Meets (orders_by answers) values s → ComesTo answers look values b s x
     → MeetsWhere (orders_by answers) values b (states_after answers look s x)
 
 -- to look up the type to which a place is narrowed, else the type with which it is declared
-abbrev pub narrowed_or : (Expr → Ty) → Looks
+abbrev pub narrowed_or : (Expr → Ty) → InferOperand
 narrowed_or declared s x = Done (plain_value (unwrap_or (narrowed_at s x) (declared x)))
 
 -- where each place has a value of the type with which it is declared, this looks up a type of its value

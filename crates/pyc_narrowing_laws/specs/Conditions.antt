@@ -1,6 +1,6 @@
 -- What a condition may come to, by the values of the places of which it speaks (Python reference 3.13, "Boolean
--- operations" and "Comparisons"; the library reference, "Truth Value Testing" and `isinstance`). A condition that speaks
--- of no place may come to yes and to no.
+-- operations" and "Comparisons"; the library reference, "Truth Value Testing" and `isinstance`). A condition that
+-- speaks of no place may come to yes and to no.
 use Rattle.std.specs.Prelude.{ℕ, zero, suc, ◌≡◌, ◌⊎◌, Bool, true, false, not, IsTrue, if◌then◌else◌, List, Option}
 use Rattle.std.specs.Prelude.{None, Some}
 use Rattle.pyc_ast.specs.declared.constant.Constant.{Constant}
@@ -15,14 +15,14 @@ use Rattle.pyc_ast.specs.declared.position.Position.{Position}
 use Rattle.pyc_ast.specs.Exprs.{Expr, expr, Form, call, unary, boolean, compare, argument, Arguments, no_argument}
 use Rattle.pyc_ast.specs.Exprs.{another_argument, comparison, Comparisons, no_comparison, another_comparison}
 use Rattle.pyc_ast.specs.Exprs as form
-use Rattle.pyc_class.specs.Class.{Id}
+use Rattle.pyc_class_ids.specs.Class.{Id}
 use Rattle.pyc_names.specs.declared.fixed.FixedName.TheVariants as fixed
-use Rattle.pyc_narrowing.specs.SplitStates.{States}
-use Rattle.pyc_narrowing.specs.Splitting.{Looks, looked, classes_at, is_none_literal, sense_of, split}
+use Rattle.pyc_narrowing.specs.SplitStates.{SplitStates}
+use Rattle.pyc_narrowing.specs.Splitting.{InferOperand, look_quietly, classes_at, is_none_literal, sense_of, split}
 use Rattle.pyc_narrowing_laws.specs.StateLaws.{Values, Meets}
 use Rattle.pyc_narrowing_laws.specs.TestLaws.{IsTest, IsTruth}
 use Rattle.pyc_narrowing_laws.specs.Values.{Value, is_none_value, is_of}
-use Rattle.pyc_obligations.specs.Values.{Thing, fixed_thing, isinstance_thing}
+use Rattle.pyc_obligations.specs.Values.{SpecialForm, fixed_special_form, isinstance_special_form}
 use Rattle.pyc_obligations.specs.Values as found
 use Rattle.pyc_places.specs.Places.{Place, place_of}
 use Rattle.pyc_places.specs.States.{State}
@@ -50,8 +50,8 @@ LiteralComesTo b _ = Unit
 -- ---- places
 
 -- a place comes to the truth of its value; `TYPE_CHECKING` is taken to be true
-abbrev pub TruthComesTo : Bool → Value → Thing → Type 0
-TruthComesTo b v (fixed_thing fixed.TypeChecking) = b ≡ true
+abbrev pub TruthComesTo : Bool → Value → SpecialForm → Type 0
+TruthComesTo b v (fixed_special_form fixed.TypeChecking) = b ≡ true
 TruthComesTo b v _ = IsTruth b v
 
 -- a comparison of a place with None, to be it or not to be it, goes by whether its value is None
@@ -84,19 +84,19 @@ BooleanComesTo true joins.Or left right = left true ⊎ (left false × right tru
 BooleanComesTo false joins.Or left right = left false × right false
 
 -- the state in which the right side counts
-abbrev pub right_state : BooleanOperator → States → State
+abbrev pub right_state : BooleanOperator → SplitStates → State
 right_state joins.And first = first.if_true
 right_state joins.Or first = first.if_false
 
 -- ---- the whole
 
-module _ (answers : Key → Answer) (look : Looks) where
+module _ (answers : Key → Answer) (look : InferOperand) where
   -- what an expression is, as it is looked up in a state
   abbrev pub found_at : State → Expr → found.Value
-  found_at s x = result_of answers (looked look s x)
+  found_at s x = result_of answers (look_quietly look s x)
 
   -- the states after a condition
-  abbrev pub states_after : State → Expr → States
+  abbrev pub states_after : State → Expr → SplitStates
   states_after s x = result_of answers (split look s x)
 
   module _ (values : Values) where
@@ -108,13 +108,15 @@ module _ (answers : Key → Answer) (look : Looks) where
 
     -- a place that is taken for its truth
     abbrev pub PlaceComesTo : Bool → State → Expr → Type 0
-    PlaceComesTo b s x = (place : Place) → place_of x ≡ Some place → TruthComesTo b (values place) (found_at s x).thing
+    PlaceComesTo b s x = (place : Place) → place_of x ≡ Some place → TruthComesTo b (values place)
+        (found_at s x).special_form
 
     -- a call of `isinstance` with a place and class objects: those that are looked up are the classes by which it tests
     abbrev pub CallComesTo : Bool → State → Expr → Arguments → Type 0
     CallComesTo b s callee given =
         (at other : Position) (x tested : Expr) (place : Place) (classes : List Id)
-        → given ≡ two_given at other x tested → place_of x ≡ Some place → (found_at s callee).thing ≡ isinstance_thing
+        → given ≡ two_given at other x tested → place_of x ≡ Some place → (found_at s callee).special_form ≡
+        isinstance_special_form
         → result_of answers (classes_at look s tested) ≡ Some classes
         → IsTest (orders_by answers) b (values place) (found_at s x).ty classes
 

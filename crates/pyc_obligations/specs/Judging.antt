@@ -1,11 +1,11 @@
 -- Whether a type is assignable to another, by the orders of the classes that are written in both, each of which is
 -- asked (typing specification, "Type system concepts").
 use Rattle.std.specs.Prelude.{Bool, true, ◌&&◌, if◌then◌else◌, List, [], ◌∷◌, ◌++◌}
-use Rattle.pyc_builtins.specs.Orders.{builtin_orders}
-use Rattle.pyc_class.specs.Class.{Id, builtin, user, same_class}
-use Rattle.pyc_class.specs.Order.{Order, Orders}
+use Rattle.pyc_builtins.specs.MroTable.{builtin_orders}
+use Rattle.pyc_class_ids.specs.Class.{Id, builtin, user, same_class}
+use Rattle.pyc_class_ids.specs.Mro.{Mro, MroTable}
 use Rattle.pyc_obligations.specs.Asking.{class_order}
-use Rattle.pyc_reading.specs.Desks.{Step}
+use Rattle.pyc_reading.specs.Traces.{Step}
 use Rattle.pyc_reading.specs.Keys as key
 use Rattle.pyc_reading.specs.Owing.{Obligation, Detail, written}
 use Rattle.pyc_reading.specs.Readings.{Done, Ask, and_then, each, ◌>>=◌}
@@ -22,17 +22,17 @@ abbrev pub classes_asked : List Id → Step (Unit {0})
 classes_asked = each class_asked
 
 -- orders, and that of one more class
-abbrev pub with_order : Orders → Id → Order → Orders
+abbrev pub with_order : MroTable → Id → Mro → MroTable
 with_order orders c order = λ d. if same_class c d then order else orders d
 
 -- the orders of classes, once each of these was asked: these orders are known before
-unfoldable pub known_after : List Id → Orders → Step Orders
+unfoldable pub known_after : List Id → MroTable → Step MroTable
 known_after [] orders = Done orders
 known_after (c ∷ rest) orders = and_then (class_order c) (λ order. known_after rest (with_order orders c order))
 
 -- whether a type is assignable to another
-unfoldable pub judged : Ty → Ty → Step Bool
-judged got want = do
+unfoldable pub judge_assignable : Ty → Ty → Step Bool
+judge_assignable got want = do
   orders ← known_after (written got ++ written want) builtin_orders
   Done (assignable orders got want)
 
@@ -44,10 +44,10 @@ abbrev pub details_asked : List Detail → Step (Unit {0})
 details_asked = each detail_asked
 
 -- whether all obligations of a row hold
-unfoldable pub row_judged : List Obligation → Step Bool
-row_judged [] = Done true
-row_judged (o ∷ rest) = do
-  goes ← judged o.got o.want
+unfoldable pub judge_row : List Obligation → Step Bool
+judge_row [] = Done true
+judge_row (o ∷ rest) = do
+  goes ← judge_assignable o.got o.want
   asked ← details_asked o.details
-  others ← row_judged rest
+  others ← judge_row rest
   Done (goes && others)

@@ -1,66 +1,66 @@
 //! What readings of expressions ask.
 
 ghost use Rattle.std.specs.Prelude.{◌≡◌, option_map};
-ghost use Rattle.pyc_class.specs.Order.{is_unknown};
+ghost use Rattle.pyc_class_ids.specs.Mro.{is_unknown};
 ghost use Rattle.pyc_names.specs.FollowingView.{qualified_of};
 ghost use Rattle.pyc_obligations.specs.Asking as spec;
 ghost use Rattle.pyc_reading.specs.AnswerView.{answer_in, member_answer_of, name_answer_of};
-ghost use Rattle.pyc_reading.specs.Desks.{Performs};
+ghost use Rattle.pyc_reading.specs.Traces.{Performs};
 ghost use Rattle.pyc_reading.specs.Owing.{order_in};
 
-use crate::judging::Judge;
+use crate::judging::AskTypes;
 use pyc_ast::Text;
-use pyc_class::ClassId;
+use pyc_class_ids::ClassId;
 use pyc_names::QualifiedName;
-use pyc_reading::{Answer, Key, MemberAnswer, MemberName, NameAnswer, NameKind, Notes};
+use pyc_reading::{Answer, Ask, Key, MemberAnswer, MemberName, NameAnswer, NameKind};
 use pyc_type_forms::Ty;
 use std::alloc::{AllocError, Global};
 
 /// Whether the order of a class is not known, which is asked. The only error is that memory runs out.
-pub fn is_unknown_class<N: Judge>(
+pub fn is_unknown_class<N: AskTypes>(
     alloc: Global,
-    notes: &mut N,
+    recorder: &mut N,
     class: &ClassId,
 ) -> Result<bool, AllocError>
-    ensures { Performs (λ b. b) (spec.is_unknown_class class.now) (N.desk notes.old) result (N.desk notes.new) }
+    ensures { Performs (λ b. b) (spec.is_unknown_class class.now) (N.trace recorder.old) result (N.trace recorder.new) }
 {
     if class.as_builtin().is_some() {
         return Ok(false);
     }
     let key = Key::Class(class.clone()?);
-    let answer = notes.ask(alloc, key)?;
+    let answer = recorder.ask(alloc, key)?;
     Ok(is_unknown_in(&answer))
 }
 
-/// Whether the order that an answer tells is not known.
+/// Whether the order that an answer gives is not known.
 fn is_unknown_in(answer: &Answer) -> bool
     ensures { result ≡ is_unknown (order_in (answer_in answer.now)) }
 {
     match answer {
-        Answer::Order(order) => order.unknown.is_some(),
+        Answer::Mro(order) => order.unknown.is_some(),
         _ => true,
     }
 }
 
 /// What a class has under a name, which is asked. The only error is that memory runs out.
-pub fn asked_member<N: Notes>(
+pub fn ask_member<N: Ask>(
     alloc: Global,
-    notes: &mut N,
+    recorder: &mut N,
     class: &ClassId,
     name: &str,
 ) -> Result<Option<MemberAnswer>, AllocError>
-    ensures { Performs (option_map member_answer_of) (spec.asked_member class.now name.now) (N.desk notes.old) result
-        (N.desk notes.new) }
+    ensures { Performs (option_map member_answer_of) (spec.ask_member class.now name.now) (N.trace recorder.old) result
+        (N.trace recorder.new) }
 {
     let key = Key::Member(MemberName {
         class: class.clone()?,
         name: Text::new(alloc, name)?,
     });
-    let answer = notes.ask(alloc, key)?;
+    let answer = recorder.ask(alloc, key)?;
     Ok(member_in(answer))
 }
 
-/// The member that an answer tells.
+/// The member that an answer gives.
 fn member_in(answer: Answer) -> Option<MemberAnswer>
     ensures { option_map member_answer_of result ≡ spec.member_in (answer_in answer) }
 {
@@ -71,19 +71,19 @@ fn member_in(answer: Answer) -> Option<MemberAnswer>
 }
 
 /// What a name of a module stands for, which is asked. The only error is that memory runs out.
-pub fn asked_name<N: Notes>(
+pub fn ask_name<N: Ask>(
     alloc: Global,
-    notes: &mut N,
+    recorder: &mut N,
     name: QualifiedName,
 ) -> Result<NameAnswer, AllocError>
-    ensures { Performs name_answer_of (spec.asked_name (qualified_of name)) (N.desk notes.old) result
-        (N.desk notes.new) }
+    ensures { Performs name_answer_of (spec.ask_name (qualified_of name)) (N.trace recorder.old) result
+        (N.trace recorder.new) }
 {
-    let answer = notes.ask(alloc, Key::Name(name))?;
+    let answer = recorder.ask(alloc, Key::Name(name))?;
     Ok(name_in(answer))
 }
 
-/// What a name stands for, as an answer tells it.
+/// What a name stands for, as an answer says it.
 fn name_in(answer: Answer) -> NameAnswer
     ensures { name_answer_of result ≡ spec.name_in (answer_in answer) }
 {

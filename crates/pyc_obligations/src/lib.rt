@@ -1,5 +1,5 @@
 //! What readings of expressions have in common: orders and members that are asked, whether one type is assignable to
-//! another by what was asked, what is told where it is not, and readings of which nothing is told.
+//! another by what was asked, what is reported where it is not, and readings of which nothing is reported.
 #![tactic(auto)]
 
 mod asking;
@@ -10,12 +10,13 @@ mod quiet;
 mod reader;
 mod value;
 
-pub use asking::{asked_member, asked_name, is_unknown_class};
+pub use asking::{ask_member, ask_name, is_unknown_class};
 pub use judging::{
-    Judge, KnownOrders, ask_class, ask_types, ask_written, is_assignable, judged, known_orders,
+    AskTypes, KnownMros, ask_class, ask_types, ask_written, is_assignable, judge_assignable,
+    known_orders,
 };
-pub use owing::{Owed, owe, owe_row};
-pub use pyc_reading::{tell_error, tell_note};
+pub use owing::{AsObligation, require, require_row};
+pub use pyc_reading::{report_error, report_note};
 pub use quiet::quieten;
-pub use reader::Reader;
-pub use value::{Thing, Value};
+pub use reader::InferType;
+pub use value::{SpecialForm, Value};

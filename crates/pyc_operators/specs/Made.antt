@@ -2,8 +2,8 @@
 -- "Type annotations").
 use Rattle.std.specs.Prelude.{List, [], ◌∷◌, ◌++◌, if◌then◌else◌, Option, None, Some}
 use Rattle.pyc_builtins.specs.MemberTypes.{item_of}
-use Rattle.pyc_class.specs.declared.builtin_class.BuiltinClass.TheVariants as class
-use Rattle.pyc_class.specs.Class.{builtin}
+use Rattle.pyc_class_ids.specs.declared.builtin_class.BuiltinClass.TheVariants as class
+use Rattle.pyc_class_ids.specs.Class.{builtin}
 use Rattle.pyc_operators.specs.declared.table.Given.{Given}
 use Rattle.pyc_operators.specs.declared.table.Given.TheVariants as g
 use Rattle.pyc_type_forms.specs.Equality.{same_type}

@@ -48,7 +48,7 @@ comparison_symbol c.GtE = codes ">="
 -- how an operation is written
 abbrev pub symbol : Operation → List ℕ
 symbol (operation.Arithmetic operator) = operator_symbol operator
-symbol (operation.Order compared) = comparison_symbol compared
+symbol (operation.Mro check_comparison) = comparison_symbol check_comparison
 
 -- the method that an operator calls on its left operand
 abbrev pub operator_method : Operator → List ℕ
@@ -76,7 +76,7 @@ comparison_method c.GtE = codes "__ge__"
 -- the method that an operation calls on its left operand
 abbrev pub method_name : Operation → List ℕ
 method_name (operation.Arithmetic operator) = operator_method operator
-method_name (operation.Order compared) = comparison_method compared
+method_name (operation.Mro check_comparison) = comparison_method check_comparison
 
 -- the method that an augmented assignment calls on its target, where the target has one
 abbrev pub in_place_method : Operator → List ℕ

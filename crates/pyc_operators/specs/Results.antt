@@ -3,8 +3,8 @@
 use Rattle.std.specs.Prelude.{Bool, true, false, List, [], ◌∷◌, ◌++◌, Option, None, Some}
 use Rattle.pyc_operators.specs.declared.operation.Operation.{Operation}
 use Rattle.pyc_operators.specs.Methods.{Caller}
-use Rattle.pyc_operators.specs.Pairs.{pair}
-use Rattle.pyc_reading.specs.Desks.{Step}
+use Rattle.pyc_operators.specs.Pairs.{infer_pair}
+use Rattle.pyc_reading.specs.Traces.{Step}
 use Rattle.pyc_reading.specs.Readings.{Done, and_then}
 use Rattle.pyc_type_forms.specs.Types.{Ty}
 
@@ -25,7 +25,7 @@ with_result before None = record { types = before.types; is_failed = true }
 unfoldable pub pairs_of_left : Caller → Operation → Results → Ty → List Ty → Step Results
 pairs_of_left call operation before left [] = Done before
 pairs_of_left call operation before left (right ∷ rights) =
-    and_then (pair call operation left right) (λ found.
+    and_then (infer_pair call operation left right) (λ found.
     pairs_of_left call operation (with_result before found) left rights)
 
 -- what an operation gives on each pair of these operands

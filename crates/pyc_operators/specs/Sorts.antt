@@ -1,14 +1,14 @@
 -- The sorts of operands (Python language reference 3.13, "Binary arithmetic operations"; typing specification, "Type
 -- annotations").
 use Rattle.std.specs.Prelude.{Bool, true, false, if◌then◌else◌}
-use Rattle.pyc_class.specs.declared.builtin_class.BuiltinClass.{BuiltinClass}
-use Rattle.pyc_class.specs.declared.builtin_class.BuiltinClass.TheVariants as class
-use Rattle.pyc_class.specs.Class.{Id, builtin, user}
-use Rattle.pyc_class.specs.Order.{Order, is_unknown, order_contains}
+use Rattle.pyc_class_ids.specs.declared.builtin_class.BuiltinClass.{BuiltinClass}
+use Rattle.pyc_class_ids.specs.declared.builtin_class.BuiltinClass.TheVariants as class
+use Rattle.pyc_class_ids.specs.Class.{Id, builtin, user}
+use Rattle.pyc_class_ids.specs.Mro.{Mro, is_unknown, order_contains}
 use Rattle.pyc_reading.specs.Owing.{order_in}
 use Rattle.pyc_operators.specs.declared.table.Sort.{Sort}
 use Rattle.pyc_operators.specs.declared.table.Sort.TheVariants as s
-use Rattle.pyc_reading.specs.Desks.{Step}
+use Rattle.pyc_reading.specs.Traces.{Step}
 use Rattle.pyc_reading.specs.Keys as key
 use Rattle.pyc_reading.specs.Readings.{Done, Ask}
 use Rattle.pyc_type_forms.specs.Types.{Ty, any, none, module_type, instance, class_object, list, dict, tuple, tuple_of}
@@ -62,7 +62,7 @@ is_any _ = false
 -- ---- by the order of a user's class
 
 -- what the instances of a class count as whose order is known: the first of int, float, str and bytes that is in it
-abbrev pub counted_sort : Order → Sort
+abbrev pub counted_sort : Mro → Sort
 counted_sort order =
     if order_contains order (builtin class.Int) then s.Int
     else if order_contains order (builtin class.Float) then s.Float
@@ -71,7 +71,7 @@ counted_sort order =
     else s.Other
 
 -- what the instances of a class count as: Any where its order is not known
-abbrev pub ordered_sort : Order → Sort
+abbrev pub ordered_sort : Mro → Sort
 ordered_sort order = if is_unknown order then s.Any else counted_sort order
 
 -- the sort of an operand that is an instance of a class

@@ -139,17 +139,17 @@ of_others _ left right = g.Nothing
 
 -- ---- comparisons in order
 
-abbrev pub ordered_tuples : Sort → Sort → Given
-ordered_tuples left right = if is_tuple left && is_tuple right then g.Bool else g.Nothing
+abbrev pub compare_tuples : Sort → Sort → Given
+compare_tuples left right = if is_tuple left && is_tuple right then g.Bool else g.Nothing
 
-abbrev pub ordered_others : Sort → Sort → Given
-ordered_others s.Str s.Str = g.Bool
-ordered_others s.Bytes s.Bytes = g.Bool
-ordered_others s.List s.List = g.Bool
-ordered_others left right = ordered_tuples left right
+abbrev pub compare_others : Sort → Sort → Given
+compare_others s.Str s.Str = g.Bool
+compare_others s.Bytes s.Bytes = g.Bool
+compare_others s.List s.List = g.Bool
+compare_others left right = compare_tuples left right
 
-abbrev pub ordered : Sort → Sort → Given
-ordered left right = if is_number left && is_number right then g.Bool else ordered_others left right
+abbrev pub compare_in_order : Sort → Sort → Given
+compare_in_order left right = if is_number left && is_number right then g.Bool else compare_others left right
 
 -- ---- the table
 
@@ -162,7 +162,7 @@ arithmetic operator left right =
 -- what an operation on two operands gives
 abbrev pub gives : Operation → Sort → Sort → Given
 gives (operation.Arithmetic operator) left right = arithmetic operator left right
-gives (operation.Order comparison) left right = ordered left right
+gives (operation.Mro comparison) left right = compare_in_order left right
 
 -- `%`, with an instance of a user's class on the right
 abbrev pub formatted_with_user : Sort → Given

@@ -1,5 +1,5 @@
-//! Operators: what they give, by a table for builtin types and by methods for users' classes, and what is told where
-//! there is no such operation.
+//! Operators: what they give, by a table for builtin types and by methods for users' classes, and what is reported
+//! where there is no such operation.
 #![tactic(auto)]
 
 mod binary_operator;
@@ -13,7 +13,7 @@ mod sorts;
 mod table;
 mod unary_operator;
 
-pub use binary_operator::{binary, compared};
+pub use binary_operator::{binary, check_comparison};
 pub use methods::CallsMethods;
 pub use operation::in_place_method;
 pub use unary_operator::unary;

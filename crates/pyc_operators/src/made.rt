@@ -2,13 +2,13 @@
 
 ghost use Rattle.std.specs.Prelude.{◌≡◌, ◌++◌, IfOk, OnOk, option_map, map};
 ghost use Rattle.pyc_builtins.specs.MemberTypes.{item_of};
-ghost use Rattle.pyc_class.specs.Class.{builtin};
+ghost use Rattle.pyc_class_ids.specs.Class.{builtin};
 ghost use Rattle.pyc_operators.specs.Made as spec;
 ghost use Rattle.pyc_type_forms.specs.Types.{any, dict, instance};
 ghost use Rattle.pyc_type_forms.specs.TypeView.{ty_of, row};
 
 use crate::table::Given;
-use pyc_class::{BuiltinClass, ClassId};
+use pyc_class_ids::{BuiltinClass, ClassId};
 use pyc_type_forms::{DictTypes, Ty, same_type, union_of};
 use std::alloc::{AllocError, Global};
 use std::rc::Rc;

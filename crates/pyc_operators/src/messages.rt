@@ -1,40 +1,46 @@
-//! What is told where there is no such operation.
+//! What is reported where there is no such operation.
 
 ghost use Rattle.std.specs.Prelude.{◌≡◌, IfOk, string_bytes};
 ghost use Rattle.pyc_operators.specs.Messages as spec;
-ghost use Rattle.pyc_reading.specs.Desks.{Performs};
+ghost use Rattle.pyc_reading.specs.Traces.{Performs};
 ghost use Rattle.pyc_type_forms.specs.TypeView.{ty_of};
 
 use crate::operation::{Operation, UnaryOperation, symbol, unary_symbol};
 use pyc_ast::Position;
-use pyc_obligations::{Judge, tell_error};
+use pyc_obligations::{AskTypes, report_error};
 use pyc_report::Code;
 use pyc_type_forms::{Ty, show};
 use std::alloc::{AllocError, Global};
 
-/// Tells an error of an operation, which is Any.
-fn wrong<N: Judge>(notes: &mut N, at: Position, text: String) -> Result<Ty, AllocError>
-    ensures { Performs ty_of (spec.wrong at (string_bytes text)) (N.desk notes.old) result (N.desk notes.new) }
+/// Reports an error of an operation, which is Any.
+fn report_unsupported_operation<N: AskTypes>(
+    recorder: &mut N,
+    at: Position,
+    text: String,
+) -> Result<Ty, AllocError>
+    ensures { Performs ty_of (spec.report_unsupported_operation at (string_bytes text)) (N.trace recorder.old) result
+        (N.trace recorder.new) }
 {
-    tell_error(notes, at, Code::Operator, text)?;
+    report_error(recorder, at, Code::Operator, text)?;
     Ok(Ty::Any)
 }
 
-/// Tells that an operation does not take these operands. The only error is that memory runs out.
+/// Reports that an operation does not take these operands. The only error is that memory runs out.
 #[tactic(auto, unfolding(crate::specs::Messages::wrong_operands))]
-pub(crate) fn wrong_operands<N: Judge>(
+pub(crate) fn wrong_operands<N: AskTypes>(
     alloc: Global,
-    notes: &mut N,
+    recorder: &mut N,
     at: Position,
     operation: Operation,
     left: &Ty,
     right: &Ty,
 ) -> Result<Ty, AllocError>
-    ensures { Performs ty_of (spec.wrong_operands at operation (ty_of left.now) (ty_of right.now)) (N.desk notes.old)
-        result (N.desk notes.new) }
+    ensures { Performs ty_of (spec.wrong_operands at operation (ty_of left.now) (ty_of right.now))
+        (N.trace recorder.old)
+        result (N.trace recorder.new) }
 {
     let text = operands_text(alloc, operation, left, right)?;
-    wrong(notes, at, text)
+    report_unsupported_operation(recorder, at, text)
 }
 
 /// The text on operands that an operation does not take.
@@ -54,20 +60,20 @@ fn operands_text(
     format!(in alloc; "Unsupported operand types for {symbol} (\"{left}\" and \"{right}\")")
 }
 
-/// Tells that a unary operation does not take this operand. The only error is that memory runs out.
+/// Reports that a unary operation does not take this operand. The only error is that memory runs out.
 #[tactic(auto, unfolding(crate::specs::Messages::wrong_operand))]
-pub(crate) fn wrong_operand<N: Judge>(
+pub(crate) fn wrong_operand<N: AskTypes>(
     alloc: Global,
-    notes: &mut N,
+    recorder: &mut N,
     at: Position,
     operation: UnaryOperation,
     operand: &Ty,
 ) -> Result<Ty, AllocError>
-    ensures { Performs ty_of (spec.wrong_operand at operation (ty_of operand.now)) (N.desk notes.old) result
-        (N.desk notes.new) }
+    ensures { Performs ty_of (spec.wrong_operand at operation (ty_of operand.now)) (N.trace recorder.old) result
+        (N.trace recorder.new) }
 {
     let text = operand_text(alloc, operation, operand)?;
-    wrong(notes, at, text)
+    report_unsupported_operation(recorder, at, text)
 }
 
 /// The text on an operand that a unary operation does not take.

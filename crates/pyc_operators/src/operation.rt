@@ -11,7 +11,7 @@ pub(crate) enum Operation {
     /// An arithmetic or bitwise operation.
     Arithmetic(Operator),
     /// A comparison of two values in order.
-    Order(OrderComparison),
+    Mro(OrderComparison),
 }
 
 /// A comparison of two values in order.
@@ -46,7 +46,7 @@ pub(crate) fn symbol(operation: Operation) -> &'static str
 {
     match operation {
         Operation::Arithmetic(operator) => operator_symbol(operator),
-        Operation::Order(comparison) => comparison_symbol(comparison),
+        Operation::Mro(comparison) => comparison_symbol(comparison),
     }
 }
 
@@ -89,7 +89,7 @@ pub(crate) fn method_name(operation: Operation) -> &'static str
 {
     match operation {
         Operation::Arithmetic(operator) => operator_method(operator),
-        Operation::Order(comparison) => comparison_method(comparison),
+        Operation::Mro(comparison) => comparison_method(comparison),
     }
 }
 

@@ -3,7 +3,7 @@
 ghost use Rattle.std.specs.Prelude.{◌≡◌, option_map};
 ghost use Rattle.pyc_operators.specs.Pairs as spec;
 ghost use Rattle.pyc_reading.specs.AnswerView.{member_answer_of};
-ghost use Rattle.pyc_reading.specs.Desks.{Performs};
+ghost use Rattle.pyc_reading.specs.Traces.{Performs};
 ghost use Rattle.pyc_type_forms.specs.TypeView.{ty_of};
 
 use crate::made::made;
@@ -11,37 +11,38 @@ use crate::methods::{CallsMethods, method_of};
 use crate::operation::{Operation, method_name};
 use crate::sorts::{is_any, is_user, operand_sort, sort_of};
 use crate::table::{Given, Sort, given_with_user, gives};
-use pyc_obligations::Judge;
+use pyc_obligations::AskTypes;
 use pyc_reading::MemberAnswer;
 use pyc_type_forms::Ty;
 use std::alloc::{AllocError, Global};
 
 /// What an operation on a pair gives; none where there is no such operation. The only error is that memory runs out.
-#[tactic(auto, using(crate::proofs::Steps::performing), unfolding(crate::specs::Pairs::pair))]
-pub(crate) fn pair<N: Judge, C: CallsMethods<N>>(
+#[tactic(auto, using(crate::proofs::Steps::performing), unfolding(crate::specs::Pairs::infer_pair))]
+pub(crate) fn infer_pair<N: AskTypes, C: CallsMethods<N>>(
     alloc: Global,
-    notes: &mut N,
+    recorder: &mut N,
     caller: &C,
     operation: Operation,
     left: &Ty,
     right: &Ty,
 ) -> Result<Option<Ty>, AllocError>
     ensures { Performs (option_map ty_of)
-        (spec.pair (C.caller caller.now) operation (ty_of left.now) (ty_of right.now)) (N.desk notes.old) result
-        (N.desk notes.new) }
+        (spec.infer_pair (C.caller caller.now) operation (ty_of left.now) (ty_of right.now)) (N.trace recorder.old)
+        result
+        (N.trace recorder.new) }
 {
     if is_any(sort_of(left)) || is_any(sort_of(right)) {
         return Ok(Some(Ty::Any));
     }
-    let sort = operand_sort(alloc, notes, left)?;
-    left_sorted(alloc, notes, caller, operation, left, right, sort)
+    let sort = operand_sort(alloc, recorder, left)?;
+    infer_by_left_sort(alloc, recorder, caller, operation, left, right, sort)
 }
 
-/// The same, by the sort of the left operand.
-#[tactic(auto, using(crate::proofs::Steps::performing), unfolding(crate::specs::Pairs::left_sorted))]
-fn left_sorted<N: Judge, C: CallsMethods<N>>(
+/// What `operation` gives on a pair whose left operand has the sort `left_sort`; none where there is no such operation.
+#[tactic(auto, using(crate::proofs::Steps::performing), unfolding(crate::specs::Pairs::infer_by_left_sort))]
+fn infer_by_left_sort<N: AskTypes, C: CallsMethods<N>>(
     alloc: Global,
-    notes: &mut N,
+    recorder: &mut N,
     caller: &C,
     operation: Operation,
     left: &Ty,
@@ -49,18 +50,18 @@ fn left_sorted<N: Judge, C: CallsMethods<N>>(
     left_sort: Sort,
 ) -> Result<Option<Ty>, AllocError>
     ensures { Performs (option_map ty_of)
-        (spec.left_sorted (C.caller caller.now) operation (ty_of left.now) (ty_of right.now) left_sort)
-        (N.desk notes.old) result (N.desk notes.new) }
+        (spec.infer_by_left_sort (C.caller caller.now) operation (ty_of left.now) (ty_of right.now) left_sort)
+        (N.trace recorder.old) result (N.trace recorder.new) }
 {
     if is_any(left_sort) {
         return Ok(Some(Ty::Any));
     }
-    let right_sort = operand_sort(alloc, notes, right)?;
+    let right_sort = operand_sort(alloc, recorder, right)?;
     let sorts = Sorts {
         left: left_sort,
         right: right_sort,
     };
-    both_sorted(alloc, notes, caller, operation, left, right, sorts)
+    infer_by_both_sorts(alloc, recorder, caller, operation, left, right, sorts)
 }
 
 /// The sorts of two operands.
@@ -70,11 +71,11 @@ struct Sorts {
     right: Sort,
 }
 
-/// The same, by the sorts of both.
-#[tactic(auto, using(crate::proofs::Steps::performing), unfolding(crate::specs::Pairs::both_sorted))]
-fn both_sorted<N: Judge, C: CallsMethods<N>>(
+/// What `operation` gives on a pair whose operands have the sorts `sorts`; none where there is no such operation.
+#[tactic(auto, using(crate::proofs::Steps::performing), unfolding(crate::specs::Pairs::infer_by_both_sorts))]
+fn infer_by_both_sorts<N: AskTypes, C: CallsMethods<N>>(
     alloc: Global,
-    notes: &mut N,
+    recorder: &mut N,
     caller: &C,
     operation: Operation,
     left: &Ty,
@@ -82,15 +83,16 @@ fn both_sorted<N: Judge, C: CallsMethods<N>>(
     sorts: Sorts,
 ) -> Result<Option<Ty>, AllocError>
     ensures { Performs (option_map ty_of)
-        (spec.both_sorted (C.caller caller.now) operation (ty_of left.now) (ty_of right.now) sorts.left sorts.right)
-        (N.desk notes.old) result (N.desk notes.new) }
+        (spec.infer_by_both_sorts (C.caller caller.now) operation (ty_of left.now) (ty_of right.now) sorts.left
+        sorts.right)
+        (N.trace recorder.old) result (N.trace recorder.new) }
 {
     if is_any(sorts.right) {
         return Ok(Some(Ty::Any));
     }
-    let method = method_of(alloc, notes, left, method_name(operation))?;
+    let method = method_of(alloc, recorder, left, method_name(operation))?;
     let given = given_by_sorts(operation, left, right, sorts);
-    by_method(alloc, notes, caller, given, left, right, method)
+    infer_by_method(alloc, recorder, caller, given, left, right, method)
 }
 
 /// What an operation gives by the sorts of both operands, where the left one has no method for it.
@@ -105,10 +107,10 @@ fn given_by_sorts(operation: Operation, left: &Ty, right: &Ty, sorts: Sorts) -> 
 }
 
 /// What the left operand's method gives, or what is given without one.
-#[tactic(auto, unfolding(crate::specs::Pairs::by_method))]
-fn by_method<N: Judge, C: CallsMethods<N>>(
+#[tactic(auto, unfolding(crate::specs::Pairs::infer_by_method))]
+fn infer_by_method<N: AskTypes, C: CallsMethods<N>>(
     alloc: Global,
-    notes: &mut N,
+    recorder: &mut N,
     caller: &C,
     given: Given,
     left: &Ty,
@@ -116,28 +118,29 @@ fn by_method<N: Judge, C: CallsMethods<N>>(
     method: Option<MemberAnswer>,
 ) -> Result<Option<Ty>, AllocError>
     ensures { Performs (option_map ty_of)
-        (spec.by_method (C.caller caller.now) given (ty_of left.now) (ty_of right.now)
+        (spec.infer_by_method (C.caller caller.now) given (ty_of left.now) (ty_of right.now)
         (option_map member_answer_of method))
-        (N.desk notes.old) result (N.desk notes.new) }
+        (N.trace recorder.old) result (N.trace recorder.new) }
 {
     match method {
-        Some(method) => called(alloc, notes, caller, method, right),
+        Some(method) => infer_operator_call(alloc, recorder, caller, method, right),
         None => made(alloc, given, left, right),
     }
 }
 
 /// What a method gives that is called with an operand.
-fn called<N: Judge, C: CallsMethods<N>>(
+fn infer_operator_call<N: AskTypes, C: CallsMethods<N>>(
     alloc: Global,
-    notes: &mut N,
+    recorder: &mut N,
     caller: &C,
     method: MemberAnswer,
     operand: &Ty,
 ) -> Result<Option<Ty>, AllocError>
     ensures { Performs (option_map ty_of)
-        (spec.called (C.caller caller.now) (member_answer_of method) (ty_of operand.now)) (N.desk notes.old) result
-        (N.desk notes.new) }
+        (spec.infer_operator_call (C.caller caller.now) (member_answer_of method) (ty_of operand.now))
+        (N.trace recorder.old) result
+        (N.trace recorder.new) }
 {
     let arguments = [operand.clone()?];
-    caller.call_method(alloc, notes, method, &arguments)
+    caller.call_method(alloc, recorder, method, &arguments)
 }

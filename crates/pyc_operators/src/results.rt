@@ -3,13 +3,13 @@
 ghost use Rattle.std.specs.Prelude.{◌≡◌, IfOk, map, option_map};
 ghost use Rattle.pyc_operators.specs.Results as spec;
 ghost use Rattle.pyc_operators.specs.ResultsView.{results_of};
-ghost use Rattle.pyc_reading.specs.Desks.{Performs};
+ghost use Rattle.pyc_reading.specs.Traces.{Performs};
 ghost use Rattle.pyc_type_forms.specs.TypeView.{ty_of};
 
 use crate::methods::CallsMethods;
 use crate::operation::Operation;
-use crate::pairs::pair;
-use pyc_obligations::Judge;
+use crate::pairs::infer_pair;
+use pyc_obligations::AskTypes;
 use pyc_type_forms::Ty;
 use std::alloc::{AllocError, Global};
 
@@ -47,9 +47,9 @@ impl Results {
 
 /// What an operation gives on each pair of these operands. The only error is that memory runs out.
 #[tactic(auto, using(crate::proofs::Steps::performing), unfolding(crate::specs::Results::pairs_of))]
-pub(crate) fn pairs_of<N: Judge, C: CallsMethods<N>>(
+pub(crate) fn pairs_of<N: AskTypes, C: CallsMethods<N>>(
     alloc: Global,
-    notes: &mut N,
+    recorder: &mut N,
     caller: &C,
     operation: Operation,
     lefts: &[Ty],
@@ -57,20 +57,20 @@ pub(crate) fn pairs_of<N: Judge, C: CallsMethods<N>>(
 ) -> Result<Results, AllocError>
     ensures { Performs results_of
         (spec.pairs_of (C.caller caller.now) operation spec.no_results (map ty_of lefts.now) (map ty_of rights.now))
-        (N.desk notes.old) result (N.desk notes.new) }
+        (N.trace recorder.old) result (N.trace recorder.new) }
 {
     let mut results = Results::new(alloc);
     for left in lefts {
-        results = pairs_of_left(alloc, notes, caller, operation, results, left, rights)?;
+        results = pairs_of_left(alloc, recorder, caller, operation, results, left, rights)?;
     }
     Ok(results)
 }
 
 /// What an operation gives on each pair of an operand and one of these, after what was given before.
 #[tactic(auto, using(crate::proofs::Steps::performing), unfolding(crate::specs::Results::pairs_of_left))]
-fn pairs_of_left<N: Judge, C: CallsMethods<N>>(
+fn pairs_of_left<N: AskTypes, C: CallsMethods<N>>(
     alloc: Global,
-    notes: &mut N,
+    recorder: &mut N,
     caller: &C,
     operation: Operation,
     before: Results,
@@ -80,11 +80,11 @@ fn pairs_of_left<N: Judge, C: CallsMethods<N>>(
     ensures { Performs results_of
         (spec.pairs_of_left (C.caller caller.now) operation (results_of before) (ty_of left.now)
         (map ty_of rights.now))
-        (N.desk notes.old) result (N.desk notes.new) }
+        (N.trace recorder.old) result (N.trace recorder.new) }
 {
     let mut results = before;
     for right in rights {
-        let found = pair(alloc, notes, caller, operation, left, right)?;
+        let found = infer_pair(alloc, recorder, caller, operation, left, right)?;
         results = results.with(found)?;
     }
     Ok(results)

@@ -1,17 +1,17 @@
 //! The sorts of operands.
 
 ghost use Rattle.std.specs.Prelude.{◌≡◌};
-ghost use Rattle.pyc_class.specs.Order.{order_of};
+ghost use Rattle.pyc_class_ids.specs.Mro.{order_of};
 ghost use Rattle.pyc_reading.specs.Owing.{order_in};
 ghost use Rattle.pyc_operators.specs.Sorts as spec;
 ghost use Rattle.pyc_reading.specs.AnswerView.{answer_in, class_order_of};
-ghost use Rattle.pyc_reading.specs.Desks.{Performs};
+ghost use Rattle.pyc_reading.specs.Traces.{Performs};
 ghost use Rattle.pyc_type_forms.specs.TypeView.{ty_of};
 
 use crate::table::Sort;
-use pyc_class::{BuiltinClass, ClassId, Lin};
-use pyc_obligations::Judge;
-use pyc_reading::{Answer, ClassOrder, Key};
+use pyc_class_ids::{BuiltinClass, ClassId, Lin};
+use pyc_obligations::AskTypes;
+use pyc_reading::{Answer, Key, MroAnswer};
 use pyc_type_forms::Ty;
 use std::alloc::{AllocError, Global};
 
@@ -75,48 +75,48 @@ fn is_user_class(class: &ClassId) -> bool
 
 /// The sort of an operand: that of an instance of a user's class goes by the order of the class, which is asked. The
 /// only error is that memory runs out.
-pub(crate) fn operand_sort<N: Judge>(
+pub(crate) fn operand_sort<N: AskTypes>(
     alloc: Global,
-    notes: &mut N,
+    recorder: &mut N,
     operand: &Ty,
 ) -> Result<Sort, AllocError>
-    ensures { Performs (λ s. s) (spec.operand_sort (ty_of operand.now)) (N.desk notes.old) result
-        (N.desk notes.new) }
+    ensures { Performs (λ s. s) (spec.operand_sort (ty_of operand.now)) (N.trace recorder.old) result
+        (N.trace recorder.new) }
 {
     match operand {
-        Ty::Instance(class) => instance_sort(alloc, notes, class),
+        Ty::Instance(class) => instance_sort(alloc, recorder, class),
         _ => Ok(sort_of(operand)),
     }
 }
 
 /// The sort of an operand that is an instance of a class.
-fn instance_sort<N: Judge>(
+fn instance_sort<N: AskTypes>(
     alloc: Global,
-    notes: &mut N,
+    recorder: &mut N,
     class: &ClassId,
 ) -> Result<Sort, AllocError>
-    ensures { Performs (λ s. s) (spec.instance_sort class.now) (N.desk notes.old) result (N.desk notes.new) }
+    ensures { Performs (λ s. s) (spec.instance_sort class.now) (N.trace recorder.old) result (N.trace recorder.new) }
 {
     if class.as_builtin().is_some() {
         return Ok(class_sort(class));
     }
     let key = Key::Class(class.clone()?);
-    let answer = notes.ask(alloc, key)?;
+    let answer = recorder.ask(alloc, key)?;
     Ok(answered_sort(answer))
 }
 
-/// What the instances of a class count as, by the order that an answer tells.
+/// What the instances of a class count as, by the order that an answer gives.
 fn answered_sort(answer: Answer) -> Sort
     ensures { result ≡ spec.ordered_sort (order_in (answer_in answer)) }
 {
     match answer {
-        Answer::Order(order) => ordered_sort(&order),
+        Answer::Mro(order) => ordered_sort(&order),
         _ => Sort::Any,
     }
 }
 
 /// What the instances of a class of this order count as.
-fn ordered_sort(order: &ClassOrder) -> Sort
+fn ordered_sort(order: &MroAnswer) -> Sort
     ensures { result ≡ spec.ordered_sort (class_order_of order.now) }
 {
     let order = Lin {

@@ -88,7 +88,7 @@ pub(crate) fn gives(operation: Operation, left: Sort, right: Sort) -> Given
 {
     match operation {
         Operation::Arithmetic(operator) => arithmetic(operator, left, right),
-        Operation::Order(_) => ordered(left, right),
+        Operation::Mro(_) => compare_in_order(left, right),
     }
 }
 
@@ -265,31 +265,31 @@ fn types_joined(left: Sort, right: Sort) -> Given
 }
 
 /// What a comparison in order gives.
-fn ordered(left: Sort, right: Sort) -> Given
-    ensures { result ≡ spec.ordered left right }
+fn compare_in_order(left: Sort, right: Sort) -> Given
+    ensures { result ≡ spec.compare_in_order left right }
 {
     if is_number(left) && is_number(right) {
         Given::Bool
     } else {
-        ordered_others(left, right)
+        compare_others(left, right)
     }
 }
 
 /// What a comparison in order of operands that are not both numbers gives.
-fn ordered_others(left: Sort, right: Sort) -> Given
-    ensures { result ≡ spec.ordered_others left right }
+fn compare_others(left: Sort, right: Sort) -> Given
+    ensures { result ≡ spec.compare_others left right }
 {
     match (left, right) {
         (Sort::Str, Sort::Str) => Given::Bool,
         (Sort::Bytes, Sort::Bytes) => Given::Bool,
         (Sort::List, Sort::List) => Given::Bool,
-        _ => ordered_tuples(left, right),
+        _ => compare_tuples(left, right),
     }
 }
 
 /// What a comparison in order of tuples gives.
-fn ordered_tuples(left: Sort, right: Sort) -> Given
-    ensures { result ≡ spec.ordered_tuples left right }
+fn compare_tuples(left: Sort, right: Sort) -> Given
+    ensures { result ≡ spec.compare_tuples left right }
 {
     if is_tuple(left) && is_tuple(right) {
         Given::Bool

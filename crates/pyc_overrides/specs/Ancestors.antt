@@ -1,34 +1,34 @@
--- What the ancestors of a class declare under a name (Python reference 3.13, "Class definitions"; the library reference,
--- "Built-in Types").
+-- What the ancestors of a class declare under a name (Python reference 3.13, "Class definitions"; the library
+-- reference, "Built-in Types").
 use Rattle.std.specs.Prelude.{ℕ, if◌then◌else◌, List, Option, None, Some, option_map}
 use Rattle.pyc_attributes.specs.Binding.{through_instance}
 use Rattle.pyc_builtins.specs.declared.members.Member.{Member}
 use Rattle.pyc_builtins.specs.declared.members.Member.TheVariants as member
 use Rattle.pyc_builtins.specs.Members.{own_member}
 use Rattle.pyc_builtins.specs.MemberTypes.{member_type}
-use Rattle.pyc_class.specs.declared.builtin_class.BuiltinClass.{BuiltinClass}
-use Rattle.pyc_class.specs.Class.{Id, builtin, user, same_class}
-use Rattle.pyc_obligations.specs.Asking.{asked_member}
+use Rattle.pyc_class_ids.specs.declared.builtin_class.BuiltinClass.{BuiltinClass}
+use Rattle.pyc_class_ids.specs.Class.{Id, builtin, user, same_class}
+use Rattle.pyc_obligations.specs.Asking.{ask_member}
 use Rattle.pyc_reading.specs.Answers.{MemberAnswer}
 use Rattle.pyc_reading.specs.declared.answer.MemberKind.{MemberKind}
 use Rattle.pyc_reading.specs.declared.answer.MemberKind.TheVariants as kind
-use Rattle.pyc_reading.specs.Desks.{Step}
+use Rattle.pyc_reading.specs.Traces.{Step}
 use Rattle.pyc_reading.specs.Readings.{Done, ◌>>=◌}
 use Rattle.pyc_type_forms.specs.Types.{instance}
 
 -- ---- members
 
 -- a member with its type as it is through an instance
-abbrev pub seen : MemberAnswer → MemberAnswer
-seen found = record { class = found.class; kind = found.kind; ty = through_instance found }
+abbrev pub bind_to_instance : MemberAnswer → MemberAnswer
+bind_to_instance found = record { class = found.class; kind = found.kind; ty = through_instance found }
 
 -- what a class has under a name, where the class itself declares it
 abbrev pub declared_only_by : Id → MemberAnswer → Option MemberAnswer
 declared_only_by c found = if same_class found.class c then Some found else None
 
-abbrev pub declared_by : Id → Option MemberAnswer → Option MemberAnswer
-declared_by c None = None
-declared_by c (Some found) = declared_only_by c found
+abbrev pub own_declaration : Id → Option MemberAnswer → Option MemberAnswer
+own_declaration c None = None
+own_declaration c (Some found) = declared_only_by c found
 
 -- a member of a builtin class
 abbrev pub builtin_kind : Member → MemberKind
@@ -43,8 +43,8 @@ builtin_answer c found =
 -- what a class of a source itself declares under a name
 abbrev pub user_member : Id → List ℕ → Step (Option MemberAnswer)
 user_member c n = do
-  found ← asked_member c n
-  Done (declared_by c found)
+  found ← ask_member c n
+  Done (own_declaration c found)
 
 -- what an ancestor itself declares under a name: no file is asked of a builtin class
 abbrev pub ancestor_member : Id → List ℕ → Step (Option MemberAnswer)

@@ -1,4 +1,4 @@
--- What is told of a name that overrides another (typing specification, "Class type assignability"; mypy's
+-- What is reported of a name that overrides another (typing specification, "Class type assignability"; mypy's
 -- documentation, "Class basics", "Overriding statically typed methods", and "Error codes enabled by default").
 use Rattle.std.specs.Prelude.{ℕ, Bool, List, ◌++◌, codes}
 use Rattle.std.specs.Fmt.{decimal}
@@ -36,17 +36,17 @@ variable_text base got want =
 -- ---- by types
 
 -- a parameter of this number, of which the ancestor wants a type
-unfoldable pub owed_argument_text : Override → ℕ → Ty → List ℕ
-owed_argument_text told number want = argument_text number told.name told.base (text_of want)
+unfoldable pub required_argument_text : Override → ℕ → Ty → List ℕ
+required_argument_text reported number want = argument_text number reported.name reported.base (text_of want)
 
 -- a method that gives a type, where the ancestor's gives another
-unfoldable pub owed_result_text : Override → (got want : Ty) → List ℕ
-owed_result_text told got want = result_text told.name told.base (text_of got) (text_of want)
+unfoldable pub required_result_text : Override → (got want : Ty) → List ℕ
+required_result_text reported got want = result_text reported.name reported.base (text_of got) (text_of want)
 
 -- a method whose signature is another in any other way, and a method that stands against something else
-unfoldable pub owed_signature_text : Override → List ℕ
-owed_signature_text told = signature_text told.name told.base
+unfoldable pub required_signature_text : Override → List ℕ
+required_signature_text reported = signature_text reported.name reported.base
 
 -- what is no method, and of another type
-unfoldable pub owed_variable_text : Override → (got want : Ty) → List ℕ
-owed_variable_text told got want = variable_text told.base (text_of got) (text_of want)
+unfoldable pub required_variable_text : Override → (got want : Ty) → List ℕ
+required_variable_text reported got want = variable_text reported.base (text_of got) (text_of want)

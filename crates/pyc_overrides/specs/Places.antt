@@ -65,7 +65,7 @@ place_in_parts_at (found ∷ rest) at n = option_or (place_in_part_at found at n
 
 -- ---- what decides of a name
 
--- where a binding among the parts of a class's body is told of: at the target that binds the name, else where its
+-- where a binding among the parts of a class's body is reported of: at the target that binds the name, else where its
 -- statement begins
 abbrev pub binding_place : List Part → Binding → Position
 binding_place parts b = unwrap_or (place_in_parts_at parts b.place.at b.name) b.place.at

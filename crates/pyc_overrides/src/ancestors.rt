@@ -3,19 +3,22 @@
 ghost use Rattle.std.specs.Prelude.{◌≡◌, IfOk, option_map};
 ghost use Rattle.pyc_overrides.specs.Ancestors as spec;
 ghost use Rattle.pyc_reading.specs.AnswerView.{member_answer_of};
-ghost use Rattle.pyc_reading.specs.Desks.{Performs};
+ghost use Rattle.pyc_reading.specs.Traces.{Performs};
 
 use pyc_attributes::through_instance;
 use pyc_builtins::{Member, member_type, own_member};
-use pyc_class::{BuiltinClass, ClassId};
-use pyc_obligations::asked_member;
-use pyc_reading::{MemberAnswer, MemberKind, Notes};
+use pyc_class_ids::{BuiltinClass, ClassId};
+use pyc_obligations::ask_member;
+use pyc_reading::{Ask, MemberAnswer, MemberKind};
 use pyc_type_forms::Ty;
 use std::alloc::{AllocError, Global};
 
 /// A member with its type as it is through an instance.
-pub(crate) fn seen(alloc: Global, found: MemberAnswer) -> Result<MemberAnswer, AllocError>
-    ensures { IfOk result (λ member. member_answer_of member ≡ spec.seen (member_answer_of found)) }
+pub(crate) fn bind_to_instance(
+    alloc: Global,
+    found: MemberAnswer,
+) -> Result<MemberAnswer, AllocError>
+    ensures { IfOk result (λ member. member_answer_of member ≡ spec.bind_to_instance (member_answer_of found)) }
 {
     let class = found.class.clone()?;
     let kind = found.kind;
@@ -24,9 +27,9 @@ pub(crate) fn seen(alloc: Global, found: MemberAnswer) -> Result<MemberAnswer, A
 }
 
 /// What a class has under a name, where the class itself declares it.
-pub(crate) fn declared_by(class: &ClassId, found: Option<MemberAnswer>) -> Option<MemberAnswer>
+pub(crate) fn own_declaration(class: &ClassId, found: Option<MemberAnswer>) -> Option<MemberAnswer>
     ensures { option_map member_answer_of result
-        ≡ spec.declared_by class.now (option_map member_answer_of found) }
+        ≡ spec.own_declaration class.now (option_map member_answer_of found) }
 {
     match found {
         Some(found) => declared_only_by(class, found),
@@ -47,34 +50,34 @@ fn declared_only_by(class: &ClassId, found: MemberAnswer) -> Option<MemberAnswer
 }
 
 /// What an ancestor itself declares under a name. No file is asked of a builtin class.
-pub(crate) fn ancestor_member<N: Notes>(
+pub(crate) fn ancestor_member<N: Ask>(
     alloc: Global,
-    notes: &mut N,
+    recorder: &mut N,
     ancestor: &ClassId,
     name: &str,
 ) -> Result<Option<MemberAnswer>, AllocError>
-    ensures { Performs (option_map member_answer_of) (spec.ancestor_member ancestor.now name.now) (N.desk notes.old)
-        result (N.desk notes.new) }
+    ensures { Performs (option_map member_answer_of) (spec.ancestor_member ancestor.now name.now) (N.trace recorder.old)
+        result (N.trace recorder.new) }
 {
     match ancestor.as_builtin() {
         Some(class) => builtin_member(alloc, class, own_member(class, name)),
-        None => user_member(alloc, notes, ancestor, name),
+        None => user_member(alloc, recorder, ancestor, name),
     }
 }
 
 /// What a class of a source itself declares under a name.
 #[tactic(auto, using(pyc_obligations::proofs::Steps::performing))]
-fn user_member<N: Notes>(
+fn user_member<N: Ask>(
     alloc: Global,
-    notes: &mut N,
+    recorder: &mut N,
     class: &ClassId,
     name: &str,
 ) -> Result<Option<MemberAnswer>, AllocError>
-    ensures { Performs (option_map member_answer_of) (spec.user_member class.now name.now) (N.desk notes.old)
-        result (N.desk notes.new) }
+    ensures { Performs (option_map member_answer_of) (spec.user_member class.now name.now) (N.trace recorder.old)
+        result (N.trace recorder.new) }
 {
-    let found = asked_member(alloc, notes, class, name)?;
-    Ok(declared_by(class, found))
+    let found = ask_member(alloc, recorder, class, name)?;
+    Ok(own_declaration(class, found))
 }
 
 /// A member of a builtin class, if there is one.

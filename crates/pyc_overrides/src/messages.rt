@@ -1,4 +1,4 @@
-//! What is told of names that override others.
+//! What is reported of names that override others.
 
 ghost use Rattle.std.specs.Prelude.{◌≡◌, IfOk, string_bytes};
 ghost use Rattle.pyc_overrides.specs.Messages as spec;
@@ -70,56 +70,65 @@ fn variable_text(alloc: Global, base: &str, got: &str, want: &str) -> Result<Str
 }
 
 /// The text on the parameter of a number, of which the ancestor wants a type.
-#[tactic(auto, unfolding(crate::specs::Messages::owed_argument_text))]
-pub(crate) fn owed_argument_text(
+#[tactic(auto, unfolding(crate::specs::Messages::required_argument_text))]
+pub(crate) fn required_argument_text(
     alloc: Global,
-    told: &Override<'_>,
+    reported: &Override<'_>,
     number: usize,
     want: &Ty,
 ) -> Result<String, AllocError>
     ensures { IfOk result (λ text. string_bytes text
-        ≡ spec.owed_argument_text (override_of told.now) number (ty_of want.now)) }
+        ≡ spec.required_argument_text (override_of reported.now) number (ty_of want.now)) }
 {
     let want = show(alloc, want)?;
-    argument_text(alloc, number, told.name, told.base, want.as_str())
+    argument_text(alloc, number, reported.name, reported.base, want.as_str())
 }
 
 /// The text on a method that gives a type, where the ancestor's gives another.
-#[tactic(auto, unfolding(crate::specs::Messages::owed_result_text))]
-pub(crate) fn owed_result_text(
+#[tactic(auto, unfolding(crate::specs::Messages::required_result_text))]
+pub(crate) fn required_result_text(
     alloc: Global,
-    told: &Override<'_>,
+    reported: &Override<'_>,
     got: &Ty,
     want: &Ty,
 ) -> Result<String, AllocError>
     ensures { IfOk result (λ text. string_bytes text
-        ≡ spec.owed_result_text (override_of told.now) (ty_of got.now) (ty_of want.now)) }
+        ≡ spec.required_result_text (override_of reported.now) (ty_of got.now) (ty_of want.now)) }
 {
     let got = show(alloc, got)?;
     let want = show(alloc, want)?;
-    result_text(alloc, told.name, told.base, got.as_str(), want.as_str())
+    result_text(
+        alloc,
+        reported.name,
+        reported.base,
+        got.as_str(),
+        want.as_str(),
+    )
 }
 
 /// The text on a method whose signature is another in any other way, or that stands against something else.
-#[tactic(auto, unfolding(crate::specs::Messages::owed_signature_text))]
-pub(crate) fn owed_signature_text(alloc: Global, told: &Override<'_>) -> Result<String, AllocError>
-    ensures { IfOk result (λ text. string_bytes text ≡ spec.owed_signature_text (override_of told.now)) }
+#[tactic(auto, unfolding(crate::specs::Messages::required_signature_text))]
+pub(crate) fn required_signature_text(
+    alloc: Global,
+    reported: &Override<'_>,
+) -> Result<String, AllocError>
+    ensures { IfOk result (λ text. string_bytes text ≡ spec.required_signature_text (override_of reported.now)) }
 {
-    signature_text(alloc, told.name, told.base)
+    signature_text(alloc, reported.name, reported.base)
 }
 
 /// The text on what is no method, and of another type than the ancestor's.
-#[tactic(auto, unfolding(crate::specs::Messages::owed_variable_text))]
-pub(crate) fn owed_variable_text(
+#[tactic(auto, unfolding(crate::specs::Messages::required_variable_text))]
+pub(crate) fn required_variable_text(
     alloc: Global,
-    told: &Override<'_>,
+    reported: &Override<'_>,
     got: &Ty,
     want: &Ty,
 ) -> Result<String, AllocError>
     ensures { IfOk result (λ text. string_bytes text
-        ≡ spec.owed_variable_text (override_of told.now) (ty_of got.now) (ty_of want.now)) }
+        ≡ spec.required_variable_text (override_of reported.now) (ty_of got.now) (ty_of want.now)) }
 {
     let got = show(alloc, got)?;
     let want = show(alloc, want)?;
-    variable_text(alloc, told.base, got.as_str(), want.as_str())
+    variable_text(alloc, reported.base, got.as_str(), want.as_str())
 }

@@ -5,49 +5,50 @@ ghost use Rattle.pyc_obligations.specs.Asking.{orders_at};
 ghost use Rattle.pyc_overrides.specs.Messages as messages;
 ghost use Rattle.pyc_overrides.specs.Parameters as spec;
 ghost use Rattle.pyc_overrides.specs.Views.{override_of};
-ghost use Rattle.pyc_reading.specs.Desks.{Asks};
+ghost use Rattle.pyc_reading.specs.Traces.{Asks};
 ghost use Rattle.pyc_reading.specs.Owing.{detail_keys, text_by};
 ghost use Rattle.pyc_type_forms.specs.TypeView.{kind_of, param_of, param_row, params_of, ty_of};
 
-use crate::messages::{Override, owed_argument_text, owed_signature_text};
-use pyc_obligations::{Judge, ask_types, is_assignable};
+use crate::messages::{Override, required_argument_text, required_signature_text};
+use pyc_obligations::{AskTypes, ask_types, is_assignable};
 use pyc_type_forms::{Param, ParamKind, Params, Ty};
 use std::alloc::{AllocError, Global};
 
 /// Asks by what is known of the parameters of a method and of those of the ancestor's.
-pub(crate) fn ask_rows<N: Judge>(
+pub(crate) fn ask_rows<N: AskTypes>(
     alloc: Global,
-    notes: &mut N,
-    told: &Override<'_>,
+    recorder: &mut N,
+    reported: &Override<'_>,
     gots: &Params,
     wants: &Params,
 ) -> Result<(), AllocError>
-    ensures { Asks (detail_keys (spec.rows_details (override_of told.now) (params_of gots.now) (params_of wants.now)))
-        (N.desk notes.old) result (N.desk notes.new) }
+    ensures { Asks (detail_keys (spec.rows_details (override_of reported.now) (params_of gots.now)
+        (params_of wants.now)))
+        (N.trace recorder.old) result (N.trace recorder.new) }
 {
     match (gots, wants) {
         (Params::Listed(gots), Params::Listed(wants)) => {
-            ask_parameters(alloc, notes, told, gots, wants)
+            ask_parameters(alloc, recorder, reported, gots, wants)
         }
         _ => Ok(()),
     }
 }
 
 /// Asks by what is known of these rows of parameters.
-fn ask_parameters<N: Judge>(
+fn ask_parameters<N: AskTypes>(
     alloc: Global,
-    notes: &mut N,
-    told: &Override<'_>,
+    recorder: &mut N,
+    reported: &Override<'_>,
     gots: &[Param],
     wants: &[Param],
 ) -> Result<(), AllocError>
     ensures { Asks
-        (detail_keys (spec.parameters_details (override_of told.now) (param_row gots.now) 0 (param_row wants.now)))
-        (N.desk notes.old) result (N.desk notes.new) }
+        (detail_keys (spec.parameters_details (override_of reported.now) (param_row gots.now) 0 (param_row wants.now)))
+        (N.trace recorder.old) result (N.trace recorder.new) }
 {
     let mut place = 0;
     for want in wants {
-        ask_parameter(alloc, notes, told, gots, place, want)?;
+        ask_parameter(alloc, recorder, reported, gots, place, want)?;
         if is_plain(&want.kind) {
             place += 1;
         }
@@ -56,113 +57,120 @@ fn ask_parameters<N: Judge>(
 }
 
 /// Asks by what is known of a parameter of the ancestor's, before which `place` plain ones stand.
-fn ask_parameter<N: Judge>(
+fn ask_parameter<N: AskTypes>(
     alloc: Global,
-    notes: &mut N,
-    told: &Override<'_>,
+    recorder: &mut N,
+    reported: &Override<'_>,
     gots: &[Param],
     place: usize,
     want: &Param,
 ) -> Result<(), AllocError>
     ensures { Asks
         (detail_keys
-        (spec.parameter_details (override_of told.now) (param_row gots.now) place (param_of want.now).slot
+        (spec.parameter_details (override_of reported.now) (param_row gots.now) place (param_of want.now).slot
         (param_of want.now).ty))
-        (N.desk notes.old) result (N.desk notes.new) }
+        (N.trace recorder.old) result (N.trace recorder.new) }
 {
     if is_plain(&want.kind) {
-        ask_argument(alloc, notes, told, place, type_at(gots, place), &want.ty)
+        ask_argument(
+            alloc,
+            recorder,
+            reported,
+            place,
+            type_at(gots, place),
+            &want.ty,
+        )
     } else {
         Ok(())
     }
 }
 
 /// Asks by what is known of what takes an argument at a place, if something takes it.
-fn ask_argument<N: Judge>(
+fn ask_argument<N: AskTypes>(
     alloc: Global,
-    notes: &mut N,
-    told: &Override<'_>,
+    recorder: &mut N,
+    reported: &Override<'_>,
     place: usize,
     got: Option<&Ty>,
     want: &Ty,
 ) -> Result<(), AllocError>
     ensures { Asks
         (detail_keys
-        (spec.argument_details (override_of told.now) (place + 1) (option_map (λ ty. ty_of ty.now) got.entry)
+        (spec.argument_details (override_of reported.now) (place + 1) (option_map (λ ty. ty_of ty.now) got.entry)
         (ty_of want.now)))
-        (N.desk notes.old) result (N.desk notes.new) }
+        (N.trace recorder.old) result (N.trace recorder.new) }
 {
     match got {
-        Some(got) => ask_types(alloc, notes, want, got),
+        Some(got) => ask_types(alloc, recorder, want, got),
         None => Ok(()),
     }
 }
 
 /// The text on a method with the parameters `gots` whose result is assignable: that on the first parameter that does
 /// not take what the ancestor's takes, else that on the signatures as wholes.
-pub(crate) fn rows_text<N: Judge>(
+pub(crate) fn rows_text<N: AskTypes>(
     alloc: Global,
-    notes: &N,
-    told: &Override<'_>,
+    recorder: &N,
+    reported: &Override<'_>,
     gots: &Params,
     wants: &Params,
 ) -> Result<String, AllocError>
     ensures { IfOk result (λ text. string_bytes text
-        ≡ text_by (orders_at (N.desk notes.now))
-        (spec.rows_details (override_of told.now) (params_of gots.now) (params_of wants.now))
-        (messages.owed_signature_text (override_of told.now))) }
+        ≡ text_by (orders_at (N.trace recorder.now))
+        (spec.rows_details (override_of reported.now) (params_of gots.now) (params_of wants.now))
+        (messages.required_signature_text (override_of reported.now))) }
 {
     match (gots, wants) {
         (Params::Listed(gots), Params::Listed(wants)) => {
-            parameters_text(alloc, notes, told, gots, wants)
+            parameters_text(alloc, recorder, reported, gots, wants)
         }
-        _ => owed_signature_text(alloc, told),
+        _ => required_signature_text(alloc, reported),
     }
 }
 
 /// The text on a method with these rows of parameters.
-fn parameters_text<N: Judge>(
+fn parameters_text<N: AskTypes>(
     alloc: Global,
-    notes: &N,
-    told: &Override<'_>,
+    recorder: &N,
+    reported: &Override<'_>,
     gots: &[Param],
     wants: &[Param],
 ) -> Result<String, AllocError>
     ensures { IfOk result (λ text. string_bytes text
-        ≡ text_by (orders_at (N.desk notes.now))
-        (spec.parameters_details (override_of told.now) (param_row gots.now) 0 (param_row wants.now))
-        (messages.owed_signature_text (override_of told.now))) }
+        ≡ text_by (orders_at (N.trace recorder.now))
+        (spec.parameters_details (override_of reported.now) (param_row gots.now) 0 (param_row wants.now))
+        (messages.required_signature_text (override_of reported.now))) }
 {
     let mut place = 0;
     for want in wants {
-        if is_refused(notes, gots, place, want) {
-            return owed_argument_text(alloc, told, place + 1, &want.ty);
+        if is_refused(recorder, gots, place, want) {
+            return required_argument_text(alloc, reported, place + 1, &want.ty);
         }
         if is_plain(&want.kind) {
             place += 1;
         }
     }
-    owed_signature_text(alloc, told)
+    required_signature_text(alloc, reported)
 }
 
 /// Whether a parameter of the ancestor's, before which `place` plain ones stand, is plain, and what takes an argument
 /// at its place does not take its type.
-fn is_refused<N: Judge>(notes: &N, gots: &[Param], place: usize, want: &Param) -> bool
+fn is_refused<N: AskTypes>(recorder: &N, gots: &[Param], place: usize, want: &Param) -> bool
     ensures { result
-        ≡ spec.is_refused (orders_at (N.desk notes.now)) (param_row gots.now) place (param_of want.now).slot
+        ≡ spec.is_refused (orders_at (N.trace recorder.now)) (param_row gots.now) place (param_of want.now).slot
         (param_of want.now).ty }
 {
-    is_plain(&want.kind) && is_refused_by(notes, type_at(gots, place), &want.ty)
+    is_plain(&want.kind) && is_refused_by(recorder, type_at(gots, place), &want.ty)
 }
 
 /// Whether something takes an argument, and does not take this type.
-fn is_refused_by<N: Judge>(notes: &N, got: Option<&Ty>, want: &Ty) -> bool
+fn is_refused_by<N: AskTypes>(recorder: &N, got: Option<&Ty>, want: &Ty) -> bool
     ensures { result
-        ≡ spec.is_refused_by (orders_at (N.desk notes.now)) (option_map (λ ty. ty_of ty.now) got.entry)
+        ≡ spec.is_refused_by (orders_at (N.trace recorder.now)) (option_map (λ ty. ty_of ty.now) got.entry)
         (ty_of want.now) }
 {
     match got {
-        Some(got) => !is_assignable(notes, want, got),
+        Some(got) => !is_assignable(recorder, want, got),
         None => false,
     }
 }
@@ -171,15 +179,15 @@ fn is_refused_by<N: Judge>(notes: &N, got: Option<&Ty>, want: &Ty) -> bool
 fn type_at(gots: &[Param], place: usize) -> Option<&Ty>
     ensures { option_map (λ ty. ty_of ty.now) result ≡ spec.type_at (param_row gots.now) place }
 {
-    match plain_at(gots, place) {
+    match plain_param_type(gots, place) {
         Some(ty) => Some(ty),
         None => star_in(gots),
     }
 }
 
 /// The type of the plain parameter before which `place` others stand.
-fn plain_at(gots: &[Param], place: usize) -> Option<&Ty>
-    ensures { option_map (λ ty. ty_of ty.now) result ≡ spec.plain_at (param_row gots.now) place }
+fn plain_param_type(gots: &[Param], place: usize) -> Option<&Ty>
+    ensures { option_map (λ ty. ty_of ty.now) result ≡ spec.plain_param_type (param_row gots.now) place }
 {
     let mut left = place;
     for got in gots {

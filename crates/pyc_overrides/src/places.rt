@@ -13,7 +13,7 @@ use pyc_ast::{Position, StmtForm, Target, TargetElement, TargetForm, Text};
 use pyc_bindings::{Binding, Part, PartForm};
 use pyc_members::OwnMember;
 
-/// Where what decides of a name is told of: at the definition or the target that binds it.
+/// Where what decides of a name is reported of: at the definition or the target that binds it.
 pub(crate) fn own_place(parts: &[Part<'_>], own: OwnMember<'_>) -> Position
     ensures { result ≡ spec.own_place (map part_of parts.now) (own_member_of own.entry) }
 {
@@ -24,7 +24,7 @@ pub(crate) fn own_place(parts: &[Part<'_>], own: OwnMember<'_>) -> Position
     }
 }
 
-/// Where a binding among the parts of a class's body is told of: at the target that binds the name, else where its
+/// Where a binding among the parts of a class's body is reported of: at the target that binds the name, else where its
 /// statement begins.
 fn binding_place(parts: &[Part<'_>], binding: &Binding) -> Position
     ensures { result ≡ spec.binding_place (map part_of parts.now) (binding_of binding.now) }

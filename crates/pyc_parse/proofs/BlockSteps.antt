@@ -14,13 +14,13 @@ use Rattle.pyc_tree.specs.BlockView.{clause_of, follower_of, clauses_before, stm
 use Rattle.pyc_tree.proofs.Turns.{one_more, no_more}
 
 -- the fault of a part is the fault of the whole
-pub read_err : {X Y A B : Type 0} (view : X → A) (part : BlocksParsed A) (told : BlockFault) (left : List Placed) (whole_view : Y → B) (whole : BlocksParsed B)
+pub read_err : {X Y A B : Type 0} (view : X → A) (part : BlocksParsed A) (reported : BlockFault) (left : List Placed) (whole_view : Y → B) (whole : BlocksParsed B)
     (r : Result Y BlockFault) (new : List Placed)
-    → IsErrAnd r (λ e. e ≡ told) → ReadsLines {X = X} view part (Err told) left → ((number : ℕ) → part ≡ Err number → whole ≡ Err number)
+    → IsErrAnd r (λ e. e ≡ reported) → ReadsLines {X = X} view part (Err reported) left → ((number : ℕ) → part ≡ Err number → whole ≡ Err number)
     → ReadsLines whole_view whole r new
-read_err view part told left whole_view whole (Ok y) new is read leads = absurd is
-read_err view part told left whole_view whole (Err fault.Memory) new is read leads = tt
-read_err {X} view part told left whole_view whole (Err (fault.Block number)) new is read leads =
+read_err view part reported left whole_view whole (Ok y) new is read leads = absurd is
+read_err view part reported left whole_view whole (Err fault.Memory) new is read leads = tt
+read_err {X} view part reported left whole_view whole (Err (fault.Block number)) new is read leads =
     leads number (subst (λ (e : BlockFault). ReadsLines {X = X} view part (Err e) left) (sym is) read)
 
 -- ---- clauses

@@ -10,8 +10,8 @@ use Rattle.pyc_tree.specs.declared.block.Next.{Next}
 use Rattle.pyc_tree.specs.declared.block.Next.TheVariants as next
 use Rattle.pyc_tree.specs.BlockTrees.{Decorator, Stmt, simple, compound, CompoundClause, clause, CompoundClauses, no_clause, another, Suite, inline, block, Stmts, no_statement, statement}
 use Rattle.pyc_parse.specs.BlockYield.{IndentedLine, clause_yield}
-use Rattle.pyc_parse.specs.Blocks.{Placed, BlocksParsed, Parser, and_then, pure, take_one, form_of, follows, is_handler, handled, opening, next_of, beginning, follower, line_follows, under, number_of, is_decorator, is_definition, simple_line, statements_of, decorator_line, decorator_of, decorators, all_decorators, suite, suite_under, clause_of, one_clause, clause_by, next_clause, clauses_after, clauses, all_clauses, compound_statement, definition, decorated, statement_by, next_statement, statements_after, statements, all_statements, block_at, module_of, blocks}
-use Rattle.pyc_parse.proofs.SoundBlocks.{indented, IsYield, refused, parts, bind, stands, tested, decorator_stands, definition_stands, under_is, either, Holds, follower_here, fewer, beginning_goes, ends, over, statement_ok, clause_ok, decorated_ok, clause_some, block_holds}
+use Rattle.pyc_parse.specs.Blocks.{Placed, BlocksParsed, Parser, and_then, pure, take_one, form_of, follows, is_handler, handler_follows, next_of_header, next_of, next_of_line, follower, line_follows, under, number_of, is_decorator, is_definition, simple_line, statements_of, decorator_line, decorator_of, decorators, all_decorators, suite, suite_under, clause_of, one_clause, clause_by, next_clause, clauses_after, clauses, all_clauses, compound_statement, definition, decorated_definition, statement_by, next_statement, statements_after, statements, all_statements, block_at, module_of, blocks}
+use Rattle.pyc_parse.proofs.SoundBlocks.{indented, IsYield, refused, parts, bind, stands, tested, decorator_stands, definition_stands, under_is, either, Holds, follower_here, fewer, beginning_goes, ends, over, statement_ok, clause_ok, decorated_definition_ok, clause_some, block_holds}
 use Rattle.pyc_tree.specs.Lines.{Header, Line}
 use Rattle.pyc_tree.specs.Lines as line
 use Rattle.pyc_tree.specs.Statements.{SimpleStatement, Separated, no_item, last_item, item}
@@ -87,34 +87,34 @@ module _ (others : List Placed) (ends_all : EndsAll others) where
   handled_by true found more own go e = go e
   handled_by false found more own go e = e
 
-  handled_on : (indent : ℕ) (ps : List Placed) → handled indent ps ≡ true → handled indent (ps ++ others) ≡ true
-  handled_on indent [] e = absurd (false≢true e)
-  handled_on indent (p ∷ ps) e =
-      handled_by (nat_lt indent p.indent) (handled indent ps) (handled indent (ps ++ others)) (p.indent == indent && is_handler p.line) (handled_on indent ps) e
+  handler_follows_on : (indent : ℕ) (ps : List Placed) → handler_follows indent ps ≡ true → handler_follows indent (ps ++ others) ≡ true
+  handler_follows_on indent [] e = absurd (false≢true e)
+  handler_follows_on indent (p ∷ ps) e =
+      handled_by (nat_lt indent p.indent) (handler_follows indent ps) (handler_follows indent (ps ++ others)) (p.indent == indent && is_handler p.line) (handler_follows_on indent ps) e
 
   try_on : (number : ℕ) (was now : Bool) (found : Next) → (was ≡ true → now ≡ true) → (if was then next.Header after.Try else next.Fault number) ≡ found
       → stands found ≡ true → (if now then next.Header after.Try else next.Fault number) ≡ found
   try_on number true now found go e so = taken_if now (next.Header after.Try) (next.Fault number) found (go refl) e
   try_on number false now found go e so = absurd (false≢true (ap stands e ∙ so))
 
-  opening_on : (number indent : ℕ) (ps : List Placed) (f : Form) (found : Next) → opening number indent ps f ≡ found → stands found ≡ true
-      → opening number indent (ps ++ others) f ≡ found
-  opening_on number indent ps form.If found e so = e
-  opening_on number indent ps form.Elif found e so = e
-  opening_on number indent ps form.Else found e so = e
-  opening_on number indent ps form.While found e so = e
-  opening_on number indent ps form.For found e so = e
-  opening_on number indent ps form.Try found e so = try_on number (handled indent ps) (handled indent (ps ++ others)) found (handled_on indent ps) e so
-  opening_on number indent ps form.Except found e so = e
-  opening_on number indent ps form.Finally found e so = e
-  opening_on number indent ps form.With found e so = e
-  opening_on number indent ps form.Definition found e so = e
+  next_of_header_on : (number indent : ℕ) (ps : List Placed) (f : Form) (found : Next) → next_of_header number indent ps f ≡ found → stands found ≡ true
+      → next_of_header number indent (ps ++ others) f ≡ found
+  next_of_header_on number indent ps form.If found e so = e
+  next_of_header_on number indent ps form.Elif found e so = e
+  next_of_header_on number indent ps form.Else found e so = e
+  next_of_header_on number indent ps form.While found e so = e
+  next_of_header_on number indent ps form.For found e so = e
+  next_of_header_on number indent ps form.Try found e so = try_on number (handler_follows indent ps) (handler_follows indent (ps ++ others)) found (handler_follows_on indent ps) e so
+  next_of_header_on number indent ps form.Except found e so = e
+  next_of_header_on number indent ps form.Finally found e so = e
+  next_of_header_on number indent ps form.With found e so = e
+  next_of_header_on number indent ps form.Definition found e so = e
 
-  beginning_on : (number indent : ℕ) (ps : List Placed) (l : Line) (found : Next) → beginning number indent ps l ≡ found → stands found ≡ true
-      → beginning number indent (ps ++ others) l ≡ found
-  beginning_on number indent ps (line.simple x) found e so = e
-  beginning_on number indent ps (line.header h colon x) found e so = opening_on number indent ps (form_of h) found e so
-  beginning_on number indent ps (line.decorator t v) found e so = e
+  next_of_line_on : (number indent : ℕ) (ps : List Placed) (l : Line) (found : Next) → next_of_line number indent ps l ≡ found → stands found ≡ true
+      → next_of_line number indent (ps ++ others) l ≡ found
+  next_of_line_on number indent ps (line.simple x) found e so = e
+  next_of_line_on number indent ps (line.header h colon x) found e so = next_of_header_on number indent ps (form_of h) found e so
+  next_of_line_on number indent ps (line.decorator t v) found e so = e
 
   next_by : (a b : Bool) (number : ℕ) (was now found : Next) → (was ≡ found → now ≡ found)
       → (if a then next.End else if b then next.Fault number else was) ≡ found → (if a then next.End else if b then next.Fault number else now) ≡ found
@@ -126,14 +126,14 @@ module _ (others : List Placed) (ends_all : EndsAll others) where
   unfolding next_of
   next_on indent [] found e so = absurd (false≢true (ap stands e ∙ so))
   next_on indent (p ∷ ps) found e so =
-      next_by (nat_lt p.indent indent) (nat_lt indent p.indent) p.number (beginning p.number indent ps p.line) (beginning p.number indent (ps ++ others) p.line) found
-      (λ was. beginning_on p.number indent ps p.line found was so) e
+      next_by (nat_lt p.indent indent) (nat_lt indent p.indent) p.number (next_of_line p.number indent ps p.line) (next_of_line p.number indent (ps ++ others) p.line) found
+      (λ was. next_of_line_on p.number indent ps p.line found was so) e
 
   end_on : (indent : ℕ) → 1 ≤ indent → (ps : List Placed) → next_of indent ps ≡ next.End → next_of indent (ps ++ others) ≡ next.End
   unfolding next_of
   end_on indent deep [] e = ends_all.ends_blocks indent deep
   end_on indent deep (p ∷ ps) e =
-      next_by (nat_lt p.indent indent) (nat_lt indent p.indent) p.number (beginning p.number indent ps p.line) (beginning p.number indent (ps ++ others) p.line) next.End
+      next_by (nat_lt p.indent indent) (nat_lt indent p.indent) p.number (next_of_line p.number indent ps p.line) (next_of_line p.number indent (ps ++ others) p.line) next.End
       (λ was. absurd (beginning_goes p.number indent ps p.line was)) e
 
   -- ---- lines
@@ -298,10 +298,10 @@ module _ (others : List Placed) (ends_all : EndsAll others) where
         (compound_on indent marks after.Nothing ps a rest held))
         (λ none held. refused number (a, rest) held)
 
-    decorated_on : (indent : ℕ) → Same (decorated S indent)
-    unfolding decorated all_decorators number_of
-    decorated_on indent [] a rest e = let less = fewer indent [] a rest (decorated_ok S holds indent [] a rest e) in absurd (omega (arith, less))
-    decorated_on indent (p ∷ ps) a rest e =
+    decorated_definition_on : (indent : ℕ) → Same (decorated_definition S indent)
+    unfolding decorated_definition all_decorators number_of
+    decorated_definition_on indent [] a rest e = let less = fewer indent [] a rest (decorated_definition_ok S holds indent [] a rest e) in absurd (omega (arith, less))
+    decorated_definition_on indent (p ∷ ps) a rest e =
         let more_lines = length-append (p ∷ ps) others in
         then_on (all_decorators indent (p ∷ ps)) (all_decorators indent ((p ∷ ps) ++ others)) _ _ a rest e
         (λ marks later read made.
@@ -318,7 +318,7 @@ module _ (others : List Placed) (ends_all : EndsAll others) where
     statement_by_on indent next.End ps x rest e = given None x ps rest e
     statement_by_on indent (next.Fault number) ps x rest e = refused number (x, rest) e
     statement_by_on indent next.Simple ps x rest e = some_on simple_line simple_on ps x rest e
-    statement_by_on indent next.Decorator ps x rest e = some_on (decorated S indent) (decorated_on indent) ps x rest e
+    statement_by_on indent next.Decorator ps x rest e = some_on (decorated_definition S indent) (decorated_definition_on indent) ps x rest e
     statement_by_on indent next.Definition ps x rest e = some_on (compound_statement S indent [] after.Nothing) (compound_on indent [] after.Nothing) ps x rest e
     statement_by_on indent (next.Header so) ps x rest e = some_on (compound_statement S indent [] so) (compound_on indent [] so) ps x rest e
 
@@ -413,7 +413,7 @@ module _ (others : List Placed) (ends_all : EndsAll others) where
 
 -- ---- lines that begin anew
 
-follows_none : (number indent : ℕ) (ps : List Placed) (f : Form) → stands (opening number indent ps f) ≡ true → (so : After) → follows so f ≡ None
+follows_none : (number indent : ℕ) (ps : List Placed) (f : Form) → stands (next_of_header number indent ps f) ≡ true → (so : After) → follows so f ≡ None
 follows_none number indent ps form.Elif is so = absurd (false≢true is)
 follows_none number indent ps form.Else is so = absurd (false≢true is)
 follows_none number indent ps form.Except is so = absurd (false≢true is)
@@ -455,7 +455,7 @@ follows_none number indent ps form.Definition is after.Try = refl
 follows_none number indent ps form.Definition is after.Except = refl
 follows_none number indent ps form.Definition is after.TryElse = refl
 
-line_begins : (number indent : ℕ) (ps : List Placed) (l : Line) → stands (beginning number indent ps l) ≡ true → (so : After) → line_follows so l ≡ None
+line_begins : (number indent : ℕ) (ps : List Placed) (l : Line) → stands (next_of_line number indent ps l) ≡ true → (so : After) → line_follows so l ≡ None
 line_begins number indent ps (line.simple found) is so = refl
 line_begins number indent ps (line.header h colon found) is so = follows_none number indent ps (form_of h) is so
 line_begins number indent ps (line.decorator t v) is so = refl
@@ -484,8 +484,8 @@ nothing_follows = record { no_follower = λ so indent. refl; ends_blocks = λ in
 begins_anew : (p : Placed) (ps : List Placed) → stands (next_of 0 (p ∷ ps)) ≡ true → EndsAll (p ∷ ps)
 unfolding follower next_of
 begins_anew p ps is =
-    let at = tested 0 p.indent p.number (nat_lt p.indent 0) (nat_lt 0 p.indent) (beginning p.number 0 ps p.line) (next_of 0 (p ∷ ps)) refl refl refl is in
-    let begins = inner_stands (nat_lt p.indent 0) (nat_lt 0 p.indent) p.number (beginning p.number 0 ps p.line) is in
+    let at = tested 0 p.indent p.number (nat_lt p.indent 0) (nat_lt 0 p.indent) (next_of_line p.number 0 ps p.line) (next_of 0 (p ∷ ps)) refl refl refl is in
+    let begins = inner_stands (nat_lt p.indent 0) (nat_lt 0 p.indent) p.number (next_of_line p.number 0 ps p.line) is in
     record {
       no_follower = λ so indent. either_none (p.indent == indent) (line_follows so p.line) (line_begins p.number 0 ps p.line begins so);
       ends_blocks = λ indent deep. less_deep p.indent indent (nat_lt p.indent indent) _ refl at deep;

@@ -50,17 +50,17 @@ placed_on (l ∷ ls) others ps e =
     placed_one l (line_tree l.tokens) (placed_lines ls) (placed_lines (ls ++ others)) (placed_lines others) ps e (λ qs is. placed_on ls others qs is)
 
 bad_one : (l : lex.Line) (tree : Option Line) (later now : Result (List Placed) ParseFault) (fault : ParseFault) → placed_before l tree later ≡ Err fault
-    → ((told : ParseFault) → later ≡ Err told → now ≡ Err told) → placed_before l tree now ≡ Err fault
+    → ((reported : ParseFault) → later ≡ Err reported → now ≡ Err reported) → placed_before l tree now ≡ Err fault
 bad_one l None later now fault e go = ap {B = Result (List Placed) ParseFault} Err (same_fault (record { line = number_of l.tokens; what = fault_of l.tokens }) fault e)
 bad_one l (Some t) (Ok ps) now fault e go = absurd (cc)
-bad_one l (Some t) (Err told) now fault e go = ap (placed_before l (Some t)) (go told refl) ∙ ap {B = Result (List Placed) ParseFault} Err (same_fault told fault e)
+bad_one l (Some t) (Err reported) now fault e go = ap (placed_before l (Some t)) (go reported refl) ∙ ap {B = Result (List Placed) ParseFault} Err (same_fault reported fault e)
 
 -- a line without a tree is met before those after it
 pub placed_bad_on : (ls others : List lex.Line) (fault : ParseFault) → placed_lines ls ≡ Err fault → placed_lines (ls ++ others) ≡ Err fault
 unfolding placed_lines
 placed_bad_on [] others fault e = absurd (cc)
 placed_bad_on (l ∷ ls) others fault e =
-    bad_one l (line_tree l.tokens) (placed_lines ls) (placed_lines (ls ++ others)) fault e (λ told is. placed_bad_on ls others told is)
+    bad_one l (line_tree l.tokens) (placed_lines ls) (placed_lines (ls ++ others)) fault e (λ reported is. placed_bad_on ls others reported is)
 
 -- ---- parts
 
@@ -99,7 +99,7 @@ unfolding module_of
 read_out lexis found read = ap (of_lines lexis) read.placed ∙ ap (of_blocks lexis) read.is
 
 bad_by : (lexis : Lexis) (o : Result (List Placed) ParseFault) (fault : ParseFault) → of_lines lexis o ≡ Err fault → fault.what ≢ what.Block → o ≡ Err fault
-bad_by lexis (Err told) fault e of_line = ap {B = Result (List Placed) ParseFault} Err (same_fault told fault e)
+bad_by lexis (Err reported) fault e of_line = ap {B = Result (List Placed) ParseFault} Err (same_fault reported fault e)
 bad_by lexis (Ok ps) fault e of_line = by_blocks (blocks ps) e
   where
     by_blocks : (o : Result Stmts ℕ) → of_blocks lexis o ≡ Err fault → ◌≡◌ {A = Result (List Placed) ParseFault} (Ok ps) (Err fault)
@@ -116,7 +116,7 @@ unfolding module_of
 bad_out lexis fault e = ap (of_lines lexis) e
 
 bad_same : (one other : Lexis) (o : Result (List Placed) ParseFault) (fault : ParseFault) → of_lines one o ≡ Err fault → of_lines other o ≡ Err fault
-bad_same one other (Err told) fault e = ap {B = Result Module ParseFault} Err (same_fault told fault e)
+bad_same one other (Err reported) fault e = ap {B = Result Module ParseFault} Err (same_fault reported fault e)
 bad_same one other (Ok ps) fault e = by_blocks (blocks ps) e
   where
     by_blocks : (o : Result Stmts ℕ) → of_blocks one o ≡ Err fault → of_blocks other o ≡ Err fault

@@ -11,8 +11,8 @@ use Rattle.pyc_tree.specs.BlockTrees.{Decorator, Stmt, compound, CompoundClause,
 use Rattle.pyc_tree.specs.Lines.{Header, Line}
 use Rattle.pyc_tree.specs.Lines as line
 use Rattle.pyc_tree.specs.Statements.{SimpleStatement, Separated}
-use Rattle.pyc_parse.specs.Blocks.{Placed, BlocksParsed, Parser, and_then, pure, take_one, form_of, is_none, follows, handled, opening, beginning, next_of, line_follows, follower, under, number_of, is_definition, simple_line, decorators, all_decorators, suite, suite_under, one_clause, clause_by, next_clause, clauses_after, clauses, all_clauses, compound_statement, definition, decorated, statement_by, next_statement, statements_after, statements, all_statements, block_at, module_of, blocks}
-use Rattle.pyc_parse.specs.Misplaced.{deepest, AreTold}
+use Rattle.pyc_parse.specs.Blocks.{Placed, BlocksParsed, Parser, and_then, pure, take_one, form_of, is_none, follows, handler_follows, next_of_header, next_of_line, next_of, line_follows, follower, under, number_of, is_definition, simple_line, decorators, all_decorators, suite, suite_under, one_clause, clause_by, next_clause, clauses_after, clauses, all_clauses, compound_statement, definition, decorated_definition, statement_by, next_statement, statements_after, statements, all_statements, block_at, module_of, blocks}
+use Rattle.pyc_parse.specs.Misplaced.{deepest, AreReported}
 use Rattle.pyc_parse.proofs.MisplacedLemmas.{not_true, or_second, same_nat, deeper_next, state_in, state_of, state, joined, is_some, continues, decorates, is_out, is_astray, first, none_first, some_first}
 use Rattle.pyc_parse.proofs.MisplacedSteps.{Goes, goes_on, bind, weaken, Low, Settled, Ends, Keeps, Ready, Block, Clause, Past, Statement, AfterNext, keeps_line, ends_low, joined_none, put, first_here, first_past, astray_here, not_below, next_here, state_header, settled_under, follows_in, moves, Marked, marks_read, Stopped, stopped}
 
@@ -224,21 +224,21 @@ module _ (self : ℕ → Parser Stmts) (i : ℕ) (top : i ≤ 64) (reads : Reads
       )))
 
   -- a definition after its decorators
-  definition_reads : (before : List Placed) (told : ℕ) (marks : List Decorator) (ps gone rest : List Placed) → Marked i before ps gone rest
-      → Goes gone rest (λ _ left later. Statement i gone rest left later) (definition self told i marks rest)
+  definition_reads : (before : List Placed) (reported : ℕ) (marks : List Decorator) (ps gone rest : List Placed) → Marked i before ps gone rest
+      → Goes gone rest (λ _ left later. Statement i gone rest left later) (definition self reported i marks rest)
   unfolding definition
-  definition_reads before told marks ps gone rest m =
+  definition_reads before reported marks ps gone rest m =
       subst (λ (qs : List Placed). Goes gone qs (λ _ left later. Statement i gone qs left later)
-      (if is_definition (next_of i qs) then compound_statement self i marks after.Nothing qs else Err told)) (sym m.is)
+      (if is_definition (next_of i qs) then compound_statement self i marks after.Nothing qs else Err reported)) (sym m.is)
       (rw (next_here i m.number (line.header m.h m.colon m.found) m.after) (rw (m.defines)
       (compound_reads gone m.number m.h m.colon m.found m.after marks after.Nothing m.high (ap (is_out gone i m.after) m.defines) (ap (λ (f : Form). state_of i f gone) m.defines))))
 
   -- decorators and what they decorate
-  decorated_reads : (before : List Placed) (number : ℕ) (t : Token) (v : _) (ps : List Placed) → i ≤ deepest before
+  decorated_definition_reads : (before : List Placed) (number : ℕ) (t : Token) (v : _) (ps : List Placed) → i ≤ deepest before
       → Goes before (put i number (line.decorator t v) ∷ ps) (λ _ gone rest. Statement i before (put i number (line.decorator t v) ∷ ps) gone rest)
-      (decorated self i (put i number (line.decorator t v) ∷ ps))
-  unfolding decorated all_decorators definition number_of
-  decorated_reads before number t v ps high =
+      (decorated_definition self i (put i number (line.decorator t v) ∷ ps))
+  unfolding decorated_definition all_decorators definition number_of
+  decorated_definition_reads before number t v ps high =
       let l : Line = line.decorator t v in
       let p : Placed = put i number l in
       elim (decorates i ps) as (λ b. decorates i ps ≡ b → Goes before (p ∷ ps) (λ _ gone rest. Statement i before (p ∷ ps) gone rest)
@@ -258,10 +258,10 @@ module _ (self : ℕ → Parser Stmts) (i : ℕ) (top : i ≤ 64) (reads : Reads
         | false ↦ λ no.
             let whole : decorates i (p ∷ ps) ≡ false = rw (same_nat i i refl) no in
             let s : Stopped i (length (p ∷ ps)) (p ∷ ps) = stopped i (length (p ∷ ps)) (p ∷ ps) (omega arith) whole in
-            let told : and_then (decorators (length (p ∷ ps)) i (p ∷ ps)) (definition self number i) ≡ Err number =
+            let reported : and_then (decorators (length (p ∷ ps)) i (p ∷ ps)) (definition self number i) ≡ Err number =
             ap (λ (o : BlocksParsed (List Decorator)). and_then o (definition self number i)) s.is
             ∙ ap (λ (b : Bool). if b then compound_statement self i s.marks after.Nothing s.rest else Err number) s.other in
-            rw told (astray_here i number l before ps (not_true (decorates i ps) no))
+            rw reported (astray_here i number l before ps (not_true (decorates i ps) no))
       ] refl
 
   -- a statement that a header begins
@@ -287,7 +287,7 @@ module _ (self : ℕ → Parser Stmts) (i : ℕ) (top : i ≤ 64) (reads : Reads
   header_reads : (before : List Placed) (number : ℕ) (h : Header) (colon : Token) (found : Separated SimpleStatement) (ps : List Placed) (f : Form) → form_of h ≡ f
       → i ≤ deepest before → joined (state i before) f ≡ None
       → Goes before (put i number (line.header h colon found) ∷ ps) (AfterNext i before (put i number (line.header h colon found) ∷ ps))
-      (statement_by self i (opening number i ps f) (put i number (line.header h colon found) ∷ ps))
+      (statement_by self i (next_of_header number i ps f) (put i number (line.header h colon found) ∷ ps))
   header_reads before number h colon found ps form.If is high none = begun_reads before number h colon found ps after.Branch high (ap (is_out before i ps) is) (ap (λ (g : Form). state_of i g before) is)
   header_reads before number h colon found ps form.Elif is high none = later_reads before number h colon found ps (ap (is_out before i ps) is ∙ none_joined before form.Elif none)
   header_reads before number h colon found ps form.Else is high none = later_reads before number h colon found ps (ap (is_out before i ps) is ∙ none_joined before form.Else none)
@@ -295,7 +295,7 @@ module _ (self : ℕ → Parser Stmts) (i : ℕ) (top : i ≤ 64) (reads : Reads
   header_reads before number h colon found ps form.For is high none = begun_reads before number h colon found ps after.Loop high (ap (is_out before i ps) is) (ap (λ (g : Form). state_of i g before) is)
   header_reads before number h colon found ps form.Try is high none =
       let p : Placed = put i number (line.header h colon found) in
-      elim (handled i ps) as (λ b. handled i ps ≡ b → Goes before (p ∷ ps) (AfterNext i before (p ∷ ps))
+      elim (handler_follows i ps) as (λ b. handler_follows i ps ≡ b → Goes before (p ∷ ps) (AfterNext i before (p ∷ ps))
       (statement_by self i (if b then next.Header after.Try else next.Fault number) (p ∷ ps))) [
         | true ↦ λ yes. begun_reads before number h colon found ps after.Try high (ap (is_out before i ps) is ∙ ap not yes) (ap (λ (g : Form). state_of i g before) is)
         | false ↦ λ no. later_reads before number h colon found ps (ap (is_out before i ps) is ∙ ap not no)
@@ -307,7 +307,7 @@ module _ (self : ℕ → Parser Stmts) (i : ℕ) (top : i ≤ 64) (reads : Reads
 
   -- the line next, at this indent
   line_reads : (before : List Placed) (number : ℕ) (l : Line) (ps : List Placed) → Ready i before (put i number l ∷ ps)
-      → Goes before (put i number l ∷ ps) (AfterNext i before (put i number l ∷ ps)) (statement_by self i (beginning number i ps l) (put i number l ∷ ps))
+      → Goes before (put i number l ∷ ps) (AfterNext i before (put i number l ∷ ps)) (statement_by self i (next_of_line number i ps l) (put i number l ∷ ps))
   unfolding simple_line take_one
   line_reads before number (line.simple found) ps ready =
       let p : Placed = put i number (line.simple found) in (
@@ -331,15 +331,15 @@ module _ (self : ℕ → Parser Stmts) (i : ℕ) (top : i ≤ 64) (reads : Reads
       header_reads before number h colon found ps (form_of h) refl ready.high (ready.settled refl)
   line_reads before number (line.decorator t v) ps ready =
       let p : Placed = put i number (line.decorator t v) in
-      bind before (p ∷ ps) (λ _ gone rest. Statement i before (p ∷ ps) gone rest) (AfterNext i before (p ∷ ps)) (decorated self i (p ∷ ps)) (λ found. pure (Some found))
-      (decorated_reads before number t v ps ready.high) (λ a gone rest s. (gone, refl, s))
+      bind before (p ∷ ps) (λ _ gone rest. Statement i before (p ∷ ps) gone rest) (AfterNext i before (p ∷ ps)) (decorated_definition self i (p ∷ ps)) (λ found. pure (Some found))
+      (decorated_definition_reads before number t v ps ready.high) (λ a gone rest s. (gone, refl, s))
 
   -- the line next, at its own indent
   own_reads : (before : List Placed) (own number : ℕ) (l : Line) (ps : List Placed) → own ≡ i → Ready i before (put own number l ∷ ps)
-      → Goes before (put own number l ∷ ps) (AfterNext i before (put own number l ∷ ps)) (statement_by self i (beginning number i ps l) (put own number l ∷ ps))
+      → Goes before (put own number l ∷ ps) (AfterNext i before (put own number l ∷ ps)) (statement_by self i (next_of_line number i ps l) (put own number l ∷ ps))
   own_reads before own number l ps same ready =
       subst (λ (x : ℕ). Ready i before (put x number l ∷ ps)
-      → Goes before (put x number l ∷ ps) (AfterNext i before (put x number l ∷ ps)) (statement_by self i (beginning number i ps l) (put x number l ∷ ps))) (sym same)
+      → Goes before (put x number l ∷ ps) (AfterNext i before (put x number l ∷ ps)) (statement_by self i (next_of_line number i ps l) (put x number l ∷ ps))) (sym same)
       (λ ready. line_reads before number l ps ready) ready
 
   -- the block ends
@@ -351,10 +351,10 @@ module _ (self : ℕ → Parser Stmts) (i : ℕ) (top : i ≤ 64) (reads : Reads
   next_reads before [] ready = end_reads before [] ready.high tt
   next_reads before (p ∷ ps) ready =
       elim (nat_lt p.indent i) as (λ a. nat_lt p.indent i ≡ a → Goes before (p ∷ ps) (AfterNext i before (p ∷ ps))
-      (statement_by self i (if a then next.End else if nat_lt i p.indent then next.Fault p.number else beginning p.number i ps p.line) (p ∷ ps))) [
+      (statement_by self i (if a then next.End else if nat_lt i p.indent then next.Fault p.number else next_of_line p.number i ps p.line) (p ∷ ps))) [
         | true ↦ λ low. end_reads before (p ∷ ps) ready.high (ltb-true p.indent i low)
         | false ↦ λ low. elim (nat_lt i p.indent) as (λ b. nat_lt i p.indent ≡ b → Goes before (p ∷ ps) (AfterNext i before (p ∷ ps))
-            (statement_by self i (if b then next.Fault p.number else beginning p.number i ps p.line) (p ∷ ps))) [
+            (statement_by self i (if b then next.Fault p.number else next_of_line p.number i ps p.line) (p ∷ ps))) [
               | true ↦ λ deep. first_here before ps p (rw (lt-ltb (deepest before) p.indent (ready.low (ltb-true i p.indent deep))) refl)
               | false ↦ λ deep.
                   let least = ltb-false p.indent i low in
@@ -426,10 +426,10 @@ all_read : (gone rest : List Placed) → Ends 0 rest → first gone rest ≡ Non
 all_read gone [] e = refl
 all_read gone (p ∷ rest) e = absurd (omega (arith, e))
 
-told_of : (ps : List Placed) (o : BlocksParsed Stmts) → Goes [] ps (λ _ gone rest. Block 0 [] ps gone rest) o → AreTold ps (module_of o)
-told_of ps (Ok r) g = none_first [] ps (g.1 ∙ all_read g.0 r.1 g.2.ends)
-told_of ps (Err number) g = some_first number [] ps g
+reported_of : (ps : List Placed) (o : BlocksParsed Stmts) → Goes [] ps (λ _ gone rest. Block 0 [] ps gone rest) o → AreReported ps (module_of o)
+reported_of ps (Ok r) g = none_first [] ps (g.1 ∙ all_read g.0 r.1 g.2.ends)
+reported_of ps (Err number) g = some_first number [] ps g
 
-pub told : (ps : List Placed) → AreTold ps (blocks ps)
+pub reported : (ps : List Placed) → AreReported ps (blocks ps)
 unfolding blocks
-told ps = told_of ps (block_at 65 0 ps) (block_reads 65 0 refl [] ps (ready_first ps) tt)
+reported ps = reported_of ps (block_at 65 0 ps) (block_reads 65 0 refl [] ps (ready_first ps) tt)

@@ -8,7 +8,7 @@ use Rattle.pyc_tree.specs.declared.block.Form.{Form}
 use Rattle.pyc_tree.specs.declared.block.Form.TheVariants as form
 use Rattle.pyc_tree.specs.Lines.{Header, Line}
 use Rattle.pyc_tree.specs.Lines as line
-use Rattle.pyc_parse.specs.Blocks.{Placed, form_of, is_none, follows, handles, is_handler, handled}
+use Rattle.pyc_parse.specs.Blocks.{Placed, form_of, is_none, follows, handles, is_handler, handler_follows}
 use Rattle.pyc_parse.specs.Misplaced.{clause_in, is_bare, is_decorator_line, deepest, HasBlock, deeper, EndsIn, stands, over, may_follow, Continues, after_clause, after_else, is_later, HasHandler, by_except, by_finally, past_block, HasDefinition, by_definition, past_decorator, Misplaced, indented, too_deep, without_block, continues_nothing, without_handler, decorates_nothing, NoneMisplaced, end, next, FirstMisplaced, here, later}
 
 -- ---- tests
@@ -282,14 +282,14 @@ handler_of (line.simple found) f e = absurd (cc)
 handler_of (line.header h colon found) f e = let same : form_of h ≡ f = cc in ap handles same
 handler_of (line.decorator t v) f e = absurd (cc)
 
-handled_test : {i : ℕ} {ps : List Placed} → HasHandler i ps → handled i ps ≡ true
-handled_test {i} {ps} (by_except {p = p} {after = qs} same is) =
+handler_follows_test : {i : ℕ} {ps : List Placed} → HasHandler i ps → handler_follows i ps ≡ true
+handler_follows_test {i} {ps} (by_except {p = p} {after = qs} same is) =
     let low : nat_lt i p.indent ≡ false = le-ltb i p.indent (omega (arith, same)) in
     rw (low, same_nat p.indent i same, handler_of p.line form.Except is) refl
-handled_test {i} {ps} (by_finally {p = p} {after = qs} same is) =
+handler_follows_test {i} {ps} (by_finally {p = p} {after = qs} same is) =
     let low : nat_lt i p.indent ≡ false = le-ltb i p.indent (omega (arith, same)) in
     rw (low, same_nat p.indent i same, handler_of p.line form.Finally is) refl
-handled_test {i} {ps} (past_block {p = p} {after = qs} l e) = rw (lt-ltb i p.indent l) (handled_test e)
+handler_follows_test {i} {ps} (past_block {p = p} {after = qs} l e) = rw (lt-ltb i p.indent l) (handler_follows_test e)
 
 handler_by : (i : ℕ) (p : Placed) (ps : List Placed) (f : Form) → p.indent ≡ i → clause_in p.line ≡ Some f → handles f ≡ true → HasHandler i (p ∷ ps)
 handler_by i p ps form.If same is e = absurd_test e
@@ -313,11 +313,11 @@ pub and_true : (a b : Bool) → (a && b) ≡ true → (a ≡ true) × (b ≡ tru
 and_true true b e = (refl, e)
 and_true false b e = absurd_test e
 
-handled_made : (i : ℕ) (ps : List Placed) → handled i ps ≡ true → HasHandler i ps
-handled_made i [] e = absurd_test e
-handled_made i (p ∷ ps) e =
-    elim (nat_lt i p.indent) as (λ b. nat_lt i p.indent ≡ b → (if b then handled i ps else (p.indent == i && is_handler p.line)) ≡ true → HasHandler i (p ∷ ps)) [
-      | true ↦ λ l e. past_block (ltb-true i p.indent l) (handled_made i ps e)
+handler_follows_made : (i : ℕ) (ps : List Placed) → handler_follows i ps ≡ true → HasHandler i ps
+handler_follows_made i [] e = absurd_test e
+handler_follows_made i (p ∷ ps) e =
+    elim (nat_lt i p.indent) as (λ b. nat_lt i p.indent ≡ b → (if b then handler_follows i ps else (p.indent == i && is_handler p.line)) ≡ true → HasHandler i (p ∷ ps)) [
+      | true ↦ λ l e. past_block (ltb-true i p.indent l) (handler_follows_made i ps e)
       | false ↦ λ l e. let both = and_true (p.indent == i) (is_handler p.line) e in
           handler_here i p.indent p.number p.line ps (eqb-true p.indent i both.0) both.1
     ] refl e
@@ -380,7 +380,7 @@ defined_made i (p ∷ ps) e =
 -- ---- misplaced lines
 
 abbrev pub is_out : List Placed → ℕ → List Placed → Form → Bool
-is_out before i ps form.Try = not (handled i ps)
+is_out before i ps form.Try = not (handler_follows i ps)
 is_out before i ps form.Elif = not (continues i before form.Elif)
 is_out before i ps form.Else = not (continues i before form.Else)
 is_out before i ps form.Except = not (continues i before form.Except)
@@ -436,7 +436,7 @@ misplaced_test {before} {l} {ps} (continues_nothing {clause = f} is more none) =
     (header_test before l.indent ps l.line f is (later_out before l.indent ps f more (fails (continues l.indent before f) (continues_made l.indent before f) none)))
 misplaced_test {before} {l} {ps} (without_handler is none) =
     or_third (nat_lt (deepest before) l.indent) (nat_lt 64 l.indent) (is_astray before l.indent ps l.line)
-    (header_test before l.indent ps l.line form.Try is (not_true (handled l.indent ps) (fails (handled l.indent ps) (handled_made l.indent ps) none)))
+    (header_test before l.indent ps l.line form.Try is (not_true (handler_follows l.indent ps) (fails (handler_follows l.indent ps) (handler_follows_made l.indent ps) none)))
 misplaced_test {before} {l} {ps} (decorates_nothing mark none) =
     or_third (nat_lt (deepest before) l.indent) (nat_lt 64 l.indent) (is_astray before l.indent ps l.line)
     (mark_test before l.indent ps l.line mark (fails (decorates l.indent ps) (defined_made l.indent ps) none))
@@ -447,7 +447,7 @@ out_made before l ps form.Elif is e = continues_nothing is refl (refutes (contin
 out_made before l ps form.Else is e = continues_nothing is refl (refutes (continues l.indent before form.Else) continues_test (not_false (continues l.indent before form.Else) e))
 out_made before l ps form.While is e = absurd_test e
 out_made before l ps form.For is e = absurd_test e
-out_made before l ps form.Try is e = without_handler is (refutes (handled l.indent ps) handled_test (not_false (handled l.indent ps) e))
+out_made before l ps form.Try is e = without_handler is (refutes (handler_follows l.indent ps) handler_follows_test (not_false (handler_follows l.indent ps) e))
 out_made before l ps form.Except is e = continues_nothing is refl (refutes (continues l.indent before form.Except) continues_test (not_false (continues l.indent before form.Except) e))
 out_made before l ps form.Finally is e = continues_nothing is refl (refutes (continues l.indent before form.Finally) continues_test (not_false (continues l.indent before form.Finally) e))
 out_made before l ps form.With is e = absurd_test e

@@ -13,7 +13,7 @@ use Rattle.pyc_tree.specs.BlockTrees.{Decorator, Stmt}
 use Rattle.pyc_tree.specs.Lines.{Header, Line}
 use Rattle.pyc_tree.specs.Lines as line
 use Rattle.pyc_tree.specs.Statements.{SimpleStatement, Separated}
-use Rattle.pyc_parse.specs.Blocks.{Placed, BlocksParsed, Parser, and_then, pure, take_one, form_of, follows, handled, opening, beginning, next_of, is_decorator, is_definition, decorator_line, decorators}
+use Rattle.pyc_parse.specs.Blocks.{Placed, BlocksParsed, Parser, and_then, pure, take_one, form_of, follows, handler_follows, next_of_header, next_of_line, next_of, is_decorator, is_definition, decorator_line, decorators}
 use Rattle.pyc_parse.specs.Misplaced.{deepest}
 use Rattle.pyc_parse.proofs.MisplacedLemmas.{absurd_test, or_third, and_true, same_nat, clause_before, state_in, state_of, else_state, by_else, state, joined, is_some, defines, defined_by, decorates, is_out, is_astray, is_misplaced, first}
 
@@ -138,7 +138,7 @@ astray_here i number l before ps e =
 pub not_below : (i : ℕ) → nat_lt i i ≡ false
 not_below i = le-ltb i i (omega arith)
 
-pub next_here : (i number : ℕ) (l : Line) (ps : List Placed) → next_of i (put i number l ∷ ps) ≡ beginning number i ps l
+pub next_here : (i number : ℕ) (l : Line) (ps : List Placed) → next_of i (put i number l ∷ ps) ≡ next_of_line number i ps l
 unfolding next_of
 next_here i number l ps = rw (not_below i) refl
 
@@ -293,25 +293,25 @@ moves i before after.TryElse next form.Definition is e = absurd (cc)
 
 -- ---- decorators and definitions
 
-definition_next : (i number : ℕ) (ps : List Placed) (f : Form) → is_definition (opening number i ps f) ≡ defines f
+definition_next : (i number : ℕ) (ps : List Placed) (f : Form) → is_definition (next_of_header number i ps f) ≡ defines f
 definition_next i number ps form.If = refl
 definition_next i number ps form.Elif = refl
 definition_next i number ps form.Else = refl
 definition_next i number ps form.While = refl
 definition_next i number ps form.For = refl
-definition_next i number ps form.Try = elim (handled i ps) as (λ b. is_definition (if b then next.Header after.Try else next.Fault number) ≡ false) [ true ↦ refl | false ↦ refl ]
+definition_next i number ps form.Try = elim (handler_follows i ps) as (λ b. is_definition (if b then next.Header after.Try else next.Fault number) ≡ false) [ true ↦ refl | false ↦ refl ]
 definition_next i number ps form.Except = refl
 definition_next i number ps form.Finally = refl
 definition_next i number ps form.With = refl
 definition_next i number ps form.Definition = refl
 
-mark_next : (i number : ℕ) (ps : List Placed) (f : Form) → is_decorator (opening number i ps f) ≡ false
+mark_next : (i number : ℕ) (ps : List Placed) (f : Form) → is_decorator (next_of_header number i ps f) ≡ false
 mark_next i number ps form.If = refl
 mark_next i number ps form.Elif = refl
 mark_next i number ps form.Else = refl
 mark_next i number ps form.While = refl
 mark_next i number ps form.For = refl
-mark_next i number ps form.Try = elim (handled i ps) as (λ b. is_decorator (if b then next.Header after.Try else next.Fault number) ≡ false) [ true ↦ refl | false ↦ refl ]
+mark_next i number ps form.Try = elim (handler_follows i ps) as (λ b. is_decorator (if b then next.Header after.Try else next.Fault number) ≡ false) [ true ↦ refl | false ↦ refl ]
 mark_next i number ps form.Except = refl
 mark_next i number ps form.Finally = refl
 mark_next i number ps form.With = refl
@@ -447,7 +447,7 @@ stopped_line : (i n number : ℕ) (l : Line) (ps : List Placed) → defined_by l
 stopped_line i n number (line.simple found) ps e more =
     stopped_here i (suc n) (put i number (line.simple found) ∷ ps) next.Simple (next_here i number (line.simple found) ps) refl refl
 stopped_line i n number (line.header h colon found) ps e more =
-    stopped_here i (suc n) (put i number (line.header h colon found) ∷ ps) (opening number i ps (form_of h)) (next_here i number (line.header h colon found) ps)
+    stopped_here i (suc n) (put i number (line.header h colon found) ∷ ps) (next_of_header number i ps (form_of h)) (next_here i number (line.header h colon found) ps)
     (mark_next i number ps (form_of h)) (definition_next i number ps (form_of h) ∙ e)
 stopped_line i n number (line.decorator t v) ps e more =
     let so : Stopped i n ps = more e in

@@ -51,11 +51,11 @@ placed_bad front l ls ts fault same none place what =
     ∙ (ap {B = Result (List Placed) ParseFault} (λ n. Err (record { line = n; what = fault_of l.tokens })) (sym (place ∙ ap number_of same))
     ∙ ap {B = Result (List Placed) ParseFault} (λ w. Err (record { line = fault.line; what = w })) (sym (what ∙ ap fault_of same)))
 
--- a fault that was met is what is told
-pub answers_err : {X A : Type 0} (view : X → A) (expected : Result A ParseFault) (fault : ParseFault) (r : Result X ParseFault) → IsErrAnd r (λ told. told ≡ fault)
+-- a fault that was met is what is reported
+pub answers_err : {X A : Type 0} (view : X → A) (expected : Result A ParseFault) (fault : ParseFault) (r : Result X ParseFault) → IsErrAnd r (λ reported. reported ≡ fault)
     → (fault.what ≢ what.Memory → expected ≡ Err fault) → AnswersModule view expected r
 answers_err view expected fault (Ok x) is leads = absurd is
-answers_err view expected fault (Err told) is leads = subst (λ (x : ParseFault). x.what ≢ what.Memory → expected ≡ Err x) (sym is) leads
+answers_err view expected fault (Err reported) is leads = subst (λ (x : ParseFault). x.what ≢ what.Memory → expected ≡ Err x) (sym is) leads
 
 pub with_nothing : (o : Result (List Placed) ParseFault) → with_placed [] o ≡ o
 with_nothing (Ok ps) = refl

@@ -10,7 +10,7 @@ use Rattle.pyc_lex.specs.View.{line_in, lexis_in}
 use Rattle.pyc_line.specs.declared.fault.ParseFault.{ParseFault}
 use Rattle.pyc_parse.specs.declared.file_outcome.Outcome.{Outcome as OutcomeOf}
 use Rattle.pyc_parse.specs.Modules.{Module, module_of}
-use Rattle.pyc_parse.specs.Outcome.{Outcome, outcome_in, outcome_tokens, parsed}
+use Rattle.pyc_parse.specs.Outcome.{Outcome, outcome_in, outcome_tokens, parse_outcome}
 use Rattle.pyc_parse.proofs.SoundModules.{modules_hold}
 
 -- what holds of the tokens of each line holds of all tokens
@@ -21,13 +21,13 @@ all_tokens P (line ∷ lines) all =
     (all_tokens P lines (All-tail (λ line. All P line.tokens.items) line lines all))
 
 parsed_tokens : (P : Token → Type 0) (lexis : Lexis) (found : Result Module ParseFault) → module_of lexis ≡ found
-    → All P (tokens_of lexis.lines) → All P (outcome_tokens (parsed found))
+    → All P (tokens_of lexis.lines) → All P (outcome_tokens (parse_outcome found))
 parsed_tokens P lexis (Ok m) is all = subst (λ lines. All P (tokens_of lines)) (sym (modules_hold lexis m is)) all
-parsed_tokens P lexis (Err told) is all = All-nil P
+parsed_tokens P lexis (Err reported) is all = All-nil P
 
 -- what holds of the tokens of a scan holds of those of its tree
 pub outcome_all : {E : Type 0} (P : Token → Type 0) (scan : Scan) (answer : Result OutcomeOf E) → All (λ line. All P line.tokens.items) scan.lines.items
-    → IfOk answer (λ found. outcome_in found ≡ parsed (module_of (lexis_in scan))) → IfOk answer (λ found. All P (outcome_tokens (outcome_in found)))
+    → IfOk answer (λ found. outcome_in found ≡ parse_outcome (module_of (lexis_in scan))) → IfOk answer (λ found. All P (outcome_tokens (outcome_in found)))
 outcome_all P scan (Ok found) all is =
     subst (λ (o : Outcome). All P (outcome_tokens o)) (sym is)
     (parsed_tokens P (lexis_in scan) (module_of (lexis_in scan)) refl (all_tokens P scan.lines.items all))

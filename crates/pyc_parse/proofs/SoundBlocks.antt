@@ -11,7 +11,7 @@ use Rattle.pyc_tree.specs.declared.block.Next.{Next}
 use Rattle.pyc_tree.specs.declared.block.Next.TheVariants as next
 use Rattle.pyc_tree.specs.BlockTrees.{Decorator, Stmt, simple, compound, CompoundClause, clause, CompoundClauses, no_clause, another, Suite, inline, block, Stmts, no_statement, statement}
 use Rattle.pyc_parse.specs.BlockYield.{IndentedLine, marks_yield, stmt_yield, clause_yield, suite_yield, clauses_yield, stmts_yield}
-use Rattle.pyc_parse.specs.Blocks.{Placed, BlocksParsed, Parser, and_then, pure, take_one, form_of, handled, opening, next_of, beginning, follower, line_follows, under, number_of, is_decorator, is_definition, simple_line, statements_of, decorator_line, decorator_of, decorators, all_decorators, suite, suite_under, clause_of, one_clause, clause_by, next_clause, clauses_after, clauses, all_clauses, compound_statement, definition, decorated, statement_by, next_statement, statements_after, statements, all_statements, block_at, module_of, blocks}
+use Rattle.pyc_parse.specs.Blocks.{Placed, BlocksParsed, Parser, and_then, pure, take_one, form_of, handler_follows, next_of_header, next_of, next_of_line, follower, line_follows, under, number_of, is_decorator, is_definition, simple_line, statements_of, decorator_line, decorator_of, decorators, all_decorators, suite, suite_under, clause_of, one_clause, clause_by, next_clause, clauses_after, clauses, all_clauses, compound_statement, definition, decorated_definition, statement_by, next_statement, statements_after, statements, all_statements, block_at, module_of, blocks}
 use Rattle.pyc_tree.specs.Lines.{Header, Line}
 use Rattle.pyc_tree.specs.Lines as line
 use Rattle.pyc_tree.specs.Statements.{SimpleStatement, Separated, no_item, last_item, item}
@@ -74,7 +74,7 @@ pub here : {G : Type 0} (indent : ℕ) (found : Next) (ps : List Placed) → nex
 unfolding next_of
 here indent found [] is so go = absurd (false≢true (ap stands is ∙ so))
 here indent found (p ∷ ps) is so go =
-    go p ps refl (tested indent p.indent p.number (nat_lt p.indent indent) (nat_lt indent p.indent) (beginning p.number indent ps p.line) found refl refl is so)
+    go p ps refl (tested indent p.indent p.number (nat_lt p.indent indent) (nat_lt indent p.indent) (next_of_line p.number indent ps p.line) found refl refl is so)
 
 pub decorator_stands : (found : Next) → is_decorator found ≡ true → stands found ≡ true
 decorator_stands next.End e = e
@@ -291,9 +291,9 @@ module _ (S : ℕ → Parser Stmts) (holds : Holds S) where
       compound_ok indent after.Nothing marks p later ps s rest ps_is at held))
       (λ none over. refused number (s, rest) over)
 
-  pub decorated_ok : (indent : ℕ) (ps : List Placed) (s : Stmt) (rest : List Placed) → decorated S indent ps ≡ Ok (s, rest) → IsYield ps (stmt_yield indent s) rest
-  unfolding decorated all_decorators
-  decorated_ok indent ps s rest e =
+  pub decorated_definition_ok : (indent : ℕ) (ps : List Placed) (s : Stmt) (rest : List Placed) → decorated_definition S indent ps ≡ Ok (s, rest) → IsYield ps (stmt_yield indent s) rest
+  unfolding decorated_definition all_decorators
+  decorated_definition_ok indent ps s rest e =
       bind (all_decorators indent ps) _ (s, rest) e (λ marks mid row made.
       decorators_ok (length ps) indent ps marks mid row ∙ definition_ok (number_of ps) indent marks mid s rest made)
 
@@ -317,7 +317,7 @@ module _ (S : ℕ → Parser Stmts) (holds : Holds S) where
   statement_ok indent next.Simple ps x rest is e =
       some_statement indent (simple_line ps) ps x rest e (λ s later read. here indent next.Simple ps is refl (λ p after_p ps_is at. simple_ok indent p after_p ps s later ps_is at read))
   statement_ok indent next.Decorator ps x rest is e =
-      some_statement indent (decorated S indent ps) ps x rest e (λ s later read. decorated_ok indent ps s later read)
+      some_statement indent (decorated_definition S indent ps) ps x rest e (λ s later read. decorated_definition_ok indent ps s later read)
   statement_ok indent next.Definition ps x rest is e =
       some_statement indent (compound_statement S indent [] after.Nothing ps) ps x rest e (λ s later read. here indent next.Definition ps is refl (λ p after_p ps_is at.
       compound_ok indent after.Nothing [] p after_p ps s later ps_is at read))
@@ -376,25 +376,25 @@ fewer indent ps s rest is =
     let all = ap length is ∙ length-append (stmt_yield indent s) (map indented rest) in
     let whole = length-map ps indented in let left = length-map rest indented in let some = stmt_some indent s in omega (arith, all, whole, left, some)
 
-opening_goes : (number indent : ℕ) (ps : List Placed) (f : Form) → opening number indent ps f ≡ next.End → ⊥
-opening_goes number indent ps form.If e = cc
-opening_goes number indent ps form.Elif e = cc
-opening_goes number indent ps form.Else e = cc
-opening_goes number indent ps form.While e = cc
-opening_goes number indent ps form.For e = cc
-opening_goes number indent ps form.Try e = one_of (handled indent ps) e
+next_of_header_goes : (number indent : ℕ) (ps : List Placed) (f : Form) → next_of_header number indent ps f ≡ next.End → ⊥
+next_of_header_goes number indent ps form.If e = cc
+next_of_header_goes number indent ps form.Elif e = cc
+next_of_header_goes number indent ps form.Else e = cc
+next_of_header_goes number indent ps form.While e = cc
+next_of_header_goes number indent ps form.For e = cc
+next_of_header_goes number indent ps form.Try e = one_of (handler_follows indent ps) e
   where
     one_of : (b : Bool) → (if b then next.Header after.Try else next.Fault number) ≡ next.End → ⊥
     one_of true e = cc
     one_of false e = cc
-opening_goes number indent ps form.Except e = cc
-opening_goes number indent ps form.Finally e = cc
-opening_goes number indent ps form.With e = cc
-opening_goes number indent ps form.Definition e = cc
+next_of_header_goes number indent ps form.Except e = cc
+next_of_header_goes number indent ps form.Finally e = cc
+next_of_header_goes number indent ps form.With e = cc
+next_of_header_goes number indent ps form.Definition e = cc
 
-pub beginning_goes : (number indent : ℕ) (ps : List Placed) (l : Line) → beginning number indent ps l ≡ next.End → ⊥
+pub beginning_goes : (number indent : ℕ) (ps : List Placed) (l : Line) → next_of_line number indent ps l ≡ next.End → ⊥
 beginning_goes number indent ps (line.simple found) e = cc
-beginning_goes number indent ps (line.header h colon found) e = opening_goes number indent ps (form_of h) e
+beginning_goes number indent ps (line.header h colon found) e = next_of_header_goes number indent ps (form_of h) e
 beginning_goes number indent ps (line.decorator t v) e = cc
 
 -- no line ends the block that is not indented
@@ -408,7 +408,7 @@ pub ends : (ps : List Placed) → next_of 0 ps ≡ next.End → ps ≡ []
 unfolding next_of
 ends [] e = refl
 ends (p ∷ ps) e =
-    absurd (goes_on p.indent p.number (nat_lt p.indent 0) (nat_lt 0 p.indent) (beginning p.number 0 ps p.line) refl e (beginning_goes p.number 0 ps p.line))
+    absurd (goes_on p.indent p.number (nat_lt p.indent 0) (nat_lt 0 p.indent) (next_of_line p.number 0 ps p.line) refl e (beginning_goes p.number 0 ps p.line))
 
 empty : (ps : List Placed) → length ps ≤ 0 → ps ≡ []
 empty [] few = refl
@@ -425,7 +425,7 @@ module _ (S : ℕ → Parser Stmts) (holds : Holds S) where
   over indent next.End ps x rest e none = refl
   over indent (next.Fault number) ps x rest e none = refused number (x, rest) e
   over indent next.Simple ps x rest e none = none_left (simple_line ps) x rest e none
-  over indent next.Decorator ps x rest e none = none_left (decorated S indent ps) x rest e none
+  over indent next.Decorator ps x rest e none = none_left (decorated_definition S indent ps) x rest e none
   over indent next.Definition ps x rest e none = none_left (compound_statement S indent [] after.Nothing ps) x rest e none
   over indent (next.Header so) ps x rest e none = none_left (compound_statement S indent [] so ps) x rest e none
 

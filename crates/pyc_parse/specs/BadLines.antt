@@ -18,16 +18,16 @@ pub record HasTree (tokens : List Token) : Type 0 where
   pub well : IsWellLine tree
   pub text : line_yield tree ≡ tokens
 
--- the first of some logical lines that has no tree, and what is told of it
-pub record IsFirstBadLine (lines : List lex.Line) (told : ParseFault) : Type 0 where
+-- the first of some logical lines that has no tree, and what is reported of it
+pub record IsFirstBadLine (lines : List lex.Line) (reported : ParseFault) : Type 0 where
   pub before : List lex.Line
   pub bad : lex.Line
   pub after : List lex.Line
   pub parts : lines ≡ before ++ bad ∷ after
   pub earlier : All (λ line. HasTree line.tokens) before
   pub none : HasTree bad.tokens → ⊥
-  pub number : told.line ≡ number_of bad.tokens
-  pub sort : told.what ≡ fault_of bad.tokens
+  pub number : reported.line ≡ number_of bad.tokens
+  pub sort : reported.what ≡ fault_of bad.tokens
 
 -- whether a fault is one of a line: that of blocks and want of memory are none
 abbrev pub is_of_line : What → Bool
@@ -35,16 +35,16 @@ is_of_line what.Line = true
 is_of_line what.OutsideProfile = true
 is_of_line _ = false
 
--- whether what is told of a source is what is told of a line
+-- whether what is reported of a source is what is reported of a line
 abbrev pub is_line_fault : Outcome → Bool
 is_line_fault (tree found) = false
 is_line_fault (fault line text) =
     bytes_eq text (parse_text what.Line) || bytes_eq text (parse_text what.OutsideProfile)
 
--- a source of which the first line without a tree is told
-pub record TellsFirstBadLine (source : List ℕ) (outcome : Outcome) : Type 0 where
+-- a source of which the first line without a tree is reported
+pub record ReportsFirstBadLine (source : List ℕ) (outcome : Outcome) : Type 0 where
   pub lexis : Lexis
-  pub scanned : lines_of source ≡ Ok lexis
-  pub told : ParseFault
-  pub first : IsFirstBadLine lexis.lines told
-  pub is : outcome ≡ fault told.line (parse_text told.what)
+  pub scan_outcome : lines_of source ≡ Ok lexis
+  pub reported : ParseFault
+  pub first : IsFirstBadLine lexis.lines reported
+  pub is : outcome ≡ fault reported.line (parse_text reported.what)

@@ -73,25 +73,26 @@ is_handler (line.header h _ _) = handles (form_of h)
 is_handler _ = false
 
 -- whether the next of these lines that is no deeper stands at this indent and is an `except` or a `finally`
-abbrev pub handled : ℕ → List Placed → Bool
-handled indent [] = false
-handled indent (p ∷ ps) =
-    if nat_lt indent p.indent then handled indent ps else (p.indent == indent && is_handler p.line)
+abbrev pub handler_follows : ℕ → List Placed → Bool
+handler_follows indent [] = false
+handler_follows indent (p ∷ ps) =
+    if nat_lt indent p.indent then handler_follows indent ps else (p.indent == indent && is_handler p.line)
 
 -- the header of a statement, before these lines: one that is no first clause is a fault, as is an unhandled `try`
-abbrev pub opening : ℕ → ℕ → List Placed → Form → Next
-opening number indent ps form.If = next.Header after.Branch
-opening number indent ps form.While = next.Header after.Loop
-opening number indent ps form.For = next.Header after.Loop
-opening number indent ps form.Try = if handled indent ps then next.Header after.Try else next.Fault number
-opening number indent ps form.With = next.Header after.Nothing
-opening number indent ps form.Definition = next.Definition
-opening number indent ps _ = next.Fault number
+abbrev pub next_of_header : ℕ → ℕ → List Placed → Form → Next
+next_of_header number indent ps form.If = next.Header after.Branch
+next_of_header number indent ps form.While = next.Header after.Loop
+next_of_header number indent ps form.For = next.Header after.Loop
+next_of_header number indent ps form.Try = if handler_follows indent ps then next.Header after.Try
+    else next.Fault number
+next_of_header number indent ps form.With = next.Header after.Nothing
+next_of_header number indent ps form.Definition = next.Definition
+next_of_header number indent ps _ = next.Fault number
 
-abbrev pub beginning : ℕ → ℕ → List Placed → Line → Next
-beginning number indent ps (line.simple _) = next.Simple
-beginning number indent ps (line.header h _ _) = opening number indent ps (form_of h)
-beginning number indent ps (line.decorator _ _) = next.Decorator
+abbrev pub next_of_line : ℕ → ℕ → List Placed → Line → Next
+next_of_line number indent ps (line.simple _) = next.Simple
+next_of_line number indent ps (line.header h _ _) = next_of_header number indent ps (form_of h)
+next_of_line number indent ps (line.decorator _ _) = next.Decorator
 
 -- the next line of a block at this indent: one that is less deep ends it, and a deeper one is a fault
 unfoldable pub next_of : ℕ → List Placed → Next
@@ -99,7 +100,7 @@ next_of indent [] = next.End
 next_of indent (p ∷ ps) =
     if nat_lt p.indent indent then next.End
     else if nat_lt indent p.indent then next.Fault p.number
-    else beginning p.number indent ps p.line
+    else next_of_line p.number indent ps p.line
 
 abbrev pub line_follows : After → Line → Option After
 line_follows so (line.header h _ _) = follows so (form_of h)
@@ -271,8 +272,8 @@ module _ (self : ℕ → Parser Stmts) where
       if is_definition (next_of indent ps) then compound_statement indent marks after.Nothing ps else Err number
 
   -- a row of decorators and a definition
-  unfoldable pub decorated : ℕ → Parser Stmt
-  decorated indent = λ ps. (all_decorators indent >>= definition (number_of ps) indent) ps
+  unfoldable pub decorated_definition : ℕ → Parser Stmt
+  decorated_definition indent = λ ps. (all_decorators indent >>= definition (number_of ps) indent) ps
 
   -- the statement that the next line begins, or none where the block ends
   abbrev pub statement_by : ℕ → Next → Parser (Option Stmt)
@@ -282,7 +283,7 @@ module _ (self : ℕ → Parser Stmts) where
     found ← simple_line
     pure (Some found)
   statement_by indent next.Decorator = do
-    found ← decorated indent
+    found ← decorated_definition indent
     pure (Some found)
   statement_by indent next.Definition = do
     found ← compound_statement indent [] after.Nothing

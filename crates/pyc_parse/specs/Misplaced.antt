@@ -1,5 +1,5 @@
 -- Which lines of a module are misplaced, by the lines before and after them, for readers (Python reference 3.13,
--- "Compound statements"). Lines before a line are told from the nearest to the first, lines after it in text order.
+-- "Compound statements"). Lines before a line are reported from the nearest to the first, lines after it in text order.
 use Rattle.std.specs.Prelude.{◌≡◌, ℕ, ◌+◌, ◌<◌, Bool, true, false, IsTrue, if◌then◌else◌, List, [], ◌∷◌, Option, Some}
 use Rattle.std.specs.Prelude.{None, Result, Ok, Err}
 use Rattle.pyc_tree.specs.declared.block.Form.{Form}
@@ -124,11 +124,11 @@ pub data FirstMisplaced (number : ℕ) : List Placed → List Placed → Type 0 
   later : {before after : List Placed} {l : Placed} → ¬ Misplaced before l after
       → FirstMisplaced number (l ∷ before) after → FirstMisplaced number before (l ∷ after)
 
--- what is told of lines: a tree where none of them is misplaced, else the physical line of the first that is
-abbrev pub AreTold : List Placed → Result Stmts ℕ → Type 0
-AreTold ps (Ok found) = NoneMisplaced [] ps
-AreTold ps (Err number) = FirstMisplaced number [] ps
+-- what is reported of lines: a tree where none of them is misplaced, else the physical line of the first that is
+abbrev pub AreReported : List Placed → Result Stmts ℕ → Type 0
+AreReported ps (Ok found) = NoneMisplaced [] ps
+AreReported ps (Err number) = FirstMisplaced number [] ps
 
 -- the fault of blocks is their first misplaced line, for all lines at all indents
 abbrev pub FaultsAreFirstMisplaced : Type 0
-FaultsAreFirstMisplaced = (ps : List Placed) → AreTold ps (blocks ps)
+FaultsAreFirstMisplaced = (ps : List Placed) → AreReported ps (blocks ps)

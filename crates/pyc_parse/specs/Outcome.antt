@@ -13,7 +13,7 @@ use Rattle.pyc_parse.specs.declared.file_outcome.Outcome.TheVariants as declared
 use Rattle.pyc_parse.specs.BlockYield.{stmts_tokens}
 use Rattle.pyc_parse.specs.Modules.{Module, module_in, module_of}
 
--- the tree of a module, or a fault: the physical line on which it is told, and what is told
+-- the tree of a module, or a fault: the physical line on which it is reported, and what is reported
 pub data Outcome : Type 0 where
   tree : Module → Outcome
   fault : ℕ → List ℕ → Outcome
@@ -29,7 +29,7 @@ lexical_outcome (lexical.Tabs line) = fault line (codes "Inconsistent use of tab
 lexical_outcome (lexical.Deep line) = fault line (codes "Too deeply nested")
 lexical_outcome lexical.Memory = fault 0 []
 
--- what is told of a line without a tree, or of a block; nothing of want of memory
+-- what is reported of a line without a tree, or of a block; nothing of want of memory
 abbrev pub parse_text : What → List ℕ
 parse_text what.Line = codes "Invalid syntax"
 parse_text what.Block = codes "Unexpected or missing block"
@@ -37,18 +37,18 @@ parse_text what.OutsideProfile = codes "Outside the profile"
 parse_text what.Memory = []
 
 -- what a source with these logical lines is
-abbrev pub parsed : Result Module ParseFault → Outcome
-parsed (Ok found) = tree found
-parsed (Err told) = fault told.line (parse_text told.what)
+abbrev pub parse_outcome : Result Module ParseFault → Outcome
+parse_outcome (Ok found) = tree found
+parse_outcome (Err reported) = fault reported.line (parse_text reported.what)
 
-abbrev pub scanned : Result Lexis LexFault → Outcome
-scanned (Ok lexis) = parsed (module_of lexis)
-scanned (Err told) = lexical_outcome told
+abbrev pub scan_outcome : Result Lexis LexFault → Outcome
+scan_outcome (Ok lexis) = parse_outcome (module_of lexis)
+scan_outcome (Err reported) = lexical_outcome reported
 
 -- what a source is: its first lexical fault, else the first line without a tree, else the first fault of its blocks,
 -- else the tree of its module
 unfoldable pub outcome_of : List ℕ → Outcome
-outcome_of source = scanned (lines_of source)
+outcome_of source = scan_outcome (lines_of source)
 
 -- the tokens of a tree in text order; a fault has none
 abbrev pub outcome_tokens : Outcome → List Token
@@ -58,8 +58,8 @@ outcome_tokens (fault line text) = []
 -- ---- what the code answers
 
 abbrev pub fault_in : FaultOf → Outcome
-fault_in told = fault told.line told.text.now
+fault_in reported = fault reported.line reported.text.now
 
 abbrev pub outcome_in : OutcomeOf → Outcome
 outcome_in (declared.Tree found) = tree (module_in found)
-outcome_in (declared.Fault told) = fault_in told
+outcome_in (declared.Fault reported) = fault_in reported

@@ -80,7 +80,7 @@ fn is_handler(line: &Line) -> bool
     }
 }
 
-/// The same of a line that a clause stands before.
+/// What the clause of a line is to those after it; none where the line begins no clause that may follow `after`.
 fn line_follows(after: After, line: &Line) -> Option<After>
     ensures { result ≡ spec.line_follows after (line_of line.now) }
 {
@@ -173,8 +173,8 @@ impl Lines {
     }
 
     /// Whether the next line after the first that is no deeper stands at this indent and is an `except` or a `finally`.
-    fn handled(&self, indent: usize) -> bool
-        ensures { result ≡ spec.handled indent (map placed_of (drop 1 self.now.rest.items)) }
+    fn handler_follows(&self, indent: usize) -> bool
+        ensures { result ≡ spec.handler_follows indent (map placed_of (drop 1 self.now.rest.items)) }
     {
         for at in 1..self.rest.len() {
             let placed = &self.rest[at];
@@ -186,13 +186,13 @@ impl Lines {
     }
 
     /// What the header of a statement is, where the first line has it.
-    fn opening(&self, number: usize, indent: usize, form: Form) -> Next
-        ensures { result ≡ spec.opening number indent (map placed_of (drop 1 self.now.rest.items)) form }
+    fn next_of_header(&self, number: usize, indent: usize, form: Form) -> Next
+        ensures { result ≡ spec.next_of_header number indent (map placed_of (drop 1 self.now.rest.items)) form }
     {
         match form {
             Form::If => Next::Header(After::Branch),
             Form::While | Form::For => Next::Header(After::Loop),
-            Form::Try if self.handled(indent) => Next::Header(After::Try),
+            Form::Try if self.handler_follows(indent) => Next::Header(After::Try),
             Form::With => Next::Header(After::Nothing),
             Form::Definition => Next::Definition,
             _ => Next::Fault(number),
@@ -200,13 +200,13 @@ impl Lines {
     }
 
     /// What the first line is, at the indent of its block.
-    fn beginning(&self, number: usize, indent: usize, line: &Line) -> Next
-        ensures { result ≡ spec.beginning number indent (map placed_of (drop 1 self.now.rest.items))
+    fn next_of_line(&self, number: usize, indent: usize, line: &Line) -> Next
+        ensures { result ≡ spec.next_of_line number indent (map placed_of (drop 1 self.now.rest.items))
             (line_of line.now) }
     {
         match line {
             Line::Simple(_) => Next::Simple,
-            Line::Header(header, _, _) => self.opening(number, indent, form_of(header)),
+            Line::Header(header, _, _) => self.next_of_header(number, indent, form_of(header)),
             Line::Decorator(_, _) => Next::Decorator,
         }
     }
@@ -219,7 +219,7 @@ impl Lines {
         match self.rest.front() {
             Some(placed) if placed.indent < indent => Next::End,
             Some(placed) if indent < placed.indent => Next::Fault(placed.number),
-            Some(placed) => self.beginning(placed.number, indent, &placed.line),
+            Some(placed) => self.next_of_line(placed.number, indent, &placed.line),
             None => Next::End,
         }
     }

@@ -2,7 +2,7 @@
 
 use crate::module_tree::Module;
 
-/// The first fault of a source: the physical line on which it is told, counted from 1, and what is told.
+/// The first fault of a source: the physical line on which it is reported, counted from 1, and what is reported.
 #[derive(Clone, Copy, Debug, PartialEq, Eq)]
 pub struct Fault {
     pub line: usize,

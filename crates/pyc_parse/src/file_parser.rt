@@ -3,7 +3,7 @@
 ghost use Rattle.std.specs.Prelude.{◌≡◌, ◌≢◌, All, IfOk, IfErr, OnOk, Err, true};
 ghost use Rattle.pyc_lex.specs.Texts.{IsTextSpan};
 ghost use Rattle.pyc_lex.specs.View.{lexis_in};
-ghost use Rattle.pyc_parse.specs.BadLines.{TellsFirstBadLine, is_line_fault};
+ghost use Rattle.pyc_parse.specs.BadLines.{ReportsFirstBadLine, is_line_fault};
 ghost use Rattle.pyc_parse.specs.Modules.{module_of};
 ghost use Rattle.pyc_parse.specs.Outcome as spec;
 ghost use Rattle.pyc_parse.specs.Outcome.{fault_in, outcome_in, outcome_of, outcome_tokens, parse_text};
@@ -14,7 +14,7 @@ use pyc_lex::{LexFault, Scan, scan};
 use pyc_line::{ParseFault, What};
 use std::alloc::{AllocError, Global};
 
-/// What is told of a line without a tree, or of a block.
+/// What is reported of a line without a tree, or of a block.
 fn parse_text(what: What) -> &'static str
     ensures { result.now ≡ parse_text what }
 {
@@ -26,33 +26,33 @@ fn parse_text(what: What) -> &'static str
     }
 }
 
-/// The fault that is told on this line.
-fn at_fault(line: usize, text: &'static str) -> Fault
+/// The fault that is reported on this line.
+fn fault_at_line(line: usize, text: &'static str) -> Fault
     ensures { fault_in result ≡ spec.fault line text.now }
 {
     Fault { line, text }
 }
 
-/// What is told of a source with this lexical fault. The only error is that memory ran out.
+/// What is reported of a source with this lexical fault. The only error is that memory ran out.
 pub fn lexical_fault(fault: LexFault) -> Result<Fault, AllocError>
-    ensures told { IfOk result (λ told. fault_in told ≡ spec.lexical_outcome fault) }
+    ensures reported { IfOk result (λ reported. fault_in reported ≡ spec.lexical_outcome fault) }
     ensures of_source { OnOk result (fault ≢ LexFault.Memory) }
     ensures memory { IfErr result (λ _. fault ≡ LexFault.Memory) }
 {
     match fault {
-        LexFault::NotUtf8 => Ok(at_fault(1, "Source is not UTF-8")),
-        LexFault::BadCharacter(line) => Ok(at_fault(line, "Invalid character")),
-        LexFault::OpenString(line) => Ok(at_fault(line, "Unterminated string literal")),
-        LexFault::Bracket(line) => Ok(at_fault(line, "Unmatched bracket")),
-        LexFault::Dedent(line) => Ok(at_fault(
+        LexFault::NotUtf8 => Ok(fault_at_line(1, "Source is not UTF-8")),
+        LexFault::BadCharacter(line) => Ok(fault_at_line(line, "Invalid character")),
+        LexFault::OpenString(line) => Ok(fault_at_line(line, "Unterminated string literal")),
+        LexFault::Bracket(line) => Ok(fault_at_line(line, "Unmatched bracket")),
+        LexFault::Dedent(line) => Ok(fault_at_line(
             line,
             "Unindent does not match any outer indentation level",
         )),
-        LexFault::Tabs(line) => Ok(at_fault(
+        LexFault::Tabs(line) => Ok(fault_at_line(
             line,
             "Inconsistent use of tabs and spaces in indentation",
         )),
-        LexFault::Deep(line) => Ok(at_fault(line, "Too deeply nested")),
+        LexFault::Deep(line) => Ok(fault_at_line(line, "Too deeply nested")),
         LexFault::Memory => Err(AllocError),
     }
 }
@@ -65,21 +65,21 @@ fn lexical_outcome(fault: LexFault) -> Result<Outcome, AllocError>
     Ok(Outcome::Fault(lexical_fault(fault)?))
 }
 
-/// What is told of a source with this fault of a line or of its blocks. The only error is that memory ran out.
+/// What is reported of a source with this fault of a line or of its blocks. The only error is that memory ran out.
 pub fn parse_fault(fault: ParseFault) -> Result<Fault, AllocError>
-    ensures told { IfOk result (λ told. fault_in told ≡ spec.parsed (Err fault)) }
+    ensures reported { IfOk result (λ reported. fault_in reported ≡ spec.parse_outcome (Err fault)) }
     ensures of_source { OnOk result (fault.what ≢ What.Memory) }
     ensures memory { IfErr result (λ _. fault.what ≡ What.Memory) }
 {
     match fault.what {
         What::Memory => Err(AllocError),
-        what => Ok(at_fault(fault.line, parse_text(what))),
+        what => Ok(fault_at_line(fault.line, parse_text(what))),
     }
 }
 
 /// What a source with these logical lines is.
-fn parsed(alloc: Global, scan: Scan) -> Result<Outcome, AllocError>
-    ensures { IfOk result (λ outcome. outcome_in outcome ≡ spec.parsed (module_of (lexis_in scan))) }
+fn parse_outcome(alloc: Global, scan: Scan) -> Result<Outcome, AllocError>
+    ensures { IfOk result (λ outcome. outcome_in outcome ≡ spec.parse_outcome (module_of (lexis_in scan))) }
 {
     match parse(alloc, scan) {
         Ok(module) => Ok(Outcome::Tree(module)),
@@ -89,17 +89,18 @@ fn parsed(alloc: Global, scan: Scan) -> Result<Outcome, AllocError>
 
 /// What a source is: its first lexical fault, else its first line without a tree, else the first fault of its blocks,
 /// else the tree of its module, whose tokens are spans of its text. Of a line without a tree no well-formed line has
-/// the tokens, and of each line before it one has. The only error is that memory runs out.
+/// the tokens, and of each line before it one has. The only error is that memory runs out. The call is for users of the
+/// library: the program does not make it.
 #[tactic(auto, unfolding(crate::specs::Outcome::outcome_of))]
 pub fn outcome(alloc: Global, bytes: &[u8]) -> Result<Outcome, AllocError>
     ensures outcome { IfOk result (λ outcome. outcome_in outcome ≡ outcome_of bytes.now) }
     ensures spans { IfOk result
         (λ outcome. All (λ token. IsTextSpan bytes.now token.span) (outcome_tokens (outcome_in outcome))) }
     ensures bad_line { IfOk result
-        (λ outcome. is_line_fault (outcome_in outcome) ≡ true → TellsFirstBadLine bytes.now (outcome_in outcome)) }
+        (λ outcome. is_line_fault (outcome_in outcome) ≡ true → ReportsFirstBadLine bytes.now (outcome_in outcome)) }
 {
     match scan(alloc, bytes) {
-        Ok(scan) => parsed(alloc, scan),
+        Ok(scan) => parse_outcome(alloc, scan),
         Err(fault) => lexical_outcome(fault),
     }
 }

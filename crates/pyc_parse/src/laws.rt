@@ -2,7 +2,7 @@
 
 ghost use Rattle.pyc_parse.specs.Misplaced.{FaultsAreFirstMisplaced};
 
-/// Lines have a tree exactly where none of them is misplaced, and their fault is told at the first one that is.
+/// Lines have a tree exactly where none of them is misplaced, and their fault is reported at the first one that is.
 pub fn misplaced_lines()
     ensures { FaultsAreFirstMisplaced }
 {}

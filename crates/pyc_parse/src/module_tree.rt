@@ -19,7 +19,7 @@ use std::alloc::Global;
 pub struct Module {
     pub statements: Vec<Stmt>,
     pub ignores: Vec<Ignore>,
-    /// Whether an ignore comment before the first logical line silences the whole file.
+    /// Whether an ignore comment before the first logical line suppresses the whole file.
     pub whole_file: bool,
 }
 

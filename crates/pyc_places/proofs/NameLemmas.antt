@@ -28,7 +28,8 @@ ends_same [] (z ∷ ys) x y = ap (λ b. bytes_eq x z && b) (none_ends ys y) ∙ 
 ends_same (z ∷ xs) [] x y = ap (λ b. bytes_eq z y && b) (ends_none xs x) ∙ and_false (bytes_eq z y) ∙ sym (and_false (bytes_eq x y))
 ends_same (z ∷ xs) (w ∷ ys) x y = ap (λ b. bytes_eq z w && b) (ends_same xs ys x y) ∙ and_swap (bytes_eq z w) (bytes_eq x y) (same_place xs ys)
 
--- an attribute of a place, if there is one, is the one with these names where its name is the last and the place has the others
+-- an attribute of a place, if there is one, is the one with these names where its name is the last and the place has
+-- the others
 pub below_same : (names rest : Place) (last n : List ℕ) (owner : Option Place) → names ≡ rest ++ (last ∷ [])
     → is_place names (option_map (λ place. place ++ (n ∷ [])) owner) ≡ bytes_eq last n && is_place rest owner
 below_same names rest last n None is = sym (and_false (bytes_eq last n))

@@ -1,5 +1,5 @@
--- Places, whose types a condition can narrow (typing specification, "Type narrowing"; Python reference 3.13, "Identifiers
--- (Names)" and "Attribute references"). A place is a name, and attributes after it.
+-- Places, whose types a condition can narrow (typing specification, "Type narrowing"; Python reference 3.13,
+-- "Identifiers (Names)" and "Attribute references"). A place is a name, and attributes after it.
 use Rattle.std.specs.Prelude.{ℕ, Bool, false, bytes_eq, List, [], ◌∷◌, ◌++◌, Option, None, Some, option_map}
 use Rattle.std.specs.Cmp.Lexicographic.{pointwise}
 use Rattle.std.specs.List.{starts_with}

@@ -38,7 +38,7 @@ abbrev pub narrowed_type : State → Place → Option Ty
 narrowed_type unreachable place = None
 narrowed_type (reachable narrowings) place = type_of narrowings place
 
--- the same of an expression that is this place, if it is one
+-- the type of the first of some narrowings of some place; without a place there is none
 abbrev pub type_of_place : List Narrowing → Option Place → Option Ty
 type_of_place narrowings place = option_map (λ n. n.ty) (find (λ n. is_place n.place place) narrowings)
 
@@ -50,19 +50,19 @@ narrowed_at (reachable narrowings) x = type_of_place narrowings (place_of x)
 -- ---- other states
 
 -- some narrowings without those of a place
-abbrev pub others : Place → List Narrowing → List Narrowing
-others place narrowings = filter (λ n. not (same_place n.place place)) narrowings
+abbrev pub without_place : Place → List Narrowing → List Narrowing
+without_place place narrowings = filter (λ n. not (same_place n.place place)) narrowings
 
 -- a state in which a place has this type
 abbrev pub with_place : Place → Ty → State → State
 with_place place ty unreachable = unreachable
 with_place place ty (reachable narrowings) =
-    reachable (others place narrowings ++ (record { place = place; ty = ty } ∷ []))
+    reachable (without_place place narrowings ++ (record { place = place; ty = ty } ∷ []))
 
 -- a state without what is known of a place and of all below it, as it is after an assignment to the place
-abbrev pub dropped_at : Place → State → State
-dropped_at place unreachable = unreachable
-dropped_at place (reachable narrowings) = reachable (filter (λ n. not (is_at_or_below place n.place)) narrowings)
+abbrev pub drop_place : Place → State → State
+drop_place place unreachable = unreachable
+drop_place place (reachable narrowings) = reachable (filter (λ n. not (is_at_or_below place n.place)) narrowings)
 
 -- ---- where two ways meet
 

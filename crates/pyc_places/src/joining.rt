@@ -62,8 +62,8 @@ fn add_on_both(
 {
     match other {
         Some(ty) => {
-            let union = either(alloc, &narrowing.ty, ty)?;
-            joined.push(shared(alloc, &narrowing.place, union)?)?;
+            let union = union_of_two(alloc, &narrowing.ty, ty)?;
+            joined.push(share_narrowing(alloc, &narrowing.place, union)?)?;
             Ok(())
         }
         None => Ok(()),
@@ -71,7 +71,7 @@ fn add_on_both(
 }
 
 /// The union of two types.
-fn either(alloc: Global, ty: &Ty, other: &Ty) -> Result<Ty, AllocError>
+fn union_of_two(alloc: Global, ty: &Ty, other: &Ty) -> Result<Ty, AllocError>
     ensures { IfOk result (λ union. ty_of union ≡ union_of (ty_of ty.now ∷ ty_of other.now ∷ [])) }
 {
     let mut types = Vec::with_capacity(alloc, 2)?;
@@ -81,7 +81,7 @@ fn either(alloc: Global, ty: &Ty, other: &Ty) -> Result<Ty, AllocError>
 }
 
 /// A place that is narrowed to a type.
-fn shared(alloc: Global, place: &Place, ty: Ty) -> Result<Rc<Narrowing>, AllocError>
+fn share_narrowing(alloc: Global, place: &Place, ty: Ty) -> Result<Rc<Narrowing>, AllocError>
     ensures { IfOk result (λ made. narrowing_of made.value ≡ record { place = place.now; ty = ty_of ty }) }
 {
     let place = place.clone()?;

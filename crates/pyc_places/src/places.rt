@@ -25,7 +25,7 @@ impl Model for Place {
 impl Clone for Place {
     ghost is_clone = { λ place copy. copy ≡ place };
 
-    /// The same place, whose names are shared. The only error is that memory runs out.
+    /// A clone shares the names of the place. The only error is that memory runs out.
     fn clone(&self) -> Result<Place, AllocError> {
         Ok(Place {
             names: self.names.clone()?,
@@ -107,7 +107,7 @@ fn has_names(names: &[Text], e: &Expr) -> bool
     ensures { result ≡ spec.is_place names.now (spec.place_of (expr_of e.now)) }
 {
     match &e.form {
-        Form::Name(name) => are_just(names, name),
+        Form::Name(name) => are_the_affected(names, name),
         Form::Attribute { value, name } => are_below(names, value, name),
         _ => false,
     }
@@ -127,7 +127,7 @@ fn are_below(names: &[Text], owner: &Expr, name: &Text) -> bool
 }
 
 /// Whether some names are just this one.
-fn are_just(names: &[Text], name: &Text) -> bool
+fn are_the_affected(names: &[Text], name: &Text) -> bool
     ensures { result ≡ spec.same_place names.now (name.now ∷ []) }
 {
     match names {

@@ -42,7 +42,7 @@ impl Drop for State {
 impl Clone for State {
     ghost is_clone = { λ state copy. state_of copy ≡ state_of state };
 
-    /// The same state, whose narrowings are shared. The only error is that memory runs out.
+    /// A clone shares the narrowings of the state. The only error is that memory runs out.
     fn clone(&self) -> Result<State, AllocError> {
         match self {
             State::Unreachable => Ok(State::Unreachable),
@@ -101,12 +101,12 @@ impl State {
     }
 
     /// A state without what is known of a place and of all below it. The only error is that memory runs out.
-    pub fn dropped_at(&self, alloc: Global, place: &Place) -> Result<State, AllocError>
-        ensures { IfOk result (λ state. state_of state ≡ spec.dropped_at place.now (state_of self.now)) }
+    pub fn drop_place(&self, alloc: Global, place: &Place) -> Result<State, AllocError>
+        ensures { IfOk result (λ state. state_of state ≡ spec.drop_place place.now (state_of self.now)) }
     {
         match self {
             State::Unreachable => Ok(State::Unreachable),
-            State::Reachable(narrowings) => Ok(State::Reachable(elsewhere(
+            State::Reachable(narrowings) => Ok(State::Reachable(outside_place(
                 alloc, narrowings, place,
             )?)),
         }
@@ -126,7 +126,7 @@ pub(crate) fn type_of<'a>(narrowings: &'a [Rc<Narrowing>], place: &Place) -> Opt
     None
 }
 
-/// The same of the place that an expression is, if it is one.
+/// The type of the first of some narrowings of the place that `e` is; none where `e` is no place.
 fn type_at<'a>(narrowings: &'a [Rc<Narrowing>], e: &Expr) -> Option<&'a Ty>
     ensures { option_map (λ ty. ty_of ty.now) result
         ≡ spec.type_of_place (map (λ n. narrowing_of n.value) narrowings.now) (places.place_of (expr_of e.now)) }
@@ -149,19 +149,19 @@ fn with_narrowing(
     ensures { IfOk result (λ state. state_of state
         ≡ spec.with_place place (ty_of ty) (spec.reachable (map (λ n. narrowing_of n.value) narrowings.now))) }
 {
-    let mut kept = others(alloc, narrowings, &place)?;
+    let mut kept = without_place(alloc, narrowings, &place)?;
     kept.push(Rc::new(alloc, Narrowing { place, ty })?)?;
     Ok(State::Reachable(kept))
 }
 
 /// Some narrowings without those of a place.
-fn others(
+fn without_place(
     alloc: Global,
     narrowings: &[Rc<Narrowing>],
     place: &Place,
 ) -> Result<Vec<Rc<Narrowing>>, AllocError>
     ensures { IfOk result (λ kept. map (λ n. narrowing_of n.value) kept.items
-        ≡ spec.others place.now (map (λ n. narrowing_of n.value) narrowings.now)) }
+        ≡ spec.without_place place.now (map (λ n. narrowing_of n.value) narrowings.now)) }
 {
     let mut kept = Vec::new(alloc);
     for narrowing in narrowings {
@@ -173,7 +173,7 @@ fn others(
 }
 
 /// Some narrowings without those of a place and of all below it.
-fn elsewhere(
+fn outside_place(
     alloc: Global,
     narrowings: &[Rc<Narrowing>],
     place: &Place,

@@ -3,7 +3,7 @@
 
 ghost use Rattle.std.specs.Prelude.{◌≡◌};
 ghost use Rattle.pyc_tree.specs.Expressions as spec;
-ghost use Rattle.pyc_item.specs.ReadsExpressions.{ReadsExpressions};
+ghost use Rattle.pyc_list_rules.specs.ReadsExpressions.{ReadsExpressions};
 ghost use Rattle.pyc_build.specs.ReadsTokens.{ReadsTokens};
 ghost use Rattle.pyc_tree.specs.Tree as tree;
 ghost use Rattle.pyc_tree.specs.View.{tree_of, links_before};
@@ -72,11 +72,16 @@ impl<F: Fn(Global, &mut Cursor<'_>, usize, u8) -> Result<Built, ParseError>> Exp
     }
 
     /// A chain of comparisons after its first operand.
-    #[tactic(auto, using(pyc_build::proofs::Steps::ReadsTokens_made), unfolding(pyc_tree::specs::Expressions::compared))]
-    pub fn compared(&self, tokens: &mut Cursor<'_>, left: Built) -> Result<Built, ParseError>
+    #[tactic(auto, using(pyc_build::proofs::Steps::ReadsTokens_made), unfolding(pyc_tree::specs::Expressions::parse_comparisons))]
+    pub fn parse_comparisons(
+        &self,
+        tokens: &mut Cursor<'_>,
+        left: Built,
+    ) -> Result<Built, ParseError>
         requires { ReadsExpressions self.now.rules.depth (F.pre self.now.rules.expr) (F.post self.now.rules.expr) }
         ensures { ReadsTokens (λ b. tree_of b.expr.value)
-            (spec.compared (spec.expr self.now.rules.depth) (tree_of left.expr.value) tokens.old.rest.now) result
+            (spec.parse_comparisons (spec.expr self.now.rules.depth) (tree_of left.expr.value) tokens.old.rest.now)
+            result
             tokens.new.rest.now }
     {
         let links = self.all_links(tokens)?;

@@ -4,7 +4,7 @@
 ghost use Rattle.std.specs.Prelude.{◌≡◌, ℕ, List};
 ghost use Rattle.pyc_tree.specs.Expressions as spec;
 ghost use Rattle.pyc_tree.specs.Items as items;
-ghost use Rattle.pyc_item.specs.ReadsExpressions.{ReadsExpressions};
+ghost use Rattle.pyc_list_rules.specs.ReadsExpressions.{ReadsExpressions};
 ghost use Rattle.pyc_build.specs.ReadsTokens.{ReadsTokens};
 ghost use Rattle.pyc_token.specs.declared.tokens.Bracket.TheVariants.{Round, Square, Curly};
 ghost use Rattle.pyc_token.specs.declared.tokens.Token.{Token};
@@ -14,7 +14,7 @@ ghost use Rattle.pyc_tree.specs.Tree as tree;
 ghost use Rattle.pyc_tree.specs.View.{tree_of, pieces_of};
 
 use crate::rules::ExpressionRules;
-use pyc_build::{Built, BuiltPieces, Listed, ParseError, PiecesSoFar, built, parted};
+use pyc_build::{Built, BuiltPieces, Listed, ParseError, PiecesSoFar, built, separate_single};
 use pyc_cursor::{
     Cursor, begins_comprehension, context_in, display_kind_of, empty_display_kind, is_at,
     is_element, same_kind,
@@ -34,7 +34,7 @@ fn in_parentheses(
         → ReadsTokens (λ b. tree_of b.expr.value)
         (items.enclosed self Round first opening (pieces_of found.pieces) closing ts) result ts }
 {
-    match parted(found) {
+    match separate_single(found) {
         Listed::One(item) => {
             if is_at(1, &item.expr) {
                 built::parenthesized(alloc, opening, item, closing)
@@ -48,8 +48,8 @@ fn in_parentheses(
 
 impl<F: Fn(Global, &mut Cursor<'_>, usize, u8) -> Result<Built, ParseError>> ExpressionRules<F> {
     /// A comprehension after its element.
-    #[tactic(auto, using(pyc_build::proofs::Steps::ReadsTokens_made), unfolding(pyc_tree::specs::Items::comprehended))]
-    fn comprehended(
+    #[tactic(auto, using(pyc_build::proofs::Steps::ReadsTokens_made), unfolding(pyc_tree::specs::Items::parse_comprehension_display))]
+    fn parse_comprehension_display(
         &self,
         tokens: &mut Cursor<'_>,
         bracket: Bracket,
@@ -58,7 +58,8 @@ impl<F: Fn(Global, &mut Cursor<'_>, usize, u8) -> Result<Built, ParseError>> Exp
     ) -> Result<Built, ParseError>
         requires { ReadsExpressions self.now.rules.depth (F.pre self.now.rules.expr) (F.post self.now.rules.expr) }
         ensures { ReadsTokens (λ b. tree_of b.expr.value)
-            (items.comprehended (spec.expr self.now.rules.depth) bracket opening (tree_of element.expr.value)
+            (items.parse_comprehension_display (spec.expr self.now.rules.depth) bracket opening
+            (tree_of element.expr.value)
             tokens.old.rest.now) result tokens.new.rest.now }
     {
         let comprehensions = self.rules.comprehensions(tokens)?;
@@ -79,8 +80,8 @@ impl<F: Fn(Global, &mut Cursor<'_>, usize, u8) -> Result<Built, ParseError>> Exp
     }
 
     /// A tuple or a form in parentheses, after its first item.
-    #[tactic(auto, using(pyc_build::proofs::Steps::ReadsTokens_made), unfolding(pyc_tree::specs::Items::displayed))]
-    fn displayed_round(
+    #[tactic(auto, using(pyc_build::proofs::Steps::ReadsTokens_made), unfolding(pyc_tree::specs::Items::parse_display))]
+    fn parse_round_display(
         &self,
         tokens: &mut Cursor<'_>,
         opening: Token,
@@ -88,17 +89,19 @@ impl<F: Fn(Global, &mut Cursor<'_>, usize, u8) -> Result<Built, ParseError>> Exp
     ) -> Result<Built, ParseError>
         requires { ReadsExpressions self.now.rules.depth (F.pre self.now.rules.expr) (F.post self.now.rules.expr) }
         ensures { ReadsTokens (λ b. tree_of b.expr.value)
-            (items.displayed (spec.expr self.now.rules.depth) Round opening (tree_of first.expr.value)
+            (items.parse_display (spec.expr self.now.rules.depth) Round opening (tree_of first.expr.value)
             tokens.old.rest.now) result tokens.new.rest.now }
     {
-        let found = self.rules.listed(tokens, ListContext::Items, first)?;
+        let found = self
+            .rules
+            .parse_items_from(tokens, ListContext::Items, first)?;
         let closing = tokens.expect(Kind::Close(Bracket::Round))?;
         in_parentheses(self.rules.alloc, opening, found, closing)
     }
 
     /// A list after its first item.
-    #[tactic(auto, using(pyc_build::proofs::Steps::ReadsTokens_made), unfolding(pyc_tree::specs::Items::displayed))]
-    fn displayed_square(
+    #[tactic(auto, using(pyc_build::proofs::Steps::ReadsTokens_made), unfolding(pyc_tree::specs::Items::parse_display))]
+    fn parse_square_display(
         &self,
         tokens: &mut Cursor<'_>,
         opening: Token,
@@ -106,17 +109,19 @@ impl<F: Fn(Global, &mut Cursor<'_>, usize, u8) -> Result<Built, ParseError>> Exp
     ) -> Result<Built, ParseError>
         requires { ReadsExpressions self.now.rules.depth (F.pre self.now.rules.expr) (F.post self.now.rules.expr) }
         ensures { ReadsTokens (λ b. tree_of b.expr.value)
-            (items.displayed (spec.expr self.now.rules.depth) Square opening (tree_of first.expr.value)
+            (items.parse_display (spec.expr self.now.rules.depth) Square opening (tree_of first.expr.value)
             tokens.old.rest.now) result tokens.new.rest.now }
     {
-        let found = self.rules.listed(tokens, ListContext::Items, first)?;
+        let found = self
+            .rules
+            .parse_items_from(tokens, ListContext::Items, first)?;
         let closing = tokens.expect(Kind::Close(Bracket::Square))?;
         built::display(self.rules.alloc, DisplayKind::List, opening, found, closing)
     }
 
     /// A set or a dictionary after its first item.
-    #[tactic(auto, using(pyc_build::proofs::Steps::ReadsTokens_made), unfolding(pyc_tree::specs::Items::displayed))]
-    fn displayed_curly(
+    #[tactic(auto, using(pyc_build::proofs::Steps::ReadsTokens_made), unfolding(pyc_tree::specs::Items::parse_display))]
+    fn parse_curly_display(
         &self,
         tokens: &mut Cursor<'_>,
         opening: Token,
@@ -124,18 +129,20 @@ impl<F: Fn(Global, &mut Cursor<'_>, usize, u8) -> Result<Built, ParseError>> Exp
     ) -> Result<Built, ParseError>
         requires { ReadsExpressions self.now.rules.depth (F.pre self.now.rules.expr) (F.post self.now.rules.expr) }
         ensures { ReadsTokens (λ b. tree_of b.expr.value)
-            (items.displayed (spec.expr self.now.rules.depth) Curly opening (tree_of first.expr.value)
+            (items.parse_display (spec.expr self.now.rules.depth) Curly opening (tree_of first.expr.value)
             tokens.old.rest.now) result tokens.new.rest.now }
     {
         let display_kind = display_kind_of(Bracket::Curly, &first.expr);
-        let found = self.rules.listed(tokens, ListContext::Braces, first)?;
+        let found = self
+            .rules
+            .parse_items_from(tokens, ListContext::Braces, first)?;
         let closing = tokens.expect(Kind::Close(Bracket::Curly))?;
         built::display(self.rules.alloc, display_kind, opening, found, closing)
     }
 
     /// A display after its first item.
     #[tactic(auto, using(pyc_build::proofs::Steps::ReadsTokens_made))]
-    fn displayed(
+    fn parse_display(
         &self,
         tokens: &mut Cursor<'_>,
         bracket: Bracket,
@@ -144,19 +151,19 @@ impl<F: Fn(Global, &mut Cursor<'_>, usize, u8) -> Result<Built, ParseError>> Exp
     ) -> Result<Built, ParseError>
         requires { ReadsExpressions self.now.rules.depth (F.pre self.now.rules.expr) (F.post self.now.rules.expr) }
         ensures { ReadsTokens (λ b. tree_of b.expr.value)
-            (items.displayed (spec.expr self.now.rules.depth) bracket opening (tree_of first.expr.value)
+            (items.parse_display (spec.expr self.now.rules.depth) bracket opening (tree_of first.expr.value)
             tokens.old.rest.now) result tokens.new.rest.now }
     {
         match bracket {
-            Bracket::Round => self.displayed_round(tokens, opening, first),
-            Bracket::Square => self.displayed_square(tokens, opening, first),
-            Bracket::Curly => self.displayed_curly(tokens, opening, first),
+            Bracket::Round => self.parse_round_display(tokens, opening, first),
+            Bracket::Square => self.parse_square_display(tokens, opening, first),
+            Bracket::Curly => self.parse_curly_display(tokens, opening, first),
         }
     }
 
     /// A display, a comprehension or a form in parentheses, after the opening bracket.
-    #[tactic(auto, using(pyc_build::proofs::Steps::ReadsTokens_made), unfolding(pyc_tree::specs::Items::filled))]
-    fn filled(
+    #[tactic(auto, using(pyc_build::proofs::Steps::ReadsTokens_made), unfolding(pyc_tree::specs::Items::parse_filled_brackets))]
+    fn parse_filled_brackets(
         &self,
         tokens: &mut Cursor<'_>,
         bracket: Bracket,
@@ -164,31 +171,31 @@ impl<F: Fn(Global, &mut Cursor<'_>, usize, u8) -> Result<Built, ParseError>> Exp
     ) -> Result<Built, ParseError>
         requires { ReadsExpressions self.now.rules.depth (F.pre self.now.rules.expr) (F.post self.now.rules.expr) }
         ensures { ReadsTokens (λ b. tree_of b.expr.value)
-            (items.filled (spec.expr self.now.rules.depth) bracket opening tokens.old.rest.now) result
+            (items.parse_filled_brackets (spec.expr self.now.rules.depth) bracket opening tokens.old.rest.now) result
             tokens.new.rest.now }
     {
         let first = self.rules.item(tokens, context_in(bracket))?;
         if begins_comprehension(tokens.peek()) {
-            self.comprehended(tokens, bracket, opening, first)
+            self.parse_comprehension_display(tokens, bracket, opening, first)
         } else {
-            self.displayed(tokens, bracket, opening, first)
+            self.parse_display(tokens, bracket, opening, first)
         }
     }
 
     /// Brackets with nothing between them.
-    #[tactic(auto, using(pyc_build::proofs::Steps::ReadsTokens_made), unfolding(pyc_tree::specs::Items::empty))]
-    fn empty(
+    #[tactic(auto, using(pyc_build::proofs::Steps::ReadsTokens_made), unfolding(pyc_tree::specs::Items::parse_empty_brackets))]
+    fn parse_empty_brackets(
         &self,
         tokens: &mut Cursor<'_>,
         bracket: Bracket,
         opening: Token,
     ) -> Result<Built, ParseError>
         ensures { ReadsTokens (λ b. tree_of b.expr.value)
-            (items.empty (spec.expr self.now.rules.depth) bracket opening tokens.old.rest.now) result
+            (items.parse_empty_brackets (spec.expr self.now.rules.depth) bracket opening tokens.old.rest.now) result
             tokens.new.rest.now }
     {
         let closing = tokens.take()?;
-        let none = PiecesSoFar::new(self.rules.alloc).ended();
+        let none = PiecesSoFar::new(self.rules.alloc).finish_list();
         built::display(
             self.rules.alloc,
             empty_display_kind(bracket),
@@ -207,11 +214,11 @@ impl<F: Fn(Global, &mut Cursor<'_>, usize, u8) -> Result<Built, ParseError>> Exp
     {
         let opening = tokens.take()?;
         if same_kind(tokens.peek(), Kind::Close(Bracket::Round)) {
-            self.empty(tokens, Bracket::Round, opening)
+            self.parse_empty_brackets(tokens, Bracket::Round, opening)
         } else if same_kind(tokens.peek(), Kind::Keyword(Keyword::Yield)) {
             self.rules.yield_enclosed(tokens, opening)
         } else {
-            self.filled(tokens, Bracket::Round, opening)
+            self.parse_filled_brackets(tokens, Bracket::Round, opening)
         }
     }
 
@@ -224,9 +231,9 @@ impl<F: Fn(Global, &mut Cursor<'_>, usize, u8) -> Result<Built, ParseError>> Exp
     {
         let opening = tokens.take()?;
         if same_kind(tokens.peek(), Kind::Close(bracket)) {
-            self.empty(tokens, bracket, opening)
+            self.parse_empty_brackets(tokens, bracket, opening)
         } else {
-            self.filled(tokens, bracket, opening)
+            self.parse_filled_brackets(tokens, bracket, opening)
         }
     }
 }

@@ -4,7 +4,7 @@
 ghost use Rattle.std.specs.Prelude.{◌≡◌, ◌≤◌, ◌&&◌, not, if◌then◌else◌, length, List};
 ghost use Rattle.pyc_tree.specs.Expressions as spec;
 ghost use Rattle.pyc_tree.specs.Items as items;
-ghost use Rattle.pyc_item.specs.ReadsExpressions.{ReadsExpressions};
+ghost use Rattle.pyc_list_rules.specs.ReadsExpressions.{ReadsExpressions};
 ghost use Rattle.pyc_build.specs.ReadsTokens.{ReadsTokens};
 ghost use Rattle.std.specs.List.{take_while};
 ghost use Rattle.pyc_tree.specs.Kinds as kinds;
@@ -120,7 +120,7 @@ impl<F: Fn(Global, &mut Cursor<'_>, usize, u8) -> Result<Built, ParseError>> Exp
         let word = tokens.take()?;
         let parameters = self
             .rules
-            .some_items(tokens, ListContext::Parameters(false))?;
+            .optional_items(tokens, ListContext::Parameters(false))?;
         let colon = tokens.expect(Kind::Delimiter(Delimiter::Colon))?;
         let body = self.rules.expr(tokens, 1)?;
         built::lambda(self.rules.alloc, word, parameters, colon, body)
@@ -141,8 +141,8 @@ impl<F: Fn(Global, &mut Cursor<'_>, usize, u8) -> Result<Built, ParseError>> Exp
     {
         match word {
             Keyword::False | Keyword::None | Keyword::True => self.constant(tokens),
-            Keyword::Not => self.signed(tokens, loosest, 4),
-            Keyword::Await => self.awaited(tokens, loosest),
+            Keyword::Not => self.parse_unary(tokens, loosest, 4),
+            Keyword::Await => self.await_expression(tokens, loosest),
             Keyword::Lambda => self.lambda(tokens, loosest),
             _ => Err(ParseError::Refused),
         }
@@ -162,7 +162,7 @@ impl<F: Fn(Global, &mut Cursor<'_>, usize, u8) -> Result<Built, ParseError>> Exp
             result tokens.new.rest.now }
     {
         match sign {
-            Arithmetic::Plus | Arithmetic::Minus => self.signed(tokens, loosest, 12),
+            Arithmetic::Plus | Arithmetic::Minus => self.parse_unary(tokens, loosest, 12),
             _ => Err(ParseError::Refused),
         }
     }
@@ -181,7 +181,7 @@ impl<F: Fn(Global, &mut Cursor<'_>, usize, u8) -> Result<Built, ParseError>> Exp
             tokens.new.rest.now }
     {
         match mark {
-            Delimiter::Tilde => self.signed(tokens, loosest, 12),
+            Delimiter::Tilde => self.parse_unary(tokens, loosest, 12),
             Delimiter::Ellipsis => self.constant(tokens),
             _ => Err(ParseError::Refused),
         }

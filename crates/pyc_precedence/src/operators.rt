@@ -3,7 +3,7 @@
 
 ghost use Rattle.std.specs.Prelude.{◌≡◌};
 ghost use Rattle.pyc_tree.specs.Expressions as spec;
-ghost use Rattle.pyc_item.specs.ReadsExpressions.{ReadsExpressions};
+ghost use Rattle.pyc_list_rules.specs.ReadsExpressions.{ReadsExpressions};
 ghost use Rattle.pyc_build.specs.ReadsTokens.{ReadsTokens};
 ghost use Rattle.pyc_token.specs.declared.tokens.Kind.TheVariants as kind;
 ghost use Rattle.pyc_tree.specs.View.{tree_of};
@@ -16,11 +16,16 @@ use std::alloc::Global;
 
 impl<F: Fn(Global, &mut Cursor<'_>, usize, u8) -> Result<Built, ParseError>> ExpressionRules<F> {
     /// An operator and its operand, both of this precedence.
-    #[tactic(auto, using(pyc_build::proofs::Steps::ReadsTokens_made), unfolding(pyc_tree::specs::Expressions::signed))]
-    pub fn signed(&self, tokens: &mut Cursor<'_>, loosest: u8, own: u8) -> Result<Built, ParseError>
+    #[tactic(auto, using(pyc_build::proofs::Steps::ReadsTokens_made), unfolding(pyc_tree::specs::Expressions::parse_unary))]
+    pub fn parse_unary(
+        &self,
+        tokens: &mut Cursor<'_>,
+        loosest: u8,
+        own: u8,
+    ) -> Result<Built, ParseError>
         requires { ReadsExpressions self.now.rules.depth (F.pre self.now.rules.expr) (F.post self.now.rules.expr) }
         ensures { ReadsTokens (λ b. tree_of b.expr.value)
-            (spec.signed (spec.expr self.now.rules.depth) loosest own tokens.old.rest.now) result
+            (spec.parse_unary (spec.expr self.now.rules.depth) loosest own tokens.old.rest.now) result
             tokens.new.rest.now }
     {
         if own < loosest {
@@ -47,23 +52,28 @@ impl<F: Fn(Global, &mut Cursor<'_>, usize, u8) -> Result<Built, ParseError>> Exp
     }
 
     /// `await` and its operand.
-    #[tactic(auto, using(pyc_build::proofs::Steps::ReadsTokens_made), unfolding(pyc_tree::specs::Expressions::awaited))]
-    pub fn awaited(&self, tokens: &mut Cursor<'_>, loosest: u8) -> Result<Built, ParseError>
+    #[tactic(auto, using(pyc_build::proofs::Steps::ReadsTokens_made), unfolding(pyc_tree::specs::Expressions::await_expression))]
+    pub fn await_expression(
+        &self,
+        tokens: &mut Cursor<'_>,
+        loosest: u8,
+    ) -> Result<Built, ParseError>
         requires { ReadsExpressions self.now.rules.depth (F.pre self.now.rules.expr) (F.post self.now.rules.expr) }
         ensures { ReadsTokens (λ b. tree_of b.expr.value)
-            (spec.awaited (spec.expr self.now.rules.depth) loosest tokens.old.rest.now) result tokens.new.rest.now }
+            (spec.await_expression (spec.expr self.now.rules.depth) loosest tokens.old.rest.now) result
+            tokens.new.rest.now }
     {
         if 14 < loosest {
             return Err(ParseError::Refused);
         }
         let word = tokens.take()?;
         let operand = self.rules.expr(tokens, 15)?;
-        built::awaited(self.rules.alloc, word, operand)
+        built::await_expression(self.rules.alloc, word, operand)
     }
 
     /// An operator and its right operand of this precedence, after the left one.
-    #[tactic(auto, using(pyc_build::proofs::Steps::ReadsTokens_made), unfolding(pyc_tree::specs::Expressions::operated))]
-    pub fn operated(
+    #[tactic(auto, using(pyc_build::proofs::Steps::ReadsTokens_made), unfolding(pyc_tree::specs::Expressions::parse_binary))]
+    pub fn parse_binary(
         &self,
         tokens: &mut Cursor<'_>,
         left: Built,
@@ -71,7 +81,8 @@ impl<F: Fn(Global, &mut Cursor<'_>, usize, u8) -> Result<Built, ParseError>> Exp
     ) -> Result<Built, ParseError>
         requires { ReadsExpressions self.now.rules.depth (F.pre self.now.rules.expr) (F.post self.now.rules.expr) }
         ensures { ReadsTokens (λ b. tree_of b.expr.value)
-            (spec.operated (spec.expr self.now.rules.depth) (tree_of left.expr.value) precedence tokens.old.rest.now)
+            (spec.parse_binary (spec.expr self.now.rules.depth) (tree_of left.expr.value) precedence
+            tokens.old.rest.now)
             result tokens.new.rest.now }
     {
         let operator = tokens.take()?;
@@ -101,10 +112,10 @@ impl<F: Fn(Global, &mut Cursor<'_>, usize, u8) -> Result<Built, ParseError>> Exp
     {
         match tokens.peek() {
             Kind::Keyword(word) => self.word_operation(tokens, left, word),
-            Kind::Comparison(_) => self.compared(tokens, left),
+            Kind::Comparison(_) => self.parse_comparisons(tokens, left),
             Kind::Open(bracket) => self.bracket_operation(tokens, left, bracket),
             Kind::Delimiter(mark) => self.mark_operation(tokens, left, mark),
-            kind => self.operated(tokens, left, right_precedence(kind)),
+            kind => self.parse_binary(tokens, left, right_precedence(kind)),
         }
     }
 
@@ -123,8 +134,8 @@ impl<F: Fn(Global, &mut Cursor<'_>, usize, u8) -> Result<Built, ParseError>> Exp
     {
         match word {
             Keyword::If => self.conditional(tokens, left),
-            Keyword::In | Keyword::Is | Keyword::Not => self.compared(tokens, left),
-            _ => self.operated(tokens, left, right_precedence(Kind::Keyword(word))),
+            Keyword::In | Keyword::Is | Keyword::Not => self.parse_comparisons(tokens, left),
+            _ => self.parse_binary(tokens, left, right_precedence(Kind::Keyword(word))),
         }
     }
 
@@ -142,9 +153,9 @@ impl<F: Fn(Global, &mut Cursor<'_>, usize, u8) -> Result<Built, ParseError>> Exp
             tokens.old.rest.now) result tokens.new.rest.now }
     {
         match bracket {
-            Bracket::Round => self.called(tokens, left),
-            Bracket::Square => self.subscripted(tokens, left),
-            Bracket::Curly => self.operated(tokens, left, 0),
+            Bracket::Round => self.parse_call(tokens, left),
+            Bracket::Square => self.parse_subscript(tokens, left),
+            Bracket::Curly => self.parse_binary(tokens, left, 0),
         }
     }
 
@@ -163,7 +174,7 @@ impl<F: Fn(Global, &mut Cursor<'_>, usize, u8) -> Result<Built, ParseError>> Exp
     {
         match mark {
             Delimiter::Dot => self.attribute(tokens, left),
-            _ => self.operated(tokens, left, 0),
+            _ => self.parse_binary(tokens, left, 0),
         }
     }
 

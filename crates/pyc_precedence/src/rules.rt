@@ -8,7 +8,7 @@ ghost use Rattle.pyc_tree.specs.View.{tree_of};
 
 use pyc_build::{Built, ParseError};
 use pyc_cursor::Cursor;
-use pyc_item::ItemRules;
+use pyc_list_rules::ItemRules;
 use std::alloc::Global;
 
 /// The rules of operands and operators, over a function that reads expressions.
@@ -17,7 +17,7 @@ pub struct ExpressionRules<F> {
     pub rules: ItemRules<F>,
 }
 
-/// An expression of a precedence, with as much depth as is told.
+/// An expression of a precedence, with as much depth as is reported.
 pub fn expr(
     alloc: Global,
     tokens: &mut Cursor<'_>,

@@ -2,7 +2,7 @@ pub mod Keys
 pub mod Answers
 pub mod Owing
 pub mod Readings
-pub mod Desks
+pub mod Traces
 pub mod Frames
 pub mod Listings
 pub mod KeyView

@@ -1,15 +1,15 @@
--- What is owed: that a type is assignable to another, by the orders of the classes that are written in both (typing
+-- What is required: that a type is assignable to another, by the orders of the classes that are written in both (typing
 -- specification, "Type system concepts").
 use Rattle.std.specs.Prelude.{ℕ, Bool, if◌then◌else◌, List, [], ◌∷◌, ◌++◌}
 use Rattle.pyc_ast.specs.declared.position.Position.{Position}
-use Rattle.pyc_builtins.specs.Orders.{builtin_orders}
-use Rattle.pyc_class.specs.Class.{Id, builtin, user}
-use Rattle.pyc_class.specs.Order.{Order, Orders}
-use Rattle.pyc_classes.specs.ClassOrders.{undeclared}
+use Rattle.pyc_builtins.specs.MroTable.{builtin_orders}
+use Rattle.pyc_class_ids.specs.Class.{Id, builtin, user}
+use Rattle.pyc_class_ids.specs.Mro.{Mro, MroTable}
+use Rattle.pyc_class_table.specs.ClassMros.{undeclared}
 use Rattle.pyc_reading.specs.Answers.{Answer, order_is}
 use Rattle.pyc_reading.specs.Keys.{Key}
 use Rattle.pyc_reading.specs.Keys as key
-use Rattle.pyc_report.specs.declared.message.Duty.{Duty}
+use Rattle.pyc_report.specs.declared.message.ObligationKind.{ObligationKind}
 use Rattle.pyc_report.specs.Message.{Message, failing_at}
 use Rattle.pyc_type_forms.specs.Types.{Ty, Tys, Params, Listed, any, none, module_type, instance, class_object}
 use Rattle.pyc_type_forms.specs.Types.{list, dict, tuple, tuple_of, union, callable, nil, cons, dots, listed, no_param}
@@ -18,13 +18,13 @@ use Rattle.pyc_types.specs.Ways.{assignable}
 
 -- ---- orders, as answers tell them
 
--- the order that an answer tells
-abbrev pub order_in : Answer → Order
+-- the order that an answer gives
+abbrev pub order_in : Answer → Mro
 order_in (order_is found) = found
 order_in _ = undeclared
 
 -- the orders of classes: a builtin class has the order that the language gives it, which is asked of no file
-abbrev pub orders_by : (Key → Answer) → Orders
+abbrev pub orders_by : (Key → Answer) → MroTable
 orders_by answers (builtin c) = builtin_orders (builtin c)
 orders_by answers (user m x) = order_in (answers (key.class (user m x)))
 
@@ -78,7 +78,7 @@ pub record Detail : Type 0 where
 
 -- `got` has to be assignable to `want`: what for, where a failure is reported, and its text where no detail fails
 pub record Obligation : Type 0 where
-  pub duty : Duty
+  pub obligation_kind : ObligationKind
   pub at : Position
   pub got : Ty
   pub want : Ty
@@ -90,13 +90,13 @@ abbrev pub holds : (Key → Answer) → Obligation → Bool
 holds answers o = assignable (orders_by answers) o.got o.want
 
 -- the text of the first detail that does not hold, else this one
-abbrev pub text_by : Orders → List Detail → List ℕ → List ℕ
+abbrev pub text_by : MroTable → List Detail → List ℕ → List ℕ
 text_by orders [] text = text
 text_by orders (d ∷ rest) text = if assignable orders d.got d.want then text_by orders rest text else d.text
 
 -- the message of an obligation that does not hold
-abbrev pub message_by : Orders → Obligation → Message
-message_by orders o = failing_at o.at o.duty (text_by orders o.details o.text)
+abbrev pub message_by : MroTable → Obligation → Message
+message_by orders o = failing_at o.at o.obligation_kind (text_by orders o.details o.text)
 
 -- ---- rows of obligations
 
@@ -113,8 +113,8 @@ abbrev pub row_keys : List Obligation → List Key
 row_keys [] = []
 row_keys (o ∷ rest) = keys_of o ++ row_keys rest
 
--- of the obligations of a row that do not hold the first is told
-abbrev pub row_told : (Key → Answer) → List Obligation → List Message
-row_told answers [] = []
-row_told answers (o ∷ rest) =
-    if holds answers o then row_told answers rest else (message_by (orders_by answers) o ∷ [])
+-- of the obligations of a row that do not hold the first is reported
+abbrev pub row_reported : (Key → Answer) → List Obligation → List Message
+row_reported answers [] = []
+row_reported answers (o ∷ rest) =
+    if holds answers o then row_reported answers rest else (message_by (orders_by answers) o ∷ [])

@@ -1,8 +1,8 @@
 //! Laws of readings, proved for all of them.
 
-ghost use Rattle.pyc_reading.specs.Desks.{RunsAreFolds};
+ghost use Rattle.pyc_reading.specs.Traces.{RunsAreFolds};
 ghost use Rattle.pyc_reading.specs.Frames.{Frame};
-ghost use Rattle.pyc_reading.specs.Listings.{EachIsListed, ToldIsListed};
+ghost use Rattle.pyc_reading.specs.Listings.{EachIsListed, ReportedIsListed};
 
 /// What comes of a reading depends on the answers to the keys that it asks, and on nothing else.
 pub fn frame()
@@ -14,9 +14,9 @@ pub fn performed()
     ensures { RunsAreFolds }
 {}
 
-/// A reading reports its remarks, and of each row of obligations that it lists the first that does not hold. So an
+/// A reading reports its diagnostics, and of each row of obligations that it lists the first that does not hold. So an
 /// obligation alone in its row is reported exactly where its type is not assignable by the written rules.
-pub fn told_is_listed()
-    ensures told { ToldIsListed }
+pub fn reported_is_listed()
+    ensures reported { ReportedIsListed }
     ensures each { EachIsListed }
 {}

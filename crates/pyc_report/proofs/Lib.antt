@@ -4,3 +4,5 @@ pub mod OrderLemmas
 pub mod RepeatLemmas
 pub mod SortLemmas
 pub mod TextLemmas
+pub mod MessageSortLemmas
+pub mod MessageOrderLemmas

@@ -66,8 +66,8 @@ pub without_repeats-more : {K E : Type 0} (view : K → List ℕ) (texts : List 
     → keys' ≡ insert_key (λ a b. bytes_eq (view a) (view b)) keys key → view key ≡ text
     → map view keys ≡ without_repeats (texts (take i es)) → texts (take (i + 1) es) ≡ texts (take i es) ++ text ∷ []
     → map view keys' ≡ without_repeats (texts (take (i + 1) es))
-without_repeats-more view texts es i keys keys' key text put told before more =
-    ap (map view) put ∙ map-insert_key view keys key ∙ rw (told, before, more) (sym (without_repeats-push (texts (take i es)) text))
+without_repeats-more view texts es i keys keys' key text put reported before more =
+    ap (map view) put ∙ map-insert_key view keys key ∙ rw (reported, before, more) (sym (without_repeats-push (texts (take i es)) text))
 
 -- one more element, seen through f
 pub map-take_more : {E B : Type 0} (f : E → B) (es : List E) (i : ℕ) (d : E) → i < length es → map f (take (i + 1) es) ≡ map f (take i es) ++ f (get_or es i d) ∷ []

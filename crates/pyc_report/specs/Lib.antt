@@ -1,5 +1,9 @@
 pub mod Message
 pub mod Report
-pub mod Silencing
+pub mod Suppressing
 pub mod Sort
 pub mod NameTexts
+pub mod FoundOrder
+pub mod FoundLaws
+pub mod PrintedMessages
+pub mod SortKeyView

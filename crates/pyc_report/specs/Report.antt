@@ -65,16 +65,16 @@ abbrev pub is_error : Located → Bool
 is_error message = not (length message.code == 0)
 
 -- `error: TEXT  [CODE]`, or `note: TEXT`
-abbrev pub told : Located → List ℕ
-told message =
+abbrev pub reported : Located → List ℕ
+reported message =
     if is_error message
     then codes "error: " ++ (message.text ++ (codes "  [" ++ (message.code ++ codes "]")))
     else codes "note: " ++ message.text
 
--- `PATH:LINE: `, what is told, and the line end
+-- `PATH:LINE: `, what is reported, and the line end
 unfoldable pub printed_line : Located → List ℕ
 printed_line message =
-    message.path ++ (codes ":" ++ (decimal message.line ++ (codes ": " ++ (told message ++ codes "\n"))))
+    message.path ++ (codes ":" ++ (decimal message.line ++ (codes ": " ++ (reported message ++ codes "\n"))))
 
 -- the texts with each that stood before left out
 abbrev pub without_repeats : List (List ℕ) → List (List ℕ)

@@ -1,14 +1,19 @@
-//! The messages of a file, those that no ignore comment silences, and the report on checked files.
+//! The messages of a file, in order, each line, code and text once; those that no ignore comment suppresses; and the
+//! report on checked files.
 #![tactic(auto)]
 
 mod checked;
+pub mod laws;
 mod message;
 mod name_texts;
+mod ordering;
+mod printed;
 mod reporting;
-mod silencing;
+mod suppressing;
 
 pub use checked::{Found, Report};
-pub use message::{Code, Duty, Message, MessageKind};
+pub use message::{Code, Message, MessageKind, ObligationKind};
 pub use name_texts::push_names;
+pub use ordering::in_order;
 pub use reporting::report;
-pub use silencing::drop_silenced;
+pub use suppressing::drop_suppressed;

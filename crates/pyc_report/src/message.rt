@@ -1,12 +1,12 @@
 //! An error or a note on a file.
 
 ghost use Rattle.std.specs.Prelude.{◌≡◌, string_bytes};
-ghost use Rattle.pyc_report.specs.Message.{code_name, code_of, duty_code, message_in, remarked};
+ghost use Rattle.pyc_report.specs.Message.{code_name, code_of, obligation_code, message_in, diagnostic_message};
 ghost use Rattle.pyc_report.specs.Message.{error_at, error_on_line, failing_at, note_at};
 
 use pyc_ast::Position;
 
-/// The code of an error that a rule tells by itself, and that is no failed obligation.
+/// The code of an error that a rule reports by itself, and that is no failed obligation.
 #[derive(Clone, Copy, Debug, PartialEq, Eq)]
 pub enum Code {
     AttrDefined,
@@ -24,7 +24,7 @@ pub enum Code {
 
 /// The kind of an obligation: what a type has to be assignable for.
 #[derive(Clone, Copy, Debug, PartialEq, Eq)]
-pub enum Duty {
+pub enum ObligationKind {
     /// An argument of a call, to the type of its parameter.
     Argument,
     /// A value, to the type of what it is assigned to.
@@ -51,7 +51,7 @@ pub enum Duty {
 #[derive(Clone, Copy, Debug, PartialEq, Eq)]
 pub enum MessageKind {
     Error(Code),
-    Owed(Duty),
+    FailedObligation(ObligationKind),
     Note,
 }
 
@@ -67,7 +67,7 @@ pub struct Message {
 impl Message {
     /// An error at a position. It takes no memory.
     pub fn error_at(at: Position, code: Code, text: String) -> Message
-        ensures { message_in result ≡ remarked (error_at at code (string_bytes text)) }
+        ensures { message_in result ≡ diagnostic_message (error_at at code (string_bytes text)) }
     {
         Message {
             line: at.line as usize,
@@ -79,7 +79,7 @@ impl Message {
 
     /// An error on a line as a whole. It takes no memory.
     pub fn error_on_line(line: usize, code: Code, text: String) -> Message
-        ensures { message_in result ≡ remarked (error_on_line line code (string_bytes text)) }
+        ensures { message_in result ≡ diagnostic_message (error_on_line line code (string_bytes text)) }
     {
         Message {
             line,
@@ -90,20 +90,20 @@ impl Message {
     }
 
     /// The message of an obligation of a kind that does not hold, at a position. It takes no memory.
-    pub fn failing_at(at: Position, duty: Duty, text: String) -> Message
-        ensures { message_in result ≡ failing_at at duty (string_bytes text) }
+    pub fn failing_at(at: Position, obligation_kind: ObligationKind, text: String) -> Message
+        ensures { message_in result ≡ failing_at at obligation_kind (string_bytes text) }
     {
         Message {
             line: at.line as usize,
             column: at.column as usize,
-            kind: MessageKind::Owed(duty),
+            kind: MessageKind::FailedObligation(obligation_kind),
             text,
         }
     }
 
     /// A note at a position. It takes no memory.
     pub fn note_at(at: Position, text: String) -> Message
-        ensures { message_in result ≡ remarked (note_at at (string_bytes text)) }
+        ensures { message_in result ≡ diagnostic_message (note_at at (string_bytes text)) }
     {
         Message {
             line: at.line as usize,
@@ -135,20 +135,22 @@ impl Code {
     }
 }
 
-impl Duty {
+impl ObligationKind {
     /// The code of an obligation of this kind that does not hold, as it is printed between brackets.
     pub fn code(self) -> &'static str
-        ensures { result.now ≡ duty_code self }
+        ensures { result.now ≡ obligation_code self }
     {
         match self {
-            Duty::Argument => "arg-type",
-            Duty::Assignment | Duty::Default | Duty::VariableOverride => "assignment",
-            Duty::DictEntry => "dict-item",
-            Duty::Index => "index",
-            Duty::ListItem => "list-item",
-            Duty::MissingReturn => "return",
-            Duty::Override => "override",
-            Duty::Return => "return-value",
+            ObligationKind::Argument => "arg-type",
+            ObligationKind::Assignment
+            | ObligationKind::Default
+            | ObligationKind::VariableOverride => "assignment",
+            ObligationKind::DictEntry => "dict-item",
+            ObligationKind::Index => "index",
+            ObligationKind::ListItem => "list-item",
+            ObligationKind::MissingReturn => "return",
+            ObligationKind::Override => "override",
+            ObligationKind::Return => "return-value",
         }
     }
 }
@@ -160,7 +162,7 @@ impl MessageKind {
     {
         match self {
             MessageKind::Error(code) => code.name(),
-            MessageKind::Owed(duty) => duty.code(),
+            MessageKind::FailedObligation(obligation_kind) => obligation_kind.code(),
             MessageKind::Note => "",
         }
     }

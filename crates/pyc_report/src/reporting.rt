@@ -103,14 +103,14 @@ fn printed_line(alloc: Global, message: &Located<'_>) -> Result<String, AllocErr
     line.push_str(":")?;
     line.push_str(Buffer::new().format(message.line))?;
     line.push_str(": ")?;
-    push_told(&mut line, message)?;
+    push_reported(&mut line, message)?;
     line.push_str("\n")?;
     Ok(line)
 }
 
 /// Adds what stands in the line for a message after the path and the line number.
-fn push_told(line: &mut String, message: &Located<'_>) -> Result<(), AllocError>
-    ensures { OnOk result (string_bytes line.new ≡ string_bytes line.old ++ spec.told (located_in message.now)) }
+fn push_reported(line: &mut String, message: &Located<'_>) -> Result<(), AllocError>
+    ensures { OnOk result (string_bytes line.new ≡ string_bytes line.old ++ spec.reported (located_in message.now)) }
 {
     if is_error(message) {
         line.push_str("error: ")?;
@@ -136,12 +136,12 @@ fn count_errors(alloc: Global, mut messages: Vec<Located<'_>>) -> Result<usize, 
     ensures { IfOk result (λ count. count
         ≡ length (lines_of (filter spec.is_error (map located_in messages.entry.items)))) }
 {
-    drop_notes(&mut messages);
+    drop_recorder(&mut messages);
     Ok(printed_lines(alloc, messages.as_slice())?.len())
 }
 
 /// Takes the notes away. It takes no memory.
-fn drop_notes(messages: &mut Vec<Located<'_>>)
+fn drop_recorder(messages: &mut Vec<Located<'_>>)
     ensures { map located_in messages.new.items ≡ filter spec.is_error (map located_in messages.old.items) }
 {
     messages.retain(

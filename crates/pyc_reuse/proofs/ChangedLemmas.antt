@@ -10,8 +10,8 @@ use Rattle.pyc_body.specs.FileUnits.{FileUnit, UnitId, file_units, id_of}
 use Rattle.pyc_body.specs.FileUnitView.{file_unit_in}
 use Rattle.pyc_body.proofs.CheckLemmas.{one_check_more}
 use Rattle.pyc_body.specs.FoundMessages.{checked, found, reads}
-use Rattle.pyc_examiner.specs.CheckedView.{checked_in}
-use Rattle.pyc_examiner.specs.declared.checked.Checked.{Checked as CheckedOf}
+use Rattle.pyc_recorder.specs.CheckedView.{checked_in}
+use Rattle.pyc_recorder.specs.declared.checked.Checked.{Checked as CheckedOf}
 use Rattle.pyc_iface.specs.declared.options.Options.{Options}
 use Rattle.pyc_keys.specs.Numbering.{Extends, Numbering}
 use Rattle.pyc_names.specs.SourceFiles.{SourceFile}
@@ -19,7 +19,7 @@ use Rattle.pyc_reading.specs.Keys.{Key}
 use Rattle.pyc_reuse.proofs.ListLemmas.{filter_append}
 use Rattle.pyc_reuse.specs.Examined.{reads_anew}
 use Rattle.pyc_reuse.specs.SharedChecks.{checks_of}
-use Rattle.pyc_reuse.specs.Works.{flags_of}
+use Rattle.pyc_reuse.specs.FileStatuses.{flags_of}
 use Rattle.pyc_workspace.specs.Fresh.{source_of}
 use Rattle.pyc_workspace.specs.Workspace.{File}
 

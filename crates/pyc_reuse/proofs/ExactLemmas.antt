@@ -17,6 +17,6 @@ exact_from options last present report ids sorted same are =
     subst (IsExact options last present report) (sym are) (record {
       is_fresh = same;
       is_listed = λ unit. found_is_listed options (map source_of present) unit.file unit.unit;
-      are_just = examined_just_where options last present;
-      are_once = λ i j id a b. examined_once options last present i j id sorted a b;
+      are_the_affected = examined_just_where options last present;
+      have_no_repeats = λ i j id a b. examined_once options last present i j id sorted a b;
     })

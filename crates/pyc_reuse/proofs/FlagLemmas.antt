@@ -9,8 +9,8 @@ use Rattle.std.proofs.lemmas.Bool.{and_parts}
 use Rattle.std.specs.List.{list_all, list_any}
 use Rattle.pyc_body.specs.FileUnits.{FileUnit, file_units}
 use Rattle.pyc_body.specs.FoundMessages.{checked}
-use Rattle.pyc_examiner.specs.CheckedView.{Checked, checked_in, numbers_in}
-use Rattle.pyc_examiner.specs.declared.checked.Checked.{Checked as CheckedOf}
+use Rattle.pyc_recorder.specs.CheckedView.{Checked, checked_in, numbers_in}
+use Rattle.pyc_recorder.specs.declared.checked.Checked.{Checked as CheckedOf}
 use Rattle.pyc_iface.specs.Answers.{answer_by}
 use Rattle.pyc_iface.specs.declared.options.Options.{Options}
 use Rattle.pyc_keys.specs.Numbering.{Numbering}
@@ -20,9 +20,9 @@ use Rattle.pyc_reading.specs.Keys.{Key}
 use Rattle.pyc_reuse.specs.Answering.{AnswerAs}
 use Rattle.pyc_reuse.specs.Examined.{answers_of, reads_among, reads_anew}
 use Rattle.pyc_reuse.specs.SharedChecks.{checks_of}
-use Rattle.pyc_reuse.specs.Works.{flags_of}
-use Rattle.pyc_same_answers.specs.SameAnswers.{same_answer}
-use Rattle.pyc_verdicts.specs.Changes.{has_changed, is_changed}
+use Rattle.pyc_reuse.specs.FileStatuses.{flags_of}
+use Rattle.pyc_known_answers.specs.SameAnswers.{same_answer}
+use Rattle.pyc_known_answers.specs.Changes.{has_changed, is_changed}
 use Rattle.pyc_workspace.specs.Fresh.{source_of}
 use Rattle.pyc_workspace.specs.Workspace.{File}
 

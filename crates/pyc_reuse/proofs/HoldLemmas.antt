@@ -8,17 +8,17 @@ use Rattle.std.specs.declared.rc.Rc.{Rc}
 use Rattle.pyc_body.proofs.CheckLemmas.{all_still}
 use Rattle.pyc_body.specs.FileUnits.{FileUnit, file_units}
 use Rattle.pyc_body.specs.FoundMessages.{checked, found, reads}
-use Rattle.pyc_examiner.specs.CheckedView.{Checked, checked_in, messages_of, numbers_in}
-use Rattle.pyc_examiner.specs.declared.checked.Checked.{Checked as CheckedOf}
+use Rattle.pyc_recorder.specs.CheckedView.{Checked, checked_in, messages_of, numbers_in}
+use Rattle.pyc_recorder.specs.declared.checked.Checked.{Checked as CheckedOf}
 use Rattle.pyc_iface.specs.declared.options.Options.{Options}
 use Rattle.pyc_keys.specs.Marks.{is_in}
 use Rattle.pyc_keys.specs.Numbering.{Extends, Numbering, only}
 use Rattle.pyc_names.specs.SourceFiles.{SourceFile}
 use Rattle.pyc_reading.specs.Keys.{Key}
-use Rattle.pyc_reuse.specs.declared.row.Row.{Row as RowOf}
+use Rattle.pyc_reuse.specs.declared.file_result.FileResult.{FileResult as FileResultOf}
 use Rattle.pyc_reuse.specs.Holding.{HoldsJust}
-use Rattle.pyc_reuse.specs.Past.{Row, row_among, rows_among}
-use Rattle.pyc_reuse.specs.RowView.{reads_in, row_in, rows_in, told_in}
+use Rattle.pyc_reuse.specs.Revision.{FileResult, file_result_among, file_results_among}
+use Rattle.pyc_reuse.specs.FileResultView.{reads_in, file_result_in, file_results_in, reported_in}
 use Rattle.pyc_reuse.specs.SharedChecks.{checks_of, reads_of}
 use Rattle.pyc_workspace.specs.Fresh.{source_of}
 use Rattle.pyc_workspace.specs.Workspace.{File}
@@ -32,24 +32,24 @@ checks_still options sources old new more checks units is =
     all_still old new more (λ (c : Rc CheckedOf Global). c.value) (λ (u : FileUnit). reads options sources u.file u.unit) (λ (u : FileUnit). found options sources u.file u.unit) checks units is
 
 module _ (options : Options) (files : List File) (old new : Numbering Key) (more : Extends old new) where
-  pub row_still : (row : RowOf) (file : File) → row_in old row ≡ row_among options files file → row_in new row ≡ row_among options files file
-  row_still row file is =
-      let checks = checks_still options (map source_of files) old new more row.checks.items (file_units (source_of file)) (ap (λ (r : Row). r.checks) is) in
-      let messages = ap (λ (r : Row). r.messages) is in
+  pub file_result_still : (file_result : FileResultOf) (file : File) → file_result_in old file_result ≡ file_result_among options files file → file_result_in new file_result ≡ file_result_among options files file
+  file_result_still file_result file is =
+      let checks = checks_still options (map source_of files) old new more file_result.checks.items (file_units (source_of file)) (ap (λ (r : FileResult). r.checks) is) in
+      let messages = ap (λ (r : FileResult). r.messages) is in
       λ t. record { checks = checks t; messages = messages t }
 
-  pub rows_still : (rows : List (Rc RowOf Global)) (those : List File) → rows_in old rows ≡ map (row_among options files) those → rows_in new rows ≡ map (row_among options files) those
-  rows_still [] [] is = refl
-  rows_still [] (f ∷ fs) is = cc
-  rows_still (r ∷ rows) [] is = cc
-  rows_still (r ∷ rows) (f ∷ fs) is =
-      let first : row_in old r.value ≡ row_among options files f = cc in
-      let rest : rows_in old rows ≡ map (row_among options files) fs = cc in
-      λ t. row_still r.value f first t ∷ rows_still rows fs rest t
+  pub file_results_still : (file_results : List (Rc FileResultOf Global)) (those : List File) → file_results_in old file_results ≡ map (file_result_among options files) those → file_results_in new file_results ≡ map (file_result_among options files) those
+  file_results_still [] [] is = refl
+  file_results_still [] (f ∷ fs) is = cc
+  file_results_still (r ∷ file_results) [] is = cc
+  file_results_still (r ∷ file_results) (f ∷ fs) is =
+      let first : file_result_in old r.value ≡ file_result_among options files f = cc in
+      let rest : file_results_in old file_results ≡ map (file_result_among options files) fs = cc in
+      λ t. file_result_still r.value f first t ∷ file_results_still file_results fs rest t
 
-  pub all_rows_still : (rows : List (Rc RowOf Global)) → ∥ rows_in old rows ≡ rows_among options files ∥₁ → ∥ rows_in new rows ≡ rows_among options files ∥₁
-  unfolding rows_among
-  all_rows_still rows are = ∥∥₁_elim are squash₁ (λ is. ∣ rows_still rows files is ∣₁)
+  pub all_file_results_still : (file_results : List (Rc FileResultOf Global)) → ∥ file_results_in old file_results ≡ file_results_among options files ∥₁ → ∥ file_results_in new file_results ≡ file_results_among options files ∥₁
+  unfolding file_results_among
+  all_file_results_still file_results are = ∥∥₁_elim are squash₁ (λ is. ∣ file_results_still file_results files is ∣₁)
 
 -- ---- keys that are let go
 
@@ -82,16 +82,16 @@ module _ (held : Numbering Key) (kept : List ℕ) where
       let here = numbers_stay (numbers_in c.value) (λ i e. h i (in_first (numbers_in c.value) (reads_of cs) i e)) in
       λ t. record { reads = here t; messages = messages_of c.value } ∷ checks_stay cs (λ i e. h i (in_second (numbers_in c.value) (reads_of cs) i e)) t
 
-  rows_stay : (rows : List (Rc RowOf Global)) → ((i : ℕ) → is_in (reads_in rows) i ≡ true → is_in kept i ≡ true) → rows_in (only kept held) rows ≡ rows_in held rows
-  rows_stay [] h = refl
-  rows_stay (r ∷ rows) h =
+  file_results_stay : (file_results : List (Rc FileResultOf Global)) → ((i : ℕ) → is_in (reads_in file_results) i ≡ true → is_in kept i ≡ true) → file_results_in (only kept held) file_results ≡ file_results_in held file_results
+  file_results_stay [] h = refl
+  file_results_stay (r ∷ file_results) h =
       let own = r.value.reads.items in
-      let here = checks_stay r.value.checks.items (λ i e. h i (in_first own (reads_in rows) i (ap (λ ns. is_in ns i) r.value.reads_are ∙ e))) in
-      λ t. record { checks = here t; messages = told_in r.value } ∷ rows_stay rows (λ i e. h i (in_second own (reads_in rows) i e)) t
+      let here = checks_stay r.value.checks.items (λ i e. h i (in_first own (reads_in file_results) i (ap (λ ns. is_in ns i) r.value.reads_are ∙ e))) in
+      λ t. record { checks = here t; messages = reported_in r.value } ∷ file_results_stay file_results (λ i e. h i (in_second own (reads_in file_results) i e)) t
 
 -- rows stay where just the keys that they read are kept
-pub rows_kept : (held : Numbering Key) (rows : List (Rc RowOf Global)) → rows_in (only (reads_in rows) held) rows ≡ rows_in held rows
-rows_kept held rows = rows_stay held (reads_in rows) rows (λ i e. e)
+pub file_results_kept : (held : Numbering Key) (file_results : List (Rc FileResultOf Global)) → file_results_in (only (reads_in file_results) held) file_results ≡ file_results_in held file_results
+file_results_kept held file_results = file_results_stay held (reads_in file_results) file_results (λ i e. e)
 
 -- ---- just the keys that are read are held
 
@@ -125,26 +125,26 @@ check_held options sources held (c ∷ cs) (u ∷ us) i is e =
     (number_held held (numbers_in c.value) (reads options sources u.file u.unit) i (ap (λ (k : Checked). k.reads) first))
     (check_held options sources held cs us i rest) e
 
-rows_held : (options : Options) (files : List File) (held : Numbering Key) (rows : List (Rc RowOf Global)) (those : List File) (i : ℕ)
-    → rows_in held rows ≡ map (row_among options files) those → is_in (reads_in rows) i ≡ true → is_some (held i) ≡ true
-rows_held options files held [] those i is e = absurd (true≢false (sym e))
-rows_held options files held (r ∷ rows) [] i is e = cc
-rows_held options files held (r ∷ rows) (f ∷ fs) i is e =
-    let first : row_in held r.value ≡ row_among options files f = cc in
-    let rest : rows_in held rows ≡ map (row_among options files) fs = cc in
-    either_in r.value.reads.items (reads_in rows) i (is_some (held i) ≡ true)
-    (λ here. check_held options (map source_of files) held r.value.checks.items (file_units (source_of f)) i (ap (λ (x : Row). x.checks) first) (ap (λ ns. is_in ns i) (sym r.value.reads_are) ∙ here))
-    (rows_held options files held rows fs i rest) e
+file_results_held : (options : Options) (files : List File) (held : Numbering Key) (file_results : List (Rc FileResultOf Global)) (those : List File) (i : ℕ)
+    → file_results_in held file_results ≡ map (file_result_among options files) those → is_in (reads_in file_results) i ≡ true → is_some (held i) ≡ true
+file_results_held options files held [] those i is e = absurd (true≢false (sym e))
+file_results_held options files held (r ∷ file_results) [] i is e = cc
+file_results_held options files held (r ∷ file_results) (f ∷ fs) i is e =
+    let first : file_result_in held r.value ≡ file_result_among options files f = cc in
+    let rest : file_results_in held file_results ≡ map (file_result_among options files) fs = cc in
+    either_in r.value.reads.items (reads_in file_results) i (is_some (held i) ≡ true)
+    (λ here. check_held options (map source_of files) held r.value.checks.items (file_units (source_of f)) i (ap (λ (x : FileResult). x.checks) first) (ap (λ ns. is_in ns i) (sym r.value.reads_are) ∙ here))
+    (file_results_held options files held file_results fs i rest) e
 
 some_where : (b : Bool) (x : Option Key) → (b ≡ true → is_some x ≡ true) → is_some (if b then x else None) ≡ b
 some_where true x h = h refl
 some_where false x h = refl
 
 -- after the keys that are not read were let go, a number is held just where a row reads it
-pub just_held : (options : Options) (files : List File) (held : Numbering Key) (rows : List (Rc RowOf Global)) → rows_in held rows ≡ rows_among options files
-    → HoldsJust (only (reads_in rows) held) (reads_in rows)
-unfolding rows_among
-just_held options files held rows are i = some_where (is_in (reads_in rows) i) (held i) (rows_held options files held rows files i are)
+pub just_held : (options : Options) (files : List File) (held : Numbering Key) (file_results : List (Rc FileResultOf Global)) → file_results_in held file_results ≡ file_results_among options files
+    → HoldsJust (only (reads_in file_results) held) (reads_in file_results)
+unfolding file_results_among
+just_held options files held file_results are i = some_where (is_in (reads_in file_results) i) (held i) (file_results_held options files held file_results files i are)
 
 -- where more keys got numbers, and all that are not read were let go, all is as before
 back_at : (b : Bool) (x y : Option Key) → is_some x ≡ b → ((key : Key) → x ≡ Some key → y ≡ Some key) → (if b then y else None) ≡ x

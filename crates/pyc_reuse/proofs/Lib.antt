@@ -2,7 +2,7 @@ pub mod PlaceLemmas
 pub mod ListLemmas
 pub mod UnitLemmas
 pub mod RowLemmas
-pub mod WorkLemmas
+pub mod FileStatusLemmas
 pub mod InterfaceLemmas
 pub mod CountLemmas
 pub mod FlagLemmas

@@ -3,7 +3,7 @@ use Rattle.std.proofs.Common.{◌≡◌, ℕ, ◌+◌, ◌<◌, ◌≤◌, Bool,
 use Rattle.std.proofs.lemmas.Cmp.{nat_list_cmp_total, tied_itself}
 use Rattle.std.proofs.lemmas.Map.Keys.{sorted_head, sorted_tail}
 use Rattle.std.specs.List.{AllByRecursion}
-use Rattle.pyc_body.specs.FileUnits.{FileUnit, UnitId, id_of, numbered}
+use Rattle.pyc_body.specs.FileUnits.{FileUnit, UnitId, id_of, number_units}
 use Rattle.pyc_iface.specs.declared.options.Options.{Options}
 use Rattle.pyc_names.specs.SourceFiles.{SourceFile}
 use Rattle.pyc_reuse.specs.Examined.{examined, examined_in, is_examined}
@@ -38,7 +38,7 @@ module _ {A : Type 0} where
 
 module _ (source : SourceFile) (p : FileUnit → Bool) where
   ids : ℕ → List Unit → List UnitId
-  ids from us = map id_of (filter p (numbered source from us))
+  ids from us = map id_of (filter p (number_units source from us))
 
   FromOn : ℕ → UnitId → Type 0
   FromOn from id = (id.path ≡ source.path) × (from ≤ id.index)
@@ -55,8 +55,8 @@ module _ (source : SourceFile) (p : FileUnit → Bool) where
       later id (same, le) = (same, omega (arith, le))
 
       by : (b : Bool) → p one ≡ b → AllByRecursion (FromOn from) (ids (from + 1) more) → AllByRecursion (FromOn from) (ids from (unit ∷ more))
-      by true e rest = subst (λ l. AllByRecursion (FromOn from) (map id_of l)) (sym (ap (λ b. if b then one ∷ filter p (numbered source (from + 1) more) else filter p (numbered source (from + 1) more)) e)) ((refl, omega arith), rest)
-      by false e rest = subst (λ l. AllByRecursion (FromOn from) (map id_of l)) (sym (ap (λ b. if b then one ∷ filter p (numbered source (from + 1) more) else filter p (numbered source (from + 1) more)) e)) rest
+      by true e rest = subst (λ l. AllByRecursion (FromOn from) (map id_of l)) (sym (ap (λ b. if b then one ∷ filter p (number_units source (from + 1) more) else filter p (number_units source (from + 1) more)) e)) ((refl, omega arith), rest)
+      by false e rest = subst (λ l. AllByRecursion (FromOn from) (map id_of l)) (sym (ap (λ b. if b then one ∷ filter p (number_units source (from + 1) more) else filter p (number_units source (from + 1) more)) e)) rest
 
   rising_ids : (from : ℕ) (us : List Unit) → Rising Below (ids from us)
   unfolding ids FromOn Rising
@@ -70,8 +70,8 @@ module _ (source : SourceFile) (p : FileUnit → Bool) where
       above id (same, le) = inr (sym same, omega (arith, le))
 
       by : (b : Bool) → p one ≡ b → Rising Below (ids (from + 1) more) → Rising Below (ids from (unit ∷ more))
-      by true e rest = subst (λ l. Rising Below (map id_of l)) (sym (ap (λ b. if b then one ∷ filter p (numbered source (from + 1) more) else filter p (numbered source (from + 1) more)) e)) (all_where above (ids (from + 1) more) (ids_from (from + 1) more), rest)
-      by false e rest = subst (λ l. Rising Below (map id_of l)) (sym (ap (λ b. if b then one ∷ filter p (numbered source (from + 1) more) else filter p (numbered source (from + 1) more)) e)) rest
+      by true e rest = subst (λ l. Rising Below (map id_of l)) (sym (ap (λ b. if b then one ∷ filter p (number_units source (from + 1) more) else filter p (number_units source (from + 1) more)) e)) (all_where above (ids (from + 1) more) (ids_from (from + 1) more), rest)
+      by false e rest = subst (λ l. Rising Below (map id_of l)) (sym (ap (λ b. if b then one ∷ filter p (number_units source (from + 1) more) else filter p (number_units source (from + 1) more)) e)) rest
 
 -- ---- the units of all files
 

@@ -7,7 +7,7 @@ use Rattle.pyc_body.proofs.ReadLemmas.{over_alike, units_have_their_reads}
 use Rattle.pyc_body.specs.FileUnits.{FileUnit, file_units, id_of}
 use Rattle.pyc_body.specs.FoundLaws.{IsAlike}
 use Rattle.pyc_body.specs.FoundMessages.{checked, checked_by}
-use Rattle.pyc_examiner.specs.CheckedView.{check_of}
+use Rattle.pyc_recorder.specs.CheckedView.{check_of}
 use Rattle.pyc_iface.specs.declared.options.Options.{Options}
 use Rattle.pyc_names.specs.Interfaces.{Interface, interface_of}
 use Rattle.pyc_names.specs.SourceFiles.{SourceFile}
@@ -17,9 +17,9 @@ use Rattle.pyc_reading.specs.Keys.{Key}
 use Rattle.pyc_reuse.proofs.ListLemmas.{filter_all, map_where, none_of}
 use Rattle.pyc_reuse.specs.Answering.{AnswerAlike, AnswerAs}
 use Rattle.pyc_reuse.specs.Examined.{answers_of, examined_in, is_unchanged, reads_anew}
-use Rattle.pyc_same_answers.proofs.EqualityLemmas.{answers_decide}
-use Rattle.pyc_same_answers.specs.SameAnswers.{same_answer}
-use Rattle.pyc_verdicts.specs.Changes.{is_changed}
+use Rattle.pyc_known_answers.proofs.EqualityLemmas.{answers_decide}
+use Rattle.pyc_known_answers.specs.SameAnswers.{same_answer}
+use Rattle.pyc_known_answers.specs.Changes.{is_changed}
 use Rattle.pyc_workspace.specs.Fresh.{source_of}
 use Rattle.pyc_workspace.specs.Workspace.{File}
 

@@ -8,10 +8,10 @@ use Rattle.pyc_reading.specs.Answers.{Answer}
 use Rattle.pyc_reuse.proofs.PlaceLemmas.{same_is, same_itself}
 use Rattle.pyc_reuse.specs.Examined.{answers_of, examined, examined_in, is_examined, is_unchanged, reads_among, reads_anew, same_file}
 use Rattle.pyc_reuse.proofs.NamingLemmas.{among_all, any_found, any_of, from_image, from_kept, image_in, kept_in, of_one, or_right}
-use Rattle.pyc_reuse.specs.ExaminedLaws.{ExaminedJustWhere, IsNamedSo, IsToBeExamined, by_its_file, by_its_reads}
-use Rattle.pyc_same_answers.proofs.EqualityLemmas.{answers_decide}
-use Rattle.pyc_same_answers.specs.SameAnswers.{same_answer}
-use Rattle.pyc_verdicts.specs.Changes.{is_changed}
+use Rattle.pyc_reuse.specs.ExaminedLaws.{ExaminedJustWhere, IsAffected, IsToBeExamined, by_its_file, by_its_reads}
+use Rattle.pyc_known_answers.proofs.EqualityLemmas.{answers_decide}
+use Rattle.pyc_known_answers.specs.SameAnswers.{same_answer}
+use Rattle.pyc_known_answers.specs.Changes.{is_changed}
 use Rattle.pyc_workspace.specs.Fresh.{source_of}
 use Rattle.pyc_workspace.specs.Workspace.{File}
 
@@ -20,8 +20,8 @@ use Rattle.pyc_workspace.specs.Workspace.{File}
 other_answer : (a b : Answer) → not (same_answer a b) ≡ true → a ≢ b
 other_answer a b h is = true≢false (sym h ∙ ap not ((answers_decide a b).1 is))
 
-told_other : (a b : Answer) → a ≢ b → not (same_answer a b) ≡ true
-told_other a b differ = by (same_answer a b) refl
+reported_other : (a b : Answer) → a ≢ b → not (same_answer a b) ≡ true
+reported_other a b differ = by (same_answer a b) refl
   where
     by : (c : Bool) → same_answer a b ≡ c → not (same_answer a b) ≡ true
     by true e = absurd (differ ((answers_decide a b).0 e))
@@ -58,9 +58,9 @@ module _ (options : Options) (last present : List File) where
       by false e = ap (λ b. not b || reads_anew options last present unit) e
   examines file unit (by_its_reads (key, c, differ)) =
       or_right (not (is_unchanged last file)) (reads_anew options last present unit)
-      (any_of (is_changed (answers_of last) (answers_of present)) (reads_among options last unit) key c (told_other (answers_of last key) (answers_of present key) differ))
+      (any_of (is_changed (answers_of last) (answers_of present)) (reads_among options last unit) key c (reported_other (answers_of last key) (answers_of present key) differ))
 
-  named_so : (id : UnitId) → Contains (examined options last present) id → IsNamedSo options last present id
+  named_so : (id : UnitId) → Contains (examined options last present) id → IsAffected options last present id
   unfolding examined
   named_so id c =
       let of_file = of_one (examined_in options last present) present id c in
@@ -70,7 +70,7 @@ module _ (options : Options) (last present : List File) where
       let kept = from_kept (is_examined options last present file) (file_units (source_of file)) unit image.1 in
       record { file = file; unit = unit; is_present = of_file.1; is_of_file = kept.0; named = image.2; examined = to_examine file unit kept.1 }
 
-  is_among : (id : UnitId) → IsNamedSo options last present id → Contains (examined options last present) id
+  is_among : (id : UnitId) → IsAffected options last present id → Contains (examined options last present) id
   unfolding examined
   is_among id so =
       let kept = kept_in (is_examined options last present so.file) (file_units (source_of so.file)) so.unit so.is_of_file (examines so.file so.unit so.examined) in

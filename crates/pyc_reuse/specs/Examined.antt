@@ -8,7 +8,7 @@ use Rattle.pyc_iface.specs.Answers.{answer_of}
 use Rattle.pyc_iface.specs.declared.options.Options.{Options}
 use Rattle.pyc_reading.specs.Answers.{Answer}
 use Rattle.pyc_reading.specs.Keys.{Key}
-use Rattle.pyc_verdicts.specs.Changes.{is_changed}
+use Rattle.pyc_known_answers.specs.Changes.{is_changed}
 use Rattle.pyc_workspace.specs.Fresh.{source_of, sources_of}
 use Rattle.pyc_workspace.specs.Workspace.{File}
 

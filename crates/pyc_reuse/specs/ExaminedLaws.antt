@@ -23,7 +23,7 @@ pub data IsToBeExamined (options : Options) (last present : List File) (file : F
   by_its_reads : HasAnotherAnswer options last present unit → IsToBeExamined options last present file unit
 
 -- a unit that is named so is to be examined
-pub record IsNamedSo (options : Options) (last present : List File) (id : UnitId) : Type 0 where
+pub record IsAffected (options : Options) (last present : List File) (id : UnitId) : Type 0 where
   pub file : File
   pub unit : FileUnit
   pub is_present : Contains present file
@@ -36,7 +36,7 @@ pub record IsNamedSo (options : Options) (last present : List File) (id : UnitId
 abbrev pub ExaminedJustWhere : Type 0
 ExaminedJustWhere =
     (options : Options) (last present : List File) (id : UnitId)
-    → Contains (examined options last present) id ↔ IsNamedSo options last present id
+    → Contains (examined options last present) id ↔ IsAffected options last present id
 
 -- no unit stands twice among those that are examined, where the files that are present are in order
 abbrev pub ExaminedOnce : Type 0

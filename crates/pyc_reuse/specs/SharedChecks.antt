@@ -2,8 +2,8 @@
 use Rattle.std.specs.Prelude.{ℕ, List, flat_map, map}
 use Rattle.std.specs.declared.alloc.Global.{Global}
 use Rattle.std.specs.declared.rc.Rc.{Rc}
-use Rattle.pyc_examiner.specs.CheckedView.{Checked, checked_in, messages_of, numbers_in}
-use Rattle.pyc_examiner.specs.declared.checked.Checked.{Checked as CheckedOf}
+use Rattle.pyc_recorder.specs.CheckedView.{Checked, checked_in, messages_of, numbers_in}
+use Rattle.pyc_recorder.specs.declared.checked.Checked.{Checked as CheckedOf}
 use Rattle.pyc_keys.specs.Numbering.{Numbering}
 use Rattle.pyc_reading.specs.Keys.{Key}
 use Rattle.pyc_report.specs.Message.{Message}

@@ -3,31 +3,37 @@
 ghost use Rattle.std.specs.Prelude.{◌≡◌, true, is_some, map, IfOk, IfSome, IfNone};
 ghost use Rattle.std.specs.List.{list_all, list_any};
 ghost use Rattle.pyc_iface.specs.Answers.{answer_by};
-ghost use Rattle.pyc_known_answers.specs.AnsweredKeysView.{held_by, interfaces_by};
+ghost use Rattle.pyc_known_answers.specs.WorldView.{held_by, interfaces_by};
 ghost use Rattle.pyc_known_answers.specs.KnownAnswersView.{interfaces_of, IsOver};
 ghost use Rattle.pyc_reuse.specs.Answering.{AnswerAs};
-ghost use Rattle.pyc_reuse.specs.Past.{rows_among};
+ghost use Rattle.pyc_reuse.specs.Revision.{file_results_among};
 ghost use Rattle.pyc_reuse.specs.Places.{IsPlace, place_in};
 ghost use Rattle.pyc_reuse.specs.RecheckView.{last_in, options_in, present_in};
-ghost use Rattle.pyc_reuse.specs.RowView.{rows_in};
+ghost use Rattle.pyc_reuse.specs.FileResultView.{file_results_in};
 ghost use Rattle.pyc_reuse.specs.SharedChecks.{checks_of};
-ghost use Rattle.pyc_reuse.specs.Works.{by_flags, is_any, kept_work, work_from, work_in, work_of};
-ghost use Rattle.pyc_verdicts.specs.Changes.{has_changed};
-ghost use Rattle.pyc_verdicts.specs.VerdictsView.{first_in, held_in, second_in};
+ghost use Rattle.pyc_reuse.specs.FileStatuses.{
+  status_by_flags,
+  is_any,
+  kept_file_status,
+  work_from,
+  file_status_in,
+  file_status_of,
+};
+ghost use Rattle.pyc_known_answers.specs.Changes.{has_changed};
+ghost use Rattle.pyc_known_answers.specs.ChangedKeysView.{first_in, held_in, second_in};
 
+use crate::file_result::FileResult;
+use crate::file_status::FileStatus;
 use crate::recheck::Recheck;
-use crate::row::Row;
-use crate::work::Work;
 use pyc_keys::ReadSet;
-use pyc_known_answers::{AnsweredKeys, KnownAnswers};
-use pyc_verdicts::Verdicts;
+use pyc_known_answers::{ChangedKeys, KnownAnswers, World};
 use std::alloc::AllocError;
 
 /// What is to be done for each file that is present, and the answers of their world, unless it is known to answer as
 /// the last one.
 #[derive(Drop)]
-pub(crate) struct Plan {
-    pub(crate) list: Vec<Work>,
+pub(crate) struct RecheckPlan {
+    pub(crate) list: Vec<FileStatus>,
     pub(crate) next: Option<KnownAnswers>,
 }
 
@@ -35,15 +41,16 @@ impl Recheck<'_> {
     /// What is to be done for each file that is present, and what their world answers.
     pub(crate) fn plan(
         &self,
-        keys: &AnsweredKeys,
+        keys: &World,
         places: &[Option<usize>],
-    ) -> Result<Plan, AllocError>
-        requires rows { ∥ rows_in (held_by keys.now) self.now.last.now.rows.items
-            ≡ rows_among (options_in self.now) (last_in self.now) ∥₁ }
+    ) -> Result<RecheckPlan, AllocError>
+        requires file_results { ∥ file_results_in (held_by keys.now) self.now.last.now.file_results.items
+            ≡ file_results_among (options_in self.now) (last_in self.now) ∥₁ }
         requires places { places.now ≡ map (place_in (last_in self.now)) (present_in self.now) }
         requires last { AnswerAs (interfaces_by keys.now) (last_in self.now) }
-        ensures list { IfOk result (λ plan. map work_in plan.list.items
-            ≡ map (work_of (options_in self.now) (last_in self.now) (present_in self.now)) (present_in self.now)) }
+        ensures list { IfOk result (λ plan. map file_status_in plan.list.items
+            ≡ map (file_status_of (options_in self.now) (last_in self.now) (present_in self.now))
+            (present_in self.now)) }
         ensures answers { IfOk result (λ plan. IfSome plan.next (λ next.
             AnswerAs (interfaces_of next) (present_in self.now))) }
         ensures over { IfOk result (λ plan. IfSome plan.next (λ next. IsOver (held_by keys.now) next)) }
@@ -52,27 +59,27 @@ impl Recheck<'_> {
     {
         match self.next_world(places)? {
             Some(world) => {
-                let mut verdicts = Verdicts::new(self.alloc, keys, world)?;
-                let list = self.compare_files(places, &mut verdicts)?;
-                let next = Some(verdicts.into_second());
-                Ok(Plan { list, next })
+                let mut changed_keys = ChangedKeys::new(self.alloc, keys, world)?;
+                let list = self.compare_files(places, &mut changed_keys)?;
+                let next = Some(changed_keys.into_second());
+                Ok(RecheckPlan { list, next })
             }
             None => {
                 let list = self.new_files(places)?;
-                Ok(Plan { list, next: None })
+                Ok(RecheckPlan { list, next: None })
             }
         }
     }
 
     /// What is to be done where no key has another answer.
-    fn new_files(&self, places: &[Option<usize>]) -> Result<Vec<Work>, AllocError>
-        ensures { IfOk result (λ list. map work_in list.items ≡ map kept_work places.now) }
+    fn new_files(&self, places: &[Option<usize>]) -> Result<Vec<FileStatus>, AllocError>
+        ensures { IfOk result (λ list. map file_status_in list.items ≡ map kept_file_status places.now) }
     {
         let mut list = Vec::with_capacity(self.alloc, places.len())?;
         for place in places {
             list.push(match place {
-                Some(place) => Work::Nothing(*place),
-                None => Work::All,
+                Some(place) => FileStatus::Nothing(*place),
+                None => FileStatus::All,
             })?;
         }
         Ok(list)
@@ -82,22 +89,23 @@ impl Recheck<'_> {
     fn compare_files(
         &self,
         places: &[Option<usize>],
-        verdicts: &mut Verdicts<'_>,
-    ) -> Result<Vec<Work>, AllocError>
-        requires rows { ∥ rows_in (held_in verdicts.old) self.now.last.now.rows.items
-            ≡ rows_among (options_in self.now) (last_in self.now) ∥₁ }
+        changed_keys: &mut ChangedKeys<'_>,
+    ) -> Result<Vec<FileStatus>, AllocError>
+        requires file_results { ∥ file_results_in (held_in changed_keys.old) self.now.last.now.file_results.items
+            ≡ file_results_among (options_in self.now) (last_in self.now) ∥₁ }
         requires places { places.now ≡ map (place_in (last_in self.now)) (present_in self.now) }
-        requires first { AnswerAs (first_in verdicts.old) (last_in self.now) }
-        requires second { AnswerAs (second_in verdicts.old) (present_in self.now) }
-        ensures list { IfOk result (λ list. map work_in list.items
-            ≡ map (work_of (options_in self.now) (last_in self.now) (present_in self.now)) (present_in self.now)) }
-        ensures held { held_in verdicts.new ≡ held_in verdicts.old }
-        ensures second { second_in verdicts.new ≡ second_in verdicts.old }
+        requires first { AnswerAs (first_in changed_keys.old) (last_in self.now) }
+        requires second { AnswerAs (second_in changed_keys.old) (present_in self.now) }
+        ensures list { IfOk result (λ list. map file_status_in list.items
+            ≡ map (file_status_of (options_in self.now) (last_in self.now) (present_in self.now))
+            (present_in self.now)) }
+        ensures held { held_in changed_keys.new ≡ held_in changed_keys.old }
+        ensures second { second_in changed_keys.new ≡ second_in changed_keys.old }
     {
         let mut list = Vec::with_capacity(self.alloc, places.len())?;
         for place in places {
-            let work = self.compare_file(*place, verdicts)?;
-            list.push(work)?;
+            let file_status = self.compare_file(*place, changed_keys)?;
+            list.push(file_status)?;
         }
         Ok(list)
     }
@@ -106,40 +114,45 @@ impl Recheck<'_> {
     fn compare_file(
         &self,
         place: Option<usize>,
-        verdicts: &mut Verdicts<'_>,
-    ) -> Result<Work, AllocError>
-        requires rows { ∥ rows_in (held_in verdicts.old) self.now.last.now.rows.items
-            ≡ rows_among (options_in self.now) (last_in self.now) ∥₁ }
+        changed_keys: &mut ChangedKeys<'_>,
+    ) -> Result<FileStatus, AllocError>
+        requires file_results { ∥ file_results_in (held_in changed_keys.old) self.now.last.now.file_results.items
+            ≡ file_results_among (options_in self.now) (last_in self.now) ∥₁ }
         requires place { IsPlace (last_in self.now) place }
-        requires first { AnswerAs (first_in verdicts.old) (last_in self.now) }
-        requires second { AnswerAs (second_in verdicts.old) (present_in self.now) }
-        ensures work { IfOk result (λ work. work_in work
+        requires first { AnswerAs (first_in changed_keys.old) (last_in self.now) }
+        requires second { AnswerAs (second_in changed_keys.old) (present_in self.now) }
+        ensures file_status { IfOk result (λ file_status. file_status_in file_status
             ≡ work_from (options_in self.now) (last_in self.now) (present_in self.now) place) }
-        ensures held { held_in verdicts.new ≡ held_in verdicts.old }
-        ensures first { first_in verdicts.new ≡ first_in verdicts.old }
-        ensures second { second_in verdicts.new ≡ second_in verdicts.old }
+        ensures held { held_in changed_keys.new ≡ held_in changed_keys.old }
+        ensures first { first_in changed_keys.new ≡ first_in changed_keys.old }
+        ensures second { second_in changed_keys.new ≡ second_in changed_keys.old }
     {
         let Some(place) = place else {
-            return Ok(Work::All);
+            return Ok(FileStatus::All);
         };
-        let flags = self.compare_row(&self.last.rows[place], verdicts)?;
-        Ok(by_flags(place, flags))
+        let flags = self.compare_file_result(&self.last.file_results[place], changed_keys)?;
+        Ok(status_by_flags(place, flags))
     }
 
     /// Which units of a row read a key that has another answer.
-    fn compare_row(&self, row: &Row, verdicts: &mut Verdicts<'_>) -> Result<Vec<bool>, AllocError>
+    fn compare_file_result(
+        &self,
+        file_result: &FileResult,
+        changed_keys: &mut ChangedKeys<'_>,
+    ) -> Result<Vec<bool>, AllocError>
         requires { list_all (λ check. list_all is_some check.reads)
-            (checks_of (held_in verdicts.old) row.now.checks.items) ≡ true }
+            (checks_of (held_in changed_keys.old) file_result.now.checks.items) ≡ true }
         ensures flags { IfOk result (λ flags. flags.items ≡ map
-            (λ check. list_any (has_changed (answer_by (first_in verdicts.old)) (answer_by (second_in verdicts.old)))
-            check.reads) (checks_of (held_in verdicts.old) row.now.checks.items)) }
-        ensures held { held_in verdicts.new ≡ held_in verdicts.old }
-        ensures first { first_in verdicts.new ≡ first_in verdicts.old }
-        ensures second { second_in verdicts.new ≡ second_in verdicts.old }
+            (λ check. list_any (has_changed (answer_by (first_in changed_keys.old))
+            (answer_by (second_in changed_keys.old)))
+            check.reads) (checks_of (held_in changed_keys.old) file_result.now.checks.items)) }
+        ensures held { held_in changed_keys.new ≡ held_in changed_keys.old }
+        ensures first { first_in changed_keys.new ≡ first_in changed_keys.old }
+        ensures second { second_in changed_keys.new ≡ second_in changed_keys.old }
     {
-        let mut flags = Vec::with_capacity(self.alloc, row.checks.len())?;
-        for check in &row.checks {
-            let flag = verdicts.is_any_changed(check.reads())?;
+        let mut flags = Vec::with_capacity(self.alloc, file_result.checks.len())?;
+        for check in &file_result.checks {
+            let flag = changed_keys.is_any_changed(check.reads())?;
             flags.push(flag)?;
         }
         Ok(flags)
@@ -147,13 +160,13 @@ impl Recheck<'_> {
 }
 
 /// What is to be done by flags, where something is flagged.
-fn by_flags(place: usize, flags: Vec<bool>) -> Work
-    ensures { work_in result ≡ by_flags place flags.items }
+fn status_by_flags(place: usize, flags: Vec<bool>) -> FileStatus
+    ensures { file_status_in result ≡ status_by_flags place flags.items }
 {
     if is_any(&flags) {
-        Work::Flagged(place, flags)
+        FileStatus::Flagged(place, flags)
     } else {
-        Work::Nothing(place)
+        FileStatus::Nothing(place)
     }
 }
 

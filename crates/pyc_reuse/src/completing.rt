@@ -2,30 +2,30 @@
 
 ghost use Rattle.std.specs.Prelude.{◌≡◌, length, map, IfOk, OnErr, OnOk};
 ghost use Rattle.pyc_keys.specs.Numbering.{Extends};
-ghost use Rattle.pyc_known_answers.specs.AnsweredKeysView.{held_by, interfaces_by};
+ghost use Rattle.pyc_known_answers.specs.WorldView.{held_by, interfaces_by};
 ghost use Rattle.pyc_report.specs.Report.{report_in};
 ghost use Rattle.pyc_reuse.specs.Answering.{AnswerAs};
 ghost use Rattle.pyc_reuse.specs.Exact.{IsExact};
 ghost use Rattle.pyc_reuse.specs.Holding.{HoldsJust};
-ghost use Rattle.pyc_reuse.specs.Past.{rows_among};
-ghost use Rattle.pyc_reuse.specs.PastView.{keys_in, past_in, past_kept, reads_kept};
+ghost use Rattle.pyc_reuse.specs.Revision.{file_results_among};
+ghost use Rattle.pyc_reuse.specs.RevisionView.{keys_in, revision_in, revision_kept, reads_kept};
 ghost use Rattle.pyc_reuse.specs.RecheckView.{AreKept, last_in, options_in, present_in};
-ghost use Rattle.pyc_reuse.specs.RowView.{rows_in};
-ghost use Rattle.pyc_reuse.specs.Telling.{next_past};
-ghost use Rattle.pyc_reuse.specs.Works.{work_in, work_of};
+ghost use Rattle.pyc_reuse.specs.FileResultView.{file_results_in};
+ghost use Rattle.pyc_reuse.specs.Reports.{next_revision};
+ghost use Rattle.pyc_reuse.specs.FileStatuses.{file_status_in, file_status_of};
 ghost use Rattle.pyc_workspace.specs.Files.{files_in};
 ghost use Rattle.pyc_workspace.specs.Fresh.{fresh, units_of};
 
-use crate::comparing::Plan;
+use crate::comparing::RecheckPlan;
 use crate::examining::Examination;
-use crate::kept::Kept;
+use crate::file_status::FileStatus;
+use crate::kept_results::KeptResults;
 use crate::last_check::LastCheck;
 use crate::recheck::Recheck;
-use crate::telling::report_on;
-use crate::work::Work;
+use crate::reporting::report_on;
 use indexmap::IndexSet;
 use pyc_body::{Checker, Meter};
-use pyc_known_answers::AnsweredKeys;
+use pyc_known_answers::World;
 use pyc_report::Report;
 use pyc_workspace::{File, Workspace};
 use std::alloc::{AllocError, Global};
@@ -35,7 +35,7 @@ use std::rc::Rc;
 #[derive(Drop)]
 struct Completed {
     report: Report,
-    kept: Kept,
+    kept: KeptResults,
 }
 
 /// Checks the files that are present, after the last check; `touched` has the paths of those that were put since then.
@@ -49,19 +49,19 @@ pub fn check_again(
     present: &Workspace,
     touched: &IndexSet<String>,
 ) -> (LastCheck, Result<Report, AllocError>)
-    requires { AreKept (past_in last).files present.now touched.now }
-    ensures report { IfOk result.1 (λ report. report_in report ≡ fresh (past_in last).options present.now) }
-    ensures last { OnOk result.1 (past_in result.0 ≡ next_past (past_in last) present.now) }
-    ensures exact { IfOk result.1 (λ report. IsExact (past_in last).options (past_in last).files present.now
-        (report_in report) (past_in result.0).examined) }
+    requires { AreKept (revision_in last).files present.now touched.now }
+    ensures report { IfOk result.1 (λ report. report_in report ≡ fresh (revision_in last).options present.now) }
+    ensures last { OnOk result.1 (revision_in result.0 ≡ next_revision (revision_in last) present.now) }
+    ensures exact { IfOk result.1 (λ report. IsExact (revision_in last).options (revision_in last).files present.now
+        (report_in report) (revision_in result.0).examined) }
     ensures held { HoldsJust (keys_in result.0) (reads_kept result.0) }
-    ensures same { OnErr result.1 (past_in result.0 ≡ past_in last) }
+    ensures same { OnErr result.1 (revision_in result.0 ≡ revision_in last) }
     ensures same_keys { OnErr result.1 (keys_in result.0 ≡ keys_in last) }
 {
     let LastCheck { kept, mut keys } = last;
     match check_present(alloc, &kept, &mut keys, present, touched) {
         Ok(done) => {
-            keys.keep_only(&done.kept.rows);
+            keys.keep_only(&done.kept.file_results);
             let next = LastCheck {
                 kept: done.kept,
                 keys,
@@ -69,7 +69,7 @@ pub fn check_again(
             (next, Ok(done.report))
         }
         Err(error) => {
-            keys.keep_only(&kept.rows);
+            keys.keep_only(&kept.file_results);
             (LastCheck { kept, keys }, Err(error))
         }
     }
@@ -79,21 +79,23 @@ pub fn check_again(
 /// memory runs out, what answers is what did.
 fn check_present<'a>(
     alloc: Global,
-    last: &'a Kept,
-    keys: &mut AnsweredKeys,
+    last: &'a KeptResults,
+    keys: &mut World,
     present: &'a Workspace,
     touched: &'a IndexSet<String>,
 ) -> Result<Completed, AllocError>
-    requires kept { AreKept (past_kept last.now).files present.now touched.now }
-    requires rows { ∥ rows_in (held_by keys.old) last.now.rows.items
-        ≡ rows_among last.now.options last.now.files ∥₁ }
+    requires kept { AreKept (revision_kept last.now).files present.now touched.now }
+    requires file_results { ∥ file_results_in (held_by keys.old) last.now.file_results.items
+        ≡ file_results_among last.now.options last.now.files ∥₁ }
     requires answers { AnswerAs (interfaces_by keys.old) last.now.files }
-    ensures report { IfOk result (λ done. report_in done.report ≡ fresh (past_kept last.now).options present.now) }
-    ensures past { IfOk result (λ done. past_kept done.kept ≡ next_past (past_kept last.now) present.now) }
-    ensures exact { IfOk result (λ done. IsExact (past_kept last.now).options (past_kept last.now).files present.now
-        (report_in done.report) (past_kept done.kept).examined) }
-    ensures rows { IfOk result (λ done. rows_in (held_by keys.new) done.kept.rows.items
-        ≡ rows_among done.kept.options done.kept.files) }
+    ensures report { IfOk result (λ done. report_in done.report ≡ fresh (revision_kept last.now).options present.now) }
+    ensures revision { IfOk result (λ done. revision_kept done.kept ≡ next_revision (revision_kept last.now)
+        present.now) }
+    ensures exact { IfOk result (λ done. IsExact (revision_kept last.now).options (revision_kept last.now).files
+        present.now
+        (report_in done.report) (revision_kept done.kept).examined) }
+    ensures file_results { IfOk result (λ done. file_results_in (held_by keys.new) done.kept.file_results.items
+        ≡ file_results_among done.kept.options done.kept.files) }
     ensures answers { IfOk result (λ done. AnswerAs (interfaces_by keys.new) done.kept.files) }
     ensures extends { Extends (held_by keys.old) (held_by keys.new) }
     ensures same { OnErr result (interfaces_by keys.new ≡ interfaces_by keys.old) }
@@ -105,14 +107,14 @@ fn check_present<'a>(
         touched,
     };
     let places = recheck.places()?;
-    let Plan { list, next } = recheck.plan(keys, &places)?;
+    let RecheckPlan { list, next } = recheck.plan(keys, &places)?;
     match next {
         Some(next) => {
-            let before = keys.exchange(next);
+            let before = keys.replace_world(next);
             match complete(recheck, keys, present, &list) {
                 Ok(done) => Ok(done),
                 Err(error) => {
-                    keys.exchange(before);
+                    keys.replace_world(before);
                     Err(error)
                 }
             }
@@ -124,23 +126,23 @@ fn check_present<'a>(
 /// A check of the files that are present, by what is to be done for each, over what their world answers.
 fn complete(
     recheck: Recheck<'_>,
-    keys: &mut AnsweredKeys,
+    keys: &mut World,
     present: &Workspace,
-    list: &[Work],
+    list: &[FileStatus],
 ) -> Result<Completed, AllocError>
     requires present { present_in recheck ≡ present.now }
-    requires rows { ∥ rows_in (held_by keys.old) recheck.last.now.rows.items
-        ≡ rows_among (options_in recheck) (last_in recheck) ∥₁ }
+    requires file_results { ∥ file_results_in (held_by keys.old) recheck.last.now.file_results.items
+        ≡ file_results_among (options_in recheck) (last_in recheck) ∥₁ }
     requires answers { AnswerAs (interfaces_by keys.old) present.now }
-    requires list { map work_in list.now
-        ≡ map (work_of (options_in recheck) (last_in recheck) present.now) present.now }
+    requires list { map file_status_in list.now
+        ≡ map (file_status_of (options_in recheck) (last_in recheck) present.now) present.now }
     ensures report { IfOk result (λ done. report_in done.report ≡ fresh (options_in recheck.entry) present.now) }
-    ensures past { IfOk result (λ done. past_kept done.kept
-        ≡ next_past (past_kept recheck.entry.last.now) present.now) }
+    ensures revision { IfOk result (λ done. revision_kept done.kept
+        ≡ next_revision (revision_kept recheck.entry.last.now) present.now) }
     ensures exact { IfOk result (λ done. IsExact (options_in recheck.entry) (last_in recheck.entry) present.now
-        (report_in done.report) (past_kept done.kept).examined) }
-    ensures rows { IfOk result (λ done. rows_in (held_by keys.new) done.kept.rows.items
-        ≡ rows_among done.kept.options done.kept.files) }
+        (report_in done.report) (revision_kept done.kept).examined) }
+    ensures file_results { IfOk result (λ done. file_results_in (held_by keys.new) done.kept.file_results.items
+        ≡ file_results_among done.kept.options done.kept.files) }
     ensures answers { IfOk result (λ done. AnswerAs (interfaces_by keys.new) done.kept.files) }
     ensures extends { Extends (held_by keys.old) (held_by keys.new) }
     ensures world { interfaces_by keys.new ≡ interfaces_by keys.old }
@@ -152,23 +154,23 @@ fn complete(
         checker: Checker::new(alloc, options),
     };
     let mut meter = Meter::new(alloc);
-    let rows = examination.next_rows(&mut meter, keys, list)?;
-    let report = report_on(alloc, present.files(), &rows)?;
+    let file_results = examination.next_file_results(&mut meter, keys, list)?;
+    let report = report_on(alloc, present.files(), &file_results)?;
     let files = present.share(alloc)?;
     let bodies = count_units(present.files())?;
     Ok(Completed {
         report,
-        kept: Kept {
+        kept: KeptResults {
             options,
             files,
-            rows,
+            file_results,
             meter,
             bodies,
         },
     })
 }
 
-/// How many units these files have. The only error is that no number tells it.
+/// How many units these files have. The only error is that no number is large enough.
 fn count_units(files: &[Rc<File>]) -> Result<usize, AllocError>
     ensures { IfOk result (λ count. count ≡ length (units_of (files_in files.now))) }
 {

@@ -4,23 +4,23 @@ ghost use Rattle.std.specs.Prelude.{◌≡◌, ◌++◌, ◌∷◌, [], filter, 
 ghost use Rattle.pyc_body.specs.FileUnits.{file_units, id_of};
 ghost use Rattle.pyc_body.specs.FileUnitView.{file_unit_in};
 ghost use Rattle.pyc_body.specs.FoundMessages.{checked};
-ghost use Rattle.pyc_examiner.specs.CheckedView.{checked_in};
+ghost use Rattle.pyc_recorder.specs.CheckedView.{checked_in};
 ghost use Rattle.pyc_keys.specs.Numbering.{Extends};
-ghost use Rattle.pyc_known_answers.specs.AnsweredKeysView.{held_by, interfaces_by};
+ghost use Rattle.pyc_known_answers.specs.WorldView.{held_by, interfaces_by};
 ghost use Rattle.pyc_reuse.specs.Answering.{AnswerAs};
 ghost use Rattle.pyc_reuse.specs.Examination.{HasOptions, last_in, options_in, present_in};
 ghost use Rattle.pyc_reuse.specs.Examined.{examined, examined_in, reads_anew};
-ghost use Rattle.pyc_reuse.specs.Past.{row_among, rows_among};
-ghost use Rattle.pyc_reuse.specs.RowView.{row_in, rows_in};
-ghost use Rattle.pyc_reuse.specs.Works.{flags_of, work_in, work_of};
+ghost use Rattle.pyc_reuse.specs.Revision.{file_result_among, file_results_among};
+ghost use Rattle.pyc_reuse.specs.FileResultView.{file_result_in, file_results_in};
+ghost use Rattle.pyc_reuse.specs.FileStatuses.{flags_of, file_status_in, file_status_of};
 ghost use Rattle.pyc_workspace.specs.Files.{file_in};
 ghost use Rattle.pyc_workspace.specs.Fresh.{source_of, sources_of};
 
+use crate::file_result::FileResult;
+use crate::file_status::FileStatus;
 use crate::recheck::Recheck;
-use crate::row::Row;
-use crate::work::Work;
 use pyc_body::{Checked, Checker, FileUnit, Meter, numbered_units};
-use pyc_known_answers::AnsweredKeys;
+use pyc_known_answers::World;
 use pyc_workspace::File;
 use std::alloc::AllocError;
 use std::rc::Rc;
@@ -34,85 +34,85 @@ pub(crate) struct Examination<'a> {
 
 impl Examination<'_> {
     /// What comes of the files that are present, by what is to be done for each.
-    pub(crate) fn next_rows(
+    pub(crate) fn next_file_results(
         &self,
         meter: &mut Meter,
-        keys: &mut AnsweredKeys,
-        list: &[Work],
-    ) -> Result<Vec<Rc<Row>>, AllocError>
+        keys: &mut World,
+        list: &[FileStatus],
+    ) -> Result<Vec<Rc<FileResult>>, AllocError>
         requires options { HasOptions self.now }
         requires answers { AnswerAs (interfaces_by keys.old) (present_in self.now) }
-        requires rows { ∥ rows_in (held_by keys.old) self.now.recheck.last.now.rows.items
-            ≡ rows_among (options_in self.now) (last_in self.now) ∥₁ }
-        requires list { map work_in list.now ≡ map (work_of (options_in self.now) (last_in self.now)
+        requires file_results { ∥ file_results_in (held_by keys.old) self.now.recheck.last.now.file_results.items
+            ≡ file_results_among (options_in self.now) (last_in self.now) ∥₁ }
+        requires list { map file_status_in list.now ≡ map (file_status_of (options_in self.now) (last_in self.now)
             (present_in self.now)) (present_in self.now) }
-        ensures rows { IfOk result (λ rows. rows_in (held_by keys.new) rows.items
-            ≡ rows_among (options_in self.now) (present_in self.now)) }
+        ensures file_results { IfOk result (λ file_results. file_results_in (held_by keys.new) file_results.items
+            ≡ file_results_among (options_in self.now) (present_in self.now)) }
         ensures metered { OnOk result (meter.new
             ≡ meter.old ++ examined (options_in self.now) (last_in self.now) (present_in self.now)) }
         ensures extends { Extends (held_by keys.old) (held_by keys.new) }
         ensures world { interfaces_by keys.new ≡ interfaces_by keys.old }
     {
         let files = self.recheck.present;
-        let mut rows = Vec::with_capacity(self.recheck.alloc, files.len())?;
+        let mut file_results = Vec::with_capacity(self.recheck.alloc, files.len())?;
         for index in 0..files.len() {
-            let row = self.next_row(meter, keys, &files[index], &list[index])?;
-            rows.push(row)?;
+            let file_result = self.next_file_result(meter, keys, &files[index], &list[index])?;
+            file_results.push(file_result)?;
         }
-        Ok(rows)
+        Ok(file_results)
     }
 
     /// What comes of a file, by what is to be done for it.
-    fn next_row(
+    fn next_file_result(
         &self,
         meter: &mut Meter,
-        keys: &mut AnsweredKeys,
+        keys: &mut World,
         file: &File,
-        work: &Work,
-    ) -> Result<Rc<Row>, AllocError>
+        file_status: &FileStatus,
+    ) -> Result<Rc<FileResult>, AllocError>
         requires options { HasOptions self.now }
         requires answers { AnswerAs (interfaces_by keys.old) (present_in self.now) }
-        requires rows { ∥ rows_in (held_by keys.old) self.now.recheck.last.now.rows.items
-            ≡ rows_among (options_in self.now) (last_in self.now) ∥₁ }
-        requires work { work_in work.now
-            ≡ work_of (options_in self.now) (last_in self.now) (present_in self.now) (file_in file.now) }
-        ensures row { IfOk result (λ row. row_in (held_by keys.new) row.value
-            ≡ row_among (options_in self.now) (present_in self.now) (file_in file.now)) }
+        requires file_results { ∥ file_results_in (held_by keys.old) self.now.recheck.last.now.file_results.items
+            ≡ file_results_among (options_in self.now) (last_in self.now) ∥₁ }
+        requires file_status { file_status_in file_status.now
+            ≡ file_status_of (options_in self.now) (last_in self.now) (present_in self.now) (file_in file.now) }
+        ensures file_result { IfOk result (λ file_result. file_result_in (held_by keys.new) file_result.value
+            ≡ file_result_among (options_in self.now) (present_in self.now) (file_in file.now)) }
         ensures metered { OnOk result (meter.new ≡ meter.old
             ++ examined_in (options_in self.now) (last_in self.now) (present_in self.now) (file_in file.now)) }
         ensures extends { Extends (held_by keys.old) (held_by keys.new) }
         ensures world { interfaces_by keys.new ≡ interfaces_by keys.old }
     {
-        match work {
-            Work::All => {
-                let row = self.first_row(meter, keys, file)?;
-                let shared = Rc::new(self.recheck.alloc, row)?;
+        match file_status {
+            FileStatus::All => {
+                let file_result = self.first_file_result(meter, keys, file)?;
+                let shared = Rc::new(self.recheck.alloc, file_result)?;
                 Ok(shared)
             }
-            Work::Nothing(place) => {
-                let kept = self.recheck.last.rows[*place].clone()?;
+            FileStatus::Nothing(place) => {
+                let kept = self.recheck.last.file_results[*place].clone()?;
                 Ok(kept)
             }
-            Work::Flagged(place, flags) => {
-                let past = &self.recheck.last.rows[*place];
-                let row = self.changed_row(meter, keys, file, past, flags)?;
-                let shared = Rc::new(self.recheck.alloc, row)?;
+            FileStatus::Flagged(place, flags) => {
+                let revision = &self.recheck.last.file_results[*place];
+                let file_result = self.changed_file_result(meter, keys, file, revision, flags)?;
+                let shared = Rc::new(self.recheck.alloc, file_result)?;
                 Ok(shared)
             }
         }
     }
 
     /// What comes of a file all of whose units are examined.
-    fn first_row(
+    fn first_file_result(
         &self,
         meter: &mut Meter,
-        keys: &mut AnsweredKeys,
+        keys: &mut World,
         file: &File,
-    ) -> Result<Row, AllocError>
+    ) -> Result<FileResult, AllocError>
         requires options { HasOptions self.now }
         requires answers { AnswerAs (interfaces_by keys.old) (present_in self.now) }
-        ensures row { IfOk result (λ row. row_in (held_by keys.new) row
-            ≡ row_among (options_in self.now) (present_in self.now) (file_in file.now)) }
+        ensures file_result { IfOk result (λ file_result. file_result_in (held_by keys.new) file_result
+            ≡ file_result_among (options_in self.now) (present_in self.now) (file_in file.now)) }
         ensures metered { OnOk result (meter.new
             ≡ meter.old ++ map id_of (file_units (source_of (file_in file.now)))) }
         ensures extends { Extends (held_by keys.old) (held_by keys.new) }
@@ -124,26 +124,26 @@ impl Examination<'_> {
             let check = self.first_check(meter, keys, unit)?;
             checks.push(check)?;
         }
-        Row::new(self.recheck.alloc, file, checks)
+        FileResult::new(self.recheck.alloc, file, checks)
     }
 
     /// What comes of a file whose flagged units are examined again.
-    fn changed_row(
+    fn changed_file_result(
         &self,
         meter: &mut Meter,
-        keys: &mut AnsweredKeys,
+        keys: &mut World,
         file: &File,
-        past: &Row,
+        revision: &FileResult,
         flags: &[bool],
-    ) -> Result<Row, AllocError>
+    ) -> Result<FileResult, AllocError>
         requires options { HasOptions self.now }
         requires answers { AnswerAs (interfaces_by keys.old) (present_in self.now) }
-        requires past { row_in (held_by keys.old) past.now
-            ≡ row_among (options_in self.now) (last_in self.now) (file_in file.now) }
+        requires revision { file_result_in (held_by keys.old) revision.now
+            ≡ file_result_among (options_in self.now) (last_in self.now) (file_in file.now) }
         requires flags { flags.now
             ≡ flags_of (options_in self.now) (last_in self.now) (present_in self.now) (file_in file.now) }
-        ensures row { IfOk result (λ row. row_in (held_by keys.new) row
-            ≡ row_among (options_in self.now) (present_in self.now) (file_in file.now)) }
+        ensures file_result { IfOk result (λ file_result. file_result_in (held_by keys.new) file_result
+            ≡ file_result_among (options_in self.now) (present_in self.now) (file_in file.now)) }
         ensures metered { OnOk result (meter.new ≡ meter.old ++ map id_of (filter
             (reads_anew (options_in self.now) (last_in self.now) (present_in self.now))
             (file_units (source_of (file_in file.now))))) }
@@ -157,26 +157,26 @@ impl Examination<'_> {
                 meter,
                 keys,
                 &units[index],
-                &past.checks[index],
+                &revision.checks[index],
                 flags[index],
             )?;
             checks.push(check)?;
         }
-        Row::new(self.recheck.alloc, file, checks)
+        FileResult::new(self.recheck.alloc, file, checks)
     }
 
     /// What comes of a unit: what came of it, unless it is flagged.
     fn next_check(
         &self,
         meter: &mut Meter,
-        keys: &mut AnsweredKeys,
+        keys: &mut World,
         unit: &FileUnit<'_>,
-        past: &Rc<Checked>,
+        revision: &Rc<Checked>,
         flag: bool,
     ) -> Result<Rc<Checked>, AllocError>
         requires options { HasOptions self.now }
         requires answers { AnswerAs (interfaces_by keys.old) (present_in self.now) }
-        requires past { checked_in (held_by keys.old) past.now.value
+        requires revision { checked_in (held_by keys.old) revision.now.value
             ≡ checked (options_in self.now) (sources_of (last_in self.now)) (file_unit_in unit.now) }
         requires flag { flag
             ≡ reads_anew (options_in self.now) (last_in self.now) (present_in self.now) (file_unit_in unit.now) }
@@ -190,7 +190,7 @@ impl Examination<'_> {
         if flag {
             return self.first_check(meter, keys, unit);
         }
-        let kept = past.clone()?;
+        let kept = revision.clone()?;
         Ok(kept)
     }
 
@@ -198,7 +198,7 @@ impl Examination<'_> {
     fn first_check(
         &self,
         meter: &mut Meter,
-        keys: &mut AnsweredKeys,
+        keys: &mut World,
         unit: &FileUnit<'_>,
     ) -> Result<Rc<Checked>, AllocError>
         requires options { HasOptions self.now }

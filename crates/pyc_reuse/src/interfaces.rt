@@ -1,13 +1,13 @@
 //! The world of the files that are present: the last one, where no interface is another one.
 
 ghost use Rattle.std.specs.Prelude.{◌≡◌, ◌<◌, IsTrue, length, map, IfOk, IfSome, IfNone};
-ghost use Rattle.pyc_iface.specs.WorldView.{world_in};
+ghost use Rattle.pyc_iface.specs.PlainWorldView.{world_in};
 ghost use Rattle.pyc_reuse.specs.Answering.{AnswerAlike, AnswerAs};
 ghost use Rattle.pyc_reuse.specs.Places.{bare_of, file_at, place_in};
 ghost use Rattle.pyc_reuse.specs.RecheckView.{last_in, present_in};
 
 use crate::recheck::Recheck;
-use pyc_iface::World;
+use pyc_iface::PlainWorld;
 use pyc_interfaces::same_interface;
 use pyc_workspace::interfaces_of;
 use std::alloc::AllocError;
@@ -19,7 +19,7 @@ impl Recheck<'_> {
     pub(crate) fn next_world(
         &self,
         places: &[Option<usize>],
-    ) -> Result<Option<Rc<World>>, AllocError>
+    ) -> Result<Option<Rc<PlainWorld>>, AllocError>
         requires { places.now ≡ map (place_in (last_in self.now)) (present_in self.now) }
         ensures answers { IfOk result (λ next. IfSome next (λ world.
             AnswerAs (world_in world.value) (present_in self.now))) }
@@ -29,7 +29,7 @@ impl Recheck<'_> {
             return Ok(None);
         }
         let interfaces = interfaces_of(self.alloc, self.present)?;
-        let world = World::build(self.alloc, &interfaces)?;
+        let world = PlainWorld::build(self.alloc, &interfaces)?;
         let shared = Rc::new(self.alloc, world)?;
         Ok(Some(shared))
     }

@@ -1,6 +1,6 @@
 //! A check of files after another check.
 
-use crate::kept::Kept;
+use crate::kept_results::KeptResults;
 use indexmap::IndexSet;
 use pyc_workspace::File;
 use std::alloc::Global;
@@ -11,7 +11,7 @@ use std::rc::Rc;
 #[derive(Clone, Copy)]
 pub(crate) struct Recheck<'a> {
     pub(crate) alloc: Global,
-    pub(crate) last: &'a Kept,
+    pub(crate) last: &'a KeptResults,
     pub(crate) present: &'a [Rc<File>],
     pub(crate) touched: &'a IndexSet<String>,
 }

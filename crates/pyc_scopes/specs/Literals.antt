@@ -1,8 +1,8 @@
 -- The types of literals (Python reference 3.13, "Literals").
 use Rattle.pyc_ast.specs.declared.constant.Constant.{Constant}
 use Rattle.pyc_ast.specs.declared.constant.Constant.TheVariants as constant
-use Rattle.pyc_class.specs.declared.builtin_class.BuiltinClass.TheVariants as class
-use Rattle.pyc_class.specs.Class.{builtin}
+use Rattle.pyc_class_ids.specs.declared.builtin_class.BuiltinClass.TheVariants as class
+use Rattle.pyc_class_ids.specs.Class.{builtin}
 use Rattle.pyc_type_forms.specs.Types.{Ty, any, none, instance}
 
 -- the type of a literal: nothing is known of `...` and of a complex number

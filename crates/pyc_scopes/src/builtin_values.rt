@@ -2,15 +2,15 @@
 
 ghost use Rattle.std.specs.Prelude.{◌≡◌, IfOk};
 ghost use Rattle.pyc_obligations.specs.Values.{plain_value};
-ghost use Rattle.pyc_obligations.specs.ValueView.{thing_of, value_of};
+ghost use Rattle.pyc_obligations.specs.ValueView.{special_form_of, value_of};
 ghost use Rattle.pyc_scopes.specs.NamedValues as spec;
 ghost use Rattle.pyc_type_forms.specs.Types as plain;
 ghost use Rattle.pyc_type_forms.specs.TypeView.{ty_of};
 
 use crate::literals::instance;
 use pyc_builtins::{BuiltinName, FunctionResult};
-use pyc_class::{BuiltinClass, ClassId};
-use pyc_obligations::{Thing, Value};
+use pyc_class_ids::{BuiltinClass, ClassId};
+use pyc_obligations::{SpecialForm, Value};
 use pyc_type_forms::{Params, Signature, Ty};
 use std::alloc::{AllocError, Global};
 use std::rc::Rc;
@@ -29,25 +29,25 @@ pub(crate) fn builtin_value(
             let ty = function_type(alloc, given)?;
             Ok(Value {
                 ty,
-                thing: function_thing(name),
+                special_form: function_special_form(name),
             })
         }
         BuiltinName::RevealType => Ok(Value {
             ty: Ty::Any,
-            thing: Thing::RevealType,
+            special_form: SpecialForm::RevealType,
         }),
         BuiltinName::Any => Ok(Value::plain(Ty::Any)),
     }
 }
 
 /// Which thing a builtin function of this name is.
-fn function_thing(name: &str) -> Thing
-    ensures { thing_of result ≡ spec.function_thing name.now }
+fn function_special_form(name: &str) -> SpecialForm
+    ensures { special_form_of result ≡ spec.function_special_form name.now }
 {
     if name == "isinstance" {
-        Thing::IsInstance
+        SpecialForm::IsInstance
     } else {
-        Thing::Plain
+        SpecialForm::Plain
     }
 }
 

@@ -7,5 +7,5 @@ mod names;
 mod scope;
 
 pub use literals::constant_type;
-pub use names::{answered_value, fixed_value, named};
+pub use names::{answered_value, fixed_value, resolve_name};
 pub use scope::{Local, Scope};

@@ -2,12 +2,12 @@
 
 ghost use Rattle.std.specs.Prelude.{◌≡◌};
 ghost use Rattle.pyc_scopes.specs.Literals as spec;
-ghost use Rattle.pyc_class.specs.Class.{builtin};
+ghost use Rattle.pyc_class_ids.specs.Class.{builtin};
 ghost use Rattle.pyc_type_forms.specs.Types as plain;
 ghost use Rattle.pyc_type_forms.specs.TypeView.{ty_of};
 
 use pyc_ast::Constant;
-use pyc_class::{BuiltinClass, ClassId};
+use pyc_class_ids::{BuiltinClass, ClassId};
 use pyc_type_forms::Ty;
 
 /// The type of a literal. It takes no memory.

@@ -13,10 +13,10 @@ use Rattle.indexmap.specs.IndexSet.{IndexSet, IsUnchanged, Updates}
 use Rattle.pyc_iface.specs.declared.options.Options.{Options}
 use Rattle.pyc_reuse.specs.declared.last_check.LastCheck.{LastCheck}
 use Rattle.pyc_reuse.specs.Examined.{is_unchanged, same_file}
-use Rattle.pyc_reuse.specs.Past.{Past}
-use Rattle.pyc_reuse.specs.PastView.{past_in}
+use Rattle.pyc_reuse.specs.Revision.{Revision}
+use Rattle.pyc_reuse.specs.RevisionView.{revision_in}
 use Rattle.pyc_reuse.specs.RecheckView.{AreKept, is_touched}
-use Rattle.pyc_reuse.specs.Telling.{next_past}
+use Rattle.pyc_reuse.specs.Reports.{next_revision}
 use Rattle.pyc_session.specs.DaemonView.{KeepsUp}
 use Rattle.pyc_session.proofs.Turns.{same_bytes}
 use Rattle.pyc_workspace.specs.Workspace.{File, path_cmp, with_file, without_file}
@@ -105,14 +105,14 @@ pub kept-check : {S : Type 0} (present : List File) (touched : IndexSet (String 
 kept-check present touched file among untouched = unchanged present file among
 
 -- after a check, be it completed or refused
-pub keeps_after : {S A E : Type 0} (options : Options) (present : List File) (touched : IndexSet (String Global) S) (before : Past) (next : LastCheck) (result : Result A E)
-    → before.options ≡ options → AreKept before.files present touched → OnOk result (past_in next ≡ next_past before present) → OnErr result (past_in next ≡ before)
+pub keeps_after : {S A E : Type 0} (options : Options) (present : List File) (touched : IndexSet (String Global) S) (before : Revision) (next : LastCheck) (result : Result A E)
+    → before.options ≡ options → AreKept before.files present touched → OnOk result (revision_in next ≡ next_revision before present) → OnErr result (revision_in next ≡ before)
     → KeepsUp options present touched (Some next)
 keeps_after options present touched before next (Ok report) same kept after stays = record {
-  options_are = ap (λ (p : Past). p.options) after ∙ same;
-  kept = subst (λ files. AreKept files present touched) (sym (ap (λ (p : Past). p.files) after)) (kept-check present touched);
+  options_are = ap (λ (p : Revision). p.options) after ∙ same;
+  kept = subst (λ files. AreKept files present touched) (sym (ap (λ (p : Revision). p.files) after)) (kept-check present touched);
 }
 keeps_after options present touched before next (Err error) same kept after stays = record {
-  options_are = ap (λ (p : Past). p.options) stays ∙ same;
-  kept = subst (λ files. AreKept files present touched) (sym (ap (λ (p : Past). p.files) stays)) kept;
+  options_are = ap (λ (p : Revision). p.options) stays ∙ same;
+  kept = subst (λ files. AreKept files present touched) (sym (ap (λ (p : Revision). p.files) stays)) kept;
 }

@@ -16,16 +16,16 @@ pub path_is_text : (path : List ℕ) → is_file_path path ≡ true → is_utf8 
 unfolding is_file_path
 path_is_text path e = and_right _ (is_utf8 path) e
 
-past_first : (a : Bool) (why : Refusal) (later : Option Refusal) → (if not a then Some why else later) ≡ None → a ≡ true
-past_first true why later e = refl
-past_first false why later e = cc
+revision_first : (a : Bool) (why : Refusal) (later : Option Refusal) → (if not a then Some why else later) ≡ None → a ≡ true
+revision_first true why later e = refl
+revision_first false why later e = cc
 
 -- its path is text
 pub kept_path_is_text : (how : Keep) (files : List File) (path : List ℕ) (size : ℕ) → early_refusal how files path size ≡ None → is_utf8 path ≡ true
 unfolding reasons
-kept_path_is_text how files path size e = path_is_text path (past_first (is_file_path path) refusal.Path _ e)
+kept_path_is_text how files path size e = path_is_text path (revision_first (is_file_path path) refusal.Path _ e)
 
 -- the path of a file that is removed is text
 pub removed_path_is_text : (files : List File) (path : List ℕ) → remove_refusal files path ≡ None → is_utf8 path ≡ true
 unfolding remove_refusal
-removed_path_is_text files path e = path_is_text path (past_first (is_file_path path) refusal.Path _ e)
+removed_path_is_text files path e = path_is_text path (revision_first (is_file_path path) refusal.Path _ e)

@@ -9,7 +9,7 @@ use Rattle.pyc_session.specs.Input.{has_line_feed, first_line, after_line, comma
 use Rattle.pyc_session.specs.Refusal.{Reason, first_standing, reasons, refusal_text, early_refusal, late_refusal, keep_refusal, remove_refusal}
 use Rattle.pyc_workspace.specs.Path.{is_file_path}
 use Rattle.pyc_session.specs.declared.keep.Keep.{Keep}
-use Rattle.pyc_session.specs.Session.{Turn, Onward, Session, Progress, turn, has_command, file_turn, told, kept, removed, updated, handed_over, refusal_in, check_turn, check_reply, after_check, keeping, dropping, replied, ok, last_turn, goes_on, ends, onto, after_turn, session_from, further, go_on, progress, CommandsComeFirst}
+use Rattle.pyc_session.specs.Session.{Turn, Onward, Session, Progress, turn, has_command, file_turn, reported, kept, removed, updated, handed_over, refusal_in, check_turn, check_reply, after_check, keeping, dropping, replied, ok, last_turn, goes_on, ends, onto, after_turn, session_from, further, go_on, progress, CommandsComeFirst}
 use Rattle.pyc_session.specs.State.{State}
 use Rattle.pyc_workspace.specs.Workspace.{File}
 use Rattle.pyc_workspace.specs.Fresh.{fresh}
@@ -72,7 +72,7 @@ no_bytes raw part none few =
 
 -- ---- reasons
 
--- a reason among the first is told first
+-- a reason among the first is reported first
 first_of_front : (n : ℕ) (reasons : List Reason) (why : Refusal) → first_standing (take n reasons) ≡ Some why → first_standing reasons ≡ Some why
 first_of_front zero reasons why e = cc
 first_of_front (suc n) [] why e = e
@@ -96,40 +96,40 @@ front_same : (how : Keep) (files : List File) (path : List ℕ) (size : ℕ) (wa
 unfolding reasons
 front_same how files path size wanting = refl
 
--- what is told early is told
-pub early_told : (how : Keep) (files : List File) (path : List ℕ) (size : ℕ) (wanting : Bool) (why : Refusal) → early_refusal how files path size ≡ Some why → keep_refusal how files path size wanting ≡ Some why
-early_told how files path size wanting why e =
+-- what is reported early is reported
+pub early_reported : (how : Keep) (files : List File) (path : List ℕ) (size : ℕ) (wanting : Bool) (why : Refusal) → early_refusal how files path size ≡ Some why → keep_refusal how files path size wanting ≡ Some why
+early_reported how files path size wanting why e =
     first_of_front 3 (reasons how files path size wanting) why (ap first_standing (front_same how files path size wanting) ∙ e)
 
--- where nothing is, it is what is told late
-pub late_told : (how : Keep) (files : List File) (path : List ℕ) (size : ℕ) (wanting : Bool) → early_refusal how files path size ≡ None
+-- where nothing is, it is what is reported late
+pub late_reported : (how : Keep) (files : List File) (path : List ℕ) (size : ℕ) (wanting : Bool) → early_refusal how files path size ≡ None
     → keep_refusal how files path size wanting ≡ late_refusal how files path size wanting
-late_told how files path size wanting e =
+late_reported how files path size wanting e =
     first_of_rest 3 (reasons how files path size wanting) (ap first_standing (front_same how files path size wanting) ∙ e)
 
--- want of memory is told first of what is told late
+-- want of memory is reported first of what is reported late
 pub late_memory : (how : Keep) (files : List File) (path : List ℕ) (size : ℕ) → late_refusal how files path size true ≡ Some refusal.Memory
 unfolding reasons
 late_memory how files path size = refl
 
 -- ---- what a call on a daemon answered
 
-pub told_keep : (how : Keep) (s s' : State) (path : List ℕ) (size : ℕ) (held : List ℕ) (answer : Result (Unit {0}) Refusal)
+pub reported_keep : (how : Keep) (s s' : State) (path : List ℕ) (size : ℕ) (held : List ℕ) (answer : Result (Unit {0}) Refusal)
     → size ≡ length held
     → OnOk answer (keep_refusal how s.present path size false ≡ None)
     → OnOk answer (s' ≡ keeping s (record { path = path; bytes = held }))
     → IfErr answer (λ why. (wanting : Bool) × (keep_refusal how s.present path size wanting ≡ Some why))
     → OnErr answer (s' ≡ s)
     → (wanting : Bool) × (kept how s path held wanting ≡ record { refusal = refusal_in answer; state = s' })
-told_keep how s s' path size held (Ok x) long fine after refusal same = (false, rw (← long, fine, after) refl)
-told_keep how s s' path size held (Err why) long fine after refusal same = (refusal.0, rw (← long, refusal.1, same) refl)
+reported_keep how s s' path size held (Ok x) long fine after refusal same = (false, rw (← long, fine, after) refl)
+reported_keep how s s' path size held (Err why) long fine after refusal same = (refusal.0, rw (← long, refusal.1, same) refl)
 
-pub told_remove : (s s' : State) (path : List ℕ) (answer : Result (Unit {0}) Refusal)
+pub reported_remove : (s s' : State) (path : List ℕ) (answer : Result (Unit {0}) Refusal)
     → OnOk answer (remove_refusal s.present path ≡ None) → OnOk answer (s' ≡ dropping s path)
     → IfErr answer (λ why. remove_refusal s.present path ≡ Some why) → OnErr answer (s' ≡ s)
     → removed s path ≡ record { refusal = refusal_in answer; state = s' }
-told_remove s s' path (Ok x) fine after refusal same = rw (fine, after) refl
-told_remove s s' path (Err why) fine after refusal same = rw (refusal, same) refl
+reported_remove s s' path (Ok x) fine after refusal same = rw (fine, after) refl
+reported_remove s s' path (Err why) fine after refusal same = rw (refusal, same) refl
 
 -- an `update` of a path that no file may have
 pub update_bad : (s : State) (path : List ℕ) → is_file_path path ≡ false
@@ -157,7 +157,7 @@ too_few_bytes rest size e = grind (arith, nat_tests)
 
 -- a command whose bytes came
 pub file_whole : (how : Keep) (s : State) (path : List ℕ) (size : ℕ) (wanting : Bool) (held rest : List ℕ) → length held ≡ size
-    → file_turn how s path size wanting (held ++ rest) ≡ told (kept how s path held wanting) rest
+    → file_turn how s path size wanting (held ++ rest) ≡ reported (kept how s path held wanting) rest
 unfolding file_turn
 file_whole how s path size wanting held rest e =
     let front : take size (held ++ rest) ≡ held = subst (λ n. take n (held ++ rest) ≡ held) e (take-append_seam held rest) in
@@ -176,14 +176,14 @@ pub file_done : (how : Keep) (s s' : State) (path : List ℕ) (size : ℕ) (held
     → s' ≡ keeping s (record { path = path; bytes = held })
     → file_turn how s path size false (held ++ rest) ≡ replied ok s' rest
 file_done how s s' path size held rest e early late after =
-    file_whole how s path size false held rest e ∙ rw (e, late_told how s.present path size false early, late, after) refl
+    file_whole how s path size false held rest e ∙ rw (e, late_reported how s.present path size false early, late, after) refl
 
 -- it is refused late
 pub file_late : (how : Keep) (s s' : State) (path : List ℕ) (size : ℕ) (wanting : Bool) (why : Refusal) (held rest : List ℕ) → length held ≡ size
     → early_refusal how s.present path size ≡ None → late_refusal how s.present path size wanting ≡ Some why → s' ≡ s
     → file_turn how s path size wanting (held ++ rest) ≡ replied (refusal_text why) s' rest
 file_late how s s' path size wanting why held rest e early late same =
-    file_whole how s path size wanting held rest e ∙ rw (e, late_told how s.present path size wanting early, late, same) refl
+    file_whole how s path size wanting held rest e ∙ rw (e, late_reported how s.present path size wanting early, late, same) refl
 
 -- it is refused before, or its bytes are not kept for want of memory
 pub file_not_kept : (how : Keep) (s : State) (path : List ℕ) (size : ℕ) (early : Option Refusal) (held rest : List ℕ) → length held ≡ size
@@ -191,7 +191,7 @@ pub file_not_kept : (how : Keep) (s : State) (path : List ℕ) (size : ℕ) (ear
     → file_turn how s path size true (held ++ rest) ≡ replied (refusal_text (unwrap_or early refusal.Memory)) s rest
 file_not_kept how s path size None held rest e is = file_late how s s path size true refusal.Memory held rest e (sym is) (late_memory how s.present path size) refl
 file_not_kept how s path size (Some why) held rest e is =
-    file_whole how s path size true held rest e ∙ rw (e, early_told how s.present path size true why (sym is)) refl
+    file_whole how s path size true held rest e ∙ rw (e, early_reported how s.present path size true why (sym is)) refl
 
 -- a check that is done
 pub check_done : (s s' : State) (report : Report) (rest : List ℕ) → report ≡ fresh s.options s.present → s' ≡ after_check s
@@ -349,11 +349,11 @@ turn_first s input events event more p t session e is whole =
     (sym (rw is at after) ∙ ap (session_from s input) (sym joined) ∙ whole)
 
 -- a call that is refused late is refused
-pub told_late : (how : Keep) (files : List File) (path : List ℕ) (size : ℕ) (answer : Result (Unit {0}) Refusal) → early_refusal how files path size ≡ None
+pub reported_late : (how : Keep) (files : List File) (path : List ℕ) (size : ℕ) (answer : Result (Unit {0}) Refusal) → early_refusal how files path size ≡ None
     → IfErr answer (λ why. (wanting : Bool) × (late_refusal how files path size wanting ≡ Some why))
     → IfErr answer (λ why. (wanting : Bool) × (keep_refusal how files path size wanting ≡ Some why))
-told_late how files path size (Ok x) early e = tt
-told_late how files path size (Err why) early e = (e.0, late_told how files path size e.0 early ∙ e.1)
+reported_late how files path size (Ok x) early e = tt
+reported_late how files path size (Err why) early e = (e.0, late_reported how files path size e.0 early ∙ e.1)
 
 pub if_ok : {T E : Type 0} (r : Result T E) (P Q : T → Type 0) → ((x : T) → P x → Q x) → IfOk r P → IfOk r Q
 if_ok (Ok x) P Q f p = f x p

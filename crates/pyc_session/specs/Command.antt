@@ -10,7 +10,7 @@ use Rattle.pyc_session.specs.declared.command.Command.TheVariants as command
 pub data Spelled : Type 0 where
   -- the path of a new file, and how many bytes follow
   add : List ℕ → ℕ → Spelled
-  -- the same, for a file that is present
+  -- the path of a file that is present, and how many bytes follow
   change : List ℕ → ℕ → Spelled
   -- either of these whose number has more digits than any file needs
   endless : Spelled

@@ -5,18 +5,18 @@ use Rattle.std.specs.declared.string.String.{String}
 use Rattle.indexmap.specs.IndexSet.{IndexSet}
 use Rattle.pyc_iface.specs.declared.options.Options.{Options}
 use Rattle.pyc_reuse.specs.declared.last_check.LastCheck.{LastCheck}
-use Rattle.pyc_reuse.specs.Past.{Past}
-use Rattle.pyc_reuse.specs.PastView.{past_in}
+use Rattle.pyc_reuse.specs.Revision.{Revision}
+use Rattle.pyc_reuse.specs.RevisionView.{revision_in}
 use Rattle.pyc_reuse.specs.RecheckView.{AreKept}
 use Rattle.pyc_workspace.specs.Workspace.{File}
 
 -- what it left; nothing, where there was none
-abbrev pub past_of : Options → Option LastCheck → Past
-past_of options None = record { options = options; files = []; examined = [] }
-past_of options (Some last) = past_in last
+abbrev pub revision_of : Options → Option LastCheck → Revision
+revision_of options None = record { options = options; files = []; examined = [] }
+revision_of options (Some last) = revision_in last
 
 -- it was a check with these options, and a file that is present and was not put since then stands among its files
 pub record KeepsUp {S : Type 0} (options : Options) (present : List File) (touched : IndexSet (String Global) S)
     (last : Option LastCheck) : Type 0 where
-  pub options_are : (past_of options last).options ≡ options
-  pub kept : AreKept (past_of options last).files present touched
+  pub options_are : (revision_of options last).options ≡ options
+  pub kept : AreKept (revision_of options last).files present touched

@@ -1,4 +1,4 @@
--- What the end of a session is told as.
+-- What the end of a session is reported as.
 use Rattle.std.specs.Prelude.{ℕ, List, codes}
 use Rattle.pyc_session.specs.declared.ending.RunFault.{RunFault}
 use Rattle.pyc_session.specs.declared.ending.RunFault.TheVariants.{Read, Write, TooManyTurns, Memory}

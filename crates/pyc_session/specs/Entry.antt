@@ -10,7 +10,7 @@ pub data Entry : Type 0 where
   unreadable : Entry
   no_memory : Entry
 
--- the entry that an answer tells
+-- the entry that an answer gives
 abbrev pub entry_of : Result (Vec ℕ Global) FetchFault → Entry
 entry_of (Ok handed) = bytes handed.items
 entry_of (Err fault.Unreadable) = unreadable

@@ -45,8 +45,9 @@ room keep.Add files path =
     ∷ record { stands = not (nat_lt (length files) most_files); refusal = refusal.Many } ∷ []
 room keep.Change files path = []
 
--- Why a file of this path and size is not kept so among these files: the reasons, in the order in which they are told.
--- `wanting` is whether memory is refused. The first three are told before the name of the module is formed.
+-- Why a file of this path and size is not kept so among these files: the reasons, in the order in which they are
+-- reported. `wanting` is whether memory is refused. The first three are reported before the name of the module is
+-- formed.
 unfoldable pub reasons : Keep → List File → List ℕ → ℕ → Bool → List Reason
 reasons how files path size wanting =
     record { stands = not (is_file_path path); refusal = refusal.Path }
@@ -59,11 +60,11 @@ reasons how files path size wanting =
 abbrev pub keep_refusal : Keep → List File → List ℕ → ℕ → Bool → Option Refusal
 keep_refusal how files path size wanting = first_standing (reasons how files path size wanting)
 
--- of those that are told before the name of the module is formed, for which no memory is needed
+-- of those that are reported before the name of the module is formed, for which no memory is needed
 abbrev pub early_refusal : Keep → List File → List ℕ → ℕ → Option Refusal
 early_refusal how files path size = first_standing (take 3 (reasons how files path size false))
 
--- of those that are told then
+-- of those that are reported then
 abbrev pub late_refusal : Keep → List File → List ℕ → ℕ → Bool → Option Refusal
 late_refusal how files path size wanting = first_standing (drop 3 (reasons how files path size wanting))
 

@@ -129,14 +129,14 @@ abbrev pub last_turn : List ℕ → State → End → Turn
 last_turn reply s end = record { reply = reply; state = s; onward = ends end; rest = [] }
 
 -- a command that tells whether it is refused
-abbrev pub told : Outcome → List ℕ → Turn
-told outcome rest = replied (refusal_reply outcome.refusal) outcome.state rest
+abbrev pub reported : Outcome → List ℕ → Turn
+reported outcome rest = replied (refusal_reply outcome.refusal) outcome.state rest
 
 -- `add PATH N` or `change PATH N`: the next N bytes are the file's, also where it is refused
 unfoldable pub file_turn : Keep → State → List ℕ → ℕ → Bool → List ℕ → Turn
 file_turn how s path size wanting rest =
     if nat_lt (length rest) size then last_turn (refusal_text refusal.Truncated) s Broken
-    else told (kept how s path (take size rest) wanting) (drop size rest)
+    else reported (kept how s path (take size rest) wanting) (drop size rest)
 
 -- `check`
 unfoldable pub check_turn : State → Bool → List ℕ → Turn
@@ -151,8 +151,8 @@ act s (add path size) event rest =
     unfetched event.fetched (file_turn keep.Add s path size event.wants_memory rest)
 act s (change path size) event rest =
     unfetched event.fetched (file_turn keep.Change s path size event.wants_memory rest)
-act s (update path) event rest = option_map (λ outcome. told outcome rest) (updated s path event)
-act s (remove path) event rest = unfetched event.fetched (told (removed s path) rest)
+act s (update path) event rest = option_map (λ outcome. reported outcome rest) (updated s path event)
+act s (remove path) event rest = unfetched event.fetched (reported (removed s path) rest)
 act s check event rest = unfetched event.fetched (check_turn s event.wants_memory rest)
 act s status event rest = unfetched event.fetched (replied (status_reply s) s rest)
 act s stop event rest = unfetched event.fetched (last_turn ok s Stopped)

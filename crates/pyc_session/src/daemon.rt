@@ -10,8 +10,8 @@ ghost use Rattle.pyc_session.specs.Refusal.{early_refusal, late_refusal, keep_re
 ghost use Rattle.pyc_session.specs.Refusal.{first_standing, presence};
 ghost use Rattle.pyc_report.specs.Report.{report_in};
 ghost use Rattle.pyc_reuse.specs.Exact.{IsExact};
-ghost use Rattle.pyc_reuse.specs.PastView.{past_in};
-ghost use Rattle.pyc_session.specs.DaemonView.{past_of};
+ghost use Rattle.pyc_reuse.specs.RevisionView.{revision_in};
+ghost use Rattle.pyc_session.specs.DaemonView.{revision_of};
 ghost use Rattle.pyc_session.specs.Session.{after_check, keeping, dropping, updated, refusal_in};
 ghost use Rattle.pyc_session.specs.State.{State, start};
 ghost use Rattle.pyc_workspace.specs.Workspace.{has_file};
@@ -50,7 +50,7 @@ pub struct Daemon {
 }
 
 impl Model for Daemon {
-    ghost use Rattle.pyc_session.specs.DaemonView.{KeepsUp, past_of};
+    ghost use Rattle.pyc_session.specs.DaemonView.{KeepsUp, revision_of};
     ghost use Rattle.pyc_session.specs.State.{State};
 
     ghost Value = { State };
@@ -59,8 +59,8 @@ impl Model for Daemon {
         record {
           options = d.options;
           present = d.present;
-          last = (past_of d.options d.last).files;
-          examined = (past_of d.options d.last).examined;
+          last = (revision_of d.options d.last).files;
+          examined = (revision_of d.options d.last).examined;
         } };
 
     ghost invariant = { λ d. KeepsUp d.options d.present d.touched d.last };
@@ -87,7 +87,8 @@ impl Daemon {
         early_refusal(&self.present, keep, path, size)
     }
 
-    /// Adds a file. Where it is refused all is as before.
+    /// Adds a file. Where it is refused all is as before. The call is for users of the library: the program does not
+    /// make it.
     pub fn add(&mut self, path: &[u8], bytes: Vec<u8>) -> Result<(), Refusal>
         ensures ok { OnOk result (keep_refusal Keep.Add self.old.present path.now (vec_len bytes) false ≡ None) }
         ensures after { OnOk result (self.new ≡ keeping self.old (record { path = path.now; bytes = bytes.items })) }
@@ -99,7 +100,8 @@ impl Daemon {
         self.keep_unless(Keep::Add, path, bytes)
     }
 
-    /// Puts other bytes in place of those of a file that is present. Where that is refused all is as before.
+    /// Puts other bytes in place of those of a file that is present. Where that is refused all is as before. The call
+    /// is for users of the library: the program does not make it.
     pub fn change(&mut self, path: &[u8], bytes: Vec<u8>) -> Result<(), Refusal>
         ensures ok { OnOk result (keep_refusal Keep.Change self.old.present path.now (vec_len bytes) false ≡ None) }
         ensures after { OnOk result (self.new ≡ keeping self.old (record { path = path.now; bytes = bytes.items })) }
@@ -114,7 +116,7 @@ impl Daemon {
     /// Adds the file whose bytes the source hands over at this path, or changes it if it is present. Where that is
     /// refused all is as before.
     pub fn update<S: Sources>(&mut self, sources: &mut S, path: &[u8]) -> Result<(), Refusal>
-        ensures told { (event : Event) × FetchStep S.step sources.old event.fetched sources.new
+        ensures reported { (event : Event) × FetchStep S.step sources.old event.fetched sources.new
             × (updated self.old path.now event ≡ Some (record { refusal = refusal_in result; state = self.new })) }
         ensures same { OnErr result (self.new ≡ self.old) }
     {
@@ -154,7 +156,7 @@ impl Daemon {
             (report_in report) self.new.examined) }
         ensures same { OnErr result (self.new ≡ self.old) }
     {
-        let report = self.completed()?;
+        let report = self.check_all_files()?;
         self.touched.clear();
         Ok(report)
     }
@@ -180,7 +182,7 @@ impl Daemon {
     }
 
     /// A check of all files, after the last completed one if there was one. Where memory is refused all is as before.
-    fn completed(&mut self) -> Result<Report, AllocError>
+    fn check_all_files(&mut self) -> Result<Report, AllocError>
         ensures fresh { IfOk result (λ report. report_in report ≡ fresh self.old.options self.old.present) }
         ensures after { OnOk result (self.new ≡ after_check self.old) }
         ensures exact { IfOk result (λ report. IsExact self.old.options self.old.last self.old.present
@@ -219,7 +221,7 @@ impl Daemon {
         self.keep(keep, path, bytes)
     }
 
-    /// Keeps a file of which nothing is told before the name of its module is formed. Where it is refused all is as
+    /// Keeps a file of which nothing is reported before the name of its module is formed. Where it is refused all is as
     /// before.
     pub fn keep(&mut self, keep: Keep, path: &[u8], bytes: Vec<u8>) -> Result<(), Refusal>
         requires { early_refusal keep self.old.present path.now (vec_len bytes) ≡ None }
@@ -264,7 +266,7 @@ fn last_or_nothing(
     options: Options,
     last: Option<LastCheck>,
 ) -> Result<LastCheck, AllocError>
-    ensures past { IfOk result (λ found. past_in found ≡ past_of options last) }
+    ensures revision { IfOk result (λ found. revision_in found ≡ revision_of options last) }
     ensures none { OnErr result (last ≡ None) }
 {
     match last {

@@ -31,7 +31,7 @@ pub enum RunFault {
 }
 
 impl RunFault {
-    /// The text that tells it.
+    /// The text that reports it.
     pub fn text(self) -> &'static str
         ensures { result.now ≡ run_fault_text self }
     {

@@ -7,7 +7,8 @@ ghost use Rattle.pyc_session.specs.MemorySource.{bytes_at, file_in};
 use crate::sources::{FetchFault, MOST_FETCHED, Sources};
 use std::alloc::{AllocError, Global};
 
-/// Paths, each with its bytes. Where two are equal, the first one serves.
+/// Paths, each with its bytes. Where two are equal, the first one serves. It is for users of the library: the program
+/// has none.
 #[derive(Drop)]
 pub struct MemorySource {
     files: Vec<(String, Vec<u8>)>,

@@ -30,7 +30,7 @@ pub enum Refusal {
 impl Refusal {
     ghost use Rattle.pyc_session.specs.Refusal.{refusal_text};
 
-    /// The reply that tells it, with its line end.
+    /// The reply that reports it, with its line end.
     pub fn text(self) -> &'static str
         ensures { result.now ≡ refusal_text self }
     {

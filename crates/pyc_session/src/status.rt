@@ -1,6 +1,6 @@
 //! What `status` answers with.
 
-/// What `status` tells of the last completed check.
+/// What `status` says of the last completed check.
 #[derive(Clone, Copy, Debug, PartialEq, Eq)]
 pub struct Status {
     /// How many files it checked.

@@ -7,7 +7,7 @@ use Rattle.pyc_ast.specs.declared.parameter.ParameterKind.TheVariants as paramet
 use Rattle.pyc_ast.specs.Exprs.{Expr}
 use Rattle.pyc_ast.specs.Statements.{FunctionDefinition, Parameter}
 use Rattle.pyc_names.specs.Interfaces.{Interface}
-use Rattle.pyc_reading.specs.Desks.{Step}
+use Rattle.pyc_reading.specs.Traces.{Step}
 use Rattle.pyc_reading.specs.Readings.{Done, and_then}
 use Rattle.pyc_type_exprs.specs.TypeExprs.{type_expr}
 use Rattle.pyc_type_forms.specs.Types.{Ty, Kind, any, callable, listed, plain, star, keyword_only, double_star}
@@ -53,12 +53,13 @@ parameters_reading file receiver (p ∷ rest) =
     and_then (parameter_reading file receiver p) (λ param. more_params file (param ∷ []) rest)
 
 -- the type of a function with this signature: a call of an `async def` is not looked into
-abbrev pub called : Bool → List ParamView → Ty → Ty
-called is_async params result = if is_async then any else callable (listed (listed_of params)) result
+abbrev pub function_type_of : Bool → List ParamView → Ty → Ty
+function_type_of is_async params result = if is_async then any else callable (listed (listed_of params)) result
 
 -- the type of a function that stands in a file, where what it is called on has a type; Any where it is called on
 -- nothing. Its annotations are read in turn, those of its parameters first
 unfoldable pub function_type : Interface → Ty → FunctionDefinition → Step Ty
 function_type file receiver head =
     and_then (parameters_reading file receiver head.parameters)
-    (λ params. and_then (annotated_or file any head.returns) (λ result. Done (called head.is_async params result)))
+    (λ params. and_then (annotated_or file any head.returns) (λ result. Done
+    (function_type_of head.is_async params result)))

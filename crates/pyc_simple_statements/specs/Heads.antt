@@ -1,22 +1,22 @@
--- The heads of `for`, `with` and `except` (Python reference 3.13, "The for statement", "The with statement" and "The try
--- statement"; typing specification, "Type narrowing").
+-- The heads of `for`, `with` and `except` (Python reference 3.13, "The for statement", "The with statement" and "The
+-- try statement"; typing specification, "Type narrowing").
 use Rattle.std.specs.Prelude.{ℕ, Bool, true, false, List, [], ◌∷◌, if◌then◌else◌, Option, None, Some}
 use Rattle.std.specs.List.{list_any}
-use Rattle.pyc_assigned_places.specs.AssignedPlaces.{dropped_all}
-use Rattle.pyc_assignments.specs.Assignments.{assigned}
+use Rattle.pyc_locals.specs.AssignedPlaces.{drop_places}
+use Rattle.pyc_assignments.specs.Assignments.{assign_target}
 use Rattle.pyc_ast.specs.declared.position.Position.{Position}
 use Rattle.pyc_ast.specs.Exprs.{Expr, expr, at_of}
 use Rattle.pyc_ast.specs.Exprs as form
 use Rattle.pyc_ast.specs.Statements.{For, WithItem}
 use Rattle.pyc_ast.specs.Targets.{Target}
-use Rattle.pyc_bodies.specs.Bodies.{Body}
-use Rattle.pyc_bodies.specs.BodyTargets.{body_reads}
-use Rattle.pyc_items.specs.Iteration.{iterated}
+use Rattle.pyc_body_context.specs.Bodies.{Body}
+use Rattle.pyc_body_context.specs.BodyTargets.{body_reads}
+use Rattle.pyc_subscripts.specs.Iteration.{infer_iteration}
 use Rattle.pyc_locals.specs.Locals.{declared}
-use Rattle.pyc_locals.specs.Points.{Point, in_state, with_declared}
+use Rattle.pyc_locals.specs.FlowStates.{FlowState, in_state, with_declared}
 use Rattle.pyc_places.specs.Places.{Place}
-use Rattle.pyc_places.specs.States.{with_place, dropped_at}
-use Rattle.pyc_reading.specs.Desks.{Step}
+use Rattle.pyc_places.specs.States.{with_place, drop_place}
+use Rattle.pyc_reading.specs.Traces.{Step}
 use Rattle.pyc_reading.specs.Readings.{Done, ◌>>=◌}
 use Rattle.pyc_simple_statements.specs.Expressions.{part_type, part_read}
 use Rattle.pyc_type_forms.specs.Types.{Ty, Tys, nil, cons, any, instance, class_object, tuple}
@@ -53,27 +53,27 @@ is_tuple_display (expr at inside (form.tuple items)) = true
 is_tuple_display _ = false
 
 -- a name that is declared as Any, and is narrowed to a type
-abbrev pub name_caught : List ℕ → Ty → Point → Point
+abbrev pub name_caught : List ℕ → Ty → FlowState → FlowState
 name_caught x ty p =
-    with_declared x (declared any) (in_state p (with_place (x ∷ []) ty (dropped_at (x ∷ []) p.state)))
+    with_declared x (declared any) (in_state p (with_place (x ∷ []) ty (drop_place (x ∷ []) p.state)))
 
 -- some name of a handler is narrowed to what the handler catches
-abbrev pub caught_bound : Option (List ℕ) → Ty → Point → Point
+abbrev pub caught_bound : Option (List ℕ) → Ty → FlowState → FlowState
 caught_bound (Some x) ty p = name_caught x ty p
 caught_bound None ty p = p
 
 module _ (body : Body) where
-  unfoldable pub caught_type : Point → Expr → Step Ty
+  unfoldable pub caught_type : FlowState → Expr → Step Ty
   caught_type p x = do
     ty ← part_type body p x None
     Done (caught_by (is_tuple_display x) ty)
 
-  abbrev pub optional_caught : Point → Option Expr → Step Ty
+  abbrev pub optional_caught : FlowState → Option Expr → Step Ty
   optional_caught p (Some x) = caught_type p x
   optional_caught p None = Done any
 
   -- the head of a handler, by its expression and its name
-  unfoldable pub caught_read : Option Expr → Option (List ℕ) → Point → Step Point
+  unfoldable pub caught_read : Option Expr → Option (List ℕ) → FlowState → Step FlowState
   caught_read x name p = do
     ty ← optional_caught p x
     Done (caught_bound name ty p)
@@ -81,17 +81,17 @@ module _ (body : Body) where
   -- ---- `with`
 
   -- some target of an item is assigned Any, whatever the item gives
-  abbrev pub item_target : Position → Option Target → Point → Step Point
-  item_target at (Some to) p = assigned (body_reads body) at to any p
+  abbrev pub item_target : Position → Option Target → FlowState → Step FlowState
+  item_target at (Some to) p = assign_target (body_reads body) at to any p
   item_target at None p = Done p
 
-  unfoldable pub item_read : WithItem → Point → Step Point
+  unfoldable pub item_read : WithItem → FlowState → Step FlowState
   item_read item p = do
     u ← part_read body p item.context
     item_target (at_of item.context) item.target p
 
   -- the items of a `with`, in turn
-  unfoldable pub items_read : List WithItem → Point → Step Point
+  unfoldable pub items_read : List WithItem → FlowState → Step FlowState
   items_read [] p = Done p
   items_read (item ∷ rest) p = do
     q ← item_read item p
@@ -100,14 +100,14 @@ module _ (body : Body) where
   -- ---- `for`
 
   -- the type of what each turn of a `for` assigns
-  unfoldable pub turn_item : For → Point → Step Ty
+  unfoldable pub turn_item : For → FlowState → Step Ty
   turn_item head p = do
     ty ← part_type body p head.iterable None
-    iterated (at_of head.iterable) ty
+    infer_iteration (at_of head.iterable) ty
 
   -- a turn of a `for` that assigns some places: its iterable is read before the loop, and its target is assigned where
   -- nothing is known of the places
-  unfoldable pub turn_begun : For → List Place → Point → Step Point
+  unfoldable pub turn_begun : For → List Place → FlowState → Step FlowState
   turn_begun head places p = do
     item ← turn_item head p
-    assigned (body_reads body) (at_of head.iterable) head.target item (in_state p (dropped_all places p.state))
+    assign_target (body_reads body) (at_of head.iterable) head.target item (in_state p (drop_places places p.state))

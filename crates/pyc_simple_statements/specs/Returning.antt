@@ -2,13 +2,13 @@
 use Rattle.std.specs.Prelude.{ℕ, Bool, true, false, codes, List, [], ◌++◌, Option, None, Some}
 use Rattle.pyc_ast.specs.declared.position.Position.{Position}
 use Rattle.pyc_ast.specs.Exprs.{Expr}
-use Rattle.pyc_bodies.specs.Bodies.{Body, result_of}
-use Rattle.pyc_locals.specs.Points.{Point, in_state}
+use Rattle.pyc_body_context.specs.Bodies.{Body, result_of}
+use Rattle.pyc_locals.specs.FlowStates.{FlowState, in_state}
 use Rattle.pyc_places.specs.States.{unreachable}
-use Rattle.pyc_reading.specs.Desks.{Step, owed}
+use Rattle.pyc_reading.specs.Traces.{Step, required}
 use Rattle.pyc_reading.specs.Owing.{Obligation}
 use Rattle.pyc_reading.specs.Readings.{Done, ◌>>=◌}
-use Rattle.pyc_report.specs.declared.message.Duty.TheVariants as duty
+use Rattle.pyc_report.specs.declared.message.ObligationKind.TheVariants as obligation_kind
 use Rattle.pyc_simple_statements.specs.Expressions.{part_type}
 use Rattle.pyc_type_forms.specs.Text.{text_of}
 use Rattle.pyc_type_forms.specs.Types.{Ty, none}
@@ -32,10 +32,10 @@ return_text false got want = value_text got want
 -- ---- obligations
 
 -- what a `return` at a position gives must be of the type of the function's result; a bare one gives None
-abbrev pub owed_return : Position → Bool → (got want : Ty) → Obligation
-owed_return at is_bare got want =
+abbrev pub required_return : Position → Bool → (got want : Ty) → Obligation
+required_return at is_bare got want =
     record {
-      duty = duty.Return;
+      obligation_kind = obligation_kind.Return;
       at = at;
       got = got;
       want = want;
@@ -43,33 +43,33 @@ owed_return at is_bare got want =
       text = return_text is_bare got want;
     }
 
-unfoldable pub return_owed : Position → Bool → (got want : Ty) → Step (Unit {0})
-return_owed at is_bare got want = owed (owed_return at is_bare got want)
+unfoldable pub return_required : Position → Bool → (got want : Ty) → Step (Unit {0})
+return_required at is_bare got want = required (required_return at is_bare got want)
 
--- outside functions nothing is owed
-abbrev pub result_owed : Position → Bool → Ty → Option Ty → Step (Unit {0})
-result_owed at is_bare got (Some want) = return_owed at is_bare got want
-result_owed at is_bare got None = Done tt
+-- outside functions nothing is required
+abbrev pub result_required : Position → Bool → Ty → Option Ty → Step (Unit {0})
+result_required at is_bare got (Some want) = return_required at is_bare got want
+result_required at is_bare got None = Done tt
 
 -- ---- the whole
 
 -- no run goes on
-abbrev pub ended : Point → Point
-ended p = in_state p unreachable
+abbrev pub conclude : FlowState → FlowState
+conclude p = in_state p unreachable
 
 module _ (body : Body) where
   -- a value is read with the type of the result
-  unfoldable pub value_returned : Position → Expr → Point → Step Point
+  unfoldable pub value_returned : Position → Expr → FlowState → Step FlowState
   value_returned at x p = do
     got ← part_type body p x (result_of body.kind)
-    u ← result_owed at false got (result_of body.kind)
-    Done (ended p)
+    u ← result_required at false got (result_of body.kind)
+    Done (conclude p)
 
-  unfoldable pub none_returned : Position → Point → Step Point
+  unfoldable pub none_returned : Position → FlowState → Step FlowState
   none_returned at p = do
-    u ← result_owed at true none (result_of body.kind)
-    Done (ended p)
+    u ← result_required at true none (result_of body.kind)
+    Done (conclude p)
 
-  abbrev pub returned : Position → Option Expr → Point → Step Point
+  abbrev pub returned : Position → Option Expr → FlowState → Step FlowState
   returned at (Some x) p = value_returned at x p
   returned at None p = none_returned at p

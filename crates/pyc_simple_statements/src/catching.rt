@@ -3,16 +3,16 @@
 ghost use Rattle.std.specs.Prelude.{◌≡◌, IfOk, OnOk, map, option_map};
 ghost use Rattle.std.specs.List.{list_any};
 ghost use Rattle.pyc_ast.specs.ExprView.{expr_of};
-ghost use Rattle.pyc_bodies.specs.Views.{body_in};
-ghost use Rattle.pyc_locals.specs.Views.{point_in};
-ghost use Rattle.pyc_reading.specs.Desks.{Performs};
+ghost use Rattle.pyc_body_context.specs.Views.{body_in};
+ghost use Rattle.pyc_locals.specs.Views.{flow_state_in};
+ghost use Rattle.pyc_reading.specs.Traces.{Performs};
 ghost use Rattle.pyc_simple_statements.specs.Heads as spec;
 ghost use Rattle.pyc_type_forms.specs.TypeView.{row, ty_of};
 
 use crate::reader::StatementReader;
 use pyc_ast::{Expr, Form, Text};
-use pyc_locals::{LocalType, Point};
-use pyc_obligations::Judge;
+use pyc_locals::{FlowState, LocalType};
+use pyc_obligations::AskTypes;
 use pyc_places::name_place;
 use pyc_type_forms::{Ty, union_of};
 use std::alloc::{AllocError, Global};
@@ -20,53 +20,54 @@ use std::alloc::{AllocError, Global};
 impl StatementReader<'_> {
     /// Reads the head of a handler, by its expression and its name.
     #[tactic(auto, using(pyc_obligations::proofs::Steps::performing), unfolding(crate::specs::Heads::caught_read))]
-    pub(crate) fn read_caught<N: Judge>(
+    pub(crate) fn read_caught<N: AskTypes>(
         &self,
-        notes: &mut N,
+        recorder: &mut N,
         caught: Option<&Expr>,
         name: Option<&Text>,
-        point: &mut Point,
+        flow_state: &mut FlowState,
     ) -> Result<(), AllocError>
-        ensures { Performs (λ u. point_in point.new)
+        ensures { Performs (λ u. flow_state_in flow_state.new)
             (spec.caught_read (body_in self.now.body.now) (option_map (λ e. expr_of e.now) caught.entry)
-            (option_map (λ name. name.now) name.entry) (point_in point.old)) (N.desk notes.old) result
-            (N.desk notes.new) }
+            (option_map (λ name. name.now) name.entry) (flow_state_in flow_state.old)) (N.trace recorder.old) result
+            (N.trace recorder.new) }
     {
-        let ty = self.optional_caught(notes, caught, point)?;
-        bind_caught(self.alloc, name, ty, point)?;
+        let ty = self.optional_caught(recorder, caught, flow_state)?;
+        bind_caught(self.alloc, name, ty, flow_state)?;
         Ok(())
     }
 
     /// The type of what a handler with some expression catches.
-    fn optional_caught<N: Judge>(
+    fn optional_caught<N: AskTypes>(
         &self,
-        notes: &mut N,
+        recorder: &mut N,
         caught: Option<&Expr>,
-        point: &Point,
+        flow_state: &FlowState,
     ) -> Result<Ty, AllocError>
         ensures { Performs ty_of
-            (spec.optional_caught (body_in self.now.body.now) (point_in point.now)
-            (option_map (λ e. expr_of e.now) caught.entry)) (N.desk notes.old) result (N.desk notes.new) }
+            (spec.optional_caught (body_in self.now.body.now) (flow_state_in flow_state.now)
+            (option_map (λ e. expr_of e.now) caught.entry)) (N.trace recorder.old) result (N.trace recorder.new) }
     {
         match caught {
-            Some(e) => self.caught_type(notes, e, point),
+            Some(e) => self.caught_type(recorder, e, flow_state),
             None => Ok(Ty::Any),
         }
     }
 
     /// The type of what a handler with an expression catches.
     #[tactic(auto, using(pyc_obligations::proofs::Steps::performing), unfolding(crate::specs::Heads::caught_type))]
-    fn caught_type<N: Judge>(
+    fn caught_type<N: AskTypes>(
         &self,
-        notes: &mut N,
+        recorder: &mut N,
         e: &Expr,
-        point: &Point,
+        flow_state: &FlowState,
     ) -> Result<Ty, AllocError>
         ensures { Performs ty_of
-            (spec.caught_type (body_in self.now.body.now) (point_in point.now) (expr_of e.now)) (N.desk notes.old)
-            result (N.desk notes.new) }
+            (spec.caught_type (body_in self.now.body.now) (flow_state_in flow_state.now) (expr_of e.now))
+            (N.trace recorder.old)
+            result (N.trace recorder.new) }
     {
-        let ty = self.infer_part(notes, e, None, point)?;
+        let ty = self.infer_part(recorder, e, None, flow_state)?;
         Ok(caught_by(self.alloc, is_tuple_display(e), &ty)?)
     }
 }
@@ -148,25 +149,31 @@ fn bind_caught(
     alloc: Global,
     name: Option<&Text>,
     ty: Ty,
-    point: &mut Point,
+    flow_state: &mut FlowState,
 ) -> Result<(), AllocError>
-    ensures { OnOk result (point_in point.new
-        ≡ spec.caught_bound (option_map (λ name. name.now) name.entry) (ty_of ty) (point_in point.old)) }
+    ensures { OnOk result (flow_state_in flow_state.new
+        ≡ spec.caught_bound (option_map (λ name. name.now) name.entry) (ty_of ty) (flow_state_in flow_state.old)) }
 {
     match name {
-        Some(name) => bind_name(alloc, name, ty, point),
+        Some(name) => bind_name(alloc, name, ty, flow_state),
         None => Ok(()),
     }
 }
 
 /// Binds a name, which is declared as Any and narrowed to a type.
-fn bind_name(alloc: Global, name: &Text, ty: Ty, point: &mut Point) -> Result<(), AllocError>
-    ensures { OnOk result (point_in point.new ≡ spec.name_caught name.now (ty_of ty) (point_in point.old)) }
+fn bind_name(
+    alloc: Global,
+    name: &Text,
+    ty: Ty,
+    flow_state: &mut FlowState,
+) -> Result<(), AllocError>
+    ensures { OnOk result (flow_state_in flow_state.new ≡ spec.name_caught name.now (ty_of ty)
+        (flow_state_in flow_state.old)) }
 {
     let place = name_place(alloc, name)?;
-    let dropped = point.state.dropped_at(alloc, &place)?;
+    let dropped = flow_state.state.drop_place(alloc, &place)?;
     let state = dropped.with_place(alloc, place, ty)?;
-    point.set_state(state);
-    point.declare(name, LocalType::Declared(Ty::Any));
+    flow_state.set_state(state);
+    flow_state.declare(name, LocalType::Declared(Ty::Any));
     Ok(())
 }

@@ -1,12 +1,12 @@
 //! The rules of statements carry the body in which these stand.
 
 ghost use Rattle.std.specs.Prelude.{◌≡◌};
-ghost use Rattle.pyc_bodies.specs.BodyNames.{body_context};
-ghost use Rattle.pyc_bodies.specs.Views.{body_in, context_in};
-ghost use Rattle.pyc_locals.specs.Views.{point_in};
+ghost use Rattle.pyc_body_context.specs.BodyNames.{body_context};
+ghost use Rattle.pyc_body_context.specs.Views.{body_in, context_in};
+ghost use Rattle.pyc_locals.specs.Views.{flow_state_in};
 
-use pyc_bodies::{Body, BodyContext};
-use pyc_locals::Point;
+use pyc_body_context::{Body, BodyContext};
+use pyc_locals::FlowState;
 use std::alloc::Global;
 
 /// Reads the statements of a body.
@@ -18,9 +18,9 @@ pub(crate) struct StatementReader<'a> {
 
 impl<'a> StatementReader<'a> {
     /// Where the expressions of the body stand at a point.
-    pub(crate) fn context(&self, point: &'a Point) -> BodyContext<'a>
-        ensures { context_in result ≡ body_context (body_in self.now.body.now) (point_in point.now).locals }
+    pub(crate) fn context(&self, flow_state: &'a FlowState) -> BodyContext<'a>
+        ensures { context_in result ≡ body_context (body_in self.now.body.now) (flow_state_in flow_state.now).locals }
     {
-        self.body.context(&point.locals)
+        self.body.context(&flow_state.locals)
     }
 }

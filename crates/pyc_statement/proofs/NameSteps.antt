@@ -18,12 +18,12 @@ use Rattle.pyc_tree.specs.StatementView.{separated_before, part_of}
 use Rattle.pyc_tree.proofs.Turns.{one_more, no_more}
 
 -- what a part of a rule does not read, the rule does not read
-pub read_err : {X Y A B : Type 0} (view : X → A) (part : Parsed A) (told : ParseError) (left : List Token) (whole_view : Y → B) (whole : Parsed B)
+pub read_err : {X Y A B : Type 0} (view : X → A) (part : Parsed A) (reported : ParseError) (left : List Token) (whole_view : Y → B) (whole : Parsed B)
     (r : Result Y ParseError) (new : List Token)
-    → IsErrAnd r (λ e. e ≡ told) → ReadsTokens {X = X} view part (Err told) left → (part ≡ None → whole ≡ None) → ReadsTokens whole_view whole r new
-read_err view part told left whole_view whole (Ok y) new is read leads = absurd is
-read_err view part told left whole_view whole (Err Memory) new is read leads = tt
-read_err {X} view part told left whole_view whole (Err Refused) new is read leads =
+    → IsErrAnd r (λ e. e ≡ reported) → ReadsTokens {X = X} view part (Err reported) left → (part ≡ None → whole ≡ None) → ReadsTokens whole_view whole r new
+read_err view part reported left whole_view whole (Ok y) new is read leads = absurd is
+read_err view part reported left whole_view whole (Err Memory) new is read leads = tt
+read_err {X} view part reported left whole_view whole (Err Refused) new is read leads =
     leads (subst (λ (e : ParseError). ReadsTokens {X = X} view part (Err e) left) (sym is) read)
 
 -- ---- items with commas

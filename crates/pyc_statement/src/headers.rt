@@ -5,7 +5,7 @@ ghost use Rattle.std.specs.Prelude.{◌≡◌};
 ghost use Rattle.pyc_tree.specs.Expressions as spec;
 ghost use Rattle.pyc_tree.specs.Headers as headers;
 ghost use Rattle.pyc_tree.specs.LineView.{header_of};
-ghost use Rattle.pyc_item.specs.ReadsExpressions.{ReadsExpressions};
+ghost use Rattle.pyc_list_rules.specs.ReadsExpressions.{ReadsExpressions};
 ghost use Rattle.pyc_build.specs.ReadsTokens.{ReadsTokens};
 ghost use Rattle.pyc_tree.specs.View.{pieces_of};
 
@@ -68,11 +68,11 @@ impl<F: Fn(Global, &mut Cursor<'_>, usize, u8) -> Result<Built, ParseError>> Sta
     }
 
     /// `except`, and perhaps what is caught.
-    #[tactic(auto, using(crate::proofs::ReadingSteps::reading), unfolding(pyc_tree::specs::Headers::excepted))]
-    pub fn excepted(&self, tokens: &mut Cursor<'_>) -> Result<BuiltHeader, ParseError>
+    #[tactic(auto, using(crate::proofs::ReadingSteps::reading), unfolding(pyc_tree::specs::Headers::except_header))]
+    pub fn except_header(&self, tokens: &mut Cursor<'_>) -> Result<BuiltHeader, ParseError>
         requires { ReadsExpressions self.now.rules.depth (F.pre self.now.rules.expr) (F.post self.now.rules.expr) }
         ensures { ReadsTokens (λ b. header_of b.header.value)
-            (headers.excepted (spec.expr self.now.rules.depth) tokens.old.rest.now) result tokens.new.rest.now }
+            (headers.except_header (spec.expr self.now.rules.depth) tokens.old.rest.now) result tokens.new.rest.now }
     {
         let word = tokens.take()?;
         if is_colon(tokens.peek()) {
@@ -91,7 +91,8 @@ impl<F: Fn(Global, &mut Cursor<'_>, usize, u8) -> Result<Built, ParseError>> Sta
             (headers.with_items (spec.expr self.now.rules.depth) tokens.old.rest.now) result tokens.new.rest.now }
     {
         let first = self.rules.item(tokens, ListContext::WithItems)?;
-        self.rules.listed(tokens, ListContext::WithItems, first)
+        self.rules
+            .parse_items_from(tokens, ListContext::WithItems, first)
     }
 
     /// The items of a `with` in parentheses that a colon follows.
@@ -117,8 +118,8 @@ impl<F: Fn(Global, &mut Cursor<'_>, usize, u8) -> Result<Built, ParseError>> Sta
     }
 
     /// The items of a `with` without parentheses.
-    #[tactic(auto, using(crate::proofs::ReadingSteps::reading), unfolding(pyc_tree::specs::Headers::with_open))]
-    fn with_open(
+    #[tactic(auto, using(crate::proofs::ReadingSteps::reading), unfolding(pyc_tree::specs::Headers::with_unenclosed))]
+    fn with_unenclosed(
         &self,
         tokens: &mut Cursor<'_>,
         word_async: Option<Token>,
@@ -126,7 +127,7 @@ impl<F: Fn(Global, &mut Cursor<'_>, usize, u8) -> Result<Built, ParseError>> Sta
     ) -> Result<BuiltHeader, ParseError>
         requires { ReadsExpressions self.now.rules.depth (F.pre self.now.rules.expr) (F.post self.now.rules.expr) }
         ensures { ReadsTokens (λ b. header_of b.header.value)
-            (headers.with_open (spec.expr self.now.rules.depth) word_async word tokens.old.rest.now) result
+            (headers.with_unenclosed (spec.expr self.now.rules.depth) word_async word tokens.old.rest.now) result
             tokens.new.rest.now }
     {
         let items = self.with_items(tokens)?;
@@ -155,7 +156,7 @@ impl<F: Fn(Global, &mut Cursor<'_>, usize, u8) -> Result<Built, ParseError>> Sta
             Err(ParseError::Memory) => Err(ParseError::Memory),
             Err(ParseError::Refused) => {
                 tokens.rest = start;
-                self.with_open(tokens, word_async, word)
+                self.with_unenclosed(tokens, word_async, word)
             }
         }
     }
@@ -177,9 +178,9 @@ impl<F: Fn(Global, &mut Cursor<'_>, usize, u8) -> Result<Built, ParseError>> Sta
         let opening = tokens.expect(Kind::Open(Bracket::Round))?;
         let parameters = self
             .rules
-            .some_items(tokens, ListContext::Parameters(true))?;
+            .optional_items(tokens, ListContext::Parameters(true))?;
         let closing = tokens.expect(Kind::Close(Bracket::Round))?;
-        let returned = self.rules.tail(tokens, Kind::Delimiter(Delimiter::Arrow))?;
+        let return_type = self.rules.tail(tokens, Kind::Delimiter(Delimiter::Arrow))?;
         built_line::def(
             self.rules.alloc,
             word_async,
@@ -188,7 +189,7 @@ impl<F: Fn(Global, &mut Cursor<'_>, usize, u8) -> Result<Built, ParseError>> Sta
             opening,
             parameters,
             closing,
-            returned,
+            return_type,
         )
     }
 
@@ -206,7 +207,7 @@ impl<F: Fn(Global, &mut Cursor<'_>, usize, u8) -> Result<Built, ParseError>> Sta
             tokens.new.rest.now }
     {
         let opening = tokens.take()?;
-        let arguments = self.rules.some_items(tokens, ListContext::Arguments)?;
+        let arguments = self.rules.optional_items(tokens, ListContext::Arguments)?;
         let closing = tokens.expect(Kind::Close(Bracket::Round))?;
         built_line::class_of(self.rules.alloc, word, name, opening, arguments, closing)
     }

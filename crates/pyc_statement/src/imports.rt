@@ -7,7 +7,7 @@ ghost use Rattle.pyc_build.specs.ReadsTokens.{ReadsTokens};
 ghost use Rattle.pyc_tree.specs.SimpleStatements as spec;
 ghost use Rattle.pyc_tree.specs.StatementView.{dotted_of, source_of, statement_of};
 
-use crate::names::{dotted, imported_names, modules, names};
+use crate::names::{dotted_name, imported_names, modules, names};
 use pyc_build::ParseError;
 use pyc_build_line::{BuiltSimpleStatement, built_statement};
 use pyc_cursor::{Cursor, same_kind};
@@ -28,7 +28,7 @@ fn path_after(
     match (dots, tokens.peek()) {
         ([_, ..], Kind::Keyword(Keyword::Import)) => Ok(None),
         _ => {
-            let path = dotted(alloc, tokens)?;
+            let path = dotted_name(alloc, tokens)?;
             Ok(Some(path))
         }
     }
@@ -110,12 +110,12 @@ fn open_names(
 }
 
 /// `from`, a module, `import` and names.
-#[tactic(auto, unfolding(pyc_tree::specs::SimpleStatements::imported_from))]
-pub fn imported_from(
+#[tactic(auto, unfolding(pyc_tree::specs::SimpleStatements::import_from_statement))]
+pub fn import_from_statement(
     alloc: Global,
     tokens: &mut Cursor<'_>,
 ) -> Result<BuiltSimpleStatement, ParseError>
-    ensures { ReadsTokens (λ b. statement_of b.statement) (spec.imported_from tokens.old.rest.now) result
+    ensures { ReadsTokens (λ b. statement_of b.statement) (spec.import_from_statement tokens.old.rest.now) result
         tokens.new.rest.now }
 {
     let word = tokens.take()?;

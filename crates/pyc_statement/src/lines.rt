@@ -6,7 +6,7 @@ ghost use Rattle.pyc_token.specs.declared.tokens.Kind.TheVariants as kind;
 ghost use Rattle.pyc_tree.specs.Expressions as spec;
 ghost use Rattle.pyc_tree.specs.Headers as headers;
 ghost use Rattle.pyc_tree.specs.LineView.{header_of, line_of};
-ghost use Rattle.pyc_item.specs.ReadsExpressions.{ReadsExpressions};
+ghost use Rattle.pyc_list_rules.specs.ReadsExpressions.{ReadsExpressions};
 ghost use Rattle.pyc_build.specs.ReadsTokens.{ReadsTokens, AnswersLine};
 
 use crate::headers::word_header;
@@ -61,7 +61,11 @@ impl<F: Fn(Global, &mut Cursor<'_>, usize, u8) -> Result<Built, ParseError>> Sta
 
     /// A line that begins with this keyword.
     #[tactic(auto, using(crate::proofs::ReadingSteps::reading), unfolding(pyc_tree::specs::Headers::headed))]
-    fn line_of_word(&self, tokens: &mut Cursor<'_>, word: Keyword) -> Result<BuiltLine, ParseError>
+    fn line_by_keyword(
+        &self,
+        tokens: &mut Cursor<'_>,
+        word: Keyword,
+    ) -> Result<BuiltLine, ParseError>
         requires { ReadsExpressions self.now.rules.depth (F.pre self.now.rules.expr) (F.post self.now.rules.expr) }
         ensures { ReadsTokens (λ b. line_of b.line)
             (headers.line_by (spec.expr self.now.rules.depth) (kind.Keyword word) tokens.old.rest.now) result
@@ -74,7 +78,7 @@ impl<F: Fn(Global, &mut Cursor<'_>, usize, u8) -> Result<Built, ParseError>> Sta
                 tokens,
             )?,
             Keyword::For => self.for_each(tokens, None)?,
-            Keyword::Except => self.excepted(tokens)?,
+            Keyword::Except => self.except_header(tokens)?,
             Keyword::With => self.with(tokens, None)?,
             Keyword::Def => self.function(tokens, None)?,
             Keyword::Class => self.class(tokens)?,
@@ -93,7 +97,7 @@ impl<F: Fn(Global, &mut Cursor<'_>, usize, u8) -> Result<Built, ParseError>> Sta
     {
         match tokens.peek() {
             Kind::Arithmetic(Arithmetic::At) => self.decorator(tokens),
-            Kind::Keyword(word) => self.line_of_word(tokens, word),
+            Kind::Keyword(word) => self.line_by_keyword(tokens, word),
             _ => self.simple_line(tokens),
         }
     }

@@ -47,9 +47,9 @@ fn parts(alloc: Global, tokens: &mut Cursor<'_>) -> Result<Vec<DottedPart>, Pars
 }
 
 /// A dotted name.
-#[tactic(auto, unfolding(pyc_tree::specs::SimpleStatements::dotted))]
-pub fn dotted(alloc: Global, tokens: &mut Cursor<'_>) -> Result<Dotted, ParseError>
-    ensures { ReadsTokens dotted_of (spec.dotted tokens.old.rest.now) result tokens.new.rest.now }
+#[tactic(auto, unfolding(pyc_tree::specs::SimpleStatements::dotted_name))]
+pub fn dotted_name(alloc: Global, tokens: &mut Cursor<'_>) -> Result<Dotted, ParseError>
+    ensures { ReadsTokens dotted_of (spec.dotted_name tokens.old.rest.now) result tokens.new.rest.now }
 {
     let first = tokens.expect_name()?;
     let parts = parts(alloc, tokens)?;
@@ -61,7 +61,7 @@ pub fn dotted(alloc: Global, tokens: &mut Cursor<'_>) -> Result<Dotted, ParseErr
 fn imported_module(alloc: Global, tokens: &mut Cursor<'_>) -> Result<ImportedModule, ParseError>
     ensures { ReadsTokens module_of (spec.imported_module tokens.old.rest.now) result tokens.new.rest.now }
 {
-    let path = dotted(alloc, tokens)?;
+    let path = dotted_name(alloc, tokens)?;
     let alias = alias(tokens)?;
     Ok(ImportedModule { path, alias })
 }

@@ -4,13 +4,13 @@
 ghost use Rattle.std.specs.Prelude.{◌≡◌, map, length};
 ghost use Rattle.pyc_tree.specs.Expressions as spec;
 ghost use Rattle.pyc_tree.specs.Kinds as kinds;
-ghost use Rattle.pyc_item.specs.ReadsExpressions.{ReadsExpressions};
+ghost use Rattle.pyc_list_rules.specs.ReadsExpressions.{ReadsExpressions};
 ghost use Rattle.pyc_build.specs.ReadsTokens.{ReadsTokens};
 ghost use Rattle.pyc_tree.specs.SimpleStatements as statements;
 ghost use Rattle.pyc_tree.specs.StatementView.{assigned_of, separated_of, statement_of};
 ghost use Rattle.pyc_tree.specs.View.{tree_of, tail_of};
 
-use crate::imports::{declared, imported, imported_from, word_statement};
+use crate::imports::{declared, import_from_statement, imported, word_statement};
 use crate::rules::StatementRules;
 use pyc_build::{Built, BuiltTail, ParseError, append, boxed, built, is_single_target, taller};
 use pyc_build_line::{BuiltChain, BuiltSimpleStatement, BuiltSimpleStatements, built_statement};
@@ -28,7 +28,7 @@ impl<F: Fn(Global, &mut Cursor<'_>, usize, u8) -> Result<Built, ParseError>> Sta
             (statements.value (spec.expr self.now.rules.depth) tokens.old.rest.now) result tokens.new.rest.now }
     {
         match tokens.peek() {
-            Kind::Keyword(Keyword::Yield) => self.rules.yielded(tokens),
+            Kind::Keyword(Keyword::Yield) => self.rules.yield_expression(tokens),
             _ => self.rules.expressions(tokens, ListContext::Items),
         }
     }
@@ -98,15 +98,16 @@ impl<F: Fn(Global, &mut Cursor<'_>, usize, u8) -> Result<Built, ParseError>> Sta
     }
 
     /// `:`, an annotation, and perhaps a value, after a target.
-    #[tactic(auto, using(crate::proofs::ReadingSteps::reading), unfolding(pyc_tree::specs::SimpleStatements::annotated))]
-    fn annotated(
+    #[tactic(auto, using(crate::proofs::ReadingSteps::reading), unfolding(pyc_tree::specs::SimpleStatements::annotated_target))]
+    fn annotated_target(
         &self,
         tokens: &mut Cursor<'_>,
         target: Built,
     ) -> Result<BuiltSimpleStatement, ParseError>
         requires { ReadsExpressions self.now.rules.depth (F.pre self.now.rules.expr) (F.post self.now.rules.expr) }
         ensures { ReadsTokens (λ b. statement_of b.statement)
-            (statements.annotated (spec.expr self.now.rules.depth) (tree_of target.expr.value) tokens.old.rest.now)
+            (statements.annotated_target (spec.expr self.now.rules.depth) (tree_of target.expr.value)
+            tokens.old.rest.now)
             result tokens.new.rest.now }
     {
         if !is_single_target(&target.expr) {
@@ -119,15 +120,16 @@ impl<F: Fn(Global, &mut Cursor<'_>, usize, u8) -> Result<Built, ParseError>> Sta
     }
 
     /// An operator as `+=` and a value, after a target.
-    #[tactic(auto, using(crate::proofs::ReadingSteps::reading), unfolding(pyc_tree::specs::SimpleStatements::augmented))]
-    fn augmented(
+    #[tactic(auto, using(crate::proofs::ReadingSteps::reading), unfolding(pyc_tree::specs::SimpleStatements::augmented_assignment))]
+    fn augmented_assignment(
         &self,
         tokens: &mut Cursor<'_>,
         target: Built,
     ) -> Result<BuiltSimpleStatement, ParseError>
         requires { ReadsExpressions self.now.rules.depth (F.pre self.now.rules.expr) (F.post self.now.rules.expr) }
         ensures { ReadsTokens (λ b. statement_of b.statement)
-            (statements.augmented (spec.expr self.now.rules.depth) (tree_of target.expr.value) tokens.old.rest.now)
+            (statements.augmented_assignment (spec.expr self.now.rules.depth) (tree_of target.expr.value)
+            tokens.old.rest.now)
             result tokens.new.rest.now }
     {
         if !is_single_target(&target.expr) {
@@ -139,41 +141,46 @@ impl<F: Fn(Global, &mut Cursor<'_>, usize, u8) -> Result<Built, ParseError>> Sta
     }
 
     /// A statement that begins with an expression.
-    #[tactic(auto, using(crate::proofs::ReadingSteps::reading), unfolding(pyc_tree::specs::SimpleStatements::of_expression))]
-    fn of_expression(&self, tokens: &mut Cursor<'_>) -> Result<BuiltSimpleStatement, ParseError>
+    #[tactic(auto, using(crate::proofs::ReadingSteps::reading), unfolding(pyc_tree::specs::SimpleStatements::expression_or_assignment))]
+    fn expression_or_assignment(
+        &self,
+        tokens: &mut Cursor<'_>,
+    ) -> Result<BuiltSimpleStatement, ParseError>
         requires { ReadsExpressions self.now.rules.depth (F.pre self.now.rules.expr) (F.post self.now.rules.expr) }
         ensures { ReadsTokens (λ b. statement_of b.statement)
-            (statements.of_expression (spec.expr self.now.rules.depth) tokens.old.rest.now) result
+            (statements.expression_or_assignment (spec.expr self.now.rules.depth) tokens.old.rest.now) result
             tokens.new.rest.now }
     {
         let first = self.rules.expressions(tokens, ListContext::Items)?;
         let next = tokens.peek();
         if is_colon(next) {
-            self.annotated(tokens, first)
+            self.annotated_target(tokens, first)
         } else if is_augmented(next) {
-            self.augmented(tokens, first)
+            self.augmented_assignment(tokens, first)
         } else {
             self.assigned(tokens, first)
         }
     }
 
     /// A statement that begins with `yield`.
-    #[tactic(auto, using(crate::proofs::ReadingSteps::reading), unfolding(pyc_tree::specs::SimpleStatements::of_yield))]
-    fn of_yield(&self, tokens: &mut Cursor<'_>) -> Result<BuiltSimpleStatement, ParseError>
+    #[tactic(auto, using(crate::proofs::ReadingSteps::reading), unfolding(pyc_tree::specs::SimpleStatements::yield_statement))]
+    fn yield_statement(&self, tokens: &mut Cursor<'_>) -> Result<BuiltSimpleStatement, ParseError>
         requires { ReadsExpressions self.now.rules.depth (F.pre self.now.rules.expr) (F.post self.now.rules.expr) }
         ensures { ReadsTokens (λ b. statement_of b.statement)
-            (statements.of_yield (spec.expr self.now.rules.depth) tokens.old.rest.now) result tokens.new.rest.now }
+            (statements.yield_statement (spec.expr self.now.rules.depth) tokens.old.rest.now) result
+            tokens.new.rest.now }
     {
-        let value = self.rules.yielded(tokens)?;
+        let value = self.rules.yield_expression(tokens)?;
         Ok(built_statement::expression(value))
     }
 
     /// `return`, perhaps with a value.
-    #[tactic(auto, using(crate::proofs::ReadingSteps::reading), unfolding(pyc_tree::specs::SimpleStatements::returned))]
-    fn returned(&self, tokens: &mut Cursor<'_>) -> Result<BuiltSimpleStatement, ParseError>
+    #[tactic(auto, using(crate::proofs::ReadingSteps::reading), unfolding(pyc_tree::specs::SimpleStatements::return_statement))]
+    fn return_statement(&self, tokens: &mut Cursor<'_>) -> Result<BuiltSimpleStatement, ParseError>
         requires { ReadsExpressions self.now.rules.depth (F.pre self.now.rules.expr) (F.post self.now.rules.expr) }
         ensures { ReadsTokens (λ b. statement_of b.statement)
-            (statements.returned (spec.expr self.now.rules.depth) tokens.old.rest.now) result tokens.new.rest.now }
+            (statements.return_statement (spec.expr self.now.rules.depth) tokens.old.rest.now) result
+            tokens.new.rest.now }
     {
         let word = tokens.take()?;
         if ends_statement(tokens) {
@@ -184,11 +191,12 @@ impl<F: Fn(Global, &mut Cursor<'_>, usize, u8) -> Result<Built, ParseError>> Sta
     }
 
     /// `raise`, perhaps an exception, perhaps `from` and its cause.
-    #[tactic(auto, using(crate::proofs::ReadingSteps::reading), unfolding(pyc_tree::specs::SimpleStatements::raised))]
-    fn raised(&self, tokens: &mut Cursor<'_>) -> Result<BuiltSimpleStatement, ParseError>
+    #[tactic(auto, using(crate::proofs::ReadingSteps::reading), unfolding(pyc_tree::specs::SimpleStatements::raise_statement))]
+    fn raise_statement(&self, tokens: &mut Cursor<'_>) -> Result<BuiltSimpleStatement, ParseError>
         requires { ReadsExpressions self.now.rules.depth (F.pre self.now.rules.expr) (F.post self.now.rules.expr) }
         ensures { ReadsTokens (λ b. statement_of b.statement)
-            (statements.raised (spec.expr self.now.rules.depth) tokens.old.rest.now) result tokens.new.rest.now }
+            (statements.raise_statement (spec.expr self.now.rules.depth) tokens.old.rest.now) result
+            tokens.new.rest.now }
     {
         let word = tokens.take()?;
         if ends_statement(tokens) {
@@ -200,11 +208,12 @@ impl<F: Fn(Global, &mut Cursor<'_>, usize, u8) -> Result<Built, ParseError>> Sta
     }
 
     /// `assert`, a test, and perhaps a message.
-    #[tactic(auto, using(crate::proofs::ReadingSteps::reading), unfolding(pyc_tree::specs::SimpleStatements::asserted))]
-    fn asserted(&self, tokens: &mut Cursor<'_>) -> Result<BuiltSimpleStatement, ParseError>
+    #[tactic(auto, using(crate::proofs::ReadingSteps::reading), unfolding(pyc_tree::specs::SimpleStatements::assert_statement))]
+    fn assert_statement(&self, tokens: &mut Cursor<'_>) -> Result<BuiltSimpleStatement, ParseError>
         requires { ReadsExpressions self.now.rules.depth (F.pre self.now.rules.expr) (F.post self.now.rules.expr) }
         ensures { ReadsTokens (λ b. statement_of b.statement)
-            (statements.asserted (spec.expr self.now.rules.depth) tokens.old.rest.now) result tokens.new.rest.now }
+            (statements.assert_statement (spec.expr self.now.rules.depth) tokens.old.rest.now) result
+            tokens.new.rest.now }
     {
         let word = tokens.take()?;
         let test = self.rules.expr(tokens, 1)?;
@@ -213,11 +222,12 @@ impl<F: Fn(Global, &mut Cursor<'_>, usize, u8) -> Result<Built, ParseError>> Sta
     }
 
     /// `del` and targets.
-    #[tactic(auto, using(crate::proofs::ReadingSteps::reading), unfolding(pyc_tree::specs::SimpleStatements::deleted))]
-    fn deleted(&self, tokens: &mut Cursor<'_>) -> Result<BuiltSimpleStatement, ParseError>
+    #[tactic(auto, using(crate::proofs::ReadingSteps::reading), unfolding(pyc_tree::specs::SimpleStatements::delete_statement))]
+    fn delete_statement(&self, tokens: &mut Cursor<'_>) -> Result<BuiltSimpleStatement, ParseError>
         requires { ReadsExpressions self.now.rules.depth (F.pre self.now.rules.expr) (F.post self.now.rules.expr) }
         ensures { ReadsTokens (λ b. statement_of b.statement)
-            (statements.deleted (spec.expr self.now.rules.depth) tokens.old.rest.now) result tokens.new.rest.now }
+            (statements.delete_statement (spec.expr self.now.rules.depth) tokens.old.rest.now) result
+            tokens.new.rest.now }
     {
         let word = tokens.take()?;
         let targets = self.rules.targets(tokens)?;
@@ -235,18 +245,18 @@ impl<F: Fn(Global, &mut Cursor<'_>, usize, u8) -> Result<Built, ParseError>> Sta
             Kind::Keyword(Keyword::Pass | Keyword::Break | Keyword::Continue) => {
                 word_statement(tokens)
             }
-            Kind::Keyword(Keyword::Return) => self.returned(tokens),
-            Kind::Keyword(Keyword::Raise) => self.raised(tokens),
-            Kind::Keyword(Keyword::Assert) => self.asserted(tokens),
-            Kind::Keyword(Keyword::Del) => self.deleted(tokens),
+            Kind::Keyword(Keyword::Return) => self.return_statement(tokens),
+            Kind::Keyword(Keyword::Raise) => self.raise_statement(tokens),
+            Kind::Keyword(Keyword::Assert) => self.assert_statement(tokens),
+            Kind::Keyword(Keyword::Del) => self.delete_statement(tokens),
             Kind::Keyword(Keyword::Global | Keyword::Nonlocal) => declared(
                 self.rules.alloc,
                 tokens,
             ),
             Kind::Keyword(Keyword::Import) => imported(self.rules.alloc, tokens),
-            Kind::Keyword(Keyword::From) => imported_from(self.rules.alloc, tokens),
-            Kind::Keyword(Keyword::Yield) => self.of_yield(tokens),
-            _ => self.of_expression(tokens),
+            Kind::Keyword(Keyword::From) => import_from_statement(self.rules.alloc, tokens),
+            Kind::Keyword(Keyword::Yield) => self.yield_statement(tokens),
+            _ => self.expression_or_assignment(tokens),
         }
     }
 

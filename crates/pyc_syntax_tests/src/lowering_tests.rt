@@ -17,7 +17,7 @@ fn write_expr(expr: &Expr, shown: &mut String) -> Result<(), Fail> {
     match &expr.form {
         Form::Name(name) => shown.push_str(name.as_str())?,
         Form::Constant(constant) => write!(shown, "{constant:?}")?,
-        Form::Quoted(inner) => {
+        Form::StringAnnotation(inner) => {
             shown.push('`')?;
             write_expr(inner, shown)?;
             shown.push('`')?;
@@ -131,7 +131,7 @@ fn write_ignores(ignores: &[Ignore], shown: &mut String) -> Result<(), Fail> {
     Ok(())
 }
 
-/// Writes the statements of a module, its ignore comments, `!` where one silences the file, and `*` where the module
+/// Writes the statements of a module, its ignore comments, `!` where one suppresses the file, and `*` where the module
 /// suspends.
 fn write_module(module: &Module, shown: &mut String) -> Result<(), Fail> {
     write_statements(&module.statements, shown)?;
@@ -151,7 +151,7 @@ fn shown(alloc: Global, outcome: &Outcome) -> Result<String, Fail> {
     Ok(shown)
 }
 
-/// The same of the source with this text.
+/// What `source` is: its module, or the line and the text of its first fault.
 fn read_shown(alloc: Global, source: &str) -> Result<String, Fail> {
     shown(alloc, &read(alloc, source.as_bytes())?)
 }

@@ -9,28 +9,28 @@ use Rattle.pyc_builtins.specs.declared.members.FoundMember.{FoundMember}
 use Rattle.pyc_builtins.specs.declared.members.Member.{Member}
 use Rattle.pyc_builtins.specs.declared.members.Member.TheVariants as member
 use Rattle.pyc_builtins.specs.Members.{builtin_member, is_dunder}
-use Rattle.pyc_class.specs.declared.builtin_class.BuiltinClass.{BuiltinClass}
-use Rattle.pyc_class.specs.declared.builtin_class.BuiltinClass.TheVariants as class
-use Rattle.pyc_class.specs.Class.{Id, builtin_of, name_of}
+use Rattle.pyc_class_ids.specs.declared.builtin_class.BuiltinClass.{BuiltinClass}
+use Rattle.pyc_class_ids.specs.declared.builtin_class.BuiltinClass.TheVariants as class
+use Rattle.pyc_class_ids.specs.Class.{Id, builtin_of, name_of}
 use Rattle.pyc_obligations.specs.Values.{Value}
 use Rattle.pyc_reading.specs.Answers.{NameKind, function_name, class_name, module_name}
 use Rattle.pyc_reading.specs.declared.answer.MemberKind.{MemberKind}
 use Rattle.pyc_reading.specs.declared.answer.MemberKind.TheVariants as kind
-use Rattle.pyc_reading.specs.Desks.{Step}
-use Rattle.pyc_reading.specs.Readings.{Done, Tell, and_then}
+use Rattle.pyc_reading.specs.Traces.{Step}
+use Rattle.pyc_reading.specs.Readings.{Done, Report, and_then}
 use Rattle.pyc_report.specs.declared.message.Code.TheVariants.{Misc}
 use Rattle.pyc_report.specs.Message.{error_at}
 use Rattle.pyc_type_forms.specs.Types.{Ty, instance, class_object, list, dict, tuple, tuple_of, union}
 use Rattle.pyc_type_forms.specs.Unions.{items_of, union_of}
 
--- ---- what is told
+-- ---- what is reported
 
 unfoldable pub read_only_text : List ℕ → List ℕ → List ℕ
 read_only_text n shown = codes "Property \"" ++ (n ++ (codes "\" defined in \"" ++ (shown ++ codes "\" is read-only")))
 
 -- a property of a class that cannot be set
 unfoldable pub read_only : Position → List ℕ → Id → Step (Option Ty)
-read_only at n c = Tell (error_at at Misc (read_only_text n (name_of c))) (Done None)
+read_only at n c = Report (error_at at Misc (read_only_text n (name_of c))) (Done None)
 
 -- ---- builtins
 
@@ -72,23 +72,23 @@ name_want _ ty = Some ty
 
 -- a property that has no setter: nothing is known of it through the class object
 abbrev pub property_want : Position → Ty → List ℕ → Id → Ty → Step (Option Ty)
-property_want at (class_object c) n home ty = Done (Some ty)
-property_want at _ n home ty = read_only at n home
+property_want at (class_object c) n module_path ty = Done (Some ty)
+property_want at _ n module_path ty = read_only at n module_path
 
 -- a member of a kind and type, which this class declares, through a value of a type: methods take anything
 abbrev pub member_want : Position → Ty → List ℕ → Id → MemberKind → Ty → Step (Option Ty)
-member_want at owner n home kind.Variable ty = Done (Some ty)
-member_want at owner n home kind.SettableProperty ty = Done (Some ty)
-member_want at owner n home kind.Property ty = property_want at owner n home ty
-member_want at owner n home _ ty = Done None
+member_want at owner n module_path kind.Variable ty = Done (Some ty)
+member_want at owner n module_path kind.SettableProperty ty = Done (Some ty)
+member_want at owner n module_path kind.Property ty = property_want at owner n module_path ty
+member_want at owner n module_path _ ty = Done None
 
--- what has no attribute of the name: told as one of an item where the whole is a union
-abbrev pub absent_told : Position → Ty → Ty → List ℕ → Step Ty
-absent_told at (union items) item n = no_item_attribute at (union items) item n
-absent_told at whole item n = no_attribute at whole n
+-- what has no attribute of the name: reported as one of an item where the whole is a union
+abbrev pub absent_reported : Position → Ty → Ty → List ℕ → Step Ty
+absent_reported at (union items) item n = no_item_attribute at (union items) item n
+absent_reported at whole item n = no_attribute at whole n
 
 unfoldable pub absent_want : Position → Ty → Ty → List ℕ → Step (Option Ty)
-absent_want at whole item n = and_then (absent_told at whole item n) (λ ty. Done (Some ty))
+absent_want at whole item n = and_then (absent_reported at whole item n) (λ ty. Done (Some ty))
 
 -- what was found without its class: methods of builtin classes take anything
 abbrev pub known_want : Bool → Ty → Option Ty
@@ -98,7 +98,7 @@ known_want is_method ty = if is_method then None else Some ty
 abbrev pub found_want : (at inside : Position) → Ty → Ty → List ℕ → Found → Step (Option Ty)
 found_want at inside whole item n absent = absent_want inside whole item n
 found_want at inside whole item n (known ty) = Done (known_want (is_builtin_method item n) ty)
-found_want at inside whole item n (member_of home form ty) = member_want at item n home form ty
+found_want at inside whole item n (member_of module_path form ty) = member_want at item n module_path form ty
 found_want at inside whole item n (name_with found) = Done (name_want found.kind found.ty)
 
 unfoldable pub item_want : (at inside : Position) → Ty → List ℕ → Ty → Step (Option Ty)

@@ -1,4 +1,4 @@
-pub mod Slots
+pub mod TargetTypes
 pub mod NameTargets
 pub mod AttributeTargets
 pub mod ItemTargets

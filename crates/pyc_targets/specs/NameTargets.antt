@@ -7,9 +7,9 @@ use Rattle.pyc_bindings.specs.Redefinitions.{declaration}
 use Rattle.pyc_names.specs.declared.fixed.FixedModule.{FixedModule}
 use Rattle.pyc_names.specs.FixedModules.{fixed_module}
 use Rattle.pyc_names.specs.SourceFiles.{SourceFile}
-use Rattle.pyc_obligations.specs.Asking.{asked_name}
+use Rattle.pyc_obligations.specs.Asking.{ask_name}
 use Rattle.pyc_reading.specs.Answers.{NameAnswer}
-use Rattle.pyc_reading.specs.Desks.{Step}
+use Rattle.pyc_reading.specs.Traces.{Step}
 use Rattle.pyc_reading.specs.Readings.{Done, and_then}
 use Rattle.pyc_type_forms.specs.Types.{Ty, any}
 
@@ -21,7 +21,7 @@ is_definition (function head) = true
 is_definition (class head) = true
 is_definition _ = false
 
--- what is owed to a name of this type: nothing where the file does not bind it
+-- what is required of a name of this type: nothing where the file does not bind it
 abbrev pub type_if_bound : Bool → NameAnswer → Option Ty
 type_if_bound true found = Some found.ty
 type_if_bound false found = None
@@ -34,9 +34,9 @@ any_if_bound is_bound = if is_bound then Some any else None
 abbrev pub own_type : SourceFile → List ℕ → Bool → Option FixedModule → Step (Option Ty)
 own_type file x is_bound (Some found) = Done (any_if_bound is_bound)
 own_type file x is_bound None =
-    and_then (asked_name (record { home = file.name; name = x })) (λ found. Done (type_if_bound is_bound found))
+    and_then (ask_name (record { module_path = file.name; name = x })) (λ found. Done (type_if_bound is_bound found))
 
--- what a name takes, by its declaration: nothing is owed to one that an import, a function or a class declares
+-- what a name takes, by its declaration: nothing is required of one that an import, a function or a class declares
 abbrev pub variable_type : SourceFile → List ℕ → Bool → Step (Option Ty)
 variable_type file x true = Done None
 variable_type file x false = own_type file x true (fixed_module file.name)

@@ -4,7 +4,7 @@ ghost use Rattle.std.specs.Prelude.{◌≡◌, IfOk, OnOk, map, option_map};
 ghost use Rattle.pyc_attributes.specs.FoundView.{found_in};
 ghost use Rattle.pyc_obligations.specs.ValueView.{value_of};
 ghost use Rattle.pyc_reading.specs.AnswerView.{kind_of};
-ghost use Rattle.pyc_reading.specs.Desks.{Performs};
+ghost use Rattle.pyc_reading.specs.Traces.{Performs};
 ghost use Rattle.pyc_targets.specs.AttributeTargets as spec;
 ghost use Rattle.pyc_targets.specs.Views.{wants_in};
 ghost use Rattle.pyc_type_forms.specs.TypeView.{ty_of};
@@ -12,7 +12,7 @@ ghost use Rattle.pyc_type_forms.specs.TypeView.{ty_of};
 use crate::members::{is_builtin_method, member_want};
 use pyc_ast::{Position, Text};
 use pyc_attributes::{FoundAttribute, item_attribute, no_attribute, no_item_attribute};
-use pyc_obligations::{Judge, Value};
+use pyc_obligations::{AskTypes, Value};
 use pyc_reading::{NameAnswer, NameKind};
 use pyc_type_forms::{Ty, items_of, union_of};
 use std::alloc::{AllocError, Global};
@@ -25,45 +25,46 @@ pub(crate) struct Wants {
 }
 
 /// The type that an attribute of a value takes, None where it takes anything. The target begins at `at`, and at
-/// `inside` within its parentheses. An attribute that is not there, and a property that cannot be set, is told. The
+/// `inside` within its parentheses. An attribute that is not there, and a property that cannot be set, is reported. The
 /// only error is that memory runs out.
-pub fn attribute_want<N: Judge>(
+pub fn attribute_want<N: AskTypes>(
     alloc: Global,
-    notes: &mut N,
+    recorder: &mut N,
     at: Position,
     inside: Position,
     owner: &Value,
     name: &Text,
 ) -> Result<Option<Ty>, AllocError>
     ensures { Performs (option_map ty_of) (spec.attribute_want at inside (value_of owner.now) name.now)
-        (N.desk notes.old) result (N.desk notes.new) }
+        (N.trace recorder.old) result (N.trace recorder.new) }
 {
-    type_want(alloc, notes, at, inside, &owner.ty, name.as_str())
+    type_want(alloc, recorder, at, inside, &owner.ty, name.as_str())
 }
 
 /// What an attribute of a value of a type takes.
 #[tactic(auto, using(pyc_obligations::proofs::Steps::performing), unfolding(crate::specs::AttributeTargets::type_want))]
-fn type_want<N: Judge>(
+fn type_want<N: AskTypes>(
     alloc: Global,
-    notes: &mut N,
+    recorder: &mut N,
     at: Position,
     inside: Position,
     ty: &Ty,
     name: &str,
 ) -> Result<Option<Ty>, AllocError>
-    ensures { Performs (option_map ty_of) (spec.type_want at inside (ty_of ty.now) name.now) (N.desk notes.old) result
-        (N.desk notes.new) }
+    ensures { Performs (option_map ty_of) (spec.type_want at inside (ty_of ty.now) name.now) (N.trace recorder.old)
+        result
+        (N.trace recorder.new) }
 {
     let items = items_of(alloc, ty)?;
-    let found = all_wants(alloc, notes, at, inside, ty, name, &items)?;
+    let found = all_wants(alloc, recorder, at, inside, ty, name, &items)?;
     want_of(alloc, &found)
 }
 
 /// What an attribute of items takes, in turn.
 #[tactic(auto, using(pyc_obligations::proofs::Steps::performing), unfolding(crate::specs::AttributeTargets::more_wants))]
-fn all_wants<N: Judge>(
+fn all_wants<N: AskTypes>(
     alloc: Global,
-    notes: &mut N,
+    recorder: &mut N,
     at: Position,
     inside: Position,
     whole: &Ty,
@@ -71,15 +72,16 @@ fn all_wants<N: Judge>(
     items: &[Ty],
 ) -> Result<Wants, AllocError>
     ensures { Performs wants_in
-        (spec.more_wants at inside (ty_of whole.now) name.now spec.no_wants (map ty_of items.now)) (N.desk notes.old)
-        result (N.desk notes.new) }
+        (spec.more_wants at inside (ty_of whole.now) name.now spec.no_wants (map ty_of items.now))
+        (N.trace recorder.old)
+        result (N.trace recorder.new) }
 {
     let mut found = Wants {
         types: Vec::with_capacity(alloc, items.len())?,
         is_free: false,
     };
     for item in items {
-        let want = item_want(alloc, notes, at, inside, whole, name, item)?;
+        let want = item_want(alloc, recorder, at, inside, whole, name, item)?;
         push_want(&mut found, want)?;
     }
     Ok(found)
@@ -109,9 +111,9 @@ fn want_of(alloc: Global, found: &Wants) -> Result<Option<Ty>, AllocError>
 
 /// What an attribute of an item takes.
 #[tactic(auto, using(pyc_obligations::proofs::Steps::performing), unfolding(crate::specs::AttributeTargets::item_want))]
-fn item_want<N: Judge>(
+fn item_want<N: AskTypes>(
     alloc: Global,
-    notes: &mut N,
+    recorder: &mut N,
     at: Position,
     inside: Position,
     whole: &Ty,
@@ -119,17 +121,17 @@ fn item_want<N: Judge>(
     item: &Ty,
 ) -> Result<Option<Ty>, AllocError>
     ensures { Performs (option_map ty_of)
-        (spec.item_want at inside (ty_of whole.now) name.now (ty_of item.now)) (N.desk notes.old) result
-        (N.desk notes.new) }
+        (spec.item_want at inside (ty_of whole.now) name.now (ty_of item.now)) (N.trace recorder.old) result
+        (N.trace recorder.new) }
 {
-    let found = item_attribute(alloc, notes, item, name)?;
-    found_want(alloc, notes, at, inside, whole, item, name, found)
+    let found = item_attribute(alloc, recorder, item, name)?;
+    found_want(alloc, recorder, at, inside, whole, item, name, found)
 }
 
 /// What was found under a name of an item takes.
-fn found_want<N: Judge>(
+fn found_want<N: AskTypes>(
     alloc: Global,
-    notes: &mut N,
+    recorder: &mut N,
     at: Position,
     inside: Position,
     whole: &Ty,
@@ -138,14 +140,14 @@ fn found_want<N: Judge>(
     found: FoundAttribute,
 ) -> Result<Option<Ty>, AllocError>
     ensures { Performs (option_map ty_of)
-        (spec.found_want at inside (ty_of whole.now) (ty_of item.now) name.now (found_in found)) (N.desk notes.old)
-        result (N.desk notes.new) }
+        (spec.found_want at inside (ty_of whole.now) (ty_of item.now) name.now (found_in found)) (N.trace recorder.old)
+        result (N.trace recorder.new) }
 {
     match found {
-        FoundAttribute::Absent => absent_want(alloc, notes, inside, whole, item, name),
+        FoundAttribute::Absent => absent_want(alloc, recorder, inside, whole, item, name),
         FoundAttribute::Known(ty) => Ok(known_want(is_builtin_method(item, name), ty)),
-        FoundAttribute::Member(home, kind, ty) => {
-            member_want(alloc, notes, at, item, name, &home, kind, ty)
+        FoundAttribute::Member(module_path, kind, ty) => {
+            member_want(alloc, recorder, at, item, name, &module_path, kind, ty)
         }
         FoundAttribute::Name(found) => Ok(name_want(found)),
     }
@@ -172,36 +174,37 @@ fn name_want(found: NameAnswer) -> Option<Ty>
 
 /// What an attribute takes that is not there.
 #[tactic(auto, using(pyc_obligations::proofs::Steps::performing), unfolding(crate::specs::AttributeTargets::absent_want))]
-fn absent_want<N: Judge>(
+fn absent_want<N: AskTypes>(
     alloc: Global,
-    notes: &mut N,
+    recorder: &mut N,
     at: Position,
     whole: &Ty,
     item: &Ty,
     name: &str,
 ) -> Result<Option<Ty>, AllocError>
     ensures { Performs (option_map ty_of)
-        (spec.absent_want at (ty_of whole.now) (ty_of item.now) name.now) (N.desk notes.old) result
-        (N.desk notes.new) }
+        (spec.absent_want at (ty_of whole.now) (ty_of item.now) name.now) (N.trace recorder.old) result
+        (N.trace recorder.new) }
 {
-    let ty = absent(alloc, notes, at, whole, item, name)?;
+    let ty = absent(alloc, recorder, at, whole, item, name)?;
     Ok(Some(ty))
 }
 
-/// Tells that an attribute is not there, of an item where the whole is a union.
-fn absent<N: Judge>(
+/// Reports that an attribute is not there, of an item where the whole is a union.
+fn absent<N: AskTypes>(
     alloc: Global,
-    notes: &mut N,
+    recorder: &mut N,
     at: Position,
     whole: &Ty,
     item: &Ty,
     name: &str,
 ) -> Result<Ty, AllocError>
-    ensures { Performs ty_of (spec.absent_told at (ty_of whole.now) (ty_of item.now) name.now) (N.desk notes.old)
-        result (N.desk notes.new) }
+    ensures { Performs ty_of (spec.absent_reported at (ty_of whole.now) (ty_of item.now) name.now)
+        (N.trace recorder.old)
+        result (N.trace recorder.new) }
 {
     match whole {
-        Ty::Union(_) => no_item_attribute(alloc, notes, at, whole, item, name),
-        _ => no_attribute(alloc, notes, at, whole, name),
+        Ty::Union(_) => no_item_attribute(alloc, recorder, at, whole, item, name),
+        _ => no_attribute(alloc, recorder, at, whole, name),
     }
 }

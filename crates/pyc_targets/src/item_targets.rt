@@ -4,18 +4,18 @@ ghost use Rattle.std.specs.Prelude.{◌≡◌, IfOk, OnOk, codes, map, option_ma
 ghost use Rattle.pyc_ast.specs.ExprView.{index_of};
 ghost use Rattle.pyc_obligations.specs.Asking as asking;
 ghost use Rattle.pyc_reading.specs.AnswerView.{member_answer_of};
-ghost use Rattle.pyc_reading.specs.Desks.{Performs};
+ghost use Rattle.pyc_reading.specs.Traces.{Performs};
 ghost use Rattle.pyc_targets.specs.ItemTargets as spec;
-ghost use Rattle.pyc_targets.specs.Views.{item_target_of, item_targets_in, slot_of};
+ghost use Rattle.pyc_targets.specs.Views.{item_target_of, item_targets_in, target_type_of};
 ghost use Rattle.pyc_type_forms.specs.TypeView.{ty_of};
 
-use crate::messages::unsupported;
-use crate::slot::Slot;
+use crate::messages::report_unsupported;
+use crate::target_type::TargetType;
 use pyc_ast::{Index, Position};
-use pyc_class::ClassId;
-use pyc_items::item_of;
-use pyc_obligations::{Judge, asked_member, is_unknown_class};
+use pyc_class_ids::ClassId;
+use pyc_obligations::{AskTypes, ask_member, is_unknown_class};
 use pyc_reading::MemberAnswer;
+use pyc_subscripts::item_of;
 use pyc_type_forms::{Ty, items_of, union_of};
 use std::alloc::{AllocError, Global};
 
@@ -39,31 +39,31 @@ pub(crate) struct ItemTargets {
 }
 
 /// What an item of a value of a type takes, by an index of a type. The target begins at `at`, and at `inside` within
-/// its parentheses. An index of another type than is wanted, and a value whose items cannot be assigned to, is told.
-/// The only error is that memory runs out.
+/// its parentheses. An index of another type than is wanted, and a value whose items cannot be assigned to, is
+/// reported. The only error is that memory runs out.
 #[tactic(auto, using(pyc_obligations::proofs::Steps::performing), unfolding(crate::specs::ItemTargets::item_target))]
-pub fn item_target<N: Judge>(
+pub fn item_target<N: AskTypes>(
     alloc: Global,
-    notes: &mut N,
+    recorder: &mut N,
     at: Position,
     inside: Position,
     index: &Index,
     got: &Ty,
     ty: &Ty,
-) -> Result<Slot, AllocError>
-    ensures { Performs slot_of (spec.item_target at inside (index_of index.now) (ty_of got.now) (ty_of ty.now))
-        (N.desk notes.old) result (N.desk notes.new) }
+) -> Result<TargetType, AllocError>
+    ensures { Performs target_type_of (spec.item_target at inside (index_of index.now) (ty_of got.now) (ty_of ty.now))
+        (N.trace recorder.old) result (N.trace recorder.new) }
 {
     let types = items_of(alloc, ty)?;
-    let found = all_targets(alloc, notes, inside, index, got, &types)?;
-    ended(alloc, notes, at, ty, &found)
+    let found = all_targets(alloc, recorder, inside, index, got, &types)?;
+    conclude(alloc, recorder, at, ty, &found)
 }
 
 /// What the items of types take, in turn.
 #[tactic(auto, using(pyc_obligations::proofs::Steps::performing), unfolding(crate::specs::ItemTargets::more_targets))]
-fn all_targets<N: Judge>(
+fn all_targets<N: AskTypes>(
     alloc: Global,
-    notes: &mut N,
+    recorder: &mut N,
     at: Position,
     index: &Index,
     got: &Ty,
@@ -71,7 +71,7 @@ fn all_targets<N: Judge>(
 ) -> Result<ItemTargets, AllocError>
     ensures { Performs item_targets_in
         (spec.more_targets at (index_of index.now) (ty_of got.now) spec.no_targets (map ty_of types.now))
-        (N.desk notes.old) result (N.desk notes.new) }
+        (N.trace recorder.old) result (N.trace recorder.new) }
 {
     let mut found = ItemTargets {
         types: Vec::with_capacity(alloc, types.len())?,
@@ -79,7 +79,7 @@ fn all_targets<N: Judge>(
         is_unsupported: false,
     };
     for ty in types {
-        let item = target_of_type(alloc, notes, at, index, got, ty)?;
+        let item = target_of_type(alloc, recorder, at, index, got, ty)?;
         push_target(&mut found, item)?;
     }
     Ok(found)
@@ -99,78 +99,80 @@ fn push_target(found: &mut ItemTargets, item: ItemTarget) -> Result<(), AllocErr
 }
 
 /// What items take together.
-fn ended<N: Judge>(
+fn conclude<N: AskTypes>(
     alloc: Global,
-    notes: &mut N,
+    recorder: &mut N,
     at: Position,
     ty: &Ty,
     found: &ItemTargets,
-) -> Result<Slot, AllocError>
-    ensures { Performs slot_of (spec.ended at (ty_of ty.now) (item_targets_in found.now)) (N.desk notes.old) result
-        (N.desk notes.new) }
+) -> Result<TargetType, AllocError>
+    ensures { Performs target_type_of (spec.conclude at (ty_of ty.now) (item_targets_in found.now))
+        (N.trace recorder.old) result
+        (N.trace recorder.new) }
 {
     if found.is_unsupported {
-        unsupported(alloc, notes, at, ty)
+        report_unsupported(alloc, recorder, at, ty)
     } else {
-        supported_slot(alloc, found)
+        supported_target_type(alloc, found)
     }
 }
 
 /// What items take together that can be assigned to.
-fn supported_slot(alloc: Global, found: &ItemTargets) -> Result<Slot, AllocError>
-    ensures { IfOk result (λ slot. slot_of slot ≡ spec.supported_slot (item_targets_in found.now)) }
+fn supported_target_type(alloc: Global, found: &ItemTargets) -> Result<TargetType, AllocError>
+    ensures { IfOk result (λ target_type. target_type_of target_type ≡ spec.supported_target_type
+        (item_targets_in found.now)) }
 {
     if found.is_free {
-        Ok(Slot::plain(None))
+        Ok(TargetType::plain(None))
     } else {
-        Ok(Slot::item(union_of(alloc, &found.types)?))
+        Ok(TargetType::item(union_of(alloc, &found.types)?))
     }
 }
 
 /// What an item of a value of a type that is no union takes.
-fn target_of_type<N: Judge>(
+fn target_of_type<N: AskTypes>(
     alloc: Global,
-    notes: &mut N,
+    recorder: &mut N,
     at: Position,
     index: &Index,
     got: &Ty,
     ty: &Ty,
 ) -> Result<ItemTarget, AllocError>
     ensures { Performs item_target_of
-        (spec.target_of_type at (index_of index.now) (ty_of got.now) (ty_of ty.now)) (N.desk notes.old) result
-        (N.desk notes.new) }
+        (spec.target_of_type at (index_of index.now) (ty_of got.now) (ty_of ty.now)) (N.trace recorder.old) result
+        (N.trace recorder.new) }
 {
     match ty {
         Ty::Any => Ok(ItemTarget::Takes(Ty::Any)),
         Ty::Class(_) => Ok(ItemTarget::Takes(Ty::Any)),
-        Ty::Instance(class) => instance_target(alloc, notes, class),
-        Ty::List(_) => indexed_target(alloc, notes, at, index, got, ty),
-        Ty::Dict(_) => indexed_target(alloc, notes, at, index, got, ty),
+        Ty::Instance(class) => instance_target(alloc, recorder, class),
+        Ty::List(_) => indexed_target(alloc, recorder, at, index, got, ty),
+        Ty::Dict(_) => indexed_target(alloc, recorder, at, index, got, ty),
         _ => Ok(ItemTarget::Unsupported),
     }
 }
 
 /// What an item of a list or a dictionary takes.
 #[tactic(auto, using(pyc_obligations::proofs::Steps::performing), unfolding(crate::specs::ItemTargets::indexed_target))]
-fn indexed_target<N: Judge>(
+fn indexed_target<N: AskTypes>(
     alloc: Global,
-    notes: &mut N,
+    recorder: &mut N,
     at: Position,
     index: &Index,
     got: &Ty,
     ty: &Ty,
 ) -> Result<ItemTarget, AllocError>
     ensures { Performs item_target_of
-        (spec.indexed_target at (index_of index.now) (ty_of got.now) (ty_of ty.now)) (N.desk notes.old) result
-        (N.desk notes.new) }
+        (spec.indexed_target at (index_of index.now) (ty_of got.now) (ty_of ty.now)) (N.trace recorder.old) result
+        (N.trace recorder.new) }
 {
-    let found = item_of(alloc, notes, at, index, got, ty)?;
-    Ok(taken(found))
+    let found = item_of(alloc, recorder, at, index, got, ty)?;
+    Ok(target_of_item(found))
 }
 
 /// What an item takes that a subscript gives.
-fn taken(found: Option<Ty>) -> ItemTarget
-    ensures { item_target_of result ≡ spec.taken (option_map ty_of found) }
+fn target_of_item(found: Option<Ty>) -> ItemTarget
+    ensures { item_target_of result ≡ spec.target_of_item (option_map ty_of found) }
 {
     match found {
         Some(ty) => ItemTarget::Takes(ty),
@@ -179,73 +181,74 @@ fn taken(found: Option<Ty>) -> ItemTarget
 }
 
 /// What an item of an instance of a class takes.
-fn instance_target<N: Judge>(
+fn instance_target<N: AskTypes>(
     alloc: Global,
-    notes: &mut N,
+    recorder: &mut N,
     class: &ClassId,
 ) -> Result<ItemTarget, AllocError>
-    ensures { Performs item_target_of (spec.instance_target class.now) (N.desk notes.old) result
-        (N.desk notes.new) }
+    ensures { Performs item_target_of (spec.instance_target class.now) (N.trace recorder.old) result
+        (N.trace recorder.new) }
 {
     match class.as_builtin() {
         Some(_) => Ok(ItemTarget::Unsupported),
-        None => source_target(alloc, notes, class),
+        None => source_target(alloc, recorder, class),
     }
 }
 
-/// The same of a class of a source.
+/// What an item of an instance of a class of a source takes.
 #[tactic(auto, using(pyc_obligations::proofs::Steps::performing), unfolding(crate::specs::ItemTargets::source_target))]
-fn source_target<N: Judge>(
+fn source_target<N: AskTypes>(
     alloc: Global,
-    notes: &mut N,
+    recorder: &mut N,
     class: &ClassId,
 ) -> Result<ItemTarget, AllocError>
-    ensures { Performs item_target_of (spec.source_target class.now) (N.desk notes.old) result (N.desk notes.new) }
+    ensures { Performs item_target_of (spec.source_target class.now) (N.trace recorder.old) result
+        (N.trace recorder.new) }
 {
-    let is_unknown = is_unknown_class(alloc, notes, class)?;
-    user_target(alloc, notes, class, is_unknown)
+    let is_unknown = is_unknown_class(alloc, recorder, class)?;
+    user_target(alloc, recorder, class, is_unknown)
 }
 
-/// The same, by whether the order of the class is not known.
-fn user_target<N: Judge>(
+/// What an item of an instance of `class` takes; `is_unknown` says whether the order of the class is unknown.
+fn user_target<N: AskTypes>(
     alloc: Global,
-    notes: &mut N,
+    recorder: &mut N,
     class: &ClassId,
     is_unknown: bool,
 ) -> Result<ItemTarget, AllocError>
-    ensures { Performs item_target_of (spec.user_target class.now is_unknown) (N.desk notes.old) result
-        (N.desk notes.new) }
+    ensures { Performs item_target_of (spec.user_target class.now is_unknown) (N.trace recorder.old) result
+        (N.trace recorder.new) }
 {
     if is_unknown {
         Ok(ItemTarget::Takes(Ty::Any))
     } else {
-        asked_target(alloc, notes, class)
+        ask_target(alloc, recorder, class)
     }
 }
 
-/// The same, by its `__setitem__`.
-#[tactic(auto, using(pyc_obligations::proofs::Steps::performing), unfolding(crate::specs::ItemTargets::asked_target))]
-fn asked_target<N: Judge>(
+/// What an item of an instance of `class` takes, once the class is asked for its `__setitem__`.
+#[tactic(auto, using(pyc_obligations::proofs::Steps::performing), unfolding(crate::specs::ItemTargets::ask_target))]
+fn ask_target<N: AskTypes>(
     alloc: Global,
-    notes: &mut N,
+    recorder: &mut N,
     class: &ClassId,
 ) -> Result<ItemTarget, AllocError>
-    ensures { Performs item_target_of (spec.asked_target class.now) (N.desk notes.old) result (N.desk notes.new) }
+    ensures { Performs item_target_of (spec.ask_target class.now) (N.trace recorder.old) result (N.trace recorder.new) }
 {
-    let found = setitem_member(alloc, notes, class)?;
+    let found = setitem_member(alloc, recorder, class)?;
     Ok(by_setitem(found))
 }
 
 /// The `__setitem__` of a class.
-fn setitem_member<N: Judge>(
+fn setitem_member<N: AskTypes>(
     alloc: Global,
-    notes: &mut N,
+    recorder: &mut N,
     class: &ClassId,
 ) -> Result<Option<MemberAnswer>, AllocError>
-    ensures { Performs (option_map member_answer_of) (asking.asked_member class.now (codes "__setitem__"))
-        (N.desk notes.old) result (N.desk notes.new) }
+    ensures { Performs (option_map member_answer_of) (asking.ask_member class.now (codes "__setitem__"))
+        (N.trace recorder.old) result (N.trace recorder.new) }
 {
-    asked_member(alloc, notes, class, "__setitem__")
+    ask_member(alloc, recorder, class, "__setitem__")
 }
 
 /// What an item takes, where this is the `__setitem__`.

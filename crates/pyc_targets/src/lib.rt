@@ -6,9 +6,9 @@ mod item_targets;
 mod members;
 mod messages;
 mod name_targets;
-mod slot;
+mod target_type;
 
 pub use attribute_targets::attribute_want;
 pub use item_targets::item_target;
 pub use name_targets::{declared_type, declares_at};
-pub use slot::Slot;
+pub use target_type::TargetType;

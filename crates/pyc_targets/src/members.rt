@@ -2,15 +2,15 @@
 
 ghost use Rattle.std.specs.Prelude.{◌≡◌, option_map};
 ghost use Rattle.pyc_attributes.specs.FoundView.{found_in};
-ghost use Rattle.pyc_reading.specs.Desks.{Performs};
+ghost use Rattle.pyc_reading.specs.Traces.{Performs};
 ghost use Rattle.pyc_targets.specs.AttributeTargets as spec;
 ghost use Rattle.pyc_type_forms.specs.TypeView.{ty_of};
 
 use crate::messages::read_only;
 use pyc_ast::Position;
 use pyc_builtins::{FoundMember, Member, builtin_member, is_dunder};
-use pyc_class::{BuiltinClass, ClassId};
-use pyc_obligations::Judge;
+use pyc_class_ids::{BuiltinClass, ClassId};
+use pyc_obligations::AskTypes;
 use pyc_reading::MemberKind;
 use pyc_type_forms::Ty;
 use std::alloc::{AllocError, Global};
@@ -68,44 +68,44 @@ fn is_method_member(member: Member) -> bool
 }
 
 /// What a member of a kind and type takes, which this class declares, through a value of a type.
-pub(crate) fn member_want<N: Judge>(
+pub(crate) fn member_want<N: AskTypes>(
     alloc: Global,
-    notes: &mut N,
+    recorder: &mut N,
     at: Position,
     owner: &Ty,
     name: &str,
-    home: &ClassId,
+    module_path: &ClassId,
     kind: MemberKind,
     ty: Ty,
 ) -> Result<Option<Ty>, AllocError>
     ensures { Performs (option_map ty_of)
-        (spec.member_want at (ty_of owner.now) name.now home.now kind (ty_of ty)) (N.desk notes.old) result
-        (N.desk notes.new) }
+        (spec.member_want at (ty_of owner.now) name.now module_path.now kind (ty_of ty)) (N.trace recorder.old) result
+        (N.trace recorder.new) }
 {
     match kind {
         MemberKind::Variable => Ok(Some(ty)),
         MemberKind::SettableProperty => Ok(Some(ty)),
-        MemberKind::Property => property_want(alloc, notes, at, owner, name, home, ty),
+        MemberKind::Property => property_want(alloc, recorder, at, owner, name, module_path, ty),
         _ => Ok(None),
     }
 }
 
 /// What a property takes that has no setter.
-fn property_want<N: Judge>(
+fn property_want<N: AskTypes>(
     alloc: Global,
-    notes: &mut N,
+    recorder: &mut N,
     at: Position,
     owner: &Ty,
     name: &str,
-    home: &ClassId,
+    module_path: &ClassId,
     ty: Ty,
 ) -> Result<Option<Ty>, AllocError>
     ensures { Performs (option_map ty_of)
-        (spec.property_want at (ty_of owner.now) name.now home.now (ty_of ty)) (N.desk notes.old) result
-        (N.desk notes.new) }
+        (spec.property_want at (ty_of owner.now) name.now module_path.now (ty_of ty)) (N.trace recorder.old) result
+        (N.trace recorder.new) }
 {
     match owner {
         Ty::Class(_) => Ok(Some(ty)),
-        _ => read_only(alloc, notes, at, name, home),
+        _ => read_only(alloc, recorder, at, name, module_path),
     }
 }

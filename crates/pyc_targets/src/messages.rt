@@ -1,16 +1,16 @@
-//! What is told of targets.
+//! What is reported of targets.
 
 ghost use Rattle.std.specs.Prelude.{◌≡◌, IfOk, option_map, string_bytes};
-ghost use Rattle.pyc_reading.specs.Desks.{Performs};
+ghost use Rattle.pyc_reading.specs.Traces.{Performs};
 ghost use Rattle.pyc_targets.specs.AttributeTargets as spec;
 ghost use Rattle.pyc_targets.specs.ItemTargets as items;
-ghost use Rattle.pyc_targets.specs.Views.{slot_of};
+ghost use Rattle.pyc_targets.specs.Views.{target_type_of};
 ghost use Rattle.pyc_type_forms.specs.TypeView.{ty_of};
 
-use crate::slot::Slot;
+use crate::target_type::TargetType;
 use pyc_ast::Position;
-use pyc_class::ClassId;
-use pyc_obligations::{Judge, tell_error};
+use pyc_class_ids::ClassId;
+use pyc_obligations::{AskTypes, report_error};
 use pyc_report::Code;
 use pyc_type_forms::{Ty, show};
 use std::alloc::{AllocError, Global};
@@ -23,20 +23,20 @@ fn read_only_text(alloc: Global, name: &str, shown: &str) -> Result<String, Allo
     format!(in alloc; "Property \"{name}\" defined in \"{shown}\" is read-only")
 }
 
-/// Tells that a property of a class cannot be set.
+/// Reports that a property of a class cannot be set.
 #[tactic(auto, using(pyc_obligations::proofs::Steps::performing), unfolding(crate::specs::AttributeTargets::read_only))]
-pub(crate) fn read_only<N: Judge>(
+pub(crate) fn read_only<N: AskTypes>(
     alloc: Global,
-    notes: &mut N,
+    recorder: &mut N,
     at: Position,
     name: &str,
     class: &ClassId,
 ) -> Result<Option<Ty>, AllocError>
-    ensures { Performs (option_map ty_of) (spec.read_only at name.now class.now) (N.desk notes.old) result
-        (N.desk notes.new) }
+    ensures { Performs (option_map ty_of) (spec.read_only at name.now class.now) (N.trace recorder.old) result
+        (N.trace recorder.new) }
 {
     let text = read_only_text(alloc, name, class.name())?;
-    tell_error(notes, at, Code::Misc, text)?;
+    report_error(recorder, at, Code::Misc, text)?;
     Ok(None)
 }
 
@@ -48,19 +48,19 @@ fn unsupported_text(alloc: Global, shown: &str) -> Result<String, AllocError>
     format!(in alloc; "Unsupported target for indexed assignment (\"{shown}\")")
 }
 
-/// Tells that the items of a value cannot be assigned to.
-#[tactic(auto, using(pyc_obligations::proofs::Steps::performing), unfolding(crate::specs::ItemTargets::unsupported_told))]
-pub(crate) fn unsupported<N: Judge>(
+/// Reports that the items of a value cannot be assigned to.
+#[tactic(auto, using(pyc_obligations::proofs::Steps::performing), unfolding(crate::specs::ItemTargets::unsupported_reported))]
+pub(crate) fn report_unsupported<N: AskTypes>(
     alloc: Global,
-    notes: &mut N,
+    recorder: &mut N,
     at: Position,
     ty: &Ty,
-) -> Result<Slot, AllocError>
-    ensures { Performs slot_of (items.unsupported_told at (ty_of ty.now)) (N.desk notes.old) result
-        (N.desk notes.new) }
+) -> Result<TargetType, AllocError>
+    ensures { Performs target_type_of (items.unsupported_reported at (ty_of ty.now)) (N.trace recorder.old) result
+        (N.trace recorder.new) }
 {
     let shown = show(alloc, ty)?;
     let text = unsupported_text(alloc, shown.as_str())?;
-    tell_error(notes, at, Code::Index, text)?;
-    Ok(Slot::plain(Some(Ty::Any)))
+    report_error(recorder, at, Code::Index, text)?;
+    Ok(TargetType::plain(Some(Ty::Any)))
 }

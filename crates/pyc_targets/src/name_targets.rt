@@ -5,51 +5,52 @@ ghost use Rattle.pyc_bindings.specs.BindingView.{binding_form_of, binding_of};
 ghost use Rattle.pyc_names.specs.FixedModules as fixed;
 ghost use Rattle.pyc_names.specs.SourceFileView.{source_in};
 ghost use Rattle.pyc_reading.specs.AnswerView.{name_answer_of};
-ghost use Rattle.pyc_reading.specs.Desks.{Performs};
+ghost use Rattle.pyc_reading.specs.Traces.{Performs};
 ghost use Rattle.pyc_targets.specs.NameTargets as spec;
 ghost use Rattle.pyc_type_forms.specs.TypeView.{ty_of};
 
 use pyc_ast::{Position, Text};
 use pyc_bindings::{Binding, BindingForm};
 use pyc_names::{QualifiedName, SourceFile, fixed_module};
-use pyc_obligations::{Judge, asked_name};
+use pyc_obligations::{AskTypes, ask_name};
 use pyc_reading::NameAnswer;
 use pyc_type_forms::Ty;
 use std::alloc::{AllocError, Global};
 
-/// What a name of a file's top level takes: None where nothing is owed to it, since an import, a function or a class
-/// declares it, or the file does not bind it. The only error is that memory runs out.
+/// What a name of a file's top level takes: None where nothing is required of it, since an import, a function or a
+/// class declares it, or the file does not bind it. The only error is that memory runs out.
 #[tactic(auto, unfolding(crate::specs::NameTargets::declared_type))]
-pub fn declared_type<N: Judge>(
+pub fn declared_type<N: AskTypes>(
     alloc: Global,
-    notes: &mut N,
+    recorder: &mut N,
     file: &SourceFile,
     name: &Text,
 ) -> Result<Option<Ty>, AllocError>
-    ensures { Performs (option_map ty_of) (spec.declared_type (source_in file.now) name.now) (N.desk notes.old) result
-        (N.desk notes.new) }
+    ensures { Performs (option_map ty_of) (spec.declared_type (source_in file.now) name.now) (N.trace recorder.old)
+        result
+        (N.trace recorder.new) }
 {
     match file.declaration(name) {
-        Some(found) => variable_type(alloc, notes, file, name, is_definition(&found.form)),
-        None => own_type(alloc, notes, file, name, false),
+        Some(found) => variable_type(alloc, recorder, file, name, is_definition(&found.form)),
+        None => own_type(alloc, recorder, file, name, false),
     }
 }
 
-/// The same of a name that a file binds, by whether an import, a function or a class declares it.
-fn variable_type<N: Judge>(
+/// What `name` takes, which `file` binds; `is_definition` says whether an import, a function or a class declares it.
+fn variable_type<N: AskTypes>(
     alloc: Global,
-    notes: &mut N,
+    recorder: &mut N,
     file: &SourceFile,
     name: &Text,
     is_definition: bool,
 ) -> Result<Option<Ty>, AllocError>
     ensures { Performs (option_map ty_of) (spec.variable_type (source_in file.now) name.now is_definition)
-        (N.desk notes.old) result (N.desk notes.new) }
+        (N.trace recorder.old) result (N.trace recorder.new) }
 {
     if is_definition {
         Ok(None)
     } else {
-        own_type(alloc, notes, file, name, true)
+        own_type(alloc, recorder, file, name, true)
     }
 }
 
@@ -68,20 +69,20 @@ fn is_definition(form: &BindingForm) -> bool
 }
 
 /// The type of a name of a file, of a fixed module or by its key.
-fn own_type<N: Judge>(
+fn own_type<N: AskTypes>(
     alloc: Global,
-    notes: &mut N,
+    recorder: &mut N,
     file: &SourceFile,
     name: &Text,
     is_bound: bool,
 ) -> Result<Option<Ty>, AllocError>
     ensures { Performs (option_map ty_of)
         (spec.own_type (source_in file.now) name.now is_bound (fixed.fixed_module (source_in file.now).name))
-        (N.desk notes.old) result (N.desk notes.new) }
+        (N.trace recorder.old) result (N.trace recorder.new) }
 {
     match fixed_module(file.name().parts()) {
         Some(_) => Ok(any_if_bound(is_bound)),
-        None => asked_type(alloc, notes, file, name, is_bound),
+        None => ask_type(alloc, recorder, file, name, is_bound),
     }
 }
 
@@ -94,25 +95,25 @@ fn any_if_bound(is_bound: bool) -> Option<Ty>
 
 /// The type of a name of a module that is no fixed one.
 #[tactic(auto, using(pyc_obligations::proofs::Steps::performing))]
-fn asked_type<N: Judge>(
+fn ask_type<N: AskTypes>(
     alloc: Global,
-    notes: &mut N,
+    recorder: &mut N,
     file: &SourceFile,
     name: &Text,
     is_bound: bool,
 ) -> Result<Option<Ty>, AllocError>
     ensures { Performs (option_map ty_of) (spec.own_type (source_in file.now) name.now is_bound None)
-        (N.desk notes.old) result (N.desk notes.new) }
+        (N.trace recorder.old) result (N.trace recorder.new) }
 {
     let asked = QualifiedName {
-        home: file.name().clone()?,
+        module_path: file.name().clone()?,
         name: name.clone()?,
     };
-    let found = asked_name(alloc, notes, asked)?;
+    let found = ask_name(alloc, recorder, asked)?;
     Ok(type_if_bound(is_bound, found))
 }
 
-/// What is owed to a name of this type.
+/// What is required of a name of this type.
 fn type_if_bound(is_bound: bool, found: NameAnswer) -> Option<Ty>
     ensures { option_map ty_of result ≡ spec.type_if_bound is_bound (name_answer_of found) }
 {

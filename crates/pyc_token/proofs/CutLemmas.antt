@@ -20,10 +20,10 @@ use Rattle.pyc_token.specs.declared.tokens.Prefix.{Prefix}
 use Rattle.pyc_token.specs.declared.tokens.Prefix.TheVariants as prefix
 use Rattle.pyc_token.specs.Characters.{is_blank, is_line_end, line_end_len, is_comment_byte, is_quote, is_digit, is_name_start}
 use Rattle.pyc_token.specs.Names.{name_len}
-use Rattle.pyc_token.specs.Numbers.{is_digit_of, grouped_len, digits_len, base_named, fraction_len, sign_len, exponent_len, imaginary_len, decimal, number_in, number_by, number_at}
-use Rattle.pyc_token.specs.Strings.{prefix_of, is_format, quotes_len, unit_len, is_cut_off, closed_len, string_len, has_open_field}
+use Rattle.pyc_token.specs.Numbers.{is_digit_of, digit_row_len, digits_len, base_of_letter, fraction_len, sign_len, exponent_len, imaginary_len, decimal_number, number_in, number_by, number_at}
+use Rattle.pyc_token.specs.Strings.{prefix_of, is_format, quotes_len, unit_len, is_cut_off, string_rest_len, string_len, has_open_field}
 use Rattle.pyc_token.specs.Operators.{operator_in, operator_at, operators}
-use Rattle.pyc_token.specs.Cuts.{FirstLexeme, string_of, quoted, name_or_string, name_front, operator_front, begins_number, begins_joined, cut}
+use Rattle.pyc_token.specs.Cuts.{FirstLexeme, string_of, string_front, name_or_string, name_front, operator_front, begins_number, begins_line_join, cut_first_lexeme}
 use Rattle.pyc_token.proofs.BoundaryLemmas.{boundary_past, boundary_past_prefix}
 use Rattle.pyc_token.proofs.NameLemmas.{front_len, name_len-front}
 
@@ -106,14 +106,14 @@ grouped_low base byte next e =
       | inr underscore ↦ let is : byte ≡ 95 = same_from_test byte 95 (both (byte == 95) (is_digit_of base next) underscore).0 in omega (arith, is)
     ]
 
-low_grouped : (base : Base) (text : List ℕ) → IsLow text (grouped_len base text)
+low_grouped : (base : Base) (text : List ℕ) → IsLow text (digit_row_len base text)
 low_grouped base [] = low_zero []
 low_grouped base (byte ∷ rest) =
-    low_if (byte ∷ rest) (1 + grouped_len base rest) (is_digit_of base byte || byte == 95 && is_digit_of base (slice_index rest 0))
-    (λ e. low_cons byte rest (grouped_len base rest) (grouped_low base byte (slice_index rest 0) e) (low_grouped base rest))
+    low_if (byte ∷ rest) (1 + digit_row_len base rest) (is_digit_of base byte || byte == 95 && is_digit_of base (slice_index rest 0))
+    (λ e. low_cons byte rest (digit_row_len base rest) (grouped_low base byte (slice_index rest 0) e) (low_grouped base rest))
 
 low_digits : (text : List ℕ) → IsLow text (digits_len text)
-low_digits text = low_if text (grouped_len base.Ten text) (is_digit (slice_index text 0)) (λ _. low_grouped base.Ten text)
+low_digits text = low_if text (digit_row_len base.Ten text) (is_digit (slice_index text 0)) (λ _. low_grouped base.Ten text)
 
 low_fraction : (text : List ℕ) → IsLow text (fraction_len text)
 low_fraction text =
@@ -137,8 +137,8 @@ low_imaginary : (text : List ℕ) → IsLow text (imaginary_len text)
 low_imaginary text =
     low_if text 1 (slice_index text 0 == 106 || slice_index text 0 == 74) (λ e. low_either text 106 74 (omega arith) (omega arith) (omega arith) (omega arith) e)
 
-low_decimal : (text : List ℕ) → IsLow text (decimal text).1
-unfolding decimal
+low_decimal : (text : List ℕ) → IsLow text (decimal_number text).1
+unfolding decimal_number
 low_decimal text =
     let whole : ℕ = digits_len text in
     let after_whole : List ℕ = drop whole text in
@@ -153,7 +153,7 @@ low_decimal text =
     low_add after_fraction exponent letter (low_exponent after_fraction) (low_imaginary (drop exponent after_fraction)))))
 
 -- the letter of a base
-base_low : (byte : ℕ) (named : Option Base) → base_named byte ≡ named → (found : Base) → named ≡ Some found → (0 < byte) × (byte < 128)
+base_low : (byte : ℕ) (named : Option Base) → base_of_letter byte ≡ named → (found : Base) → named ≡ Some found → (0 < byte) × (byte < 128)
 base_low byte named e found is =
     elim (cases_lt 0 byte) [
       | inl some ↦ elim (cases_lt byte 128) [
@@ -165,7 +165,7 @@ base_low byte named e found is =
 
 -- ---- where a number has a byte at least
 
-grouped_some : (text : List ℕ) → is_digit (slice_index text 0) ≡ true → 1 ≤ grouped_len base.Ten text
+grouped_some : (text : List ℕ) → is_digit (slice_index text 0) ≡ true → 1 ≤ digit_row_len base.Ten text
 grouped_some [] e = cc
 grouped_some (byte ∷ rest) e = rw e (omega arith)
 
@@ -178,9 +178,9 @@ fraction_some text e = rw e (omega arith)
 no_digits : (text : List ℕ) → is_digit (slice_index text 0) ≡ false → digits_len text ≡ 0
 no_digits text e = rw e refl
 
-decimal_some : (text : List ℕ) → begins_number text ≡ true → 1 ≤ (decimal text).1
-unfolding decimal
-decimal_some text begins =
+decimal_number_some : (text : List ℕ) → begins_number text ≡ true → 1 ≤ (decimal_number text).1
+unfolding decimal_number
+decimal_number_some text begins =
     elim (either (is_digit (slice_index text 0)) (slice_index text 0 == 46 && is_digit (slice_index text 1)) begins) [
       | inl digit ↦ omega (arith, digits_some text digit)
       | inr point ↦
@@ -192,21 +192,21 @@ decimal_some text begins =
 
 number_in_some : (base : Base) (text : List ℕ) → begins_number text ≡ true → 1 ≤ (number_in base text).1
 number_in_some base text begins =
-    elim (nat_lt 0 (grouped_len base (drop 2 text))) as (λ b. 1 ≤ (if b then (number.Integer, 2 + grouped_len base (drop 2 text)) else decimal text).1) [
+    elim (nat_lt 0 (digit_row_len base (drop 2 text))) as (λ b. 1 ≤ (if b then (number.Integer, 2 + digit_row_len base (drop 2 text)) else decimal_number text).1) [
       | true ↦ omega arith
-      | false ↦ decimal_some text begins
+      | false ↦ decimal_number_some text begins
     ]
 
 number_by_some : (named : Option Base) (text : List ℕ) → begins_number text ≡ true → 1 ≤ (number_by named text).1
-number_by_some None text begins = decimal_some text begins
+number_by_some None text begins = decimal_number_some text begins
 number_by_some (Some base) text begins = number_in_some base text begins
 
 number_some : (text : List ℕ) → begins_number text ≡ true → 1 ≤ (number_at text).1
 unfolding number_at
 number_some text begins =
-    elim (slice_index text 0 == 48) as (λ b. 1 ≤ (if b then number_by (base_named (slice_index text 1)) text else decimal text).1) [
-      | true ↦ number_by_some (base_named (slice_index text 1)) text begins
-      | false ↦ decimal_some text begins
+    elim (slice_index text 0 == 48) as (λ b. 1 ≤ (if b then number_by (base_of_letter (slice_index text 1)) text else decimal_number text).1) [
+      | true ↦ number_by_some (base_of_letter (slice_index text 1)) text begins
+      | false ↦ decimal_number_some text begins
     ]
 
 second_byte : (text : List ℕ) → slice_index (drop 1 text) 0 ≡ slice_index text 1
@@ -225,12 +225,12 @@ low_three text two some low =
 
 low_number_in : (base : Base) (text : List ℕ) → IsLow text 2 → IsLow text (number_in base text).1
 low_number_in base text two =
-    elim (nat_lt 0 (grouped_len base (drop 2 text))) as (λ b. IsLow text (if b then (number.Integer, 2 + grouped_len base (drop 2 text)) else decimal text).1) [
-      | true ↦ low_add text 2 (grouped_len base (drop 2 text)) two (low_grouped base (drop 2 text))
+    elim (nat_lt 0 (digit_row_len base (drop 2 text))) as (λ b. IsLow text (if b then (number.Integer, 2 + digit_row_len base (drop 2 text)) else decimal_number text).1) [
+      | true ↦ low_add text 2 (digit_row_len base (drop 2 text)) two (low_grouped base (drop 2 text))
       | false ↦ low_decimal text
     ]
 
-low_number_by : (text : List ℕ) (named : Option Base) → base_named (slice_index text 1) ≡ named → IsLow text 1 → IsLow text (number_by named text).1
+low_number_by : (text : List ℕ) (named : Option Base) → base_of_letter (slice_index text 1) ≡ named → IsLow text 1 → IsLow text (number_by named text).1
 low_number_by text None e one = low_decimal text
 low_number_by text (Some base) e one =
     let second = base_low (slice_index text 1) (Some base) e base refl in low_number_in base text (low_two text one second.0 second.1)
@@ -238,8 +238,8 @@ low_number_by text (Some base) e one =
 low_number : (text : List ℕ) → IsLow text (number_at text).1
 unfolding number_at
 low_number text =
-    elim (slice_index text 0 == 48) as (λ b. (slice_index text 0 == 48) ≡ b → IsLow text (if b then number_by (base_named (slice_index text 1)) text else decimal text).1) [
-      | true ↦ λ e. low_number_by text (base_named (slice_index text 1)) refl (low_byte text 48 (omega arith) (omega arith) e)
+    elim (slice_index text 0 == 48) as (λ b. (slice_index text 0 == 48) ≡ b → IsLow text (if b then number_by (base_of_letter (slice_index text 1)) text else decimal_number text).1) [
+      | true ↦ λ e. low_number_by text (base_of_letter (slice_index text 1)) refl (low_byte text 48 (omega arith) (omega arith) e)
       | false ↦ λ e. low_decimal text
     ] refl
 
@@ -281,19 +281,19 @@ starts_ends text quotes some low e =
           omega (arith, at, here);
     }
 
-closed_ends : (count : ℕ) (quotes text : List ℕ) → 0 < length quotes → IsLow quotes (length quotes) → EndsIn text (closed_len count quotes text)
-unfolding closed_len
+closed_ends : (count : ℕ) (quotes text : List ℕ) → 0 < length quotes → IsLow quotes (length quotes) → EndsIn text (string_rest_len count quotes text)
+unfolding string_rest_len
 closed_ends zero quotes text some low = tt
 closed_ends (suc count) quotes [] some low = tt
 closed_ends (suc count) quotes (byte ∷ rest) some low =
     let text : List ℕ = byte ∷ rest in
     let len : ℕ = unit_len text in
     elim (starts_with nat_eq text quotes) as (λ b. starts_with nat_eq text quotes ≡ b → EndsIn text (if b then Some (length quotes)
-    else if is_cut_off quotes byte then None else option_map (λ more. len + more) (closed_len count quotes (drop len text)))) [
+    else if is_cut_off quotes byte then None else option_map (λ more. len + more) (string_rest_len count quotes (drop len text)))) [
       | true ↦ λ e. starts_ends text quotes some low e
-      | false ↦ λ e. elim (is_cut_off quotes byte) as (λ b. EndsIn text (if b then None else option_map (λ more. len + more) (closed_len count quotes (drop len text)))) [
+      | false ↦ λ e. elim (is_cut_off quotes byte) as (λ b. EndsIn text (if b then None else option_map (λ more. len + more) (string_rest_len count quotes (drop len text)))) [
         | true ↦ tt
-        | false ↦ ends_shift text len (closed_len count quotes (drop len text)) (closed_ends count quotes (drop len text) some low)
+        | false ↦ ends_shift text len (string_rest_len count quotes (drop len text)) (closed_ends count quotes (drop len text) some low)
       ]
     ] refl
 
@@ -337,7 +337,7 @@ string_ends text quote =
     let n : ℕ = quotes_len text in
     let low : IsLow text n = low_quotes text quote in
     let inside : List ℕ = drop n text in
-    ends_shift text n (closed_len (length inside) (take n text) inside)
+    ends_shift text n (string_rest_len (length inside) (take n text) inside)
     (closed_ends (length inside) (take n text) inside (omega (arith, length-take n text, low.within, quotes_some text)) (low_taken text n low))
 
 -- ---- each lexeme
@@ -370,9 +370,9 @@ low_lexeme text n utf8 front some = record { least = some; boundary = boundary_p
 ends_lexeme : (text : List ℕ) (n : ℕ) → IsUtf8 text → EndsLow text n → IsLexeme text n
 ends_lexeme text n utf8 ends = record { least = ends.least; boundary = boundary_past text n utf8 ends.within ends.last }
 
-quoted_takes : (prefix : Prefix) (before : ℕ) (text : List ℕ) → IsUtf8 text → is_quote (slice_index text before) ≡ true → TakesLexeme text (quoted prefix before text)
-unfolding quoted
-quoted_takes prefix before text utf8 quote =
+string_front_takes : (prefix : Prefix) (before : ℕ) (text : List ℕ) → IsUtf8 text → is_quote (slice_index text before) ≡ true → TakesLexeme text (string_front prefix before text)
+unfolding string_front
+string_front_takes prefix before text utf8 quote =
     let at : slice_index (drop before text) 0 ≡ slice_index text before = get_or-drop before text 0 0 ∙ ap (slice_index text) (add-zero before) in
     let ends : EndsIn (drop before text) (string_len (drop before text)) = string_ends (drop before text) (ap is_quote at ∙ quote) in
     elim (string_len (drop before text)) as (λ o. EndsIn text (option_map (λ more. before + more) o) → TakesLexeme text (string_of prefix before o text)) [
@@ -417,7 +417,7 @@ name_takes text utf8 start =
     choose text (is_quote (slice_index text len)) _ _ (λ quote.
     elim (prefix_of (take len text)) as (λ o. TakesLexeme text (name_or_string o len text)) [
       | None ↦ takes text _ len lexeme
-      | Some prefix ↦ quoted_takes prefix len text utf8 quote
+      | Some prefix ↦ string_front_takes prefix len text utf8 quote
     ]) (λ _. takes text _ len lexeme)
 
 -- whether there are bytes of ASCII alone
@@ -500,7 +500,7 @@ low_line_end text e =
 line_end_some : (text : List ℕ) → 1 ≤ line_end_len text
 line_end_some text = elim (slice_index text 0 == 13 && slice_index text 1 == 10) as (λ b. 1 ≤ (if b then 2 else 1)) [ true ↦ omega arith | false ↦ omega arith ]
 
-joined_lexeme : (text : List ℕ) → IsUtf8 text → begins_joined text ≡ true → IsLexeme text (1 + line_end_len (drop 1 text))
+joined_lexeme : (text : List ℕ) → IsUtf8 text → begins_line_join text ≡ true → IsLexeme text (1 + line_end_len (drop 1 text))
 joined_lexeme text utf8 e =
     let parts = both (slice_index text 0 == 92) (is_line_end (slice_index text 1)) e in
     low_lexeme text (1 + line_end_len (drop 1 text)) utf8
@@ -508,19 +508,19 @@ joined_lexeme text utf8 e =
     (omega arith)
 
 -- a text that is UTF-8 may be cut after the lexeme at its front, which has a byte at least
-pub cut_takes : (text : List ℕ) → IsUtf8 text → 0 < length text → TakesLexeme text (cut text)
-unfolding cut
+pub cut_takes : (text : List ℕ) → IsUtf8 text → 0 < length text → TakesLexeme text (cut_first_lexeme text)
+unfolding cut_first_lexeme
 cut_takes text utf8 l =
     let first : ℕ = slice_index text 0 in
     choose text (is_blank first) _ _ (λ e. takes text _ _ (record { least = prefix_some is_blank text l e; boundary = boundary_past_prefix is_blank blank_low text utf8 })) (λ _.
     choose text (is_line_end first) _ _ (λ e. takes text _ _ (low_lexeme text (line_end_len text) utf8 (low_line_end text e) (line_end_some text))) (λ _.
     choose text (first == 35) _ _ (λ e. takes text _ _ (record { least = prefix_some is_comment_byte text l (ap is_comment_byte (same_from_test first 35 e)); boundary = comment_boundary text utf8 })) (λ _.
-    choose text (begins_joined text) _ _ (λ e. takes text _ _ (joined_lexeme text utf8 e)) (λ _.
-    choose text (is_quote first) _ _ (λ e. quoted_takes prefix.Plain 0 text utf8 e) (λ _.
+    choose text (begins_line_join text) _ _ (λ e. takes text _ _ (joined_lexeme text utf8 e)) (λ _.
+    choose text (is_quote first) _ _ (λ e. string_front_takes prefix.Plain 0 text utf8 e) (λ _.
     choose text (begins_number text) _ _ (λ e. takes text _ _ (low_lexeme text (number_at text).1 utf8 (low_number text) (number_some text e))) (λ _.
     choose text (is_name_start (slice_index (chars text) 0)) _ _ (λ e. name_takes text utf8 e) (λ _.
     operator_takes text utf8)))))))
 
 -- a lexeme and its length, from what is cut
-pub cut_lexeme : (text : List ℕ) (p : Lexeme) (len : ℕ) → IsUtf8 text → 0 < length text → cut text ≡ Ok (p, len) → IsLexeme text len
+pub cut_lexeme : (text : List ℕ) (p : Lexeme) (len : ℕ) → IsUtf8 text → 0 < length text → cut_first_lexeme text ≡ Ok (p, len) → IsLexeme text len
 cut_lexeme text p len utf8 l e = (subst (TakesLexeme text) e (cut_takes text utf8 l)).lexeme

@@ -5,7 +5,7 @@ use Rattle.std.proofs.lemmas.Bool.{false≢true}
 use Rattle.std.specs.List.{list_any, prefix_len, starts_with}
 use Rattle.std.specs.Cmp.Lexicographic.{pointwise}
 use Rattle.pyc_token.specs.Characters.{is_line_end, line_end_len}
-use Rattle.pyc_token.specs.Strings.{unit_len, is_cut_off, is_inner, closed_len, without_doubled, has_open_brace}
+use Rattle.pyc_token.specs.Strings.{unit_len, is_cut_off, is_inner, string_rest_len, without_doubled, has_open_brace}
 
 -- ---- the quotes at the front of a text
 
@@ -17,47 +17,47 @@ no_quotes (byte ∷ text) (quote ∷ quotes) some apart = ap (λ same. same && p
 
 -- ---- the end of a string
 
-pub closed_len-end : (turns : ℕ) (quotes rest : List ℕ) → length rest ≡ 0 → closed_len turns quotes rest ≡ None
-unfolding closed_len
-closed_len-end zero quotes rest e = refl
-closed_len-end (suc turns) quotes [] e = refl
-closed_len-end (suc turns) quotes (byte ∷ rest) e = absurd (omega (arith, e))
+pub string_rest_len-end : (turns : ℕ) (quotes rest : List ℕ) → length rest ≡ 0 → string_rest_len turns quotes rest ≡ None
+unfolding string_rest_len
+string_rest_len-end zero quotes rest e = refl
+string_rest_len-end (suc turns) quotes [] e = refl
+string_rest_len-end (suc turns) quotes (byte ∷ rest) e = absurd (omega (arith, e))
 
-pub closed_len-closes : (turns : ℕ) (quotes rest : List ℕ) → 0 < turns → 0 < length rest → starts_with nat_eq rest quotes ≡ true
-    → closed_len turns quotes rest ≡ Some (length quotes)
-unfolding closed_len
-closed_len-closes zero quotes rest t l e = absurd (omega (arith, t))
-closed_len-closes (suc turns) quotes [] t l e = absurd (omega (arith, l))
-closed_len-closes (suc turns) quotes (byte ∷ rest) t l e = rw e refl
+pub string_rest_len-closes : (turns : ℕ) (quotes rest : List ℕ) → 0 < turns → 0 < length rest → starts_with nat_eq rest quotes ≡ true
+    → string_rest_len turns quotes rest ≡ Some (length quotes)
+unfolding string_rest_len
+string_rest_len-closes zero quotes rest t l e = absurd (omega (arith, t))
+string_rest_len-closes (suc turns) quotes [] t l e = absurd (omega (arith, l))
+string_rest_len-closes (suc turns) quotes (byte ∷ rest) t l e = rw e refl
 
-pub closed_len-ends : (turns : ℕ) (quotes rest : List ℕ) → 0 < turns → 0 < length rest → starts_with nat_eq rest quotes ≡ false
-    → is_cut_off quotes (slice_index rest 0) ≡ true → closed_len turns quotes rest ≡ None
-unfolding closed_len
-closed_len-ends zero quotes rest t l e f = absurd (omega (arith, t))
-closed_len-ends (suc turns) quotes [] t l e f = absurd (omega (arith, l))
-closed_len-ends (suc turns) quotes (byte ∷ rest) t l e f = rw (e, f) refl
+pub string_rest_len-ends : (turns : ℕ) (quotes rest : List ℕ) → 0 < turns → 0 < length rest → starts_with nat_eq rest quotes ≡ false
+    → is_cut_off quotes (slice_index rest 0) ≡ true → string_rest_len turns quotes rest ≡ None
+unfolding string_rest_len
+string_rest_len-ends zero quotes rest t l e f = absurd (omega (arith, t))
+string_rest_len-ends (suc turns) quotes [] t l e f = absurd (omega (arith, l))
+string_rest_len-ends (suc turns) quotes (byte ∷ rest) t l e f = rw (e, f) refl
 
-pub closed_len-goes : (turns : ℕ) (quotes rest : List ℕ) → 0 < length rest → starts_with nat_eq rest quotes ≡ false
+pub string_rest_len-goes : (turns : ℕ) (quotes rest : List ℕ) → 0 < length rest → starts_with nat_eq rest quotes ≡ false
     → is_cut_off quotes (slice_index rest 0) ≡ false
-    → closed_len (suc turns) quotes rest ≡ option_map (λ more. unit_len rest + more) (closed_len turns quotes (drop (unit_len rest) rest))
-unfolding closed_len
-closed_len-goes turns quotes [] l e f = absurd (omega (arith, l))
-closed_len-goes turns quotes (byte ∷ rest) l e f = rw (e, f) refl
+    → string_rest_len (suc turns) quotes rest ≡ option_map (λ more. unit_len rest + more) (string_rest_len turns quotes (drop (unit_len rest) rest))
+unfolding string_rest_len
+string_rest_len-goes turns quotes [] l e f = absurd (omega (arith, l))
+string_rest_len-goes turns quotes (byte ∷ rest) l e f = rw (e, f) refl
 
--- what is left of a string closes where the whole does; the definition goes on for `left` turns, and the loop for no fewer
--- than there are bytes
+-- what is left of a string closes where the whole does; the definition goes on for `left` turns, and the loop for no
+-- fewer than there are bytes
 pub record IsClosing (quotes : List ℕ) (all : ℕ) (whole : Option ℕ) (turns : ℕ) (rest : List ℕ) : Type 0 where
   pub left : ℕ
-  pub value : option_map (λ more. (all - length rest) + more) (closed_len left quotes rest) ≡ whole
+  pub value : option_map (λ more. (all - length rest) + more) (string_rest_len left quotes rest) ≡ whole
   pub within : length rest ≤ all
   pub enough : length rest ≤ left
   pub ends : length rest ≤ turns
 
-pub closing-start : (quotes text : List ℕ) (turns : ℕ) → turns ≡ length text → IsClosing quotes (length text) (closed_len (length text) quotes text) turns text
+pub closing-start : (quotes text : List ℕ) (turns : ℕ) → turns ≡ length text → IsClosing quotes (length text) (string_rest_len (length text) quotes text) turns text
 closing-start quotes text turns e = record {
   left = length text;
   value =
-      elim (closed_len (length text) quotes text) as (λ o. option_map (λ more. (length text - length text) + more) o ≡ o) [
+      elim (string_rest_len (length text) quotes text) as (λ o. option_map (λ more. (length text - length text) + more) o ≡ o) [
         | None ↦ refl
         | Some n ↦ ap Some (omega arith)
       ];
@@ -68,35 +68,35 @@ closing-start quotes text turns e = record {
 
 module _ (quotes : List ℕ) (all : ℕ) (whole : Option ℕ) (turns : ℕ) (rest : List ℕ) (closing : IsClosing quotes all whole turns rest) where
   -- a whole that is none, once the rest is none
-  none_at : closed_len closing.left quotes rest ≡ None → None ≡ whole
+  none_at : string_rest_len closing.left quotes rest ≡ None → None ≡ whole
   none_at e = ap (option_map (λ more. (all - length rest) + more)) (sym e) ∙ closing.value
 
   pub closing-end : length rest ≡ 0 → None ≡ whole
-  closing-end e = none_at (closed_len-end closing.left quotes rest e)
+  closing-end e = none_at (string_rest_len-end closing.left quotes rest e)
 
   pub closing-out_of_turns : turns ≡ 0 → None ≡ whole
   closing-out_of_turns e = closing-end (omega (arith, closing.ends, e))
 
   pub closing-closes : 0 < length rest → starts_with nat_eq rest quotes ≡ true → Some ((all - length rest) + length quotes) ≡ whole
   closing-closes l e =
-      ap (option_map (λ more. (all - length rest) + more)) (sym (closed_len-closes closing.left quotes rest (omega (arith, closing.enough, l)) l e)) ∙ closing.value
+      ap (option_map (λ more. (all - length rest) + more)) (sym (string_rest_len-closes closing.left quotes rest (omega (arith, closing.enough, l)) l e)) ∙ closing.value
 
   pub closing-ends : 0 < length rest → starts_with nat_eq rest quotes ≡ false → is_cut_off quotes (slice_index rest 0) ≡ true → None ≡ whole
-  closing-ends l e f = none_at (closed_len-ends closing.left quotes rest (omega (arith, closing.enough, l)) l e f)
+  closing-ends l e f = none_at (string_rest_len-ends closing.left quotes rest (omega (arith, closing.enough, l)) l e f)
 
   -- the rest goes on after one more unit
   goes : 0 < length rest → starts_with nat_eq rest quotes ≡ false → is_cut_off quotes (slice_index rest 0) ≡ false
-      → option_map (λ more. (all - length rest) + more) (option_map (λ more. unit_len rest + more) (closed_len (closing.left - 1) quotes (drop (unit_len rest) rest))) ≡ whole
+      → option_map (λ more. (all - length rest) + more) (option_map (λ more. unit_len rest + more) (string_rest_len (closing.left - 1) quotes (drop (unit_len rest) rest))) ≡ whole
   goes l e f =
       let n : closing.left ≡ suc (closing.left - 1) = omega (arith, closing.enough, l) in
-      ap (option_map (λ more. (all - length rest) + more)) (sym (closed_len-goes (closing.left - 1) quotes rest l e f))
-      ∙ ap (λ (k : ℕ). option_map (λ more. (all - length rest) + more) (closed_len k quotes rest)) (sym n) ∙ closing.value
+      ap (option_map (λ more. (all - length rest) + more)) (sym (string_rest_len-goes (closing.left - 1) quotes rest l e f))
+      ∙ ap (λ (k : ℕ). option_map (λ more. (all - length rest) + more) (string_rest_len k quotes rest)) (sym n) ∙ closing.value
 
   pub closing-past : (len : ℕ) → 0 < length rest → starts_with nat_eq rest quotes ≡ false → is_cut_off quotes (slice_index rest 0) ≡ false
       → len ≡ unit_len rest → length rest < len → None ≡ whole
   closing-past len l e f is past =
       ap (λ (o : Option ℕ). option_map (λ more. (all - length rest) + more) (option_map (λ more. unit_len rest + more) o))
-      (sym (closed_len-end (closing.left - 1) quotes (drop (unit_len rest) rest) (omega (arith, length-drop (unit_len rest) rest, is, past)))) ∙ goes l e f
+      (sym (string_rest_len-end (closing.left - 1) quotes (drop (unit_len rest) rest) (omega (arith, length-drop (unit_len rest) rest, is, past)))) ∙ goes l e f
 
   pub closing-step : (len fewer : ℕ) (back : List ℕ) → 0 < length rest → starts_with nat_eq rest quotes ≡ false
       → is_cut_off quotes (slice_index rest 0) ≡ false → len ≡ unit_len rest → len ≤ length rest → 1 ≤ len → back ≡ drop len rest
@@ -107,12 +107,12 @@ module _ (quotes : List ℕ) (all : ℕ) (whole : Option ℕ) (turns : ℕ) (res
       record {
         left = closing.left - 1;
         value =
-            elim (closed_len (closing.left - 1) quotes back) as (λ o. option_map (λ more. (all - length back) + more) o
+            elim (string_rest_len (closing.left - 1) quotes back) as (λ o. option_map (λ more. (all - length back) + more) o
             ≡ option_map (λ more. (all - length rest) + more) (option_map (λ more. unit_len rest + more) o)) [
               | None ↦ refl
               | Some more ↦ ap Some (omega (arith, shorter, is, most, closing.within))
             ]
-            ∙ ap (λ (z : List ℕ). option_map (λ more. (all - length rest) + more) (option_map (λ more. unit_len rest + more) (closed_len (closing.left - 1) quotes z))) so
+            ∙ ap (λ (z : List ℕ). option_map (λ more. (all - length rest) + more) (option_map (λ more. unit_len rest + more) (string_rest_len (closing.left - 1) quotes z))) so
             ∙ goes l e f;
         within = omega (arith, shorter, closing.within);
         enough = omega (arith, shorter, closing.enough, least);
@@ -151,7 +151,7 @@ closing-run quotes all whole turns (byte ∷ rest) some closing =
       | false ↦ λ _. closing
     ] refl
 
--- the same of what a call counted and split off
+-- bytes at the front that go by themselves are past, where a call counted `count` of them and `back` is what is left
 pub closing-past_run : (quotes : List ℕ) (all : ℕ) (whole : Option ℕ) (turns : ℕ) (rest : List ℕ) (quote count : ℕ) (back : List ℕ) → 0 < length quotes
     → quote ≡ slice_index quotes 0 → count ≡ prefix_len (is_inner quote) rest → back ≡ drop count rest → IsClosing quotes all whole turns rest
     → IsClosing quotes all whole turns back
@@ -166,6 +166,6 @@ closing-past_run quotes all whole turns rest quote count back some is counted dr
 abbrev pub open_after : Bool → List ℕ → Bool
 open_after is_open text = has_open_brace text || is_open && not (list_any (λ later. later == 125) text)
 
--- the same of a text that a `{` may stand before
+-- whether a field is open at the end of a text, where one may be open at its front, and a `{` may stand before it
 abbrev pub left_open : Bool → Bool → List ℕ → Bool
 left_open is_open follows_brace text = open_after is_open (without_doubled false (if follows_brace then 123 ∷ text else text))

@@ -38,13 +38,13 @@ string_of prefix before None text = Err fault.OpenString
 string_of prefix before (Some len) text = string_token prefix (before + len) text
 
 -- the string at the front, whose prefix takes so many bytes
-unfoldable pub quoted : Prefix → ℕ → List ℕ → FirstLexeme
-quoted prefix before text = string_of prefix before (string_len (drop before text)) text
+unfoldable pub string_front : Prefix → ℕ → List ℕ → FirstLexeme
+string_front prefix before text = string_of prefix before (string_len (drop before text)) text
 
 -- a name before a quote: a prefix, or a name of its own
 abbrev pub name_or_string : Option Prefix → ℕ → List ℕ → FirstLexeme
 name_or_string None len text = Ok (Name, len)
-name_or_string (Some prefix) len text = quoted prefix len text
+name_or_string (Some prefix) len text = string_front prefix len text
 
 -- the longest name, or the string whose prefix it is
 unfoldable pub name_front : List ℕ → FirstLexeme
@@ -66,18 +66,18 @@ abbrev pub begins_number : List ℕ → Bool
 begins_number text = is_digit (slice_index text 0) || slice_index text 0 == 46 && is_digit (slice_index text 1)
 
 -- whether a joined line begins: a backslash directly before a line end ("Explicit line joining")
-abbrev pub begins_joined : List ℕ → Bool
-begins_joined text = slice_index text 0 == 92 && is_line_end (slice_index text 1)
+abbrev pub begins_line_join : List ℕ → Bool
+begins_line_join text = slice_index text 0 == 92 && is_line_end (slice_index text 1)
 
 -- the longest lexeme at the front of a text
-unfoldable pub cut : List ℕ → FirstLexeme
-cut text =
+unfoldable pub cut_first_lexeme : List ℕ → FirstLexeme
+cut_first_lexeme text =
     let first = slice_index text 0 in
     if is_blank first then Ok (Blank, prefix_len is_blank text)
     else if is_line_end first then Ok (LineEnd, line_end_len text)
     else if first == 35 then Ok (Comment, prefix_len is_comment_byte text)
-    else if begins_joined text then Ok (Joined, 1 + line_end_len (drop 1 text))
-    else if is_quote first then quoted prefix.Plain 0 text
+    else if begins_line_join text then Ok (Joined, 1 + line_end_len (drop 1 text))
+    else if is_quote first then string_front prefix.Plain 0 text
     else if begins_number text then number_front (number_at text)
     else if is_name_start (slice_index (chars text) 0) then name_front text
     else operator_front (operator_at text)
@@ -104,7 +104,8 @@ unfoldable pub cuts_up_to : ℕ → List ℕ → List Cut
 cuts_up_to zero text = []
 cuts_up_to (suc count) [] = []
 cuts_up_to (suc count) (byte ∷ text) =
-    let front = cut (byte ∷ text) in cut_off front (byte ∷ text) ∷ cuts_up_to count (left_of front (byte ∷ text))
+    let front = cut_first_lexeme (byte ∷ text) in cut_off front (byte ∷ text) ∷ cuts_up_to count
+    (left_of front (byte ∷ text))
 
 -- all lexemes of a text, up to the first fault
 unfoldable pub cuts : List ℕ → List Cut

@@ -16,19 +16,19 @@ is_digit_of base.Ten byte = is_digit byte
 is_digit_of base.Sixteen byte = is_ascii_hexdigit byte
 
 -- how many bytes a row of digits takes in which an underscore may stand before each digit
-abbrev pub grouped_len : Base → List ℕ → ℕ
-grouped_len base [] = 0
-grouped_len base (byte ∷ rest) =
-    if is_digit_of base byte || byte == 95 && is_digit_of base (slice_index rest 0) then 1 + grouped_len base rest
+abbrev pub digit_row_len : Base → List ℕ → ℕ
+digit_row_len base [] = 0
+digit_row_len base (byte ∷ rest) =
+    if is_digit_of base byte || byte == 95 && is_digit_of base (slice_index rest 0) then 1 + digit_row_len base rest
     else 0
 
 -- how many bytes decimal digits take, with single underscores between them
 abbrev pub digits_len : List ℕ → ℕ
-digits_len text = if is_digit (slice_index text 0) then grouped_len base.Ten text else 0
+digits_len text = if is_digit (slice_index text 0) then digit_row_len base.Ten text else 0
 
 -- the base that a letter after a leading zero names
-abbrev pub base_named : ℕ → Option Base
-base_named byte =
+abbrev pub base_of_letter : ℕ → Option Base
+base_of_letter byte =
     if byte == 120 || byte == 88 then Some base.Sixteen
     else if byte == 111 || byte == 79 then Some base.Eight
     else if byte == 98 || byte == 66 then Some base.Two
@@ -63,8 +63,8 @@ number_of part letter =
     if nat_lt 0 letter then number.Imaginary else if nat_lt 0 part then number.Float else number.Integer
 
 -- a decimal number at the front and its length: digits, a fraction, an exponent and a letter, where they are there
-unfoldable pub decimal : List ℕ → Number × ℕ
-decimal text =
+unfoldable pub decimal_number : List ℕ → Number × ℕ
+decimal_number text =
     let whole = digits_len text in
     let after_whole = drop whole text in
     let fraction = fraction_len after_whole in
@@ -76,14 +76,15 @@ decimal text =
 -- a number of a named base and its length, where digits follow
 abbrev pub number_in : Base → List ℕ → Number × ℕ
 number_in base text =
-    let digits = grouped_len base (drop 2 text) in if nat_lt 0 digits then (number.Integer, 2 + digits)
-    else decimal text
+    let digits = digit_row_len base (drop 2 text) in if nat_lt 0 digits then (number.Integer, 2 + digits)
+    else decimal_number text
 
 -- the number at the front, by the base that its second byte names
 abbrev pub number_by : Option Base → List ℕ → Number × ℕ
 number_by (Some base) text = number_in base text
-number_by None text = decimal text
+number_by None text = decimal_number text
 
 -- the number at the front and its length in bytes
 unfoldable pub number_at : List ℕ → Number × ℕ
-number_at text = if slice_index text 0 == 48 then number_by (base_named (slice_index text 1)) text else decimal text
+number_at text = if slice_index text 0 == 48 then number_by (base_of_letter (slice_index text 1)) text
+    else decimal_number text

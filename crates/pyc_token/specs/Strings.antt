@@ -47,21 +47,21 @@ is_inner quote byte = not (quote == byte) && (not (byte == 92) && not (is_line_e
 
 -- how many bytes a string goes on for after its opening quotes, its closing quotes included, or none where it is open;
 -- one in single quotes may not hold a bare line end. The number bounds how far it is read
-unfoldable pub closed_len : ℕ → List ℕ → List ℕ → Option ℕ
-closed_len zero quotes text = None
-closed_len (suc count) quotes [] = None
-closed_len (suc count) quotes (byte ∷ rest) =
+unfoldable pub string_rest_len : ℕ → List ℕ → List ℕ → Option ℕ
+string_rest_len zero quotes text = None
+string_rest_len (suc count) quotes [] = None
+string_rest_len (suc count) quotes (byte ∷ rest) =
     if starts_with nat_eq (byte ∷ rest) quotes then Some (length quotes)
     else if is_cut_off quotes byte then None
     else let len = unit_len (byte ∷ rest)
-    in option_map (λ more. len + more) (closed_len count quotes (drop len (byte ∷ rest)))
+    in option_map (λ more. len + more) (string_rest_len count quotes (drop len (byte ∷ rest)))
 
 -- how many bytes the string at the front takes, or none where it is open
 unfoldable pub string_len : List ℕ → Option ℕ
 string_len text =
     let quotes = quotes_len text in
     let inside = drop quotes text in
-    option_map (λ more. quotes + more) (closed_len (length inside) (take quotes text) inside)
+    option_map (λ more. quotes + more) (string_rest_len (length inside) (take quotes text) inside)
 
 -- a text without each `{{`, from left to right; at the second brace of one the test is true
 abbrev pub without_doubled : Bool → List ℕ → List ℕ

@@ -54,10 +54,10 @@ fn string_token(prefix: Prefix, text: &[u8]) -> FirstLexeme
 }
 
 /// The string at the front, whose prefix takes so many bytes.
-#[tactic(auto, unfolding(crate::specs::Cuts::quoted))]
-fn quoted(prefix: Prefix, before: usize, text: &[u8]) -> FirstLexeme
+#[tactic(auto, unfolding(crate::specs::Cuts::string_front))]
+fn string_front(prefix: Prefix, before: usize, text: &[u8]) -> FirstLexeme
     requires { is_quote_byte (slice_index text.now before) ≡ true }
-    ensures { result ≡ spec.quoted prefix before text.now }
+    ensures { result ≡ spec.string_front prefix before text.now }
 {
     let (_, string) = text.split_at(before);
     match string_len(string) {
@@ -81,7 +81,7 @@ fn name_front(text: &str) -> FirstLexeme
     }
     let (name, _) = bytes.split_at(len);
     match prefix_of(name) {
-        Some(prefix) => quoted(prefix, len, bytes),
+        Some(prefix) => string_front(prefix, len, bytes),
         None => Ok((Lexeme::Name, len)),
     }
 }
@@ -120,15 +120,15 @@ fn begins_number(text: &[u8]) -> bool
 }
 
 /// Whether a backslash and a line end stand here.
-fn begins_joined(text: &[u8]) -> bool
-    ensures { result ≡ spec.begins_joined text.now }
+fn begins_line_join(text: &[u8]) -> bool
+    ensures { result ≡ spec.begins_line_join text.now }
 {
     byte_at(text, 0) == b'\\' && is_line_end(byte_at(text, 1))
 }
 
 /// How many bytes the backslash and the line end take.
-fn joined_len(text: &[u8]) -> usize
-    requires { spec.begins_joined text.now ≡ true }
+fn line_join_len(text: &[u8]) -> usize
+    requires { spec.begins_line_join text.now ≡ true }
     ensures value { result ≡ 1 + line_end_len (drop 1 text.now) }
     ensures within { result ≤ length text.now }
 {
@@ -145,10 +145,10 @@ fn number_front(text: &[u8]) -> FirstLexeme
 }
 
 /// The longest lexeme at the front of a text.
-#[tactic(auto, unfolding(crate::specs::Cuts::cut))]
-pub fn cut(text: &str) -> FirstLexeme
+#[tactic(auto, unfolding(crate::specs::Cuts::cut_first_lexeme))]
+pub fn cut_first_lexeme(text: &str) -> FirstLexeme
     requires { 0 < length text.now }
-    ensures { result ≡ spec.cut text.now }
+    ensures { result ≡ spec.cut_first_lexeme text.now }
 {
     let bytes = text.as_bytes();
     let first = bytes[0];
@@ -158,10 +158,10 @@ pub fn cut(text: &str) -> FirstLexeme
         Ok((Lexeme::LineEnd, line_end_len(bytes)))
     } else if first == b'#' {
         Ok((Lexeme::Comment, comment_len(bytes)))
-    } else if begins_joined(bytes) {
-        Ok((Lexeme::Joined, joined_len(bytes)))
+    } else if begins_line_join(bytes) {
+        Ok((Lexeme::Joined, line_join_len(bytes)))
     } else if is_quote(first) {
-        quoted(Prefix::Plain, 0, bytes)
+        string_front(Prefix::Plain, 0, bytes)
     } else if begins_number(bytes) {
         number_front(bytes)
     } else if begins_name(text) {

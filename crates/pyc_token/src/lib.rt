@@ -10,7 +10,7 @@ mod strings;
 mod tokens;
 
 pub use characters::byte_at;
-pub use lexeme::{CutFault, Lexeme, cut};
+pub use lexeme::{CutFault, Lexeme, cut_first_lexeme};
 pub use names::kind_of_name;
 pub use tokens::{
     Arithmetic, Bracket, Comparison, Delimiter, Keyword, Kind, Number, Prefix, Span, Token, Word,

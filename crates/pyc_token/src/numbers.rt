@@ -28,8 +28,8 @@ fn is_digit_of(base: Base, byte: u8) -> bool
 }
 
 /// How many bytes a row of digits takes in which an underscore may stand before each digit.
-fn grouped_len(base: Base, text: &[u8]) -> usize
-    ensures value { result ≡ spec.grouped_len base text.now }
+fn digit_row_len(base: Base, text: &[u8]) -> usize
+    ensures value { result ≡ spec.digit_row_len base text.now }
     ensures within { result ≤ length text.now }
 {
     for index in 0..text.len() {
@@ -49,15 +49,15 @@ fn digits_len(text: &[u8]) -> usize
     ensures within { result ≤ length text.now }
 {
     if byte_at(text, 0).is_ascii_digit() {
-        grouped_len(Base::Ten, text)
+        digit_row_len(Base::Ten, text)
     } else {
         0
     }
 }
 
 /// The base that a letter after `0` names.
-fn base_named(byte: u8) -> Option<Base>
-    ensures { result ≡ spec.base_named byte }
+fn base_of_letter(byte: u8) -> Option<Base>
+    ensures { result ≡ spec.base_of_letter byte }
 {
     match byte {
         b'x' | b'X' => Some(Base::Sixteen),
@@ -134,9 +134,9 @@ fn number_of(part: usize, letter: usize) -> Number
 }
 
 /// The decimal number at the front and its length.
-#[tactic(auto, unfolding(crate::specs::Numbers::decimal))]
-fn decimal(text: &[u8]) -> (Number, usize)
-    ensures value { result ≡ spec.decimal text.now }
+#[tactic(auto, unfolding(crate::specs::Numbers::decimal_number))]
+fn decimal_number(text: &[u8]) -> (Number, usize)
+    ensures value { result ≡ spec.decimal_number text.now }
     ensures within { result.1 ≤ length text.now }
 {
     let whole = digits_len(text);
@@ -159,8 +159,8 @@ fn number_in(base: Base, text: &[u8]) -> (Number, usize)
     ensures within { result.1 ≤ length text.now }
 {
     let (_, rest) = text.split_at(2);
-    match grouped_len(base, rest) {
-        0 => decimal(text),
+    match digit_row_len(base, rest) {
+        0 => decimal_number(text),
         digits => (Number::Integer, 2 + digits),
     }
 }
@@ -172,10 +172,10 @@ pub(crate) fn number_at(text: &[u8]) -> (Number, usize)
     ensures within { result.1 ≤ length text.now }
 {
     if byte_at(text, 0) != b'0' {
-        return decimal(text);
+        return decimal_number(text);
     }
-    match base_named(byte_at(text, 1)) {
+    match base_of_letter(byte_at(text, 1)) {
         Some(base) => number_in(base, text),
-        None => decimal(text),
+        None => decimal_number(text),
     }
 }

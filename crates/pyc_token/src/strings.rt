@@ -77,7 +77,7 @@ fn is_cut_off(quotes: &[u8], byte: u8) -> bool
     quotes.len() == 1 && is_line_end(byte)
 }
 
-/// Whether a text begins with these quotes; its first byte alone tells it of most.
+/// Whether a text begins with these quotes; its first byte alone reports it of most.
 fn begins_with(text: &[u8], quotes: &[u8]) -> bool
     requires { 0 < length quotes.now }
     ensures { result ≡ starts_with nat_eq text.now quotes.now }
@@ -96,9 +96,9 @@ fn inner_len(quote: u8, text: &[u8]) -> usize
 }
 
 /// How many bytes a string goes on for after its opening quotes, its closing quotes included, or none where it is open.
-fn closed_len(quotes: &[u8], text: &[u8]) -> Option<usize>
+fn string_rest_len(quotes: &[u8], text: &[u8]) -> Option<usize>
     requires { 0 < length quotes.now }
-    ensures value { result ≡ spec.closed_len (length text.now) quotes.now text.now }
+    ensures value { result ≡ spec.string_rest_len (length text.now) quotes.now text.now }
     ensures within { IfSome result (λ len. len ≤ length text.now) }
 {
     let quote = byte_at(quotes, 0);
@@ -133,7 +133,7 @@ pub(crate) fn string_len(text: &[u8]) -> Option<usize>
     ensures within { IfSome result (λ len. (1 ≤ len) × (len ≤ length text.now)) }
 {
     let (quotes, inside) = text.split_at(quotes_len(text));
-    Some(quotes.len() + closed_len(quotes, inside)?)
+    Some(quotes.len() + string_rest_len(quotes, inside)?)
 }
 
 /// Whether a field of the f-string with this text is left open: a `{` that is none of a `{{` and has no `}` after it.

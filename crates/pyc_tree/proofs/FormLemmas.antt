@@ -9,7 +9,7 @@ use Rattle.pyc_tree.specs.declared.tree.Expr.{Expr, None', Some'}
 use Rattle.pyc_tree.specs.declared.tree.Expr.TheVariants as e
 use Rattle.pyc_tree.specs.declared.tree.Tail.{Tail}
 use Rattle.pyc_tree.specs.ListContexts.{is_at, is_item, is_target_item, is_index, is_with_item, is_entry, is_last_argument, is_keyword_argument, is_argument, is_plain_parameter, is_late_parameter, is_parameter, after_argument, after_parameter}
-use Rattle.pyc_tree.specs.Items.{keyword, generated, is_plain_argument}
+use Rattle.pyc_tree.specs.Items.{keyword, parse_generator_after, is_plain_argument}
 use Rattle.pyc_tree.specs.Parser.{Parser}
 use Rattle.pyc_tree.specs.Targets.{is_starred}
 use Rattle.pyc_tree.specs.Tree.{Tree}
@@ -123,6 +123,6 @@ plain_argument_other _ first = refl
 
 -- an argument that is not plain is no element
 pub generated_other : (self : ℕ → Parser Tree) (callee : Tree) (opening : Token) (t : Tree) → is_plain_argument t ≡ false → (ts : List Token)
-    → generated self callee opening t ts ≡ None
+    → parse_generator_after self callee opening t ts ≡ None
 generated_other self callee opening (tree.argument e) first ts = absurd (true≢false first)
 generated_other self callee opening _ first ts = refl

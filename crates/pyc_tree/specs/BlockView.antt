@@ -42,7 +42,7 @@ unfoldable mutual
   stmts_row end_of-Stmt = plain.no_statement
   stmts_row (more_of-Stmt found rest) = plain.statement (stmt_of found) (stmts_row rest)
 
--- ---- the same over lists, as contracts see a `Vec`
+-- ---- trees over lists, as contracts see a `Vec`
 
 -- a clause
 abbrev pub clause_of : CompoundClauseOf → CompoundClause

@@ -64,15 +64,15 @@ module _ (self : ℕ → Parser Tree) where
 
   -- an operator and its operand, both of this precedence ("Unary arithmetic and bitwise operations", "Boolean
   -- operations")
-  unfoldable pub signed : ℕ → ℕ → Parser Tree
-  signed loosest own = if nat_lt own loosest then fail else (do
+  unfoldable pub parse_unary : ℕ → ℕ → Parser Tree
+  parse_unary loosest own = if nat_lt own loosest then fail else (do
     sign ← take_one
     e ← self own
     made (tree.unary sign e))
 
   -- `await` and its operand ("Await expression")
-  unfoldable pub awaited : ℕ → Parser Tree
-  awaited loosest = if nat_lt 14 loosest then fail else (do
+  unfoldable pub await_expression : ℕ → Parser Tree
+  await_expression loosest = if nat_lt 14 loosest then fail else (do
     t ← take_one
     e ← self 15
     made (tree.await t e))
@@ -81,7 +81,7 @@ module _ (self : ℕ → Parser Tree) where
   unfoldable pub lambda : ℕ → Parser Tree
   lambda loosest = if nat_lt 1 loosest then fail else (do
     t ← take_one
-    parameters ← rule.some_items self (list_context.Parameters false)
+    parameters ← rule.optional_items self (list_context.Parameters false)
     colon ← expect (kind.Delimiter delimiter.Colon)
     body ← self 1
     made (tree.lambda t parameters colon body))
@@ -91,16 +91,17 @@ module _ (self : ℕ → Parser Tree) where
   parentheses = do
     opening ← take_one
     next ← peek
-    if same_kind next (kind.Close bracket.Round) then rule.empty self bracket.Round opening
+    if same_kind next (kind.Close bracket.Round) then rule.parse_empty_brackets self bracket.Round opening
         else (if same_kind next (kind.Keyword word.Yield) then rule.yield_enclosed self opening
-        else rule.filled self bracket.Round opening)
+        else rule.parse_filled_brackets self bracket.Round opening)
 
   -- square or curly brackets and what is between them
   unfoldable pub brackets : Bracket → Parser Tree
   brackets sign = do
     opening ← take_one
     next ← peek
-    if same_kind next (kind.Close sign) then rule.empty self sign opening else rule.filled self sign opening
+    if same_kind next (kind.Close sign) then rule.parse_empty_brackets self sign opening
+        else rule.parse_filled_brackets self sign opening
 
   -- an operand, by its first token
   abbrev pub prefix_by : ℕ → Kind → Parser Tree
@@ -111,11 +112,11 @@ module _ (self : ℕ → Parser Tree) where
   prefix_by loosest (kind.Keyword word.None) = atom tree.constant
   prefix_by loosest (kind.Keyword word.True) = atom tree.constant
   prefix_by loosest (kind.Delimiter delimiter.Ellipsis) = atom tree.constant
-  prefix_by loosest (kind.Keyword word.Not) = signed loosest 4
-  prefix_by loosest (kind.Arithmetic op.Plus) = signed loosest 12
-  prefix_by loosest (kind.Arithmetic op.Minus) = signed loosest 12
-  prefix_by loosest (kind.Delimiter delimiter.Tilde) = signed loosest 12
-  prefix_by loosest (kind.Keyword word.Await) = awaited loosest
+  prefix_by loosest (kind.Keyword word.Not) = parse_unary loosest 4
+  prefix_by loosest (kind.Arithmetic op.Plus) = parse_unary loosest 12
+  prefix_by loosest (kind.Arithmetic op.Minus) = parse_unary loosest 12
+  prefix_by loosest (kind.Delimiter delimiter.Tilde) = parse_unary loosest 12
+  prefix_by loosest (kind.Keyword word.Await) = await_expression loosest
   prefix_by loosest (kind.Keyword word.Lambda) = lambda loosest
   prefix_by loosest (kind.Open bracket.Round) = parentheses
   prefix_by loosest (kind.Open bracket.Square) = brackets bracket.Square
@@ -130,8 +131,8 @@ module _ (self : ℕ → Parser Tree) where
   -- ---- operators
 
   -- an operator and its right operand ("Binary arithmetic operations", "Boolean operations")
-  unfoldable pub operated : Tree → ℕ → Parser Tree
-  operated left precedence = do
+  unfoldable pub parse_binary : Tree → ℕ → Parser Tree
+  parse_binary left precedence = do
     sign ← take_one
     e ← self precedence
     made (tree.binary left sign e)
@@ -177,22 +178,22 @@ module _ (self : ℕ → Parser Tree) where
   unfoldable pub all_links : Parser Links
   all_links = λ ts. links (length ts) ts
 
-  unfoldable pub compared : Tree → Parser Tree
-  compared left = do
+  unfoldable pub parse_comparisons : Tree → Parser Tree
+  parse_comparisons left = do
     found ← all_links
     made (tree.compare left found)
 
   -- what an expression goes on with, by the next token
   abbrev pub operation_by : Tree → Kind → Parser Tree
   operation_by left (kind.Keyword word.If) = conditional left
-  operation_by left (kind.Keyword word.In) = compared left
-  operation_by left (kind.Keyword word.Is) = compared left
-  operation_by left (kind.Keyword word.Not) = compared left
-  operation_by left (kind.Comparison _) = compared left
-  operation_by left (kind.Open bracket.Round) = rule.called self left
-  operation_by left (kind.Open bracket.Square) = rule.subscripted self left
+  operation_by left (kind.Keyword word.In) = parse_comparisons left
+  operation_by left (kind.Keyword word.Is) = parse_comparisons left
+  operation_by left (kind.Keyword word.Not) = parse_comparisons left
+  operation_by left (kind.Comparison _) = parse_comparisons left
+  operation_by left (kind.Open bracket.Round) = rule.parse_call self left
+  operation_by left (kind.Open bracket.Square) = rule.parse_subscript self left
   operation_by left (kind.Delimiter delimiter.Dot) = attribute left
-  operation_by left k = operated left (right_precedence k)
+  operation_by left k = parse_binary left (right_precedence k)
 
   unfoldable pub operation : Tree → Parser Tree
   operation left = do

@@ -50,8 +50,8 @@ module _ (self : ℕ → Parser Tree) where
     pure (line.for_each word_async t to word_in e)
 
   -- "except clause"
-  unfoldable pub excepted : Parser Header
-  excepted = do
+  unfoldable pub except_header : Parser Header
+  except_header = do
     t ← take_one
     next ← peek
     if is_colon next then pure (line.except t) else (do
@@ -63,7 +63,7 @@ module _ (self : ℕ → Parser Tree) where
   unfoldable pub with_items : Parser Pieces
   with_items = do
     first ← rule.item self list_context.WithItems
-    rule.listed self list_context.WithItems first
+    rule.parse_items_from self list_context.WithItems first
 
   -- items in parentheses that a colon follows
   unfoldable pub with_enclosed : Option Token → Token → Parser Header
@@ -74,8 +74,8 @@ module _ (self : ℕ → Parser Tree) where
     next ← peek
     rule.checked (is_colon next) (line.with_enclosed word_async t opening items closing)
 
-  unfoldable pub with_open : Option Token → Token → Parser Header
-  with_open word_async t = do
+  unfoldable pub with_unenclosed : Option Token → Token → Parser Header
+  with_unenclosed word_async t = do
     items ← with_items
     rule.checked (ends_without_comma items) (line.with word_async t items)
 
@@ -83,7 +83,7 @@ module _ (self : ℕ → Parser Tree) where
   unfoldable pub with : Option Token → Parser Header
   with word_async = do
     t ← take_one
-    (λ ts. or_else (with_enclosed word_async t ts) (with_open word_async t ts))
+    (λ ts. or_else (with_enclosed word_async t ts) (with_unenclosed word_async t ts))
 
   -- "Function definitions"
   unfoldable pub function : Option Token → Parser Header
@@ -91,7 +91,7 @@ module _ (self : ℕ → Parser Tree) where
     t ← take_one
     name ← expect_name
     opening ← expect (kind.Open bracket.Round)
-    parameters ← rule.some_items self (list_context.Parameters true)
+    parameters ← rule.optional_items self (list_context.Parameters true)
     closing ← expect (kind.Close bracket.Round)
     result ← rule.tail self (kind.Delimiter delimiter.Arrow)
     pure (line.def word_async t name opening parameters closing result)
@@ -100,7 +100,7 @@ module _ (self : ℕ → Parser Tree) where
   unfoldable pub class_of : Token → Token → Parser Header
   class_of t name = do
     opening ← take_one
-    arguments ← rule.some_items self list_context.Arguments
+    arguments ← rule.optional_items self list_context.Arguments
     closing ← expect (kind.Close bracket.Round)
     pure (line.class_of t name opening arguments closing)
 
@@ -161,7 +161,7 @@ module _ (self : ℕ → Parser Tree) where
   line_by (kind.Keyword word.Try) = headed word_header
   line_by (kind.Keyword word.Finally) = headed word_header
   line_by (kind.Keyword word.For) = headed (for_each None)
-  line_by (kind.Keyword word.Except) = headed excepted
+  line_by (kind.Keyword word.Except) = headed except_header
   line_by (kind.Keyword word.With) = headed (with None)
   line_by (kind.Keyword word.Def) = headed (function None)
   line_by (kind.Keyword word.Class) = headed class

@@ -42,8 +42,8 @@ module _ (self : ℕ → Parser Tree) where
     if same_kind next k then (do t ← take_one; e ← self 1; pure (tree.after t e)) else pure tree.nothing
 
   -- an expression, if one begins
-  unfoldable pub bound : Parser Perhaps
-  bound = do
+  unfoldable pub optional_bound : Parser Perhaps
+  optional_bound = do
     next ← peek
     if begins_expression next then (do e ← self 1; pure (tree.present e)) else pure tree.absent
 
@@ -57,22 +57,23 @@ module _ (self : ℕ → Parser Tree) where
     made (tree.starred star e)
 
   -- a slice after its lower bound ("Slicings")
-  unfoldable pub sliced : Perhaps → Parser Tree
-  sliced lower = do
+  unfoldable pub parse_slice : Perhaps → Parser Tree
+  parse_slice lower = do
     colon ← take_one
-    upper ← bound
+    upper ← optional_bound
     next ← peek
-    if is_colon next then (do second ← take_one; step ← bound; made (tree.stride lower colon upper second step))
+    if is_colon next
+        then (do second ← take_one; step ← optional_bound; made (tree.stride lower colon upper second step))
         else made (tree.slice lower colon upper)
 
   -- an index: an expression or a slice
   unfoldable pub index : Parser Tree
   index = do
     next ← peek
-    if is_colon next then sliced tree.absent else (do
+    if is_colon next then parse_slice tree.absent else (do
       e ← self 1
       later ← peek
-      if is_colon later then sliced (tree.present e) else pure e)
+      if is_colon later then parse_slice (tree.present e) else pure e)
 
   -- `**` and a mapping ("Dictionary displays")
   unfoldable pub mapping : Parser Tree
@@ -82,8 +83,8 @@ module _ (self : ℕ → Parser Tree) where
     made (tree.mapping stars e)
 
   -- an element, or a key with its value
-  unfoldable pub keyed : Parser Tree
-  keyed = do
+  unfoldable pub element_or_entry : Parser Tree
+  element_or_entry = do
     e ← self 1
     next ← peek
     if is_colon next then (do colon ← take_one; value ← self 1; made (tree.entry e colon value)) else pure e
@@ -159,45 +160,45 @@ module _ (self : ℕ → Parser Tree) where
   -- ---- by context
 
   -- an item that may be starred, else an expression of this precedence
-  abbrev pub starred_or : ℕ → Kind → Parser Tree
-  starred_or loosest k = if is_star k then starred 6 else self loosest
+  abbrev pub starred_or_expression : ℕ → Kind → Parser Tree
+  starred_or_expression loosest k = if is_star k then starred 6 else self loosest
 
   -- an item between curly brackets
-  abbrev pub brace_by : Kind → Parser Tree
-  brace_by k = if is_star k then starred 6 else (if is_double_star k then mapping else keyed)
+  abbrev pub brace_item_by_kind : Kind → Parser Tree
+  brace_item_by_kind k = if is_star k then starred 6 else (if is_double_star k then mapping else element_or_entry)
 
   -- an item between the parentheses of a call
-  abbrev pub argument_by : Kind → Parser Tree
-  argument_by k = if is_star k then starred 1 else (if is_double_star k then double_starred else argument)
+  abbrev pub argument_by_kind : Kind → Parser Tree
+  argument_by_kind k = if is_star k then starred 1 else (if is_double_star k then double_starred else argument)
 
   -- an item among parameters
-  abbrev pub parameter_by : Bool → Kind → Parser Tree
-  parameter_by is_annotated k =
+  abbrev pub parameter_by_kind : Bool → Kind → Parser Tree
+  parameter_by_kind is_annotated k =
       if is_star k then star_parameter is_annotated
       else (if is_double_star k then double_parameter is_annotated else plain_parameter is_annotated)
 
   -- an item of the form that a context asks for
-  abbrev pub item_by : ListContext → Kind → Parser Tree
-  item_by list_context.Items k = starred_or 1 k
-  item_by list_context.Targets k = starred_or 6 k
-  item_by list_context.Subscript k = index
-  item_by list_context.WithItems k = with_item
-  item_by list_context.Braces k = brace_by k
-  item_by list_context.Set k = brace_by k
-  item_by list_context.Entries k = brace_by k
-  item_by list_context.Arguments k = argument_by k
-  item_by list_context.KeywordArguments k = argument_by k
-  item_by list_context.LastArguments k = argument_by k
-  item_by (list_context.Parameters is_annotated) k = parameter_by is_annotated k
-  item_by (list_context.AfterStar is_annotated) k = parameter_by is_annotated k
-  item_by (list_context.KeywordOnly is_annotated) k = parameter_by is_annotated k
-  item_by list_context.Ended k = fail
+  abbrev pub item_by_context : ListContext → Kind → Parser Tree
+  item_by_context list_context.Items k = starred_or_expression 1 k
+  item_by_context list_context.Targets k = starred_or_expression 6 k
+  item_by_context list_context.Subscript k = index
+  item_by_context list_context.WithItems k = with_item
+  item_by_context list_context.Braces k = brace_item_by_kind k
+  item_by_context list_context.Set k = brace_item_by_kind k
+  item_by_context list_context.Entries k = brace_item_by_kind k
+  item_by_context list_context.Arguments k = argument_by_kind k
+  item_by_context list_context.KeywordArguments k = argument_by_kind k
+  item_by_context list_context.LastArguments k = argument_by_kind k
+  item_by_context (list_context.Parameters is_annotated) k = parameter_by_kind is_annotated k
+  item_by_context (list_context.AfterStar is_annotated) k = parameter_by_kind is_annotated k
+  item_by_context (list_context.KeywordOnly is_annotated) k = parameter_by_kind is_annotated k
+  item_by_context list_context.Ended k = fail
 
   -- an item that may stand in a context
   unfoldable pub item : ListContext → Parser Tree
   item here = do
     k ← peek
-    e ← item_by here k
+    e ← item_by_context here k
     checked (fits here e) e
 
   -- ---- lists with commas
@@ -218,26 +219,26 @@ module _ (self : ℕ → Parser Tree) where
         else checked (may_end (next_context here e)) (tree.last e)
 
   -- an item that is read already, and those after it
-  unfoldable pub listed : ListContext → Tree → Parser Pieces
-  listed here e = λ ts. items (length ts) here e ts
+  unfoldable pub parse_items_from : ListContext → Tree → Parser Pieces
+  parse_items_from here e = λ ts. items (length ts) here e ts
 
   -- items, if one begins
-  unfoldable pub some_items : ListContext → Parser Pieces
-  some_items here = do
+  unfoldable pub optional_items : ListContext → Parser Pieces
+  optional_items here = do
     k ← peek
-    if begins here k then (do e ← item here; listed here e) else pure tree.none
+    if begins here k then (do e ← item here; parse_items_from here e) else pure tree.none
 
   -- items without brackets: one alone is itself, and is not starred
-  abbrev pub untupled : Pieces → Parser Tree
-  untupled (tree.last e) = checked (is_at 1 e) e
-  untupled found = made (tree.bare found)
+  abbrev pub single_or_tuple : Pieces → Parser Tree
+  single_or_tuple (tree.last e) = checked (is_at 1 e) e
+  single_or_tuple found = made (tree.bare found)
 
   -- an expression, or a tuple without brackets ("Expression lists")
   unfoldable pub expressions : ListContext → Parser Tree
   expressions here = do
     e ← item here
-    found ← listed here e
-    untupled found
+    found ← parse_items_from here e
+    single_or_tuple found
 
   -- a target, or a tuple of targets without brackets ("Assignment statements")
   unfoldable pub targets : Parser Tree
@@ -296,8 +297,8 @@ module _ (self : ℕ → Parser Tree) where
   -- ---- brackets
 
   -- a comprehension after its element
-  unfoldable pub comprehended : Bracket → Token → Tree → Parser Tree
-  comprehended sign opening e = do
+  unfoldable pub parse_comprehension_display : Bracket → Token → Tree → Parser Tree
+  parse_comprehension_display sign opening e = do
     found ← comprehensions
     closing ← expect (kind.Close sign)
     if is_element (display_kind_of sign e) e
@@ -310,22 +311,23 @@ module _ (self : ℕ → Parser Tree) where
   enclosed sign first opening found closing = made (tree.display (display_kind_of sign first) opening found closing)
 
   -- a display after its first item
-  unfoldable pub displayed : Bracket → Token → Tree → Parser Tree
-  displayed sign opening first = do
-    found ← listed (context_in sign) first
+  unfoldable pub parse_display : Bracket → Token → Tree → Parser Tree
+  parse_display sign opening first = do
+    found ← parse_items_from (context_in sign) first
     closing ← expect (kind.Close sign)
     enclosed sign first opening found closing
 
   -- a display, a comprehension or a form in parentheses, after the opening bracket
-  unfoldable pub filled : Bracket → Token → Parser Tree
-  filled sign opening = do
+  unfoldable pub parse_filled_brackets : Bracket → Token → Parser Tree
+  parse_filled_brackets sign opening = do
     first ← item (context_in sign)
     next ← peek
-    if begins_comprehension next then comprehended sign opening first else displayed sign opening first
+    if begins_comprehension next then parse_comprehension_display sign opening first
+        else parse_display sign opening first
 
   -- brackets with nothing between them
-  unfoldable pub empty : Bracket → Token → Parser Tree
-  empty sign opening = do
+  unfoldable pub parse_empty_brackets : Bracket → Token → Parser Tree
+  parse_empty_brackets sign opening = do
     closing ← take_one
     made (tree.display (empty_display_kind sign) opening tree.none closing)
 
@@ -342,8 +344,8 @@ module _ (self : ℕ → Parser Tree) where
     e ← expressions list_context.Items
     made (tree.yield t (tree.present e))
 
-  unfoldable pub yielded : Parser Tree
-  yielded = do
+  unfoldable pub yield_expression : Parser Tree
+  yield_expression = do
     t ← take_one
     next ← peek
     if same_kind next (kind.Keyword word.From) then yield_from t
@@ -352,52 +354,54 @@ module _ (self : ℕ → Parser Tree) where
   -- a `yield` in parentheses, after the opening one
   unfoldable pub yield_enclosed : Token → Parser Tree
   yield_enclosed opening = do
-    e ← yielded
+    e ← yield_expression
     closing ← expect (kind.Close bracket.Round)
     made (tree.parenthesized opening e closing)
 
   -- ---- calls and subscripts
 
   -- a generator that is the only argument, after its element
-  abbrev pub generated : Tree → Token → Tree → Parser Tree
-  generated callee opening (tree.argument e) = do
+  abbrev pub parse_generator_after : Tree → Token → Tree → Parser Tree
+  parse_generator_after callee opening (tree.argument e) = do
     found ← comprehensions
     closing ← expect (kind.Close bracket.Round)
     g ← made (tree.generator e found)
     only ← made (tree.argument g)
     made (tree.call callee opening (tree.last only) closing)
-  generated callee opening _ = fail
+  parse_generator_after callee opening _ = fail
 
   -- a call after its first argument
-  unfoldable pub called_with : Tree → Token → Tree → Parser Tree
-  called_with callee opening first = do
-    found ← listed list_context.Arguments first
+  unfoldable pub parse_call_arguments : Tree → Token → Tree → Parser Tree
+  parse_call_arguments callee opening first = do
+    found ← parse_items_from list_context.Arguments first
     closing ← expect (kind.Close bracket.Round)
     made (tree.call callee opening found closing)
 
   -- a call with arguments
-  unfoldable pub call_filled : Tree → Token → Parser Tree
-  call_filled callee opening = do
+  unfoldable pub parse_filled_call : Tree → Token → Parser Tree
+  parse_filled_call callee opening = do
     first ← item list_context.Arguments
     next ← peek
-    if begins_comprehension next then generated callee opening first else called_with callee opening first
+    if begins_comprehension next then parse_generator_after callee opening first
+        else parse_call_arguments callee opening first
 
   -- a call without arguments
-  unfoldable pub call_empty : Tree → Token → Parser Tree
-  call_empty callee opening = do
+  unfoldable pub parse_empty_call : Tree → Token → Parser Tree
+  parse_empty_call callee opening = do
     closing ← take_one
     made (tree.call callee opening tree.none closing)
 
-  unfoldable pub called : Tree → Parser Tree
-  called callee = do
+  unfoldable pub parse_call : Tree → Parser Tree
+  parse_call callee = do
     opening ← take_one
     next ← peek
-    if same_kind next (kind.Close bracket.Round) then call_empty callee opening else call_filled callee opening
+    if same_kind next (kind.Close bracket.Round) then parse_empty_call callee opening
+        else parse_filled_call callee opening
 
-  unfoldable pub subscripted : Tree → Parser Tree
-  subscripted e = do
+  unfoldable pub parse_subscript : Tree → Parser Tree
+  parse_subscript e = do
     opening ← take_one
     first ← item list_context.Subscript
-    found ← listed list_context.Subscript first
+    found ← parse_items_from list_context.Subscript first
     closing ← expect (kind.Close bracket.Square)
     made (tree.subscript e opening found closing)

@@ -23,13 +23,13 @@ pub data Header : Type 0 where
   except_of : Token → Tree → Option Alias → Header
   -- perhaps `async`, then `with` and items
   with : Option Token → Token → Pieces → Header
-  -- the same with the items in parentheses
+  -- perhaps `async`, then `with` and items in parentheses
   with_enclosed : Option Token → Token → Token → Pieces → Token → Header
   -- perhaps `async`, then `def`, a name, parameters in parentheses, and perhaps `->` and what is returned
   def : Option Token → Token → Token → Token → Pieces → Token → Tail → Header
   -- `class` and a name
   class : Token → Token → Header
-  -- the same with bases and keywords in parentheses
+  -- `class`, a name, and bases and keywords in parentheses
   class_of : Token → Token → Token → Pieces → Token → Header
 
 -- the tree of a logical line

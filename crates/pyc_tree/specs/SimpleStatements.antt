@@ -63,8 +63,8 @@ parts (suc n) = do
 unfoldable pub all_parts : Parser (List DottedPart)
 all_parts = λ ts. parts (length ts) ts
 
-unfoldable pub dotted : Parser Dotted
-dotted = do
+unfoldable pub dotted_name : Parser Dotted
+dotted_name = do
   first ← expect_name
   more ← all_parts
   pure (record { first = first; parts = more })
@@ -73,7 +73,7 @@ dotted = do
 
 unfoldable pub imported_module : Parser ImportedModule
 imported_module = do
-  path ← dotted
+  path ← dotted_name
   as_name ← alias
   pure (record { path = path; alias = as_name })
 
@@ -100,7 +100,7 @@ dots = λ ts. Some (take_while is_dot_token ts, drop (length (take_while is_dot_
 abbrev pub path_after : List Token → Kind → Parser (Option Dotted)
 path_after (first ∷ more) (kind.Keyword word.Import) = pure None
 path_after found k = do
-  path ← dotted
+  path ← dotted_name
   pure (Some path)
 
 unfoldable pub source : Parser Source
@@ -123,8 +123,8 @@ open_names t from word_import = do
   names ← all_separated imported_name false
   pure (statement.import_from t from word_import None names None)
 
-unfoldable pub imported_from : Parser SimpleStatement
-imported_from = do
+unfoldable pub import_from_statement : Parser SimpleStatement
+import_from_statement = do
   t ← take_one
   from ← source
   word_import ← expect (kind.Keyword word.Import)
@@ -155,7 +155,7 @@ module _ (self : ℕ → Parser Tree) where
 
   -- an expression, a tuple without brackets or a `yield`, by its first token
   abbrev pub value_by : Kind → Parser Tree
-  value_by (kind.Keyword word.Yield) = rule.yielded self
+  value_by (kind.Keyword word.Yield) = rule.yield_expression self
   value_by _ = rule.expressions self list_context.Items
 
   unfoldable pub value : Parser Tree
@@ -191,37 +191,37 @@ module _ (self : ℕ → Parser Tree) where
   assigned e = λ ts. and_then (chain (length ts) e ts) (λ found. pure (chained found))
 
   -- `:`, an annotation, and perhaps a value ("Annotated assignment statements")
-  unfoldable pub annotated : Tree → Parser SimpleStatement
-  annotated e = if is_single_target e then (do
+  unfoldable pub annotated_target : Tree → Parser SimpleStatement
+  annotated_target e = if is_single_target e then (do
     colon ← take_one
     annotation ← self 1
     with_value ← given
     pure (statement.annotate e colon annotation with_value)) else fail
 
   -- an operator and a value ("Augmented assignment statements")
-  unfoldable pub augmented : Tree → Parser SimpleStatement
-  augmented e = if is_single_target e then (do
+  unfoldable pub augmented_assignment : Tree → Parser SimpleStatement
+  augmented_assignment e = if is_single_target e then (do
     sign ← take_one
     f ← value
     pure (statement.augment e sign f)) else fail
 
   -- a statement that begins with an expression
-  unfoldable pub of_expression : Parser SimpleStatement
-  of_expression = do
+  unfoldable pub expression_or_assignment : Parser SimpleStatement
+  expression_or_assignment = do
     e ← rule.expressions self list_context.Items
     next ← peek
-    if is_colon next then annotated e else (if is_augmented next then augmented e else assigned e)
+    if is_colon next then annotated_target e else (if is_augmented next then augmented_assignment e else assigned e)
 
-  unfoldable pub of_yield : Parser SimpleStatement
-  of_yield = do
-    e ← rule.yielded self
+  unfoldable pub yield_statement : Parser SimpleStatement
+  yield_statement = do
+    e ← rule.yield_expression self
     pure (statement.expression e)
 
   -- ---- statements of a keyword
 
   -- "The return statement"
-  unfoldable pub returned : Parser SimpleStatement
-  returned = do
+  unfoldable pub return_statement : Parser SimpleStatement
+  return_statement = do
     t ← take_one
     next ← peek
     if same_kind next end_of_line then pure (statement.return t tree.absent) else (do
@@ -229,8 +229,8 @@ module _ (self : ℕ → Parser Tree) where
       pure (statement.return t (tree.present e)))
 
   -- "The raise statement"
-  unfoldable pub raised : Parser SimpleStatement
-  raised = do
+  unfoldable pub raise_statement : Parser SimpleStatement
+  raise_statement = do
     t ← take_one
     next ← peek
     if same_kind next end_of_line then pure (statement.raise t tree.absent tree.nothing) else (do
@@ -239,16 +239,16 @@ module _ (self : ℕ → Parser Tree) where
       pure (statement.raise t (tree.present e) cause))
 
   -- "The assert statement"
-  unfoldable pub asserted : Parser SimpleStatement
-  asserted = do
+  unfoldable pub assert_statement : Parser SimpleStatement
+  assert_statement = do
     t ← take_one
     test ← self 1
     message ← rule.tail self (kind.Delimiter delimiter.Comma)
     pure (statement.assert t test message)
 
   -- "The del statement"
-  unfoldable pub deleted : Parser SimpleStatement
-  deleted = do
+  unfoldable pub delete_statement : Parser SimpleStatement
+  delete_statement = do
     t ← take_one
     to ← rule.targets self
     pure (statement.delete t to)
@@ -258,16 +258,16 @@ module _ (self : ℕ → Parser Tree) where
   statement_by (kind.Keyword word.Pass) = word_statement
   statement_by (kind.Keyword word.Break) = word_statement
   statement_by (kind.Keyword word.Continue) = word_statement
-  statement_by (kind.Keyword word.Return) = returned
-  statement_by (kind.Keyword word.Raise) = raised
-  statement_by (kind.Keyword word.Assert) = asserted
-  statement_by (kind.Keyword word.Del) = deleted
+  statement_by (kind.Keyword word.Return) = return_statement
+  statement_by (kind.Keyword word.Raise) = raise_statement
+  statement_by (kind.Keyword word.Assert) = assert_statement
+  statement_by (kind.Keyword word.Del) = delete_statement
   statement_by (kind.Keyword word.Global) = declared
   statement_by (kind.Keyword word.Nonlocal) = declared
   statement_by (kind.Keyword word.Import) = imported
-  statement_by (kind.Keyword word.From) = imported_from
-  statement_by (kind.Keyword word.Yield) = of_yield
-  statement_by _ = of_expression
+  statement_by (kind.Keyword word.From) = import_from_statement
+  statement_by (kind.Keyword word.Yield) = yield_statement
+  statement_by _ = expression_or_assignment
 
   -- a simple statement
   unfoldable pub simple : Parser SimpleStatement

@@ -54,7 +54,7 @@ mutual
     mapping : Token → Tree → Tree
     -- a lower bound, `:` and an upper bound, in a subscript
     slice : Perhaps → Token → Perhaps → Tree
-    -- the same, then `:` and a step
+    -- a lower bound, `:`, an upper bound, `:` and a step, in a subscript
     stride : Perhaps → Token → Perhaps → Token → Perhaps → Tree
     -- a plain argument of a call
     argument : Tree → Tree

@@ -96,7 +96,7 @@ unfoldable mutual
   tail_of t.Nothing = tree.nothing
   tail_of (t.After' mark _ x) = tree.after mark.value (tree_of x)
 
--- ---- the same over lists, as contracts see a `Vec`
+-- ---- trees over lists, as contracts see a `Vec`
 
 -- items with a comma each, before others
 abbrev pub pieces_before : List Piece → Pieces → Pieces

@@ -18,13 +18,13 @@ pub enum Header {
     ExceptOf(Token, Box<Expr>, Option<Alias>),
     /// Perhaps `async`, then `with` and items.
     With(Option<Token>, Token, Pieces),
-    /// The same with the items in parentheses.
+    /// Perhaps `async`, then `with` and items in parentheses.
     WithEnclosed(Option<Token>, Token, Token, Pieces, Token),
     /// Perhaps `async`, then `def`, a name, parameters in parentheses, and perhaps `->` and what is returned.
     Def(Option<Token>, Token, Token, Token, Pieces, Token, Tail),
     /// `class` and a name.
     Class(Token, Token),
-    /// The same with bases and keywords in parentheses.
+    /// `class`, a name, and bases and keywords in parentheses.
     ClassOf(Token, Token, Token, Pieces, Token),
 }
 

@@ -59,7 +59,7 @@ pub enum Expr {
     Mapping(Token, Box<Expr>),
     /// A lower bound, `:` and an upper bound, in a subscript.
     Slice(Option<Box<Expr>>, Token, Option<Box<Expr>>),
-    /// The same, then `:` and a step.
+    /// A lower bound, `:`, an upper bound, `:` and a step, in a subscript.
     Stride(Option<Box<Expr>>, Token, Option<Box<Expr>>, Token, Option<Box<Expr>>),
     /// A plain argument of a call.
     Argument(Box<Expr>),

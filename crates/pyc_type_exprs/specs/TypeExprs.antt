@@ -128,7 +128,7 @@ abbrev mutual
   type_expr (expr at inside (plain.subscript value i)) =
       subscript_or_wrong at (inside_of (innermost value)) (is_subscript value) (index_arguments i)
       (dotted_names (innermost value))
-  type_expr (expr at inside (plain.quoted spelled)) = type_expr spelled
+  type_expr (expr at inside (plain.string_annotation spelled)) = type_expr spelled
   type_expr (expr at inside form) = wrong_written at
 
   -- the shape of an expression as an argument

@@ -19,7 +19,7 @@ pub fn dotted_names(alloc: Global, e: &Expr) -> Result<Option<Vec<Text>>, AllocE
         Form::Name(name) => Ok(Some(one_name(alloc, name)?)),
         Form::Attribute { value, name } => {
             let before = dotted_names(alloc, value)?;
-            Ok(after_some(before, name)?)
+            Ok(append_name(before, name)?)
         }
         _ => Ok(None),
     }
@@ -35,7 +35,7 @@ fn one_name(alloc: Global, name: &Text) -> Result<Vec<Text>, AllocError>
 }
 
 /// A name behind others, where there are any.
-fn after_some(before: Option<Vec<Text>>, name: &Text) -> Result<Option<Vec<Text>>, AllocError>
+fn append_name(before: Option<Vec<Text>>, name: &Text) -> Result<Option<Vec<Text>>, AllocError>
     ensures { IfOk result (λ names. option_map (λ v. v.items) names
         ≡ option_map (λ names. names ++ (name.now ∷ [])) (option_map (λ v. v.items) before)) }
 {
@@ -195,7 +195,7 @@ pub fn type_expr(alloc: Global, e: &Expr) -> Result<TypeExpr, AllocError>
             let arguments = index_arguments(alloc, index)?;
             subscript_written(alloc, e.at, value, arguments)
         }
-        Form::Quoted(spelled) => type_expr(alloc, spelled),
+        Form::StringAnnotation(spelled) => type_expr(alloc, spelled),
         _ => Ok(TypeExpr::Wrong(e.at)),
     }
 }

@@ -2,7 +2,7 @@
 use Rattle.std.specs.Prelude.{ℕ, List, Bool, true, false, ◌&&◌, bytes_eq, Option, None, Some}
 use Rattle.std.specs.Bool.{beq}
 use Rattle.std.specs.Cmp.Lexicographic.{pointwise}
-use Rattle.pyc_class.specs.Class.{same_class}
+use Rattle.pyc_class_ids.specs.Class.{same_class}
 use Rattle.pyc_type_forms.specs.TypeView.{ParamView}
 use Rattle.pyc_type_forms.specs.Types.{Kind, plain, star, keyword_only, double_star, Slot}
 use Rattle.pyc_type_forms.specs.Types.{Ty, Tys, Params, Listed, any, none, module_type, instance, class_object}

@@ -1,7 +1,7 @@
 -- The type of the instances of a class (typing specification, "Type annotations").
-use Rattle.pyc_class.specs.declared.class_id.InstanceForm.{InstanceForm}
-use Rattle.pyc_class.specs.declared.class_id.InstanceForm.TheVariants as form
-use Rattle.pyc_class.specs.Class.{Id, form_of}
+use Rattle.pyc_class_ids.specs.declared.class_id.InstanceForm.{InstanceForm}
+use Rattle.pyc_class_ids.specs.declared.class_id.InstanceForm.TheVariants as form
+use Rattle.pyc_class_ids.specs.Class.{Id, form_of}
 use Rattle.pyc_type_forms.specs.Types.{Ty, any, instance, list, dict, tuple_of}
 
 -- the instances of a class of this form: list, dict and tuple stand for their forms over Any

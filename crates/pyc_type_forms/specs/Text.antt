@@ -1,7 +1,7 @@
 -- How a type is written (typing specification, "Type annotations" and "Callables").
 use Rattle.std.specs.Prelude.{ℕ, List, [], ◌∷◌, ◌++◌, Bool, true, false, ◌&&◌, if◌then◌else◌, codes}
 use Rattle.std.specs.List.{flat_map}
-use Rattle.pyc_class.specs.Class.{name_of}
+use Rattle.pyc_class_ids.specs.Class.{name_of}
 use Rattle.pyc_type_forms.specs.Types.{Kind, plain, star, keyword_only, double_star}
 use Rattle.pyc_type_forms.specs.Types.{Ty, Tys, Params, Listed, any, none, module_type, instance, class_object}
 use Rattle.pyc_type_forms.specs.Types.{list, dict}

@@ -1,6 +1,6 @@
 -- Types as plain values, apart from how Rust stores them (typing specification, "Type system concepts").
 use Rattle.std.specs.Prelude.{ℕ, List, Bool, Option}
-use Rattle.pyc_class.specs.Class.{Id}
+use Rattle.pyc_class_ids.specs.Class.{Id}
 
 -- the kind of a parameter, with its name
 pub data Kind : Type 0 where

@@ -40,10 +40,10 @@ joined (ty ∷ []) = ty
 joined tys = union (tys_of tys)
 
 -- a type that is not too large, else Any
-abbrev pub limited : Ty → Ty
-limited ty = if nat_lt most_types (size ty) then any else ty
+abbrev pub any_if_too_large : Ty → Ty
+any_if_too_large ty = if nat_lt most_types (size ty) then any else ty
 
 -- the union of some types: flat, without repeats, in the order in which they are first seen; one type is itself, and a
 -- union that is too large is Any
 abbrev pub union_of : List Ty → Ty
-union_of tys = limited (joined (with_items [] (flat_map items_of tys)))
+union_of tys = any_if_too_large (joined (with_items [] (flat_map items_of tys)))

@@ -6,7 +6,7 @@ ghost use Rattle.pyc_type_forms.specs.Instances.{instance_of};
 ghost use Rattle.pyc_type_forms.specs.Types.{any, dict};
 
 use crate::{DictTypes, Ty};
-use pyc_class::{ClassId, InstanceForm};
+use pyc_class_ids::{ClassId, InstanceForm};
 use std::alloc::{AllocError, Global};
 use std::rc::Rc;
 

@@ -2,7 +2,7 @@
 
 ghost use Rattle.std.specs.Prelude.{◌≡◌, ◌++◌, [], ◌∷◌, IfOk, OnOk, map, option_map, Some};
 ghost use Rattle.std.specs.List.{list_any};
-ghost use Rattle.pyc_class.specs.Order.{order_of, order_contains};
+ghost use Rattle.pyc_class_ids.specs.Mro.{order_of, order_contains};
 ghost use Rattle.pyc_type_forms.specs.TypeView.{ty_of};
 ghost use Rattle.pyc_type_forms.specs.Instances.{instance_of};
 ghost use Rattle.pyc_type_forms.specs.Narrowing as spec;
@@ -12,7 +12,7 @@ use crate::Ty;
 use crate::equality::are_same_types;
 use crate::instances::instance_of;
 use crate::unions::{add, items_of, union_of};
-use pyc_class::{BuiltinClass, ClassId, Lin, Lins};
+use pyc_class_ids::{BuiltinClass, ClassId, Lin, Lins};
 use std::alloc::{AllocError, Global};
 
 /// What a type is where `isinstance` by these classes says yes, item by item and class by class; none where it never
@@ -31,7 +31,7 @@ pub fn narrow_to<L: Lins>(
     for item in &items {
         add_narrowed_by_each(alloc, lins, &mut left, item, classes)?;
     }
-    left_of(alloc, ty, &items, &left)
+    remaining_type(alloc, ty, &items, &left)
 }
 
 /// What a type is where `isinstance` by these classes says no; none where it never does. The only error is that memory
@@ -50,7 +50,7 @@ pub fn narrow_away<L: Lins>(
     for item in &items {
         add_unless(&mut left, item, is_taken(lins, item, classes)?)?;
     }
-    left_of(alloc, ty, &items, &left)
+    remaining_type(alloc, ty, &items, &left)
 }
 
 /// What a type is without None; none where nothing is left. The only error is that memory runs out.
@@ -62,13 +62,18 @@ pub fn without_none(alloc: Global, ty: &Ty) -> Result<Option<Ty>, AllocError>
     for item in &items {
         add_unless(&mut left, item, is_none(item))?;
     }
-    left_of(alloc, ty, &items, &left)
+    remaining_type(alloc, ty, &items, &left)
 }
 
 /// What these items of a type are as a type.
-fn left_of(alloc: Global, ty: &Ty, items: &[Ty], left: &[Ty]) -> Result<Option<Ty>, AllocError>
+fn remaining_type(
+    alloc: Global,
+    ty: &Ty,
+    items: &[Ty],
+    left: &[Ty],
+) -> Result<Option<Ty>, AllocError>
     requires { map ty_of items.now ≡ items_of (ty_of ty.now) }
-    ensures { IfOk result (λ whole. option_map ty_of whole ≡ spec.left_of (ty_of ty.now) (map ty_of left.now)) }
+    ensures { IfOk result (λ whole. option_map ty_of whole ≡ spec.remaining_type (ty_of ty.now) (map ty_of left.now)) }
 {
     if left.is_empty() {
         Ok(None)

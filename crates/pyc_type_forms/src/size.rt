@@ -35,7 +35,7 @@ fn left_after(ty: &Ty, left: u32) -> Option<u32>
     }
 }
 
-/// The same after the types of a row.
+/// What is left of `left` types after those that a row is built of, if they are no more.
 #[cycle(size)]
 fn left_after_each(types: &[Ty], left: u32) -> Option<u32>
     ensures { SomeIff result (row_size (row types.now) ≤ left) (left - row_size (row types.now)) }
@@ -47,7 +47,7 @@ fn left_after_each(types: &[Ty], left: u32) -> Option<u32>
     Some(left)
 }
 
-/// The same after the types of what a call takes.
+/// What is left of `left` types after those that what a call takes is built of, if they are no more.
 #[cycle(size)]
 fn left_after_params(params: &Params, left: u32) -> Option<u32>
     ensures { SomeIff result (params_size (params_of params.now) ≤ left) (left - params_size (params_of params.now)) }
@@ -58,7 +58,7 @@ fn left_after_params(params: &Params, left: u32) -> Option<u32>
     }
 }
 
-/// The same after the types of a row of parameters.
+/// What is left of `left` types after those that a row of parameters is built of, if they are no more.
 #[cycle(size)]
 fn left_after_listed(params: &[Param], left: u32) -> Option<u32>
     ensures { SomeIff result (listed_size (param_row params.now) ≤ left) (left - listed_size (param_row params.now)) }

@@ -4,7 +4,7 @@ ghost use Rattle.std.specs.Prelude.{◌≡◌};
 ghost use Rattle.pyc_type_forms.specs.TypeView.{ty_of};
 
 use pyc_ast::Text;
-use pyc_class::ClassId;
+use pyc_class_ids::ClassId;
 use std::alloc::AllocError;
 use std::rc::Rc;
 
@@ -141,7 +141,7 @@ pub enum ParamKind {
 impl Clone for Ty {
     ghost is_clone = { λ ty copy. ty_of copy ≡ ty_of ty };
 
-    /// The same type: it takes no memory, and costs a reference count. The only error is a full count.
+    /// A clone takes no memory, and costs a reference count. The only error is a full count.
     fn clone(&self) -> Result<Ty, AllocError> {
         Ok(match self {
             Ty::Any => Ty::Any,

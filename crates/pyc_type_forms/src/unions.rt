@@ -23,7 +23,7 @@ pub fn union_of(alloc: Global, types: &[Ty]) -> Result<Ty, AllocError>
     let mut kept = Vec::new(alloc);
     add_new(&mut kept, &items)?;
     let union = joined(alloc, kept)?;
-    limited(&union)
+    any_if_too_large(&union)
 }
 
 /// The items of a type: those of the items of a union, else the type itself.
@@ -110,8 +110,8 @@ fn joined(alloc: Global, types: Vec<Ty>) -> Result<Ty, AllocError>
 }
 
 /// A type that is not too large, else Any.
-fn limited(ty: &Ty) -> Result<Ty, AllocError>
-    ensures { IfOk result (λ limited. ty_of limited ≡ spec.limited (ty_of ty.now)) }
+fn any_if_too_large(ty: &Ty) -> Result<Ty, AllocError>
+    ensures { IfOk result (λ any_if_too_large. ty_of any_if_too_large ≡ spec.any_if_too_large (ty_of ty.now)) }
 {
     if is_at_most(ty, MOST_TYPES) {
         ty.clone()

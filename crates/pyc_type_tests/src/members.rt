@@ -2,7 +2,7 @@
 
 use crate::notation::type_of;
 use pyc_builtins::*;
-use pyc_class::BuiltinClass;
+use pyc_class_ids::BuiltinClass;
 use pyc_type_forms::{Ty, show};
 use std::alloc::{AllocError, Global};
 use std::test::Fail;
@@ -20,7 +20,7 @@ fn text_of(
     }
 }
 
-/// The same on an instance of the type that words spell.
+/// The text of the type of some member of a builtin class, on an instance of the type that `words` spell.
 fn member_text(
     alloc: Global,
     class: BuiltinClass,
@@ -146,14 +146,17 @@ const FOUND_IN: &[(BuiltinClass, &str, Option<BuiltinClass>)] = &[
 ];
 
 /// The class that has the member of a builtin class under a name.
-fn home_of(class: BuiltinClass, name: &str) -> Option<BuiltinClass> {
+fn module_path_of(class: BuiltinClass, name: &str) -> Option<BuiltinClass> {
     Some(builtin_member(class, name)?.class)
 }
 
 #[test]
 fn members_are_found_up_the_order(rt: HostRuntime) -> Result<(), Fail> {
     for (class, name, expected) in FOUND_IN {
-        assert!(rt; home_of(*class, name) == *expected, "{class:?}.{name}");
+        assert!(rt;
+            module_path_of(*class, name) == *expected,
+            "{class:?}.{name}"
+        );
     }
     Ok(())
 }

@@ -72,8 +72,8 @@ fn made_otherwise(alloc: Global, word: &str, stack: &mut Vec<Ty>) -> Result<Ty, 
     if let Some(kind) = kind_of(alloc, word)? {
         return unary(alloc, kind, word == "may_take", stack);
     }
-    if let Some((home, name)) = word.split_once('.') {
-        return Ok(Ty::Instance(class_at(alloc, home, name)?));
+    if let Some((module_path, name)) = word.split_once('.') {
+        return Ok(Ty::Instance(class_at(alloc, module_path, name)?));
     }
     match word.strip_prefix("type:") {
         Some(name) => Ok(Ty::Class(ClassId::builtin(class_of(name)?))),
@@ -94,8 +94,12 @@ fn kind_of(alloc: Global, word: &str) -> Result<Option<ParamKind>, AllocError> {
 }
 
 /// The class of this name in the module of one name.
-pub(crate) fn class_at(alloc: Global, home: &str, name: &str) -> Result<ClassId, AllocError> {
-    ClassId::user(alloc, parts(alloc, home)?, Text::new(alloc, name)?)
+pub(crate) fn class_at(
+    alloc: Global,
+    module_path: &str,
+    name: &str,
+) -> Result<ClassId, AllocError> {
+    ClassId::user(alloc, parts(alloc, module_path)?, Text::new(alloc, name)?)
 }
 
 /// The one part of the name of a module.

@@ -1,7 +1,7 @@
 //! Orders of some tables.
 
-use pyc_class::UnknownOrder;
-use pyc_mro::{Base, Order, Orders};
+use pyc_class_ids::UnknownMro;
+use pyc_mro::{Base, Mro, MroTable};
 use std::alloc::{AllocError, Global};
 use std::fmt::Write;
 use std::test::Fail;
@@ -20,23 +20,23 @@ fn table(alloc: Global, rows: &[&[usize]]) -> Result<Vec<Vec<Base>>, AllocError>
 }
 
 /// The classes of an order, and why it is not known.
-fn shown(alloc: Global, order: &Order<'_>) -> Result<String, Fail> {
+fn shown(alloc: Global, order: &Mro<'_>) -> Result<String, Fail> {
     let mut shown = String::new(alloc);
     for class in order.classes {
         write!(shown, "{class} ")?;
     }
     shown.push_str(match order.unknown {
-        Some(UnknownOrder::Base) => "base",
-        Some(UnknownOrder::Cycle) => "cycle",
-        Some(UnknownOrder::Merge) => "merge",
+        Some(UnknownMro::Base) => "base",
+        Some(UnknownMro::Cycle) => "cycle",
+        Some(UnknownMro::Merge) => "merge",
         None => "known",
     })?;
     Ok(shown)
 }
 
 /// The orders of the table with these rows. The only error is that memory runs out.
-fn orders_of(alloc: Global, rows: &[&[usize]]) -> Result<Orders, AllocError> {
-    Orders::build(alloc, &table(alloc, rows)?)
+fn orders_of(alloc: Global, rows: &[&[usize]]) -> Result<MroTable, AllocError> {
+    MroTable::build(alloc, &table(alloc, rows)?)
 }
 
 /// The order of a class of the table with these rows.

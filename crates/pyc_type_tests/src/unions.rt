@@ -120,7 +120,7 @@ fn split(
     Ok(shown)
 }
 
-/// The same of the type that words spell.
+/// What `isinstance` by `classes` leaves of the type that `words` spell, and what it does not take.
 fn split_words(
     alloc: Global,
     builtins: &Builtins,
@@ -130,7 +130,7 @@ fn split_words(
     Ok(split(alloc, builtins, &type_of(alloc, words)?, classes)?)
 }
 
-/// The same by the classes of these names.
+/// What `isinstance` by the classes of `names` leaves of the type that `words` spell, and what it does not take.
 fn split_by(alloc: Global, builtins: &Builtins, words: &str, names: &str) -> Result<String, Fail> {
     split_words(alloc, builtins, words, &classes_of(alloc, names)?)
 }

@@ -1,10 +1,10 @@
 -- Replacing parts of types by Any keeps what is assignable.
 use Rattle.std.proofs.Common.{◌≡◌, ℕ, zero, suc, false, ◌∷◌, Some, refl, sym, ap, subst}
 use Rattle.std.proofs.lemmas.Bool.{false≢true}
-use Rattle.pyc_class.specs.declared.class_id.InstanceForm.{InstanceForm}
-use Rattle.pyc_class.specs.declared.class_id.InstanceForm.TheVariants as form
-use Rattle.pyc_class.specs.Class.{Id, form_of}
-use Rattle.pyc_class.specs.Order.{Orders}
+use Rattle.pyc_class_ids.specs.declared.class_id.InstanceForm.{InstanceForm}
+use Rattle.pyc_class_ids.specs.declared.class_id.InstanceForm.TheVariants as form
+use Rattle.pyc_class_ids.specs.Class.{Id, form_of}
+use Rattle.pyc_class_ids.specs.Mro.{MroTable}
 use Rattle.pyc_type_forms.specs.Types.{Ty, Tys, Params, Listed}
 use Rattle.pyc_type_forms.specs.Instances.{instance_in}
 use Rattle.pyc_types.specs.Assignable.{Assignable, Every, ToSome, Places, from_any, to_any, of_unknown, each_item, some_item, nothing, to_object, along, to_float, lists, dicts, by_places, each_place, any_length, class_objects, any_arguments, callables, with_call, makes, no_more, and_more, this_item, later_item, no_place, and_place, is_union, is_dots, slots_of, type_at}
@@ -50,7 +50,7 @@ at_kept (another_parameter {t = t} w ws) zero p' at = (t, (refl, subst (λ x. Wi
 at_kept (another_parameter w ws) (suc i) p' at = at_kept ws i p' at
 
 mutual
-  holds : {o : Orders} {a b : Ty} → Assignable o a b → {a' b' : Ty} → WithAny a a' → WithAny b b' → Assignable o a' b'
+  holds : {o : MroTable} {a b : Ty} → Assignable o a b → {a' b' : Ty} → WithAny a a' → WithAny b b' → Assignable o a' b'
   holds from_any replaced wb = from_any
   holds to_any wa replaced = to_any
   holds (of_unknown u) replaced wb = from_any
@@ -108,15 +108,15 @@ mutual
   holds (makes p) same_class_object replaced = to_any
   holds (makes {c = c} p) same_class_object (in_callable vs v) = makes (holds p (made_kept (form_of c) c) v)
 
-  holds_every : {o : Orders} {xs : Tys} {b : Ty} → Every o xs b → {xs' : Tys} {b' : Ty} → RowWithAny xs xs' → WithAny b b' → Every o xs' b'
+  holds_every : {o : MroTable} {xs : Tys} {b : Ty} → Every o xs b → {xs' : Tys} {b' : Ty} → RowWithAny xs xs' → WithAny b b' → Every o xs' b'
   holds_every no_more no_type wb = no_more
   holds_every (and_more p every) (another_type w ws) wb = and_more (holds p w wb) (holds_every every ws wb)
 
-  holds_some : {o : Orders} {a : Ty} {ys : Tys} → ToSome o a ys → {a' : Ty} {ys' : Tys} → WithAny a a' → RowWithAny ys ys' → ToSome o a' ys'
+  holds_some : {o : MroTable} {a : Ty} {ys : Tys} → ToSome o a ys → {a' : Ty} {ys' : Tys} → WithAny a a' → RowWithAny ys ys' → ToSome o a' ys'
   holds_some (this_item p) wa (another_type w ws) = this_item (holds p wa w)
   holds_some (later_item some) wa (another_type w ws) = later_item (holds_some some wa ws)
 
-  holds_places : {o : Orders} {xs ys : Tys} → Places o xs ys → {xs' ys' : Tys} → RowWithAny xs xs' → RowWithAny ys ys' → Places o xs' ys'
+  holds_places : {o : MroTable} {xs ys : Tys} → Places o xs ys → {xs' ys' : Tys} → RowWithAny xs xs' → RowWithAny ys ys' → Places o xs' ys'
   holds_places no_place no_type no_type = no_place
   holds_places (and_place p places) (another_type w ws) (another_type v vs) = and_place (holds p w v) (holds_places places ws vs)
 

@@ -1,10 +1,10 @@
 -- Builtin classes are told apart by their numbers.
 use Rattle.std.proofs.Common.{◌≡◌, ℕ, List, [], ◌∷◌, get_or, IsTrue, refl, sym, ap, ◌∙◌}
 use Rattle.std.proofs.lemmas.Bool.{false≢true, eqb-true}
-use Rattle.pyc_class.specs.declared.builtin_class.BuiltinClass.{BuiltinClass}
-use Rattle.pyc_class.specs.declared.builtin_class.BuiltinClass.TheVariants as class
-use Rattle.pyc_class.specs.BuiltinClasses.{number_of}
-use Rattle.pyc_class.specs.Class.{Id, builtin, user, same_class}
+use Rattle.pyc_class_ids.specs.declared.builtin_class.BuiltinClass.{BuiltinClass}
+use Rattle.pyc_class_ids.specs.declared.builtin_class.BuiltinClass.TheVariants as class
+use Rattle.pyc_class_ids.specs.BuiltinClasses.{number_of}
+use Rattle.pyc_class_ids.specs.Class.{Id, builtin, user, same_class}
 
 -- the builtin classes in the order of their numbers
 abbrev all_builtins : List BuiltinClass

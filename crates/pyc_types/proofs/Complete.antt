@@ -1,8 +1,8 @@
 -- Where the rules lead, the test answers yes, both ways.
 use Rattle.std.proofs.Common.{◌≡◌, true, false, ◌&&◌, ◌||◌, IsTrue, refl, ◌∙◌, ap}
 use Rattle.std.proofs.lemmas.Bool.{false≢true, or_left, or_right, and_from}
-use Rattle.pyc_class.specs.Class.{same_class, object_id, int_id, float_id, form_of}
-use Rattle.pyc_class.specs.Order.{Orders, leads, is_unknown}
+use Rattle.pyc_class_ids.specs.Class.{same_class, object_id, int_id, float_id, form_of}
+use Rattle.pyc_class_ids.specs.Mro.{MroTable, leads, is_unknown}
 use Rattle.pyc_type_forms.specs.Types.{Ty, Tys, Params, any, instance, dots, listed}
 use Rattle.pyc_types.specs.Assignable.{Assignable, Every, ToSome, Places, from_any, to_any, of_unknown, each_item, some_item, nothing, to_object, along, to_float, lists, dicts, by_places, each_place, any_length, class_objects, any_arguments, callables, with_call, makes, no_more, and_more, this_item, later_item, no_place, and_place, is_dots}
 use Rattle.pyc_types.specs.Cross.{goes_to_some}
@@ -11,25 +11,25 @@ use Rattle.pyc_types.proofs.PairLemmas.{rows_there, rows_back}
 use Rattle.pyc_types.proofs.WayLemmas.{simple_there, simple_back, union_there, union_back, some_back, made_by_form}
 
 -- the test answers yes there, and yes back where it is asked the other way round
-abbrev pub Yes : Orders → Ty → Ty → Type 0
+abbrev pub Yes : MroTable → Ty → Ty → Type 0
 Yes o a b = ((ways o a b).there ≡ true) × ((ways o b a).back ≡ true)
 
-simple_yes : (o : Orders) (a b : Ty) → is_simple o a b ≡ true → Yes o a b
+simple_yes : (o : MroTable) (a b : Ty) → is_simple o a b ≡ true → Yes o a b
 simple_yes o a b h = (simple_there o a b h, simple_back o a b h)
 
 -- any arguments on a side are taken
-dots_there : (o : Orders) (ps qs : Params) → IsTrue (is_dots ps || is_dots qs) → (params_ways ps (params_ways_of o ps) qs).there ≡ true
+dots_there : (o : MroTable) (ps qs : Params) → IsTrue (is_dots ps || is_dots qs) → (params_ways ps (params_ways_of o ps) qs).there ≡ true
 dots_there o dots qs h = refl
 dots_there o (listed ps) dots h = refl
 dots_there o (listed ps) (listed qs) h = absurd (false≢true h)
 
-dots_back : (o : Orders) (ps qs : Params) → IsTrue (is_dots ps || is_dots qs) → (params_ways qs (params_ways_of o qs) ps).back ≡ true
+dots_back : (o : MroTable) (ps qs : Params) → IsTrue (is_dots ps || is_dots qs) → (params_ways qs (params_ways_of o qs) ps).back ≡ true
 dots_back o ps dots h = refl
 dots_back o dots (listed qs) h = refl
 dots_back o (listed ps) (listed qs) h = absurd (false≢true h)
 
 mutual
-  pub complete : {o : Orders} {a b : Ty} → Assignable o a b → Yes o a b
+  pub complete : {o : MroTable} {a b : Ty} → Assignable o a b → Yes o a b
   complete {o} {a} {b} from_any = simple_yes o any b refl
   complete {o} {a} {b} to_any = simple_yes o a any (or_left _ _ (or_right (is_any a) true refl))
   complete {o} {a} {b} (of_unknown {c = c} u) = simple_yes o (instance c) b (or_right (is_any b) (is_unknown (o c) || is_object b) (or_left (is_unknown (o c)) (is_object b) u))
@@ -80,14 +80,14 @@ mutual
       let yes = complete p in
       (or_left _ _ (ap (λ w. w.there) (made_by_form o (form_of c) c s) ∙ yes.0), or_left _ _ yes.1)
 
-  complete_every : {o : Orders} {xs : Tys} {b : Ty} → Every o xs b → ((gathered (ways_of o xs) b).there ≡ true) × (all_back (ways o b) xs ≡ true)
+  complete_every : {o : MroTable} {xs : Tys} {b : Ty} → Every o xs b → ((gathered (ways_of o xs) b).there ≡ true) × (all_back (ways o b) xs ≡ true)
   complete_every no_more = (refl, refl)
   complete_every (and_more p every) =
       let yes = complete p in
       let rest = complete_every every in
       (and_from _ _ yes.0 rest.0, and_from _ _ yes.1 rest.1)
 
-  complete_some : {o : Orders} {a : Ty} {ys : Tys} → ToSome o a ys → (goes_to_some (ways o a) ys ≡ true) × ((gathered (ways_of o ys) a).back ≡ true)
+  complete_some : {o : MroTable} {a : Ty} {ys : Tys} → ToSome o a ys → (goes_to_some (ways o a) ys ≡ true) × ((gathered (ways_of o ys) a).back ≡ true)
   complete_some (this_item p) =
       let yes = complete p in
       (or_left _ _ yes.0, or_left _ _ yes.1)
@@ -95,7 +95,7 @@ mutual
       let yes = complete_some some in
       (or_right _ _ yes.0, or_right _ _ yes.1)
 
-  complete_places : {o : Orders} {xs ys : Tys} → Places o xs ys → ((place_ways (ways_of o xs) ys).there ≡ true) × ((place_ways (ways_of o ys) xs).back ≡ true)
+  complete_places : {o : MroTable} {xs ys : Tys} → Places o xs ys → ((place_ways (ways_of o xs) ys).there ≡ true) × ((place_ways (ways_of o ys) xs).back ≡ true)
   complete_places no_place = (refl, refl)
   complete_places (and_place p places) =
       let yes = complete p in

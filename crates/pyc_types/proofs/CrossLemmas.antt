@@ -1,10 +1,11 @@
--- Two unions that are crossed: what is done joined with what is left, and that the ways are those of the rule for unions.
+-- Two unions that are crossed: what is done joined with what is left, and that the ways are those of the rule for
+-- unions.
 use Rattle.std.proofs.Common.{◌≡◌, ℕ, zero, suc, ◌≤◌, Bool, true, false, ◌&&◌, ◌||◌, not, nat_lt, nat_le, List, [], ◌∷◌, length, take, drop, replicate, arith, refl, sym, ◌∙◌, ap, subst}
 use Rattle.std.specs.List.{list_all}
 use Rattle.std.proofs.Math.Bool.{or-false, or_assoc, and-true, and_assoc}
 use Rattle.std.proofs.lemmas.List.{drop_all}
 use Rattle.std.proofs.lemmas.Bool.{false≢true, or_left, or_right, and_parts, leb-true}
-use Rattle.pyc_class.specs.Order.{Orders, is_unknown}
+use Rattle.pyc_class_ids.specs.Mro.{MroTable, is_unknown}
 use Rattle.pyc_type_forms.specs.declared.types.Ty.{Ty as TyOf}
 use Rattle.pyc_type_forms.specs.Types.{Ty, Tys, any, none, module_type, instance, class_object, list, dict, tuple, tuple_of, union, callable, nil, cons}
 use Rattle.pyc_type_forms.specs.TypeView.{ty_of, row}
@@ -40,7 +41,7 @@ reach_length f (cons y ys) (mark ∷ marks) = ap suc (reach_length f ys marks)
 pub ruleset crosses = (or-false, or_assoc, and-true, and_assoc, reach_length)
 
 -- no item is left
-pub rows_done : (o : Orders) (xs ys : List TyOf) (i : ℕ) (there back : Bool) (marks : List Bool) → length xs ≤ i
+pub rows_done : (o : MroTable) (xs ys : List TyOf) (i : ℕ) (there back : Bool) (marks : List Bool) → length xs ≤ i
     → (there && each_goes (ways_of o (row (drop i xs))) (row ys)) ≡ each_goes (ways_of o (row xs)) (row ys)
     → reach_all (ways_of o (row (drop i xs))) (row ys) marks ≡ reach_all (ways_of o (row xs)) (row ys) (replicate 64 false)
     → back ≡ list_all (λ mark. mark) (take (length ys) marks)
@@ -64,7 +65,7 @@ not_so true h = absurd (false≢true h)
 not_so false h = refl
 
 -- a type that is no union goes to a union that has an item where it goes to some item
-goes_there : (o : Orders) (a y : Ty) (ys : Tys) → is_union a ≡ false → (ways o a (union (cons y ys))).there ≡ goes_to_some (ways o a) (cons y ys)
+goes_there : (o : MroTable) (a y : Ty) (ys : Tys) → is_union a ≡ false → (ways o a (union (cons y ys))).there ≡ goes_to_some (ways o a) (cons y ys)
 goes_there o any y ys plain = refl
 goes_there o (union xs) y ys plain = absurd (false≢true (sym plain))
 goes_there o none y ys plain = or-false _ ∙ items_there o none none_rule (cons y ys)
@@ -81,7 +82,7 @@ goes_there o (tuple_of x) y ys plain = or-false _ ∙ items_there o (tuple_of x)
 goes_there o (callable ps r) y ys plain = or-false _ ∙ items_there o (callable ps r) (callable_rule o ps (params_ways_of o ps) (ways o r)) (cons y ys)
 
 -- each of a row does so
-each_there : (o : Orders) (xs : Tys) (y : Ty) (ys : Tys) → is_flat xs ≡ true → (gathered (ways_of o xs) (union (cons y ys))).there ≡ each_goes (ways_of o xs) (cons y ys)
+each_there : (o : MroTable) (xs : Tys) (y : Ty) (ys : Tys) → is_flat xs ≡ true → (gathered (ways_of o xs) (union (cons y ys))).there ≡ each_goes (ways_of o xs) (cons y ys)
 each_there o nil y ys flat = refl
 each_there o (cons x xs) y ys flat =
     let parts = and_parts (not (is_union x)) (is_flat xs) flat in
@@ -109,7 +110,7 @@ reached_back fs (cons y ys) (suc n) within =
     ∙ ap (λ b. (gathered fs y).back && b) (reached_back fs ys n (omega (arith, within)))
 
 -- a type that is no union goes to a union that has an item where it goes to some item, asked the other way round
-back_of : (o : Orders) (x : Ty) (xs : Tys) (y : Ty) → is_union y ≡ false → back_to o (ways_of o (cons x xs)) y ≡ (gathered (ways_of o (cons x xs)) y).back
+back_of : (o : MroTable) (x : Ty) (xs : Tys) (y : Ty) → is_union y ≡ false → back_to o (ways_of o (cons x xs)) y ≡ (gathered (ways_of o (cons x xs)) y).back
 back_of o x xs any plain = sym (or_left _ _ (simple_back o any x refl))
 back_of o x xs (union ys) plain = absurd (false≢true (sym plain))
 back_of o x xs (instance d) plain =
@@ -124,7 +125,7 @@ back_of o x xs (tuple_of y) plain = refl
 back_of o x xs (callable qs s) plain = refl
 
 -- each of a row does so
-each_back_of : (o : Orders) (x : Ty) (xs ys : Tys) → is_flat ys ≡ true → all_back_to o (ways_of o (cons x xs)) ys ≡ each_back (ways_of o (cons x xs)) ys
+each_back_of : (o : MroTable) (x : Ty) (xs ys : Tys) → is_flat ys ≡ true → all_back_to o (ways_of o (cons x xs)) ys ≡ each_back (ways_of o (cons x xs)) ys
 each_back_of o x xs nil flat = refl
 each_back_of o x xs (cons y ys) flat =
     let parts = and_parts (not (is_union y)) (is_flat ys) flat in
@@ -147,7 +148,7 @@ enough_marks xs ys h =
     omega (arith, few, count_row ys)
 
 -- crossing is the rule for unions
-pub crossed : (o : Orders) (xs ys : Tys) → is_crossable xs ys ≡ true → cross_ways (ways_of o xs) ys ≡ union_rule o (ways_of o xs) (union ys)
+pub crossed : (o : MroTable) (xs ys : Tys) → is_crossable xs ys ≡ true → cross_ways (ways_of o xs) ys ≡ union_rule o (ways_of o xs) (union ys)
 crossed o nil ys h = absurd (false≢true h)
 crossed o (cons x xs) nil h = absurd (false≢true (crossable_parts (cons x xs) nil h).0)
 crossed o (cons x xs) (cons y ys) h =

@@ -1,33 +1,33 @@
 -- Each regular type goes to itself.
 use Rattle.std.proofs.Common.{◌≡◌, ℕ, zero, suc, Some, IsTrue, inl, inr, refl, sym, ◌∙◌, subst}
 use Rattle.std.proofs.lemmas.Bool.{false≢true, or_cases, or_left, or_right}
-use Rattle.pyc_class.specs.Class.{Id, same_class, object_id}
-use Rattle.pyc_class.specs.Order.{Orders, leads, is_unknown}
+use Rattle.pyc_class_ids.specs.Class.{Id, same_class, object_id}
+use Rattle.pyc_class_ids.specs.Mro.{MroTable, leads, is_unknown}
 use Rattle.pyc_type_forms.specs.Types.{Ty, Tys, Params, Listed, any, none, module_type, instance, class_object, list, dict, tuple, tuple_of, union, callable, nil, cons, dots, listed, no_param, param}
 use Rattle.pyc_types.specs.Assignable.{Assignable, Every, ToSome, Places, from_any, to_any, of_unknown, each_item, some_item, nothing, to_object, along, lists, dicts, by_places, any_length, class_objects, any_arguments, callables, no_more, and_more, this_item, later_item, no_place, and_place, slots_of, type_at}
-use Rattle.pyc_types.specs.OrderLaws.{IsRegular, IsRegularRow, IsRegularCall, HasRegularTypes, HoldsItself, IsReflexive}
+use Rattle.pyc_types.specs.MroLaws.{IsRegular, IsRegularRow, IsRegularCall, HasRegularTypes, HoldsItself, IsReflexive}
 use Rattle.pyc_types.proofs.PairLemmas.{some_is, none≢some}
 use Rattle.pyc_types.proofs.RegularLemmas.{own_alone, fits_itself, slot_at}
 use Rattle.pyc_types.proofs.Rules.{meets_the_rules}
 
 -- ---- unions
 
-all_to_any : {o : Orders} (xs : Tys) → Every o xs any
+all_to_any : {o : MroTable} (xs : Tys) → Every o xs any
 all_to_any nil = no_more
 all_to_any (cons x xs) = and_more to_any (all_to_any xs)
 
-all_to_object : {o : Orders} {d : Id} (xs : Tys) → IsTrue (same_class d object_id) → Every o xs (instance d)
+all_to_object : {o : MroTable} {d : Id} (xs : Tys) → IsTrue (same_class d object_id) → Every o xs (instance d)
 all_to_object nil is = no_more
 all_to_object (cons x xs) is = and_more (to_object is) (all_to_object xs is)
 
 -- a union goes where each of its items does
-pub each_of : {o : Orders} (xs : Tys) {b : Ty} → Assignable o (union xs) b → Every o xs b
+pub each_of : {o : MroTable} (xs : Tys) {b : Ty} → Assignable o (union xs) b → Every o xs b
 each_of xs to_any = all_to_any xs
 each_of xs (each_item every) = every
 each_of xs (some_item plain some) = absurd (false≢true (sym plain))
 each_of xs (to_object is) = all_to_object xs is
 
-module _ (o : Orders) (x : Ty) (ys : Tys) (among : (a : Ty) → Assignable o a x → ToSome o a ys) where
+module _ (o : MroTable) (x : Ty) (ys : Tys) (among : (a : Ty) → Assignable o a x → ToSome o a ys) where
   mutual
     -- what goes to an item of a union goes to the union
     widen : (a : Ty) → Assignable o a x → Assignable o a (union ys)
@@ -49,7 +49,7 @@ module _ (o : Orders) (x : Ty) (ys : Tys) (among : (a : Ty) → Assignable o a x
 
 -- ---- all types
 
-module _ (o : Orders) (holds : HoldsItself o) where
+module _ (o : MroTable) (holds : HoldsItself o) where
   itself_instance : (c : Id) → Assignable o (instance c) (instance c)
   itself_instance c = elim (or_cases (is_unknown (o c)) (leads o c c) (holds c)) [ inl unknown ↦ of_unknown unknown | inr led ↦ along led ]
 

@@ -13,4 +13,4 @@ pub mod RegularLemmas
 pub mod ItselfLemmas
 pub mod ClassLemmas
 pub mod ThroughLemmas
-pub mod BuiltinOrderLemmas
+pub mod BuiltinMroLemmas

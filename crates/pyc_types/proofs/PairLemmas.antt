@@ -2,7 +2,7 @@
 use Rattle.std.proofs.Common.{◌≡◌, ℕ, zero, suc, ◌+◌, Bool, true, false, ◌||◌, not, Option, Some, None, IsTrue, refl, sym, ap, subst, is_some, arith}
 use Rattle.std.proofs.Math.Nat.{zero-add}
 use Rattle.std.proofs.lemmas.Bool.{false≢true, and_parts, and_from}
-use Rattle.pyc_class.specs.Order.{Orders}
+use Rattle.pyc_class_ids.specs.Mro.{MroTable}
 use Rattle.pyc_type_forms.specs.Types.{Ty, Listed, no_param, param}
 use Rattle.pyc_types.specs.declared.ways.Ways.{Ways}
 use Rattle.pyc_types.specs.Parameters.{serves}
@@ -28,7 +28,7 @@ add-suc n m = omega arith
 
 -- ---- from each pair to all
 
-module _ (o : Orders) where
+module _ (o : MroTable) where
   row_from : (pair : ℕ → Ways → Ways) (get : Ways → Bool) (meets : (a b : Ways) → get a ≡ true → get b ≡ true → get (meet a b) ≡ true) (ends : get (both true true) ≡ true)
       (n : ℕ) (p : Ty) (qs : Listed) → ((j : ℕ) (q : Ty) → type_at qs j ≡ Some q → get (pair (n + j) (ways o p q)) ≡ true) → get (row_ways pair n (ways o p) qs) ≡ true
   row_from pair get meets ends n p no_param each = ends
@@ -48,7 +48,7 @@ implied : (s b : Bool) → (IsTrue s → b ≡ true) → (not s || b) ≡ true
 implied true b holds = holds refl
 implied false b holds = refl
 
-module _ (o : Orders) (ps qs : Listed) where
+module _ (o : MroTable) (ps qs : Listed) where
   -- where each wanted parameter goes backwards to the one that serves it, all pairs go there
   pub rows_there : ((i j : ℕ) (p q : Ty) → type_at ps i ≡ Some p → type_at qs j ≡ Some q → IsTrue (serves (slots_of ps) (slots_of qs) i j) → (ways o p q).back ≡ true)
       → (rows_ways (pair_ways (slots_of ps) (slots_of qs)) 0 (listed_ways_of o ps) qs).there ≡ true
@@ -65,7 +65,7 @@ module _ (o : Orders) (ps qs : Listed) where
 
 -- ---- from all to each pair
 
-module _ (o : Orders) where
+module _ (o : MroTable) where
   row_at : (pair : ℕ → Ways → Ways) (get : Ways → Bool) (parts : (a b : Ways) → get (meet a b) ≡ true → (get a ≡ true) × (get b ≡ true))
       (n : ℕ) (p : Ty) (qs : Listed) (j : ℕ) (q : Ty) → type_at qs j ≡ Some q → get (row_ways pair n (ways o p) qs) ≡ true → get (pair (n + j) (ways o p q)) ≡ true
   row_at pair get parts n p no_param j q at holds = absurd (none≢some at)
@@ -87,7 +87,7 @@ implies : (s b : Bool) → (not s || b) ≡ true → IsTrue s → b ≡ true
 implies true b h s = h
 implies false b h s = absurd (false≢true s)
 
-module _ (o : Orders) (ps qs : Listed) (i j : ℕ) (p q : Ty) (at : type_at ps i ≡ Some p) (at' : type_at qs j ≡ Some q) where
+module _ (o : MroTable) (ps qs : Listed) (i j : ℕ) (p q : Ty) (at : type_at ps i ≡ Some p) (at' : type_at qs j ≡ Some q) where
   -- where all pairs go there, a wanted parameter goes backwards to the one that serves it
   pub served_there : (rows_ways (pair_ways (slots_of ps) (slots_of qs)) 0 (listed_ways_of o ps) qs).there ≡ true → IsTrue (serves (slots_of ps) (slots_of qs) i j) → (ways o p q).back ≡ true
   served_there holds s =

@@ -7,7 +7,7 @@ use Rattle.std.specs.List.{slice_get, position_from, list_all}
 use Rattle.pyc_type_forms.specs.Types.{Kind, plain, star, keyword_only, double_star, Slot, Ty, Listed, no_param, param}
 use Rattle.pyc_types.specs.Parameters.{is_plain, is_star, is_double_star, is_star_kind, is_double_star_kind, count_plain, plain_from, named_from, server_of, server_at, server, serves_at, serves, all_below, is_free, is_served_by, is_served, is_used, any_below, keeps_optional, fits}
 use Rattle.pyc_types.specs.Assignable.{slots_of, type_at}
-use Rattle.pyc_types.specs.OrderLaws.{may_precede, may_stand_before, are_regular}
+use Rattle.pyc_types.specs.MroLaws.{may_precede, may_stand_before, are_regular}
 use Rattle.pyc_types.proofs.PairLemmas.{some_is, none≢some}
 use Rattle.pyc_types.proofs.PlaceLemmas.{below_passes}
 

@@ -1,10 +1,10 @@
 -- Where the test answers yes, both ways, the rules lead.
 use Rattle.std.proofs.Common.{◌≡◌, ℕ, List, zero, suc, true, false, ◌&&◌, ◌||◌, Some, inl, inr, refl, subst}
 use Rattle.std.proofs.lemmas.Bool.{false≢true, or_cases, or_right, and_parts}
-use Rattle.pyc_class.specs.declared.class_id.InstanceForm.{InstanceForm}
-use Rattle.pyc_class.specs.declared.class_id.InstanceForm.TheVariants as form
-use Rattle.pyc_class.specs.Class.{Id, same_class, int_id, float_id, form_of}
-use Rattle.pyc_class.specs.Order.{Orders, leads, is_unknown}
+use Rattle.pyc_class_ids.specs.declared.class_id.InstanceForm.{InstanceForm}
+use Rattle.pyc_class_ids.specs.declared.class_id.InstanceForm.TheVariants as form
+use Rattle.pyc_class_ids.specs.Class.{Id, same_class, int_id, float_id, form_of}
+use Rattle.pyc_class_ids.specs.Mro.{MroTable, leads, is_unknown}
 use Rattle.pyc_type_forms.specs.Types.{Ty, Tys, Params, Listed, any, none, module_type, instance, class_object, list, dict, tuple, tuple_of, union, callable, nil, cons, dots, listed, no_param, param}
 use Rattle.pyc_type_forms.specs.Instances.{instance_of, instance_in}
 use Rattle.pyc_types.specs.declared.ways.Ways.{Ways}
@@ -15,16 +15,16 @@ use Rattle.pyc_types.specs.Ways.{is_any, is_unknown_instance, is_object, is_simp
 use Rattle.pyc_types.proofs.PairLemmas.{some_is, none≢some, served_there, served_back}
 
 -- what the ways between two types show
-abbrev pub Shows : Orders → Ty → Ty → Ways → Type 0
+abbrev pub Shows : MroTable → Ty → Ty → Ways → Type 0
 Shows o a b w = (w.there ≡ true → Assignable o a b) × (w.back ≡ true → Assignable o b a)
 
 -- what the test shows of a type against every other
-abbrev pub IsSound : Orders → Ty → Type 0
+abbrev pub IsSound : MroTable → Ty → Type 0
 IsSound o a = (b : Ty) → Shows o a b (ways o a b)
 
 -- ---- simple rules
 
-any_source : (o : Orders) (a b : Ty) → is_any a ≡ true → Assignable o a b
+any_source : (o : MroTable) (a b : Ty) → is_any a ≡ true → Assignable o a b
 any_source o any b h = from_any
 any_source o none b h = absurd (false≢true h)
 any_source o (module_type m) b h = absurd (false≢true h)
@@ -37,7 +37,7 @@ any_source o (tuple_of x) b h = absurd (false≢true h)
 any_source o (union xs) b h = absurd (false≢true h)
 any_source o (callable ps r) b h = absurd (false≢true h)
 
-any_target : (o : Orders) (a b : Ty) → is_any b ≡ true → Assignable o a b
+any_target : (o : MroTable) (a b : Ty) → is_any b ≡ true → Assignable o a b
 any_target o a any h = to_any
 any_target o a none h = absurd (false≢true h)
 any_target o a (module_type m) h = absurd (false≢true h)
@@ -50,7 +50,7 @@ any_target o a (tuple_of y) h = absurd (false≢true h)
 any_target o a (union ys) h = absurd (false≢true h)
 any_target o a (callable qs s) h = absurd (false≢true h)
 
-unknown_source : (o : Orders) (a b : Ty) → is_unknown_instance o a ≡ true → Assignable o a b
+unknown_source : (o : MroTable) (a b : Ty) → is_unknown_instance o a ≡ true → Assignable o a b
 unknown_source o any b h = absurd (false≢true h)
 unknown_source o none b h = absurd (false≢true h)
 unknown_source o (module_type m) b h = absurd (false≢true h)
@@ -63,7 +63,7 @@ unknown_source o (tuple_of x) b h = absurd (false≢true h)
 unknown_source o (union xs) b h = absurd (false≢true h)
 unknown_source o (callable ps r) b h = absurd (false≢true h)
 
-object_target : (o : Orders) (a b : Ty) → is_object b ≡ true → Assignable o a b
+object_target : (o : MroTable) (a b : Ty) → is_object b ≡ true → Assignable o a b
 object_target o a any h = absurd (false≢true h)
 object_target o a none h = absurd (false≢true h)
 object_target o a (module_type m) h = absurd (false≢true h)
@@ -76,7 +76,7 @@ object_target o a (tuple_of y) h = absurd (false≢true h)
 object_target o a (union ys) h = absurd (false≢true h)
 object_target o a (callable qs s) h = absurd (false≢true h)
 
-pub simple_sound : (o : Orders) (a b : Ty) → is_simple o a b ≡ true → Assignable o a b
+pub simple_sound : (o : MroTable) (a b : Ty) → is_simple o a b ≡ true → Assignable o a b
 simple_sound o a b h =
     elim (or_cases (is_any a || is_any b) (is_unknown_instance o a || is_object b) h) [
       | inl anys ↦ elim (or_cases (is_any a) (is_any b) anys) [ inl source ↦ any_source o a b source | inr target ↦ any_target o a b target ]
@@ -84,7 +84,7 @@ simple_sound o a b h =
     ]
 
 -- with the simple rules
-with_sound : (o : Orders) (a b : Ty) (w : Ways) → Shows o a b w → Shows o a b (with_simple o a b w)
+with_sound : (o : MroTable) (a b : Ty) (w : Ways) → Shows o a b w → Shows o a b (with_simple o a b w)
 with_sound o a b w shows = (
   λ h. elim (or_cases w.there (is_simple o a b) h) [ inl own ↦ shows.0 own | inr simple ↦ simple_sound o a b simple ],
   λ h. elim (or_cases w.back (is_simple o b a) h) [ inl own ↦ shows.1 own | inr simple ↦ simple_sound o b a simple ],
@@ -92,7 +92,7 @@ with_sound o a b w shows = (
 
 -- ---- into unions
 
-module _ (o : Orders) (a : Ty) (plain : is_union a ≡ false) (rule : Ty → Ways) (sound_rule : (b : Ty) → Shows o a b (rule b)) where
+module _ (o : MroTable) (a : Ty) (plain : is_union a ≡ false) (rule : Ty → Ways) (sound_rule : (b : Ty) → Shows o a b (rule b)) where
   mutual
     pub into_sound : (b : Ty) → Shows o a b (into o a rule b)
     into_sound any = with_sound o a any (rule any) (sound_rule any)
@@ -125,7 +125,7 @@ module _ (o : Orders) (a : Ty) (plain : is_union a ≡ false) (rule : Ty → Way
 
 -- ---- the rule of each form
 
-none_sound : (o : Orders) (b : Ty) → Shows o none b (none_rule b)
+none_sound : (o : MroTable) (b : Ty) → Shows o none b (none_rule b)
 none_sound o any = (λ e. absurd (false≢true e), λ e. absurd (false≢true e))
 none_sound o none = (λ h. nothing, λ h. nothing)
 none_sound o (module_type m) = (λ e. absurd (false≢true e), λ e. absurd (false≢true e))
@@ -138,10 +138,10 @@ none_sound o (tuple_of y) = (λ e. absurd (false≢true e), λ e. absurd (false�
 none_sound o (union ys) = (λ e. absurd (false≢true e), λ e. absurd (false≢true e))
 none_sound o (callable qs s) = (λ e. absurd (false≢true e), λ e. absurd (false≢true e))
 
-module_sound : {m : List (List ℕ)} (o : Orders) (b : Ty) → Shows o (module_type m) b (both false false)
+module_sound : {m : List (List ℕ)} (o : MroTable) (b : Ty) → Shows o (module_type m) b (both false false)
 module_sound o b = (λ e. absurd (false≢true e), λ e. absurd (false≢true e))
 
-goes_sound : (o : Orders) (c d : Id) → instance_goes o c d ≡ true → Assignable o (instance c) (instance d)
+goes_sound : (o : MroTable) (c d : Id) → instance_goes o c d ≡ true → Assignable o (instance c) (instance d)
 goes_sound o c d h =
     elim (or_cases (leads o c d) (leads o c int_id && same_class d float_id) h) [
       | inl led ↦ along led
@@ -150,7 +150,7 @@ goes_sound o c d h =
           to_float parts.0 parts.1
     ]
 
-instance_sound : (o : Orders) (c : Id) (b : Ty) → Shows o (instance c) b (instance_rule o c b)
+instance_sound : (o : MroTable) (c : Id) (b : Ty) → Shows o (instance c) b (instance_rule o c b)
 instance_sound o c any = (λ e. absurd (false≢true e), λ e. absurd (false≢true e))
 instance_sound o c none = (λ e. absurd (false≢true e), λ e. absurd (false≢true e))
 instance_sound o c (module_type m) = (λ e. absurd (false≢true e), λ e. absurd (false≢true e))
@@ -167,7 +167,7 @@ instance_sound o c (callable qs s) = (λ h. with_call h, λ h. absurd (false≢t
 invariant_parts : (w : Ways) → (w.there && w.back) ≡ true → (w.there ≡ true) × (w.back ≡ true)
 invariant_parts w h = and_parts w.there w.back h
 
-list_sound : (o : Orders) (x : Ty) → IsSound o x → (b : Ty) → Shows o (list x) b (list_rule (ways o x) b)
+list_sound : (o : MroTable) (x : Ty) → IsSound o x → (b : Ty) → Shows o (list x) b (list_rule (ways o x) b)
 list_sound o x sx any = (λ e. absurd (false≢true e), λ e. absurd (false≢true e))
 list_sound o x sx none = (λ e. absurd (false≢true e), λ e. absurd (false≢true e))
 list_sound o x sx (module_type m) = (λ e. absurd (false≢true e), λ e. absurd (false≢true e))
@@ -183,7 +183,7 @@ list_sound o x sx (tuple_of y) = (λ e. absurd (false≢true e), λ e. absurd (f
 list_sound o x sx (union ys) = (λ e. absurd (false≢true e), λ e. absurd (false≢true e))
 list_sound o x sx (callable qs s) = (λ e. absurd (false≢true e), λ e. absurd (false≢true e))
 
-dict_sound : (o : Orders) (k v : Ty) → IsSound o k → IsSound o v → (b : Ty) → Shows o (dict k v) b (dict_rule (ways o k) (ways o v) b)
+dict_sound : (o : MroTable) (k v : Ty) → IsSound o k → IsSound o v → (b : Ty) → Shows o (dict k v) b (dict_rule (ways o k) (ways o v) b)
 dict_sound o k v sk sv any = (λ e. absurd (false≢true e), λ e. absurd (false≢true e))
 dict_sound o k v sk sv none = (λ e. absurd (false≢true e), λ e. absurd (false≢true e))
 dict_sound o k v sk sv (module_type m) = (λ e. absurd (false≢true e), λ e. absurd (false≢true e))
@@ -208,17 +208,17 @@ dict_sound o k v sk sv (union ys) = (λ e. absurd (false≢true e), λ e. absurd
 dict_sound o k v sk sv (callable qs s) = (λ e. absurd (false≢true e), λ e. absurd (false≢true e))
 
 -- what the test shows of each type of a row
-abbrev AreSound : Orders → Tys → Type 0
+abbrev AreSound : MroTable → Tys → Type 0
 AreSound o nil = Unit
 AreSound o (cons x xs) = IsSound o x × AreSound o xs
 
-gathered_every : (o : Orders) (xs : Tys) → AreSound o xs → (b : Ty) → (gathered (ways_of o xs) b).there ≡ true → Every o xs b
+gathered_every : (o : MroTable) (xs : Tys) → AreSound o xs → (b : Ty) → (gathered (ways_of o xs) b).there ≡ true → Every o xs b
 gathered_every o nil sxs b h = no_more
 gathered_every o (cons x xs) sxs b h =
     let p = and_parts (ways o x b).there (gathered (ways_of o xs) b).there h in
     and_more ((sxs.0 b).0 p.0) (gathered_every o xs sxs.1 b p.1)
 
-gathered_some : (o : Orders) (xs : Tys) → AreSound o xs → (b : Ty) → (gathered (ways_of o xs) b).back ≡ true → ToSome o b xs
+gathered_some : (o : MroTable) (xs : Tys) → AreSound o xs → (b : Ty) → (gathered (ways_of o xs) b).back ≡ true → ToSome o b xs
 gathered_some o nil sxs b h = absurd (false≢true h)
 gathered_some o (cons x xs) sxs b h =
     elim (or_cases (ways o x b).back (gathered (ways_of o xs) b).back h) [
@@ -226,13 +226,13 @@ gathered_some o (cons x xs) sxs b h =
       | inr later ↦ later_item (gathered_some o xs sxs.1 b later)
     ]
 
-all_back_every : (o : Orders) (x : Ty) → IsSound o x → (ys : Tys) → all_back (ways o x) ys ≡ true → Every o ys x
+all_back_every : (o : MroTable) (x : Ty) → IsSound o x → (ys : Tys) → all_back (ways o x) ys ≡ true → Every o ys x
 all_back_every o x sx nil h = no_more
 all_back_every o x sx (cons y ys) h =
     let p = and_parts (ways o x y).back (all_back (ways o x) ys) h in
     and_more ((sx y).1 p.0) (all_back_every o x sx ys p.1)
 
-places_there : (o : Orders) (xs : Tys) → AreSound o xs → (ys : Tys) → (place_ways (ways_of o xs) ys).there ≡ true → Places o xs ys
+places_there : (o : MroTable) (xs : Tys) → AreSound o xs → (ys : Tys) → (place_ways (ways_of o xs) ys).there ≡ true → Places o xs ys
 places_there o nil sxs nil h = no_place
 places_there o nil sxs (cons y ys) h = absurd (false≢true h)
 places_there o (cons x xs) sxs nil h = absurd (false≢true h)
@@ -240,7 +240,7 @@ places_there o (cons x xs) sxs (cons y ys) h =
     let p = and_parts (ways o x y).there (place_ways (ways_of o xs) ys).there h in
     and_place ((sxs.0 y).0 p.0) (places_there o xs sxs.1 ys p.1)
 
-places_back : (o : Orders) (xs : Tys) → AreSound o xs → (ys : Tys) → (place_ways (ways_of o xs) ys).back ≡ true → Places o ys xs
+places_back : (o : MroTable) (xs : Tys) → AreSound o xs → (ys : Tys) → (place_ways (ways_of o xs) ys).back ≡ true → Places o ys xs
 places_back o nil sxs nil h = no_place
 places_back o nil sxs (cons y ys) h = absurd (false≢true h)
 places_back o (cons x xs) sxs nil h = absurd (false≢true h)
@@ -248,7 +248,7 @@ places_back o (cons x xs) sxs (cons y ys) h =
     let p = and_parts (ways o x y).back (place_ways (ways_of o xs) ys).back h in
     and_place ((sxs.0 y).1 p.0) (places_back o xs sxs.1 ys p.1)
 
-tuple_sound : (o : Orders) (xs : Tys) → AreSound o xs → (b : Ty) → Shows o (tuple xs) b (tuple_rule (ways_of o xs) b)
+tuple_sound : (o : MroTable) (xs : Tys) → AreSound o xs → (b : Ty) → Shows o (tuple xs) b (tuple_rule (ways_of o xs) b)
 tuple_sound o xs sxs any = (λ e. absurd (false≢true e), λ e. absurd (false≢true e))
 tuple_sound o xs sxs none = (λ e. absurd (false≢true e), λ e. absurd (false≢true e))
 tuple_sound o xs sxs (module_type m) = (λ e. absurd (false≢true e), λ e. absurd (false≢true e))
@@ -261,7 +261,7 @@ tuple_sound o xs sxs (tuple_of y) = (λ h. each_place (gathered_every o xs sxs y
 tuple_sound o xs sxs (union ys) = (λ e. absurd (false≢true e), λ e. absurd (false≢true e))
 tuple_sound o xs sxs (callable qs s) = (λ e. absurd (false≢true e), λ e. absurd (false≢true e))
 
-tuple_of_sound : (o : Orders) (x : Ty) → IsSound o x → (b : Ty) → Shows o (tuple_of x) b (tuple_of_rule (ways o x) b)
+tuple_of_sound : (o : MroTable) (x : Ty) → IsSound o x → (b : Ty) → Shows o (tuple_of x) b (tuple_of_rule (ways o x) b)
 tuple_of_sound o x sx any = (λ e. absurd (false≢true e), λ e. absurd (false≢true e))
 tuple_of_sound o x sx none = (λ e. absurd (false≢true e), λ e. absurd (false≢true e))
 tuple_of_sound o x sx (module_type m) = (λ e. absurd (false≢true e), λ e. absurd (false≢true e))
@@ -274,17 +274,17 @@ tuple_of_sound o x sx (tuple_of y) = (λ h. any_length ((sx y).0 h), λ h. any_l
 tuple_of_sound o x sx (union ys) = (λ e. absurd (false≢true e), λ e. absurd (false≢true e))
 tuple_of_sound o x sx (callable qs s) = (λ e. absurd (false≢true e), λ e. absurd (false≢true e))
 
-any_sound : (o : Orders) → IsSound o any
+any_sound : (o : MroTable) → IsSound o any
 any_sound o b = (λ h. from_any, λ h. to_any)
 
 -- the instances of a class, by its form
-made_sound : (o : Orders) (f : InstanceForm) (c : Id) (b : Ty) → (form_ways o f c b).there ≡ true → Assignable o (instance_in f c) b
+made_sound : (o : MroTable) (f : InstanceForm) (c : Id) (b : Ty) → (form_ways o f c b).there ≡ true → Assignable o (instance_in f c) b
 made_sound o form.List c b h = (into_sound o (list any) refl (list_rule any_ways) (list_sound o any (any_sound o)) b).0 h
 made_sound o form.Dict c b h = (into_sound o (dict any any) refl (dict_rule any_ways any_ways) (dict_sound o any any (any_sound o) (any_sound o)) b).0 h
 made_sound o form.Tuple c b h = (into_sound o (tuple_of any) refl (tuple_of_rule any_ways) (tuple_of_sound o any (any_sound o)) b).0 h
 made_sound o form.Plain c b h = (into_sound o (instance c) refl (instance_rule o c) (instance_sound o c) b).0 h
 
-class_sound : (o : Orders) (c : Id) (b : Ty) → Shows o (class_object c) b (class_rule o c b)
+class_sound : (o : MroTable) (c : Id) (b : Ty) → Shows o (class_object c) b (class_rule o c b)
 class_sound o c any = (λ e. absurd (false≢true e), λ e. absurd (false≢true e))
 class_sound o c none = (λ e. absurd (false≢true e), λ e. absurd (false≢true e))
 class_sound o c (module_type m) = (λ e. absurd (false≢true e), λ e. absurd (false≢true e))
@@ -298,14 +298,14 @@ class_sound o c (union ys) = (λ e. absurd (false≢true e), λ e. absurd (false
 class_sound o c (callable qs s) = (λ h. makes (made_sound o (form_of c) c s h), λ h. absurd (false≢true h))
 
 -- what the test shows of the type of each parameter
-abbrev ListedSound : Orders → Listed → Type 0
+abbrev ListedSound : MroTable → Listed → Type 0
 ListedSound o ps = (i : ℕ) (p : Ty) → type_at ps i ≡ Some p → IsSound o p
 
-abbrev ParamsSound : Orders → Params → Type 0
+abbrev ParamsSound : MroTable → Params → Type 0
 ParamsSound o dots = Unit
 ParamsSound o (listed ps) = ListedSound o ps
 
-callables_sound : (o : Orders) (ps : Params) → ParamsSound o ps → (r : Ty) → IsSound o r → (qs : Params) (s : Ty) → Shows o (callable ps r) (callable qs s) (meet (params_ways ps (params_ways_of o ps) qs) (ways o r s))
+callables_sound : (o : MroTable) (ps : Params) → ParamsSound o ps → (r : Ty) → IsSound o r → (qs : Params) (s : Ty) → Shows o (callable ps r) (callable qs s) (meet (params_ways ps (params_ways_of o ps) qs) (ways o r s))
 callables_sound o dots sps r sr qs s = (
   λ h. any_arguments refl ((sr s).0 (and_parts true (ways o r s).there h).1),
   λ h. any_arguments (or_right (is_dots qs) true refl) ((sr s).1 (and_parts true (ways o r s).back h).1),
@@ -325,7 +325,7 @@ callables_sound o (listed ps) sps r sr (listed qs) s = (
       callables q.0 (λ j i y x b a serving. (sps i x a y).0 (served_back o ps qs i j x y a b q.1 serving)) ((sr s).1 p.1),
 )
 
-callable_sound : (o : Orders) (ps : Params) → ParamsSound o ps → (r : Ty) → IsSound o r → (b : Ty) → Shows o (callable ps r) b (callable_rule o ps (params_ways_of o ps) (ways o r) b)
+callable_sound : (o : MroTable) (ps : Params) → ParamsSound o ps → (r : Ty) → IsSound o r → (b : Ty) → Shows o (callable ps r) b (callable_rule o ps (params_ways_of o ps) (ways o r) b)
 callable_sound o ps sps r sr any = (λ e. absurd (false≢true e), λ e. absurd (false≢true e))
 callable_sound o ps sps r sr none = (λ e. absurd (false≢true e), λ e. absurd (false≢true e))
 callable_sound o ps sps r sr (module_type m) = (λ e. absurd (false≢true e), λ e. absurd (false≢true e))
@@ -340,7 +340,7 @@ callable_sound o ps sps r sr (callable qs s) = callables_sound o ps sps r sr qs 
 
 -- ---- unions
 
-module _ (o : Orders) (xs : Tys) (sxs : AreSound o xs) where
+module _ (o : MroTable) (xs : Tys) (sxs : AreSound o xs) where
   mutual
     back_to_sound : (b : Ty) → back_to o (ways_of o xs) b ≡ true → Assignable o b (union xs)
     back_to_sound any h = from_any
@@ -379,7 +379,7 @@ module _ (o : Orders) (xs : Tys) (sxs : AreSound o xs) where
 
 mutual
   -- where the test answers yes, the rules lead
-  pub sound : (o : Orders) (a : Ty) → IsSound o a
+  pub sound : (o : MroTable) (a : Ty) → IsSound o a
   sound o any = any_sound o
   sound o none = into_sound o none refl none_rule (none_sound o)
   sound o (module_type m) = into_sound o (module_type m) refl (λ b. both false false) (module_sound o)
@@ -393,15 +393,15 @@ mutual
   sound o (callable ps r) =
       into_sound o (callable ps r) refl (callable_rule o ps (params_ways_of o ps) (ways o r)) (callable_sound o ps (params_sound o ps) r (sound o r))
 
-  are_sound : (o : Orders) (xs : Tys) → AreSound o xs
+  are_sound : (o : MroTable) (xs : Tys) → AreSound o xs
   are_sound o nil = tt
   are_sound o (cons x xs) = (sound o x, are_sound o xs)
 
-  params_sound : (o : Orders) (ps : Params) → ParamsSound o ps
+  params_sound : (o : MroTable) (ps : Params) → ParamsSound o ps
   params_sound o dots = tt
   params_sound o (listed ps) = listed_sound o ps
 
-  listed_sound : (o : Orders) (ps : Listed) → ListedSound o ps
+  listed_sound : (o : MroTable) (ps : Listed) → ListedSound o ps
   listed_sound o no_param i p at = absurd (none≢some at)
   listed_sound o (param slot t ps) zero p at = subst (IsSound o) (some_is at) (sound o t)
   listed_sound o (param slot t ps) (suc i) p at = listed_sound o ps i p at

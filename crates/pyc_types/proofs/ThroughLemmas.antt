@@ -2,15 +2,15 @@
 use Rattle.std.proofs.Common.{◌≡◌, true, false, ◌||◌, not, map, ◌⊎◌, ℕ, List, IsTrue, inl, inr, refl, sym, ◌∙◌, subst}
 use Rattle.std.proofs.lemmas.Bool.{false≢true, or_cases, or_left, not-true, both_ways}
 use Rattle.std.specs.List.{list_any}
-use Rattle.pyc_class.specs.declared.builtin_class.BuiltinClass.{BuiltinClass}
-use Rattle.pyc_class.specs.declared.builtin_class.BuiltinClass.TheVariants as class
-use Rattle.pyc_class.specs.Class.{Id, builtin, same_class, object_id, int_id, float_id}
-use Rattle.pyc_class.specs.ClassEquality.{same_class_equiv}
-use Rattle.pyc_class.specs.Order.{Order, Orders, leads, is_unknown}
+use Rattle.pyc_class_ids.specs.declared.builtin_class.BuiltinClass.{BuiltinClass}
+use Rattle.pyc_class_ids.specs.declared.builtin_class.BuiltinClass.TheVariants as class
+use Rattle.pyc_class_ids.specs.Class.{Id, builtin, same_class, object_id, int_id, float_id}
+use Rattle.pyc_class_ids.specs.ClassEquality.{same_class_equiv}
+use Rattle.pyc_class_ids.specs.Mro.{Mro, MroTable, leads, is_unknown}
 use Rattle.pyc_type_forms.specs.Types.{Ty, Tys, any, none, module_type, instance, class_object, list, dict, tuple, tuple_of, union, callable, nil, cons}
-use Rattle.pyc_builtins.specs.Orders.{builtin_order}
+use Rattle.pyc_builtins.specs.MroTable.{builtin_order}
 use Rattle.pyc_types.specs.Assignable.{Assignable, Every, ToSome, Places, from_any, to_any, of_unknown, each_item, some_item, nothing, to_object, along, to_float, lists, dicts, by_places, each_place, any_length, class_objects, with_call, makes, no_more, and_more, this_item, later_item, no_place, and_place, is_union}
-use Rattle.pyc_types.specs.OrderLaws.{IsPlain, IsPlainRow, HoldsOrders, HasBuiltins, AreOrderly, IsTransitive}
+use Rattle.pyc_types.specs.MroLaws.{IsPlain, IsPlainRow, HoldsMros, HasBuiltins, AreOrderly, IsTransitive}
 use Rattle.pyc_types.proofs.ClassLemmas.{is_builtin}
 use Rattle.pyc_types.proofs.ItselfLemmas.{each_of}
 use Rattle.pyc_types.proofs.Rules.{meets_the_rules}
@@ -18,15 +18,15 @@ use Rattle.pyc_types.proofs.Rules.{meets_the_rules}
 -- ---- classes
 
 -- an order that is known is not unknown
-known_alone : (r : Order) → IsTrue (not (is_unknown r)) → IsTrue (is_unknown r) → ⊥
+known_alone : (r : Mro) → IsTrue (not (is_unknown r)) → IsTrue (is_unknown r) → ⊥
 known_alone r known unknown = both_ways (is_unknown r) (not-true (is_unknown r) known) unknown
 
 -- what stands in the order of a builtin class
-in_builtin : (o : Orders) → HasBuiltins o → (b : BuiltinClass) (e : Id) → IsTrue (leads o (builtin b) e) → list_any (λ other. same_class other e) (map builtin (builtin_order b)) ≡ true
+in_builtin : (o : MroTable) → HasBuiltins o → (b : BuiltinClass) (e : Id) → IsTrue (leads o (builtin b) e) → list_any (λ other. same_class other e) (map builtin (builtin_order b)) ≡ true
 in_builtin o has b e led = subst (λ classes. list_any (λ other. same_class other e) classes ≡ true) (has b) led
 
 -- object's order holds object alone
-in_object : (o : Orders) → HasBuiltins o → (d e : Id) → IsTrue (same_class d object_id) → IsTrue (leads o d e) → IsTrue (same_class e object_id)
+in_object : (o : MroTable) → HasBuiltins o → (d e : Id) → IsTrue (same_class d object_id) → IsTrue (leads o d e) → IsTrue (same_class e object_id)
 in_object o has d e is led =
     elim (or_cases (same_class object_id e) false (in_builtin o has class.Object e (subst (λ k. IsTrue (leads o k e)) (is_builtin d class.Object is) led))) [
       | inl same ↦ same_class_equiv.symm e object_id ∙ same
@@ -34,7 +34,7 @@ in_object o has d e is led =
     ]
 
 -- float's order holds float and object alone
-in_float : (o : Orders) → HasBuiltins o → (d e : Id) → IsTrue (same_class d float_id) → IsTrue (leads o d e) → IsTrue (same_class e float_id) ⊎ IsTrue (same_class e object_id)
+in_float : (o : MroTable) → HasBuiltins o → (d e : Id) → IsTrue (same_class d float_id) → IsTrue (leads o d e) → IsTrue (same_class e float_id) ⊎ IsTrue (same_class e object_id)
 in_float o has d e is led =
     elim (or_cases (same_class float_id e) (same_class object_id e || false) (in_builtin o has class.Float e (subst (λ k. IsTrue (leads o k e)) (is_builtin d class.Float is) led))) [
       | inl same ↦ inl (same_class_equiv.symm e float_id ∙ same)
@@ -44,33 +44,33 @@ in_float o has d e is led =
 -- ---- through a type that is no union, between types that are none
 
 -- through a type, from any plain one to any plain one
-abbrev Through : Orders → Ty → Type 0
+abbrev Through : MroTable → Ty → Type 0
 Through o b = (a c : Ty) → IsPlain o a → IsPlain o c → Assignable o a b → Assignable o b c → Assignable o a c
 
--- the same through each type of a row
-abbrev ThroughEach : Orders → Tys → Type 0
+-- through each type of a row, from any plain one to any plain one
+abbrev ThroughEach : MroTable → Tys → Type 0
 ThroughEach o nil = Unit
 ThroughEach o (cons y ys) = Through o y × ThroughEach o ys
 
 -- through a type, between types that are no unions
-abbrev Direct : Orders → Ty → Type 0
+abbrev Direct : MroTable → Ty → Type 0
 Direct o b = (a c : Ty) → is_union a ≡ false → is_union c ≡ false → IsPlain o a → IsPlain o c → Assignable o a b → Assignable o b c → Assignable o a c
 
 no_union : {P : Type 0} → true ≡ false → P
 no_union e = absurd (false≢true (sym e))
 
-direct_none : {o : Orders} {a c : Ty} → is_union a ≡ false → Assignable o a none → Assignable o none c → Assignable o a c
+direct_none : {o : MroTable} {a c : Ty} → is_union a ≡ false → Assignable o a none → Assignable o none c → Assignable o a c
 direct_none sa from_any q = from_any
 direct_none sa (of_unknown u) q = of_unknown u
 direct_none sa (each_item every) q = no_union sa
 direct_none sa nothing q = q
 
-direct_module : {o : Orders} {a c : Ty} {m : List (List ℕ)} → is_union a ≡ false → Assignable o a (module_type m) → Assignable o (module_type m) c → Assignable o a c
+direct_module : {o : MroTable} {a c : Ty} {m : List (List ℕ)} → is_union a ≡ false → Assignable o a (module_type m) → Assignable o (module_type m) c → Assignable o a c
 direct_module sa from_any q = from_any
 direct_module sa (of_unknown u) q = of_unknown u
 direct_module sa (each_item every) q = no_union sa
 
-object_on : {o : Orders} {a c : Ty} → HasBuiltins o → (d : Id) → IsTrue (not (is_unknown (o d))) → IsTrue (same_class d object_id) → is_union c ≡ false → IsPlain o c → Assignable o (instance d) c → Assignable o a c
+object_on : {o : MroTable} {a c : Ty} → HasBuiltins o → (d : Id) → IsTrue (not (is_unknown (o d))) → IsTrue (same_class d object_id) → is_union c ≡ false → IsPlain o c → Assignable o (instance d) c → Assignable o a c
 object_on has d known is sc pc to_any = to_any
 object_on {o} has d known is sc pc (of_unknown u) = absurd (known_alone (o d) known u)
 object_on has d known is sc pc (some_item plain some) = no_union sc
@@ -79,7 +79,7 @@ object_on {o} has d known is sc pc (along {d = e} led) = to_object (in_object o 
 object_on {o} has d known is sc pc (to_float led same) = absurd (false≢true (in_object o has d int_id is led))
 object_on has d known is sc pc (with_call h) = absurd pc
 
-along_on : {o : Orders} {c : Ty} → HoldsOrders o → (e d : Id) → IsTrue (not (is_unknown (o e))) → IsTrue (not (is_unknown (o d))) → IsTrue (leads o e d) → is_union c ≡ false → IsPlain o c → Assignable o (instance d) c → Assignable o (instance e) c
+along_on : {o : MroTable} {c : Ty} → HoldsMros o → (e d : Id) → IsTrue (not (is_unknown (o e))) → IsTrue (not (is_unknown (o d))) → IsTrue (leads o e d) → is_union c ≡ false → IsPlain o c → Assignable o (instance d) c → Assignable o (instance e) c
 along_on holds e d before known first sc pc to_any = to_any
 along_on {o} holds e d before known first sc pc (of_unknown u) = absurd (known_alone (o d) known u)
 along_on holds e d before known first sc pc (some_item plain some) = no_union sc
@@ -88,7 +88,7 @@ along_on holds e d before known first sc pc (along {d = f} led) = along (holds e
 along_on holds e d before known first sc pc (to_float led same) = to_float (holds e d int_id before first led) same
 along_on holds e d before known first sc pc (with_call h) = absurd pc
 
-float_on : {o : Orders} {c : Ty} → HasBuiltins o → (e d : Id) → IsTrue (not (is_unknown (o d))) → IsTrue (leads o e int_id) → IsTrue (same_class d float_id) → is_union c ≡ false → IsPlain o c → Assignable o (instance d) c → Assignable o (instance e) c
+float_on : {o : MroTable} {c : Ty} → HasBuiltins o → (e d : Id) → IsTrue (not (is_unknown (o d))) → IsTrue (leads o e int_id) → IsTrue (same_class d float_id) → is_union c ≡ false → IsPlain o c → Assignable o (instance d) c → Assignable o (instance e) c
 float_on has e d known first is sc pc to_any = to_any
 float_on {o} has e d known first is sc pc (of_unknown u) = absurd (known_alone (o d) known u)
 float_on has e d known first is sc pc (some_item plain some) = no_union sc
@@ -97,7 +97,7 @@ float_on {o} has e d known first is sc pc (along {d = f} led) = elim (in_float o
 float_on has e d known first is sc pc (to_float led same) = to_float first same
 float_on has e d known first is sc pc (with_call h) = absurd pc
 
-direct_instance : {o : Orders} {a c : Ty} → AreOrderly o → (d : Id) → IsTrue (not (is_unknown (o d))) → is_union a ≡ false → is_union c ≡ false → IsPlain o a → IsPlain o c → Assignable o a (instance d) → Assignable o (instance d) c → Assignable o a c
+direct_instance : {o : MroTable} {a c : Ty} → AreOrderly o → (d : Id) → IsTrue (not (is_unknown (o d))) → is_union a ≡ false → is_union c ≡ false → IsPlain o a → IsPlain o c → Assignable o a (instance d) → Assignable o (instance d) c → Assignable o a c
 direct_instance orderly d known sa sc pa pc from_any q = from_any
 direct_instance orderly d known sa sc pa pc (of_unknown u) q = of_unknown u
 direct_instance orderly d known sa sc pa pc (each_item every) q = no_union sa
@@ -106,35 +106,35 @@ direct_instance orderly d known sa sc pa pc (along {c = e} led) q = along_on ord
 direct_instance orderly d known sa sc pa pc (to_float {c = e} led is) q = float_on orderly.1 e d known led is sc pc q
 
 -- a class of known order has another in it
-led_of : (o : Orders) (c d : Id) → IsTrue (not (is_unknown (o c))) → IsTrue (leads o c d || is_unknown (o c)) → IsTrue (leads o c d)
+led_of : (o : MroTable) (c d : Id) → IsTrue (not (is_unknown (o c))) → IsTrue (leads o c d || is_unknown (o c)) → IsTrue (leads o c d)
 led_of o c d known h = elim (or_cases (leads o c d) (is_unknown (o c)) h) [ inl led ↦ led | inr unknown ↦ absurd (known_alone (o c) known unknown) ]
 
-class_on : {o : Orders} {c : Ty} → HoldsOrders o → (e d : Id) → IsTrue (not (is_unknown (o e))) → IsTrue (not (is_unknown (o d))) → IsTrue (leads o e d) → is_union c ≡ false → IsPlain o c → Assignable o (class_object d) c → Assignable o (class_object e) c
+class_on : {o : MroTable} {c : Ty} → HoldsMros o → (e d : Id) → IsTrue (not (is_unknown (o e))) → IsTrue (not (is_unknown (o d))) → IsTrue (leads o e d) → is_union c ≡ false → IsPlain o c → Assignable o (class_object d) c → Assignable o (class_object e) c
 class_on holds e d before known first sc pc to_any = to_any
 class_on holds e d before known first sc pc (some_item plain some) = no_union sc
 class_on holds e d before known first sc pc (to_object same) = to_object same
 class_on {o} holds e d before known first sc pc (class_objects {d = f} h) = class_objects (or_left (leads o e f) (is_unknown (o e)) (holds e d f before first (led_of o d f known h)))
 class_on holds e d before known first sc pc (makes p) = absurd pc
 
-direct_class : {o : Orders} {a c : Ty} → HoldsOrders o → (d : Id) → IsTrue (not (is_unknown (o d))) → is_union a ≡ false → is_union c ≡ false → IsPlain o a → IsPlain o c → Assignable o a (class_object d) → Assignable o (class_object d) c → Assignable o a c
+direct_class : {o : MroTable} {a c : Ty} → HoldsMros o → (d : Id) → IsTrue (not (is_unknown (o d))) → is_union a ≡ false → is_union c ≡ false → IsPlain o a → IsPlain o c → Assignable o a (class_object d) → Assignable o (class_object d) c → Assignable o a c
 direct_class holds d known sa sc pa pc from_any q = from_any
 direct_class holds d known sa sc pa pc (of_unknown u) q = of_unknown u
 direct_class holds d known sa sc pa pc (each_item every) q = no_union sa
 direct_class {o} holds d known sa sc pa pc (class_objects {c = e} h) q = class_on holds e d pa known (led_of o e d pa h) sc pc q
 
-list_on : {o : Orders} {c : Ty} (x y : Ty) → Through o y → IsPlain o x → Assignable o x y → Assignable o y x → is_union c ≡ false → IsPlain o c → Assignable o (list y) c → Assignable o (list x) c
+list_on : {o : MroTable} {c : Ty} (x y : Ty) → Through o y → IsPlain o x → Assignable o x y → Assignable o y x → is_union c ≡ false → IsPlain o c → Assignable o (list y) c → Assignable o (list x) c
 list_on x y through px there back sc pc to_any = to_any
 list_on x y through px there back sc pc (some_item plain some) = no_union sc
 list_on x y through px there back sc pc (to_object same) = to_object same
 list_on x y through px there back sc pc (lists {y = z} p q) = lists (through x z px pc there p) (through z x pc px q back)
 
-direct_list : {o : Orders} {a c : Ty} (y : Ty) → Through o y → is_union a ≡ false → is_union c ≡ false → IsPlain o a → IsPlain o c → Assignable o a (list y) → Assignable o (list y) c → Assignable o a c
+direct_list : {o : MroTable} {a c : Ty} (y : Ty) → Through o y → is_union a ≡ false → is_union c ≡ false → IsPlain o a → IsPlain o c → Assignable o a (list y) → Assignable o (list y) c → Assignable o a c
 direct_list y through sa sc pa pc from_any q = from_any
 direct_list y through sa sc pa pc (of_unknown u) q = of_unknown u
 direct_list y through sa sc pa pc (each_item every) q = no_union sa
 direct_list y through sa sc pa pc (lists {x = x} there back) q = list_on x y through pa there back sc pc q
 
-module _ (o : Orders) (l w : Ty) (keys : Through o l) (values : Through o w) where
+module _ (o : MroTable) (l w : Ty) (keys : Through o l) (values : Through o w) where
   dict_on : {c : Ty} (k v : Ty) → IsPlain o k → IsPlain o v → Assignable o k l → Assignable o l k → Assignable o v w → Assignable o w v → is_union c ≡ false → IsPlain o c → Assignable o (dict l w) c → Assignable o (dict k v) c
   dict_on k v pk pv a b e f sc pc to_any = to_any
   dict_on k v pk pv a b e f sc pc (some_item plain some) = no_union sc
@@ -148,44 +148,44 @@ module _ (o : Orders) (l w : Ty) (keys : Through o l) (values : Through o w) whe
   direct_dict sa sc pa pc (each_item every) q = no_union sa
   direct_dict sa sc pa pc (dicts {k = k} {v = v} a b e f) q = dict_on k v pa.0 pa.1 a b e f sc pc q
 
-places_on : {o : Orders} {xs ys zs : Tys} → Places o xs ys → Places o ys zs → ThroughEach o ys → IsPlainRow o xs → IsPlainRow o zs → Places o xs zs
+places_on : {o : MroTable} {xs ys zs : Tys} → Places o xs ys → Places o ys zs → ThroughEach o ys → IsPlainRow o xs → IsPlainRow o zs → Places o xs zs
 places_on no_place no_place each px pz = no_place
 places_on (and_place {got = x} p ps) (and_place {want = z} q qs) each px pz = and_place (each.0 x z px.0 pz.0 p q) (places_on ps qs each.1 px.1 pz.1)
 
-places_every : {o : Orders} {xs ys : Tys} {z : Ty} → Places o xs ys → Every o ys z → ThroughEach o ys → IsPlainRow o xs → IsPlain o z → Every o xs z
+places_every : {o : MroTable} {xs ys : Tys} {z : Ty} → Places o xs ys → Every o ys z → ThroughEach o ys → IsPlainRow o xs → IsPlain o z → Every o xs z
 places_every no_place no_more each px pz = no_more
 places_every {z = z} (and_place {got = x} p ps) (and_more q qs) each px pz = and_more (each.0 x z px.0 pz p q) (places_every ps qs each.1 px.1 pz)
 
-every_on : {o : Orders} (y : Ty) → Through o y → (xs : Tys) (z : Ty) → IsPlainRow o xs → IsPlain o z → Every o xs y → Assignable o y z → Every o xs z
+every_on : {o : MroTable} (y : Ty) → Through o y → (xs : Tys) (z : Ty) → IsPlainRow o xs → IsPlain o z → Every o xs y → Assignable o y z → Every o xs z
 every_on y through nil z px pz no_more q = no_more
 every_on y through (cons x xs) z px pz (and_more p ps) q = and_more (through x z px.0 pz p q) (every_on y through xs z px.1 pz ps q)
 
-tuple_on : {o : Orders} {c : Ty} (ys : Tys) → ThroughEach o ys → (xs : Tys) → IsPlainRow o xs → Places o xs ys → is_union c ≡ false → IsPlain o c → Assignable o (tuple ys) c → Assignable o (tuple xs) c
+tuple_on : {o : MroTable} {c : Ty} (ys : Tys) → ThroughEach o ys → (xs : Tys) → IsPlainRow o xs → Places o xs ys → is_union c ≡ false → IsPlain o c → Assignable o (tuple ys) c → Assignable o (tuple xs) c
 tuple_on ys each xs px places sc pc to_any = to_any
 tuple_on ys each xs px places sc pc (some_item plain some) = no_union sc
 tuple_on ys each xs px places sc pc (to_object same) = to_object same
 tuple_on ys each xs px places sc pc (by_places more) = by_places (places_on places more each px pc)
 tuple_on ys each xs px places sc pc (each_place every) = each_place (places_every places every each px pc)
 
-direct_tuple : {o : Orders} {a c : Ty} (ys : Tys) → ThroughEach o ys → is_union a ≡ false → is_union c ≡ false → IsPlain o a → IsPlain o c → Assignable o a (tuple ys) → Assignable o (tuple ys) c → Assignable o a c
+direct_tuple : {o : MroTable} {a c : Ty} (ys : Tys) → ThroughEach o ys → is_union a ≡ false → is_union c ≡ false → IsPlain o a → IsPlain o c → Assignable o a (tuple ys) → Assignable o (tuple ys) c → Assignable o a c
 direct_tuple ys each sa sc pa pc from_any q = from_any
 direct_tuple ys each sa sc pa pc (of_unknown u) q = of_unknown u
 direct_tuple ys each sa sc pa pc (each_item every) q = no_union sa
 direct_tuple ys each sa sc pa pc (by_places {xs = xs} places) q = tuple_on ys each xs pa places sc pc q
 
-each_on : {o : Orders} {c : Ty} (y : Ty) → Through o y → (xs : Tys) → IsPlainRow o xs → Every o xs y → is_union c ≡ false → IsPlain o c → Assignable o (tuple_of y) c → Assignable o (tuple xs) c
+each_on : {o : MroTable} {c : Ty} (y : Ty) → Through o y → (xs : Tys) → IsPlainRow o xs → Every o xs y → is_union c ≡ false → IsPlain o c → Assignable o (tuple_of y) c → Assignable o (tuple xs) c
 each_on y through xs px every sc pc to_any = to_any
 each_on y through xs px every sc pc (some_item plain some) = no_union sc
 each_on y through xs px every sc pc (to_object same) = to_object same
 each_on y through xs px every sc pc (any_length {y = z} q) = each_place (every_on y through xs z px pc every q)
 
-length_on : {o : Orders} {c : Ty} (y : Ty) → Through o y → (x : Ty) → IsPlain o x → Assignable o x y → is_union c ≡ false → IsPlain o c → Assignable o (tuple_of y) c → Assignable o (tuple_of x) c
+length_on : {o : MroTable} {c : Ty} (y : Ty) → Through o y → (x : Ty) → IsPlain o x → Assignable o x y → is_union c ≡ false → IsPlain o c → Assignable o (tuple_of y) c → Assignable o (tuple_of x) c
 length_on y through x px p sc pc to_any = to_any
 length_on y through x px p sc pc (some_item plain some) = no_union sc
 length_on y through x px p sc pc (to_object same) = to_object same
 length_on y through x px p sc pc (any_length {y = z} q) = any_length (through x z px pc p q)
 
-direct_tuple_of : {o : Orders} {a c : Ty} (y : Ty) → Through o y → is_union a ≡ false → is_union c ≡ false → IsPlain o a → IsPlain o c → Assignable o a (tuple_of y) → Assignable o (tuple_of y) c → Assignable o a c
+direct_tuple_of : {o : MroTable} {a c : Ty} (y : Ty) → Through o y → is_union a ≡ false → is_union c ≡ false → IsPlain o a → IsPlain o c → Assignable o a (tuple_of y) → Assignable o (tuple_of y) c → Assignable o a c
 direct_tuple_of y through sa sc pa pc from_any q = from_any
 direct_tuple_of y through sa sc pa pc (of_unknown u) q = of_unknown u
 direct_tuple_of y through sa sc pa pc (each_item every) q = no_union sa
@@ -195,13 +195,13 @@ direct_tuple_of y through sa sc pa pc (any_length {x = x} p) q = length_on y thr
 -- ---- from unions and to unions
 
 -- a plain type that is no union goes to a union where it goes to some item
-some_of : {o : Orders} {a : Ty} {ys : Tys} → is_union a ≡ false → IsPlain o a → Assignable o a (union ys) → ToSome o a ys
+some_of : {o : MroTable} {a : Ty} {ys : Tys} → is_union a ≡ false → IsPlain o a → Assignable o a (union ys) → ToSome o a ys
 some_of sa pa from_any = absurd pa
 some_of {o} sa pa (of_unknown {c = c} u) = absurd (known_alone (o c) pa u)
 some_of sa pa (each_item every) = no_union sa
 some_of sa pa (some_item plain some) = some
 
-module _ (o : Orders) (b : Ty) (single : is_union b ≡ false) (known : IsPlain o b) (direct : Direct o b) where
+module _ (o : MroTable) (b : Ty) (single : is_union b ≡ false) (known : IsPlain o b) (direct : Direct o b) where
   module _ (a : Ty) (sa : is_union a ≡ false) (pa : IsPlain o a) (p : Assignable o a b) where
     mutual
       right : (c : Ty) → IsPlain o c → Assignable o b c → Assignable o a c
@@ -242,12 +242,12 @@ module _ (o : Orders) (b : Ty) (single : is_union b ≡ false) (known : IsPlain 
 
 -- ---- through unions
 
-through_some : {o : Orders} (ys : Tys) → ThroughEach o ys → (a c : Ty) → IsPlain o a → IsPlain o c → ToSome o a ys → Every o ys c → Assignable o a c
+through_some : {o : MroTable} (ys : Tys) → ThroughEach o ys → (a c : Ty) → IsPlain o a → IsPlain o c → ToSome o a ys → Every o ys c → Assignable o a c
 through_some nil each a c pa pc some every = elim some [ ]
 through_some (cons y ys) each a c pa pc (this_item p) (and_more q every) = each.0 a c pa pc p q
 through_some (cons y ys) each a c pa pc (later_item some) (and_more q every) = through_some ys each.1 a c pa pc some every
 
-module _ (o : Orders) (ys : Tys) (each : ThroughEach o ys) where
+module _ (o : MroTable) (ys : Tys) (each : ThroughEach o ys) where
   mutual
     from_each : (a c : Ty) → IsPlain o a → IsPlain o c → Assignable o a (union ys) → Every o ys c → Assignable o a c
     from_each any c pa pc p every = from_any
@@ -268,7 +268,7 @@ module _ (o : Orders) (ys : Tys) (each : ThroughEach o ys) where
 
 -- ---- through all types
 
-module _ (o : Orders) (orderly : AreOrderly o) where
+module _ (o : MroTable) (orderly : AreOrderly o) where
   mutual
     through : (b : Ty) → IsPlain o b → Through o b
     through any h = absurd h

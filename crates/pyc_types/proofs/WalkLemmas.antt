@@ -3,7 +3,7 @@ use Rattle.std.proofs.Common.{◌≡◌, ℕ, suc, true, false, List, [], ◌∷
 use Rattle.std.proofs.Math.Seq.{drop-cons}
 use Rattle.std.proofs.Math.Bool.{or-false, or_assoc, and-true, and-false, and_assoc}
 use Rattle.pyc_types.specs.declared.ways.Ways.{Ways}
-use Rattle.pyc_class.specs.Order.{Orders}
+use Rattle.pyc_class_ids.specs.Mro.{MroTable}
 use Rattle.pyc_type_forms.specs.declared.types.Param.{Param}
 use Rattle.pyc_type_forms.specs.declared.types.Ty.{Ty as TyOf}
 use Rattle.pyc_type_forms.specs.Types.{Ty, Tys, Listed, nil, cons}
@@ -50,7 +50,7 @@ neither : (a : Ways) → meet a (both false false) ≡ both false false
 neither a = rw (and-false a.there, and-false a.back) refl
 
 -- tuples of other lengths have no ways
-pub other_lengths : (o : Orders) (xs ys : List TyOf) → ¬ (length xs ≡ length ys) → place_ways (ways_of o (row xs)) (row ys) ≡ both false false
+pub other_lengths : (o : MroTable) (xs ys : List TyOf) → ¬ (length xs ≡ length ys) → place_ways (ways_of o (row xs)) (row ys) ≡ both false false
 other_lengths o [] [] other = absurd (other refl)
 other_lengths o [] (y ∷ ys) other = refl
 other_lengths o (x ∷ xs) [] other = refl
@@ -66,7 +66,7 @@ row_step pair f wants j d all w all' whole within is w-is all-is before =
     rw (all-is, add-one, w-is, ← param_ty d) (meet_assoc all (pair j (f (param_of d).ty)) (row_ways pair (suc j) f (param_row (drop (suc j) wants))) ∙ h)
 
 -- one more of got's parameters
-pub rows_step : (o : Orders) (pair : ℕ → ℕ → Ways → Ways) (qs : Listed) (gots : List Param) (i : ℕ) (d : Param) (all w all' whole : Ways) → i < length gots → d ≡ get_or gots i d
+pub rows_step : (o : MroTable) (pair : ℕ → ℕ → Ways → Ways) (qs : Listed) (gots : List Param) (i : ℕ) (d : Param) (all w all' whole : Ways) → i < length gots → d ≡ get_or gots i d
     → w ≡ row_ways (pair i) 0 (ways o (ty_of d.ty)) qs → all' ≡ meet all w → meet all (rows_ways pair i (listed_ways_of o (param_row (drop i gots))) qs) ≡ whole
     → meet all' (rows_ways pair (i + 1) (listed_ways_of o (param_row (drop (i + 1) gots))) qs) ≡ whole
 rows_step o pair qs gots i d all w all' whole within is w-is all-is before =

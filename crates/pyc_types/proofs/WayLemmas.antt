@@ -1,10 +1,10 @@
 -- The ways of types, unions and simple rules apart.
 use Rattle.std.proofs.Common.{◌≡◌, Bool, true, false, ◌&&◌, ◌||◌, inl, inr, refl, sym, ◌∙◌, ap}
 use Rattle.std.proofs.lemmas.Bool.{false≢true, or_cases, or_left, or_right}
-use Rattle.pyc_class.specs.declared.class_id.InstanceForm.{InstanceForm}
-use Rattle.pyc_class.specs.declared.class_id.InstanceForm.TheVariants as form
-use Rattle.pyc_class.specs.Class.{Id}
-use Rattle.pyc_class.specs.Order.{Orders, is_unknown}
+use Rattle.pyc_class_ids.specs.declared.class_id.InstanceForm.{InstanceForm}
+use Rattle.pyc_class_ids.specs.declared.class_id.InstanceForm.TheVariants as form
+use Rattle.pyc_class_ids.specs.Class.{Id}
+use Rattle.pyc_class_ids.specs.Mro.{MroTable, is_unknown}
 use Rattle.pyc_type_forms.specs.Types.{Ty, Tys, any, none, module_type, instance, class_object, list, dict, tuple, tuple_of, union, callable, nil, cons}
 use Rattle.pyc_type_forms.specs.Instances.{instance_in}
 use Rattle.pyc_types.specs.declared.ways.Ways.{Ways}
@@ -15,7 +15,7 @@ use Rattle.pyc_types.specs.Ways.{is_simple, with_simple, none_rule, instance_rul
 
 -- ---- into a union
 
-module _ (o : Orders) (a : Ty) (rule : Ty → Ways) where
+module _ (o : MroTable) (a : Ty) (rule : Ty → Ways) where
   -- the simple rules lead there, whatever the form
   pub into_there : (b : Ty) → is_simple o a b ≡ true → (into o a rule b).there ≡ true
   into_there any h = or_right _ _ h
@@ -69,7 +69,7 @@ module _ (o : Orders) (a : Ty) (rule : Ty → Ways) where
   into_other (callable qs s) other = refl
 
 -- into a union by its items
-pub into_union : (o : Orders) (a : Ty) (rule : Ty → Ways) (b : Ty) (bs : Tys) → b ≡ union bs → into o a rule b ≡ with_simple o a b (into_items o a rule bs)
+pub into_union : (o : MroTable) (a : Ty) (rule : Ty → Ways) (b : Ty) (bs : Tys) → b ≡ union bs → into o a rule b ≡ with_simple o a b (into_items o a rule bs)
 into_union o a rule b bs is = rw is refl
 
 -- whether a type is neither Any nor a union
@@ -87,7 +87,7 @@ is_whole (union xs) = false
 is_whole (callable ps r) = true
 
 -- the ways of such a type are those of its own rule, into unions
-pub ways_whole : (o : Orders) (a : Ty) → is_whole a ≡ true → ways o a ≡ into o a (own_rule o a)
+pub ways_whole : (o : MroTable) (a : Ty) → is_whole a ≡ true → ways o a ≡ into o a (own_rule o a)
 ways_whole o any whole = absurd (false≢true whole)
 ways_whole o none whole = refl
 ways_whole o (module_type m) whole = refl
@@ -101,7 +101,7 @@ ways_whole o (union xs) whole = absurd (false≢true whole)
 ways_whole o (callable ps r) whole = refl
 
 -- the simple rules lead there
-pub simple_there : (o : Orders) (a b : Ty) → is_simple o a b ≡ true → (ways o a b).there ≡ true
+pub simple_there : (o : MroTable) (a b : Ty) → is_simple o a b ≡ true → (ways o a b).there ≡ true
 simple_there o any b h = refl
 simple_there o (union xs) b h = or_right _ _ h
 simple_there o none b h = into_there o none none_rule b h
@@ -115,7 +115,7 @@ simple_there o (tuple_of x) b h = into_there o (tuple_of x) (tuple_of_rule (ways
 simple_there o (callable ps r) b h = into_there o (callable ps r) (callable_rule o ps (params_ways_of o ps) (ways o r)) b h
 
 -- the simple rules lead back to a union
-back_to_simple : (o : Orders) (ys : Tys) (a : Ty) → is_simple o a (union ys) ≡ true → back_to o (ways_of o ys) a ≡ true
+back_to_simple : (o : MroTable) (ys : Tys) (a : Ty) → is_simple o a (union ys) ≡ true → back_to o (ways_of o ys) a ≡ true
 back_to_simple o ys any h = refl
 back_to_simple o ys (instance c) h = elim (or_cases (is_unknown (o c)) false h) [ inl u ↦ or_right _ _ u | inr n ↦ absurd (false≢true n) ]
 back_to_simple o ys none h = absurd (false≢true h)
@@ -129,7 +129,7 @@ back_to_simple o ys (union xs) h = absurd (false≢true h)
 back_to_simple o ys (callable ps r) h = absurd (false≢true h)
 
 -- the simple rules lead back
-pub simple_back : (o : Orders) (a b : Ty) → is_simple o a b ≡ true → (ways o b a).back ≡ true
+pub simple_back : (o : MroTable) (a b : Ty) → is_simple o a b ≡ true → (ways o b a).back ≡ true
 simple_back o a any h = refl
 simple_back o a (union ys) h = back_to_simple o ys a h
 simple_back o a none h = into_back o none none_rule a h
@@ -143,12 +143,12 @@ simple_back o a (tuple_of x) h = into_back o (tuple_of x) (tuple_of_rule (ways o
 simple_back o a (callable ps r) h = into_back o (callable ps r) (callable_rule o ps (params_ways_of o ps) (ways o r)) a h
 
 -- each type of a row goes back to the items of a union where each does by itself
-pub backs_to : (o : Orders) (ys xs : Tys) → all_back_to o (ways_of o ys) xs ≡ all_back (ways o (union ys)) xs
+pub backs_to : (o : MroTable) (ys xs : Tys) → all_back_to o (ways_of o ys) xs ≡ all_back (ways o (union ys)) xs
 backs_to o ys nil = refl
 backs_to o ys (cons x xs) = ap (λ rest. back_to o (ways_of o ys) x && rest) (backs_to o ys xs)
 
 -- a union goes back to a type where each of its items does
-pub union_back : (o : Orders) (b : Ty) (xs : Tys) → all_back (ways o b) xs ≡ true → (ways o b (union xs)).back ≡ true
+pub union_back : (o : MroTable) (b : Ty) (xs : Tys) → all_back (ways o b) xs ≡ true → (ways o b (union xs)).back ≡ true
 union_back o any bs h = refl
 union_back o (union ys) bs h = backs_to o ys bs ∙ h
 union_back o none bs h = or_left _ _ (items_back o none none_rule bs ∙ h)
@@ -162,7 +162,7 @@ union_back o (tuple_of x) bs h = or_left _ _ (items_back o (tuple_of x) (tuple_o
 union_back o (callable ps r) bs h = or_left _ _ (items_back o (callable ps r) (callable_rule o ps (params_ways_of o ps) (ways o r)) bs ∙ h)
 
 -- a type that is no union goes to a union where it goes to some item
-pub union_there : (o : Orders) (a : Ty) (ys : Tys) → is_union a ≡ false → goes_to_some (ways o a) ys ≡ true → (ways o a (union ys)).there ≡ true
+pub union_there : (o : MroTable) (a : Ty) (ys : Tys) → is_union a ≡ false → goes_to_some (ways o a) ys ≡ true → (ways o a (union ys)).there ≡ true
 union_there o any ys plain h = refl
 union_there o (union xs) ys plain h = absurd (false≢true (sym plain))
 union_there o none ys plain h = or_left _ _ (items_there o none none_rule ys ∙ h)
@@ -176,7 +176,7 @@ union_there o (tuple_of x) ys plain h = or_left _ _ (items_there o (tuple_of x) 
 union_there o (callable ps r) ys plain h = or_left _ _ (items_there o (callable ps r) (callable_rule o ps (params_ways_of o ps) (ways o r)) ys ∙ h)
 
 -- a type that is no union goes back to a union where some item takes it
-pub some_back : (o : Orders) (a : Ty) (ys : Tys) → is_union a ≡ false → (gathered (ways_of o ys) a).back ≡ true → (ways o (union ys) a).back ≡ true
+pub some_back : (o : MroTable) (a : Ty) (ys : Tys) → is_union a ≡ false → (gathered (ways_of o ys) a).back ≡ true → (ways o (union ys) a).back ≡ true
 some_back o any ys plain h = refl
 some_back o (instance c) ys plain h = or_left _ _ h
 some_back o (union xs) ys plain h = absurd (false≢true (sym plain))
@@ -190,7 +190,7 @@ some_back o (tuple_of x) ys plain h = h
 some_back o (callable ps r) ys plain h = h
 
 -- the instances of a class, by its form
-pub made_by_form : (o : Orders) (f : InstanceForm) (c : Id) (b : Ty) → form_ways o f c b ≡ ways o (instance_in f c) b
+pub made_by_form : (o : MroTable) (f : InstanceForm) (c : Id) (b : Ty) → form_ways o f c b ≡ ways o (instance_in f c) b
 made_by_form o form.List c b = refl
 made_by_form o form.Dict c b = refl
 made_by_form o form.Tuple c b = refl

@@ -1,7 +1,7 @@
 -- When a value of one type may stand where another type is wanted (typing specification, "Type system concepts").
 use Rattle.std.specs.Prelude.{ℕ, zero, suc, Bool, true, false, ◌||◌, List, [], ◌∷◌, Option, None, Some, IsTrue, ◌≡◌}
-use Rattle.pyc_class.specs.Class.{Id, same_class, object_id, int_id, float_id}
-use Rattle.pyc_class.specs.Order.{Orders, leads, is_unknown}
+use Rattle.pyc_class_ids.specs.Class.{Id, same_class, object_id, int_id, float_id}
+use Rattle.pyc_class_ids.specs.Mro.{MroTable, leads, is_unknown}
 use Rattle.pyc_type_forms.specs.Types.{Slot, Ty, Tys, Params, Listed, any, none, instance, class_object, list, dict}
 use Rattle.pyc_type_forms.specs.Types.{tuple, tuple_of, union, callable, nil, cons, dots, listed, no_param, param}
 use Rattle.pyc_type_forms.specs.Instances.{instance_of}
@@ -30,7 +30,7 @@ type_at (param slot ty params) (suc n) = type_at params n
 
 mutual
   -- the type on the left is assignable to the one on the right, by exactly these rules
-  pub data Assignable (orders : Orders) : Ty → Ty → Type 0 where
+  pub data Assignable (orders : MroTable) : Ty → Ty → Type 0 where
     -- any source: Any is assignable to every type
     from_any : {want : Ty} → Assignable orders any want
     -- any target: every type is assignable to Any
@@ -83,18 +83,18 @@ mutual
         → Assignable orders (class_object c) (callable qs s)
 
   -- each type of a row is assignable to one type
-  pub data Every (orders : Orders) : Tys → Ty → Type 0 where
+  pub data Every (orders : MroTable) : Tys → Ty → Type 0 where
     no_more : {want : Ty} → Every orders nil want
     and_more : {got want : Ty} {gots : Tys} → Assignable orders got want → Every orders gots want
         → Every orders (cons got gots) want
 
   -- a type is assignable to some type of a row
-  pub data ToSome (orders : Orders) : Ty → Tys → Type 0 where
+  pub data ToSome (orders : MroTable) : Ty → Tys → Type 0 where
     this_item : {got want : Ty} {wants : Tys} → Assignable orders got want → ToSome orders got (cons want wants)
     later_item : {got want : Ty} {wants : Tys} → ToSome orders got wants → ToSome orders got (cons want wants)
 
   -- two rows of one length are assignable place by place
-  pub data Places (orders : Orders) : Tys → Tys → Type 0 where
+  pub data Places (orders : MroTable) : Tys → Tys → Type 0 where
     no_place : Places orders nil nil
     and_place : {got want : Ty} {gots wants : Tys} → Assignable orders got want → Places orders gots wants
         → Places orders (cons got gots) (cons want wants)

@@ -1,7 +1,7 @@
 -- Laws of assignability (typing specification, "The gradual guarantee").
 use Rattle.std.specs.Prelude.{ℕ, ◌≡◌, List, IsTrue}
-use Rattle.pyc_class.specs.Class.{Id}
-use Rattle.pyc_class.specs.Order.{Orders}
+use Rattle.pyc_class_ids.specs.Class.{Id}
+use Rattle.pyc_class_ids.specs.Mro.{MroTable}
 use Rattle.pyc_type_forms.specs.Types.{Slot, Ty, Tys, Params, Listed, any, none, module_type, instance, class_object}
 use Rattle.pyc_type_forms.specs.Types.{list, dict, tuple, tuple_of, union, callable, nil, cons, dots, listed, no_param}
 use Rattle.pyc_type_forms.specs.Types.{param}
@@ -23,17 +23,17 @@ mutual
     in_callable : {ps ps' : Params} {r r' : Ty} → ParamsWithAny ps ps' → WithAny r r'
         → WithAny (callable ps r) (callable ps' r')
 
-  -- the same of a row of types
+  -- the row of types on the right is the one on the left with parts replaced by Any
   pub data RowWithAny : Tys → Tys → Type 0 where
     no_type : RowWithAny nil nil
     another_type : {x x' : Ty} {xs xs' : Tys} → WithAny x x' → RowWithAny xs xs' → RowWithAny (cons x xs) (cons x' xs')
 
-  -- the same of what a call takes
+  -- what a call takes on the right is what it takes on the left with parts replaced by Any
   pub data ParamsWithAny : Params → Params → Type 0 where
     same_dots : ParamsWithAny dots dots
     in_listed : {ps ps' : Listed} → ListedWithAny ps ps' → ParamsWithAny (listed ps) (listed ps')
 
-  -- the same of a row of parameters
+  -- the row of parameters on the right is the one on the left with parts replaced by Any
   pub data ListedWithAny : Listed → Listed → Type 0 where
     no_parameter : ListedWithAny no_param no_param
     another_parameter : {slot : Slot} {t t' : Ty} {ps ps' : Listed} → WithAny t t' → ListedWithAny ps ps'
@@ -42,14 +42,14 @@ mutual
 -- replacing any part of either type by Any never turns yes into no
 abbrev pub AnyPartHolds : Type 0
 AnyPartHolds =
-    (orders : Orders) (got got' want want' : Ty) → WithAny got got' → WithAny want want'
+    (orders : MroTable) (got got' want want' : Ty) → WithAny got got' → WithAny want want'
     → IsTrue (assignable orders got want) → IsTrue (assignable orders got' want')
 
 -- ---- orders that agree
 
 abbrev mutual
   -- two orders agree on each class that is written in a type
-  pub AgreeOn : Orders → Orders → Ty → Type 0
+  pub AgreeOn : MroTable → MroTable → Ty → Type 0
   AgreeOn o p any = Unit
   AgreeOn o p none = Unit
   AgreeOn o p (module_type m) = Unit
@@ -62,19 +62,20 @@ abbrev mutual
   AgreeOn o p (union xs) = AgreeOnRow o p xs
   AgreeOn o p (callable ps r) = AgreeOnParams o p ps × AgreeOn o p r
 
-  pub AgreeOnRow : Orders → Orders → Tys → Type 0
+  pub AgreeOnRow : MroTable → MroTable → Tys → Type 0
   AgreeOnRow o p nil = Unit
   AgreeOnRow o p (cons x xs) = AgreeOn o p x × AgreeOnRow o p xs
 
-  pub AgreeOnParams : Orders → Orders → Params → Type 0
+  pub AgreeOnParams : MroTable → MroTable → Params → Type 0
   AgreeOnParams o p dots = Unit
   AgreeOnParams o p (listed ps) = AgreeOnListed o p ps
 
-  pub AgreeOnListed : Orders → Orders → Listed → Type 0
+  pub AgreeOnListed : MroTable → MroTable → Listed → Type 0
   AgreeOnListed o p no_param = Unit
   AgreeOnListed o p (param slot t ps) = AgreeOn o p t × AgreeOnListed o p ps
 
 -- two orders that agree on the classes written in two types give the same answer
-abbrev pub AgreeingOrdersAnswerAlike : Type 0
-AgreeingOrdersAnswerAlike =
-    (o p : Orders) (got want : Ty) → AgreeOn o p got → AgreeOn o p want → assignable o got want ≡ assignable p got want
+abbrev pub AgreeingMrosAnswerAlike : Type 0
+AgreeingMrosAnswerAlike =
+    (o p : MroTable) (got want : Ty) → AgreeOn o p got → AgreeOn o p want → assignable o got want ≡ assignable p got
+    want

@@ -5,4 +5,4 @@ pub mod Ways
 pub mod Cross
 pub mod Slots
 pub mod Laws
-pub mod OrderLaws
+pub mod MroLaws

@@ -77,7 +77,7 @@ named_from name i (slot ∷ slots) (suc used) =
     else if is_plain slot then named_from name (i + 1) slots used
     else named_from name (i + 1) slots (suc used)
 
--- ---- who serves whom
+-- ---- which parameter serves another
 
 -- what serves a wanted parameter of this kind and place, where so many are wanted by place: for one by place got's of
 -- that place, else got's `*`; for `*` got's `*`; for one by name got's of that name that no place has used, else got's

@@ -1,10 +1,10 @@
 -- The test that computes whether one type is assignable to another: one walk for both directions, since the rules for
 -- list, dict and callables ask both.
 use Rattle.std.specs.Prelude.{Bool, true, false, ◌&&◌, ◌||◌, List, [], ◌∷◌, IsTrue, ◌↔◌}
-use Rattle.pyc_class.specs.declared.class_id.InstanceForm.{InstanceForm}
-use Rattle.pyc_class.specs.declared.class_id.InstanceForm.TheVariants as form
-use Rattle.pyc_class.specs.Class.{Id, same_class, object_id, int_id, float_id, form_of}
-use Rattle.pyc_class.specs.Order.{Orders, leads, is_unknown}
+use Rattle.pyc_class_ids.specs.declared.class_id.InstanceForm.{InstanceForm}
+use Rattle.pyc_class_ids.specs.declared.class_id.InstanceForm.TheVariants as form
+use Rattle.pyc_class_ids.specs.Class.{Id, same_class, object_id, int_id, float_id, form_of}
+use Rattle.pyc_class_ids.specs.Mro.{MroTable, leads, is_unknown}
 use Rattle.pyc_type_forms.specs.Types.{Ty, Tys, Params, Listed, any, none, module_type, instance, class_object}
 use Rattle.pyc_type_forms.specs.Types.{list, dict, tuple, tuple_of, union, callable, nil, cons, dots, listed, no_param}
 use Rattle.pyc_type_forms.specs.Types.{param}
@@ -21,7 +21,7 @@ is_any any = true
 is_any _ = false
 
 -- whether a type is the instances of a class of unknown order
-abbrev pub is_unknown_instance : Orders → Ty → Bool
+abbrev pub is_unknown_instance : MroTable → Ty → Bool
 is_unknown_instance orders (instance c) = is_unknown (orders c)
 is_unknown_instance orders _ = false
 
@@ -31,11 +31,11 @@ is_object (instance d) = same_class d object_id
 is_object _ = false
 
 -- whether got goes to want by Any, an unknown order or object
-abbrev pub is_simple : Orders → Ty → Ty → Bool
+abbrev pub is_simple : MroTable → Ty → Ty → Bool
 is_simple orders got want = (is_any got || is_any want) || (is_unknown_instance orders got || is_object want)
 
 -- the ways with those of the simple rules
-abbrev pub with_simple : Orders → Ty → Ty → Ways → Ways
+abbrev pub with_simple : MroTable → Ty → Ty → Ways → Ways
 with_simple orders a b ways = either ways (both (is_simple orders a b) (is_simple orders b a))
 
 -- ---- the rules of each form
@@ -45,18 +45,18 @@ abbrev pub invariant : Ways → Ways
 invariant ways = both (ways.there && ways.back) (ways.there && ways.back)
 
 -- whether an instance of c goes to d by the order of c, or to float
-abbrev pub instance_goes : Orders → Id → Id → Bool
+abbrev pub instance_goes : MroTable → Id → Id → Bool
 instance_goes orders c d = leads orders c d || (leads orders c int_id && same_class d float_id)
 
 -- whether the class object of c goes to that of d
-abbrev pub class_goes : Orders → Id → Id → Bool
+abbrev pub class_goes : MroTable → Id → Id → Bool
 class_goes orders c d = leads orders c d || is_unknown (orders c)
 
 abbrev pub none_rule : Ty → Ways
 none_rule none = both true true
 none_rule _ = both false false
 
-abbrev pub instance_rule : Orders → Id → Ty → Ways
+abbrev pub instance_rule : MroTable → Id → Ty → Ways
 instance_rule orders c (instance d) = both (instance_goes orders c d) (instance_goes orders d c)
 instance_rule orders c (callable params result) = both (orders c).has_call false
 instance_rule orders c _ = both false false
@@ -101,7 +101,7 @@ params_ways dots ways qs = both true true
 params_ways (listed ps) ways dots = both true true
 params_ways (listed ps) ways (listed qs) = listed_ways (slots_of ps) ways qs
 
-abbrev pub callable_rule : Orders → Params → List (Ty → Ways) → (Ty → Ways) → Ty → Ways
+abbrev pub callable_rule : MroTable → Params → List (Ty → Ways) → (Ty → Ways) → Ty → Ways
 callable_rule orders ps params result (callable qs s) = meet (params_ways ps params qs) (result s)
 callable_rule orders ps params result (instance d) = both false (orders d).has_call
 callable_rule orders ps params result (class_object d) = both false (result (instance_of d)).back
@@ -111,7 +111,7 @@ callable_rule orders ps params result _ = both false false
 
 abbrev mutual
   -- the ways between a type that is no union and any type: into a union by some item, from one by each
-  pub into : Orders → Ty → (Ty → Ways) → Ty → Ways
+  pub into : MroTable → Ty → (Ty → Ways) → Ty → Ways
   into orders a rule any = with_simple orders a any (rule any)
   into orders a rule none = with_simple orders a none (rule none)
   into orders a rule (module_type m) = with_simple orders a (module_type m) (rule (module_type m))
@@ -124,13 +124,13 @@ abbrev mutual
   into orders a rule (union bs) = with_simple orders a (union bs) (into_items orders a rule bs)
   into orders a rule (callable ps r) = with_simple orders a (callable ps r) (rule (callable ps r))
 
-  pub into_items : Orders → Ty → (Ty → Ways) → Tys → Ways
+  pub into_items : MroTable → Ty → (Ty → Ways) → Tys → Ways
   into_items orders a rule nil = both false true
   into_items orders a rule (cons b bs) =
       choose (into orders a rule b) (into_items orders a rule bs)
 
 -- the ways between an instance of a class and any type
-abbrev pub instance_ways : Orders → Id → Ty → Ways
+abbrev pub instance_ways : MroTable → Id → Ty → Ways
 instance_ways orders c = into orders (instance c) (instance_rule orders c)
 
 -- the ways between Any and any type
@@ -152,24 +152,24 @@ bare_rule form.Tuple = tuple_of_rule any_ways
 bare_rule form.Plain = λ b. both false false
 
 -- the ways between the instances of list, dict or tuple and any type
-abbrev pub bare_ways : Orders → InstanceForm → Ty → Ways
+abbrev pub bare_ways : MroTable → InstanceForm → Ty → Ways
 bare_ways orders form = into orders (bare_type form) (bare_rule form)
 
 -- the ways between the instances of a class of this form and any type
-abbrev pub form_ways : Orders → InstanceForm → Id → Ty → Ways
+abbrev pub form_ways : MroTable → InstanceForm → Id → Ty → Ways
 form_ways orders form.List c = bare_ways orders form.List
 form_ways orders form.Dict c = bare_ways orders form.Dict
 form_ways orders form.Tuple c = bare_ways orders form.Tuple
 form_ways orders form.Plain c = instance_ways orders c
 
-abbrev pub class_rule : Orders → Id → Ty → Ways
+abbrev pub class_rule : MroTable → Id → Ty → Ways
 class_rule orders c (class_object d) = both (class_goes orders c d) (class_goes orders d c)
 class_rule orders c (callable params result) = both (form_ways orders (form_of c) c result).there false
 class_rule orders c _ = both false false
 
 abbrev mutual
   -- whether any type goes to some item of a union: a union by each of its own
-  pub back_to : Orders → List (Ty → Ways) → Ty → Bool
+  pub back_to : MroTable → List (Ty → Ways) → Ty → Bool
   back_to orders items any = true
   back_to orders items none = (gathered items none).back
   back_to orders items (module_type m) = (gathered items (module_type m)).back
@@ -182,19 +182,19 @@ abbrev mutual
   back_to orders items (union bs) = all_back_to orders items bs
   back_to orders items (callable ps r) = (gathered items (callable ps r)).back
 
-  pub all_back_to : Orders → List (Ty → Ways) → Tys → Bool
+  pub all_back_to : MroTable → List (Ty → Ways) → Tys → Bool
   all_back_to orders items nil = true
   all_back_to orders items (cons b bs) = back_to orders items b && all_back_to orders items bs
 
 -- the ways between a union and any type
-abbrev pub union_rule : Orders → List (Ty → Ways) → Ty → Ways
+abbrev pub union_rule : MroTable → List (Ty → Ways) → Ty → Ways
 union_rule orders items b = both ((gathered items b).there || (is_any b || is_object b)) (back_to orders items b)
 
 -- ---- all types
 
 abbrev mutual
   -- whether the first type goes to the second, and the second to the first
-  pub ways : Orders → Ty → Ty → Ways
+  pub ways : MroTable → Ty → Ty → Ways
   ways orders any = any_ways
   ways orders none = into orders none none_rule
   ways orders (module_type m) = into orders (module_type m) (λ b. both false false)
@@ -208,20 +208,20 @@ abbrev mutual
   ways orders (callable ps r) =
       into orders (callable ps r) (callable_rule orders ps (params_ways_of orders ps) (ways orders r))
 
-  pub ways_of : Orders → Tys → List (Ty → Ways)
+  pub ways_of : MroTable → Tys → List (Ty → Ways)
   ways_of orders nil = []
   ways_of orders (cons x xs) = ways orders x ∷ ways_of orders xs
 
-  pub params_ways_of : Orders → Params → List (Ty → Ways)
+  pub params_ways_of : MroTable → Params → List (Ty → Ways)
   params_ways_of orders dots = []
   params_ways_of orders (listed ps) = listed_ways_of orders ps
 
-  pub listed_ways_of : Orders → Listed → List (Ty → Ways)
+  pub listed_ways_of : MroTable → Listed → List (Ty → Ways)
   listed_ways_of orders no_param = []
   listed_ways_of orders (param slot ty params) = ways orders ty ∷ listed_ways_of orders params
 
 -- the rule of a type's own form, unions of the other type left aside
-abbrev pub own_rule : Orders → Ty → Ty → Ways
+abbrev pub own_rule : MroTable → Ty → Ty → Ways
 own_rule orders any = any_ways
 own_rule orders none = none_rule
 own_rule orders (module_type m) = λ b. both false false
@@ -235,9 +235,9 @@ own_rule orders (union xs) = union_rule orders (ways_of orders xs)
 own_rule orders (callable ps r) = callable_rule orders ps (params_ways_of orders ps) (ways orders r)
 
 -- whether got is assignable to want, by the test that computes
-abbrev pub assignable : Orders → Ty → Ty → Bool
+abbrev pub assignable : MroTable → Ty → Ty → Bool
 assignable orders got want = (ways orders got want).there
 
 -- the test answers yes exactly where the rules lead, for all orders and types
 abbrev pub MeetsTheRules : Type 0
-MeetsTheRules = (orders : Orders) (got want : Ty) → IsTrue (assignable orders got want) ↔ Assignable orders got want
+MeetsTheRules = (orders : MroTable) (got want : Ty) → IsTrue (assignable orders got want) ↔ Assignable orders got want

@@ -16,7 +16,7 @@ mod unions;
 
 use crate::ways::Ways;
 use instances::{instance_ways, is_object, is_unknown_instance};
-use pyc_class::Lins;
+use pyc_class_ids::Lins;
 use pyc_type_forms::Ty;
 use rules::own_rule;
 use unions::union_ways;

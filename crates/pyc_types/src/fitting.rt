@@ -116,9 +116,11 @@ fn server_of(gots: &[Param], places: usize, place: usize, want: &Param) -> Optio
     ensures { result ≡ spec.server_of (slots_in gots.now) places place (slot_of want.now).kind }
 {
     match &want.kind {
-        ParamKind::Plain(_) => plain_at(gots, place).or(star_at(gots)),
+        ParamKind::Plain(_) => plain_param_index(gots, place).or(star_at(gots)),
         ParamKind::Star => star_at(gots),
-        ParamKind::KeywordOnly(name) => named_at(gots, name, places).or(double_star_at(gots)),
+        ParamKind::KeywordOnly(name) => named_param_index(gots, name, places).or(double_star_at(
+            gots,
+        )),
         ParamKind::DoubleStar => double_star_at(gots),
     }
 }
@@ -137,7 +139,7 @@ fn count_plain(params: &[Param]) -> usize
 }
 
 /// Where the parameter of this place stands.
-fn plain_at(params: &[Param], place: usize) -> Option<usize>
+fn plain_param_index(params: &[Param], place: usize) -> Option<usize>
     ensures { result ≡ spec.plain_from 0 (slots_in params.now) place }
 {
     let mut left = place;
@@ -153,7 +155,7 @@ fn plain_at(params: &[Param], place: usize) -> Option<usize>
 }
 
 /// Where a parameter of this name stands that none of the first so many places uses.
-fn named_at(params: &[Param], name: &Text, used: usize) -> Option<usize>
+fn named_param_index(params: &[Param], name: &Text, used: usize) -> Option<usize>
     ensures { result ≡ spec.named_from name.now 0 (slots_in params.now) used }
 {
     let mut left = used;

@@ -1,6 +1,6 @@
 //! Laws of assignability, proved for all orders and types.
-ghost use Rattle.pyc_types.specs.Laws.{AgreeingOrdersAnswerAlike, AnyPartHolds};
-ghost use Rattle.pyc_types.specs.OrderLaws.{BuiltinOrdersAreOrderly, IsReflexive, IsTransitive};
+ghost use Rattle.pyc_types.specs.Laws.{AgreeingMrosAnswerAlike, AnyPartHolds};
+ghost use Rattle.pyc_types.specs.MroLaws.{BuiltinMrosAreOrderly, IsReflexive, IsTransitive};
 ghost use Rattle.pyc_types.specs.Ways.{MeetsTheRules};
 
 /// `assignable` answers yes exactly where the written rules lead.
@@ -15,7 +15,7 @@ pub fn any_part()
 
 /// Two orders that agree on the classes written in two types give the same answer.
 pub fn agreeing_orders()
-    ensures { AgreeingOrdersAnswerAlike }
+    ensures { AgreeingMrosAnswerAlike }
 {}
 
 /// A type is assignable to itself, where no module stands in it and its callables have their parameters in the order in
@@ -33,5 +33,5 @@ pub fn transitive()
 
 /// The orders of the builtin classes meet what `reflexive` and `transitive` ask of orders.
 pub fn builtin_orders_are_orderly()
-    ensures { BuiltinOrdersAreOrderly }
+    ensures { BuiltinMrosAreOrderly }
 {}

@@ -11,7 +11,7 @@ pub use pyc_builtins::{
     Builtin, BuiltinName, Builtins, FoundMember, FunctionResult, Member, MethodResult,
     builtin_member, builtin_name, is_dunder, member_type, own_member,
 };
-pub use pyc_class::{BuiltinClass, ClassId, InstanceForm, Lin, Lins, UnknownOrder};
+pub use pyc_class_ids::{BuiltinClass, ClassId, InstanceForm, Lin, Lins, UnknownMro};
 pub use pyc_type_forms::{
     DictTypes, Param, ParamKind, Params, Signature, Ty, instance_of, items_of, narrow_away,
     narrow_to, same_type, show, union_of, without_none,

@@ -1,15 +1,15 @@
--- What is told of a class, of a function and of a method, as a reading (Python reference 3.13, "Function definitions",
--- "Class definitions"; "The Python 2.3 method resolution order").
+-- What is reported of a class, of a function and of a method, as a reading (Python reference 3.13, "Function
+-- definitions", "Class definitions"; "The Python 2.3 method resolution order").
 use Rattle.std.specs.Prelude.{ℕ, if◌then◌else◌, List, ◌++◌, codes, Option, None, Some}
 use Rattle.pyc_annotations.specs.Bases.{Base, class_base, bases}
 use Rattle.pyc_ast.specs.declared.position.Position.{Position}
 use Rattle.pyc_ast.specs.Statements.{ClassDefinition, FunctionDefinition, Stmt, StmtForm, Stmts, stmt}
 use Rattle.pyc_ast.specs.Statements as plain
-use Rattle.pyc_bodies.specs.Bodies.{Body, BodyKind, in_class, in_module}
-use Rattle.pyc_bodies.specs.ClassBodies.{class_body, declares_class}
-use Rattle.pyc_class.specs.declared.order.UnknownOrder.{UnknownOrder}
-use Rattle.pyc_class.specs.declared.order.UnknownOrder.TheVariants as unknown
-use Rattle.pyc_class.specs.Class.{Id, user}
+use Rattle.pyc_body_context.specs.Bodies.{Body, BodyKind, in_class, in_module}
+use Rattle.pyc_body_context.specs.ClassBodies.{class_body, declares_class}
+use Rattle.pyc_class_ids.specs.declared.order.UnknownMro.{UnknownMro}
+use Rattle.pyc_class_ids.specs.declared.order.UnknownMro.TheVariants as unknown
+use Rattle.pyc_class_ids.specs.Class.{Id, user}
 use Rattle.pyc_functions.specs.Bodies.{class_body_reading}
 use Rattle.pyc_functions.specs.Functions.{function_reading}
 use Rattle.pyc_iface.specs.declared.options.Options.{Options}
@@ -17,9 +17,9 @@ use Rattle.pyc_names.specs.Interfaces.{interface_of}
 use Rattle.pyc_names.specs.SourceFiles.{SourceFile}
 use Rattle.pyc_overrides.specs.Overrides.{overrides_read}
 use Rattle.pyc_reading.specs.Answers.{Answer, order_is}
-use Rattle.pyc_reading.specs.Desks.{Step, asking}
+use Rattle.pyc_reading.specs.Traces.{Step, asking}
 use Rattle.pyc_reading.specs.Keys.{class}
-use Rattle.pyc_reading.specs.Readings.{Done, Ask, Tell, each, ◌>>=◌}
+use Rattle.pyc_reading.specs.Readings.{Done, Ask, Report, each, ◌>>=◌}
 use Rattle.pyc_report.specs.declared.message.Code.TheVariants.{Misc}
 use Rattle.pyc_report.specs.Message.{error_at}
 
@@ -32,16 +32,17 @@ unfoldable pub no_order_text : List ℕ → List ℕ
 no_order_text name =
     codes "Cannot determine consistent method resolution order (MRO) for \"" ++ (name ++ codes "\"")
 
--- a class whose order is not known: a cycle, and a merge that fails, are told; a base of which nothing is known is not
-abbrev pub unknown_told : Position → List ℕ → Option UnknownOrder → Step (Unit {0})
-unknown_told at name (Some unknown.Cycle) = Tell (error_at at Misc (base_cycle_text name)) (Done tt)
-unknown_told at name (Some unknown.Merge) = Tell (error_at at Misc (no_order_text name)) (Done tt)
-unknown_told at name _ = Done tt
+-- a class whose order is not known: a cycle, and a merge that fails, are reported; a base of which nothing is known is
+-- not
+abbrev pub unknown_reported : Position → List ℕ → Option UnknownMro → Step (Unit {0})
+unknown_reported at name (Some unknown.Cycle) = Report (error_at at Misc (base_cycle_text name)) (Done tt)
+unknown_reported at name (Some unknown.Merge) = Report (error_at at Misc (no_order_text name)) (Done tt)
+unknown_reported at name _ = Done tt
 
--- the order that an answer gives, the class itself first: why it is not known is told
+-- the order that an answer gives, the class itself first: why it is not known is reported
 abbrev pub order_reading : Position → List ℕ → Answer → Step (Option (List Id))
 order_reading at name (order_is order) = do
-  u ← unknown_told at name order.unknown
+  u ← unknown_reported at name order.unknown
   Done (Some order.classes)
 order_reading at name _ = Done None
 
@@ -80,9 +81,9 @@ statement_body options file at head body = body_of options file (in_class (class
 -- ---- definitions
 
 -- what a class that the file declares, with this order, declares as an ancestor does
-abbrev pub heir_reading : SourceFile → List ℕ → Stmts → Option (List Id) → Step (Unit {0})
-heir_reading file name body None = Done tt
-heir_reading file name body (Some order) = overrides_read file name body order
+abbrev pub subclass_reading : SourceFile → List ℕ → Stmts → Option (List Id) → Step (Unit {0})
+subclass_reading file name body None = Done tt
+subclass_reading file name body (Some order) = overrides_read file name body order
 
 -- a class: its bases and its order, its body, and the names that its ancestors declare as well
 unfoldable pub class_statement_reading
@@ -90,7 +91,7 @@ unfoldable pub class_statement_reading
 class_statement_reading options file at head body = do
   order ← class_reading file at head
   u ← class_body_reading (statement_body options file at head body) head.suspends body
-  heir_reading file head.name body order
+  subclass_reading file head.name body order
 
 -- a function or a class of the top level of a file
 abbrev pub form_reading : Options → SourceFile → Position → StmtForm → Step (Unit {0})

@@ -1,9 +1,9 @@
--- What is asked for a unit of a file, told of it and owed in it (Python reference 3.13, "Execution model").
+-- What is asked for a unit of a file, reported of it and required in it (Python reference 3.13, "Execution model").
 use Rattle.pyc_ast.specs.Modules.{Outcome, tree, fault}
 use Rattle.pyc_functions.specs.Bodies.{module_body_reading}
 use Rattle.pyc_iface.specs.declared.options.Options.{Options}
 use Rattle.pyc_names.specs.SourceFiles.{SourceFile}
-use Rattle.pyc_reading.specs.Desks.{Step}
+use Rattle.pyc_reading.specs.Traces.{Step}
 use Rattle.pyc_reading.specs.Readings.{Done}
 use Rattle.pyc_units.specs.DefinitionReadings.{definition_reading, method_reading, module_body}
 use Rattle.pyc_units.specs.Header.{header_reading}

@@ -5,7 +5,7 @@ ghost use Rattle.pyc_units.specs.Header as spec;
 
 use std::alloc::{AllocError, Global};
 
-/// What is told of an import that comes back to itself.
+/// What is reported of an import that comes back to itself.
 #[tactic(auto, unfolding(crate::specs::Header::cycle_text))]
 pub(crate) fn cycle_text(alloc: Global, name: &str) -> Result<String, AllocError>
     ensures { IfOk result (λ text. string_bytes text ≡ spec.cycle_text name.now) }

@@ -1,4 +1,4 @@
--- Which paths a file may have, told on their bytes.
+-- Which paths a file may have, reported on their bytes.
 use Rattle.std.specs.Prelude.{ℕ, Bool, ◌==◌, ◌&&◌, not, nat_lt, nat_le, nat_eq, List, length, codes, bytes_eq}
 use Rattle.std.specs.List.{slice_split, list_all, ends_with}
 use Rattle.std.specs.Str.{is_utf8}

@@ -7,7 +7,7 @@ ghost use Rattle.pyc_names.specs.ModuleName.{module_of};
 ghost use Rattle.pyc_names.specs.SourceFiles.{source_file};
 ghost use Rattle.pyc_names.specs.SourceFileView.{source_in};
 
-use pyc_body::{Checked, count_units, unsilenced};
+use pyc_body::{Checked, count_units, unsuppressed};
 use pyc_lower::read;
 use pyc_names::{ModuleName, SourceFile};
 use pyc_report::Message;
@@ -29,7 +29,7 @@ impl File {
     ghost use Rattle.pyc_workspace.specs.Files.{file_in};
     ghost use Rattle.pyc_workspace.specs.Fresh.{source_of};
     ghost use Rattle.pyc_body.specs.FoundMessages.{without_ignored};
-    ghost use Rattle.pyc_examiner.specs.CheckedView.{messages_of};
+    ghost use Rattle.pyc_recorder.specs.CheckedView.{messages_of};
     ghost use Rattle.pyc_report.specs.Message.{message_in};
 
     /// A file of this path, the module that it names, and of these bytes. The only error is that memory runs out.
@@ -88,9 +88,9 @@ impl File {
         self.units
     }
 
-    /// The messages of the file that no ignore comment silences, of whose units these checks are. The only error is
+    /// The messages of the file that no ignore comment suppresses, of whose units these checks are. The only error is
     /// that memory runs out.
-    pub(crate) fn unsilenced(
+    pub(crate) fn unsuppressed(
         &self,
         alloc: Global,
         checks: &[Checked],
@@ -99,7 +99,7 @@ impl File {
             ≡ without_ignored (read_of (file_in self.now).bytes)
             (flat_map messages_of checks.now)) }
     {
-        let found = unsilenced(alloc, &self.source, checks)?;
+        let found = unsuppressed(alloc, &self.source, checks)?;
         Ok(found)
     }
 }

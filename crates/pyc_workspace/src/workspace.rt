@@ -4,7 +4,7 @@ ghost use Rattle.std.specs.Prelude.{◌≡◌, ◌++◌, [], false, List, None, 
 ghost use Rattle.std.specs.Cmp.Lexicographic.{slice_cmp};
 ghost use Rattle.std.specs.Ordering.{nat_cmp};
 ghost use Rattle.pyc_workspace.specs.Files.{file_in, files_in};
-ghost use Rattle.pyc_workspace.specs.Fresh.{numbered, unit_in, units_of};
+ghost use Rattle.pyc_workspace.specs.Fresh.{number_units, unit_in, units_of};
 ghost use Rattle.pyc_workspace.specs.ModuleCounts.{IsWhole, counts_in};
 ghost use Rattle.pyc_workspace.specs.Workspace.{File as PlainFile, IsInOrder, IsPlaceOf, IsGapFor, has_file};
 ghost use Rattle.pyc_workspace.specs.Workspace.{is_module_taken, with_file, without_file};
@@ -127,7 +127,7 @@ impl Workspace {
         })
     }
 
-    /// The units of the files, in order.
+    /// The units of the files, in order. The call is for users of the library: the program does not make it.
     pub fn units(&self, alloc: Global) -> Result<Vec<UnitId<'_>>, AllocError>
         ensures { IfOk result (λ units. map unit_in units.items ≡ units_of self.now) }
     {
@@ -184,7 +184,7 @@ fn push_units<'a>(
     path: &'a str,
     count: usize,
 ) -> Result<(), AllocError>
-    ensures { OnOk result (map unit_in units.new.items ≡ map unit_in units.old.items ++ numbered path.now 0 count) }
+    ensures { OnOk result (map unit_in units.new.items ≡ map unit_in units.old.items ++ number_units path.now 0 count) }
 {
     for index in 0..count {
         units.push(UnitId { path, index })?;

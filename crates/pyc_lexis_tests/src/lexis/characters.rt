@@ -57,7 +57,7 @@ pub(super) const CASES: &[(&[u8], LexFault)] = &[
     (b"(\n\n$", LexFault::BadCharacter(3)),
     (b"# $\n$", LexFault::BadCharacter(2)),
     (b"x \\\r\n\\\r\\\n?", LexFault::BadCharacter(4)),
-    // the first in the text is told
+    // the first in the text is reported
     (b"$ 'a", LexFault::BadCharacter(1)),
     (b"$ )", LexFault::BadCharacter(1)),
     (b"( $", LexFault::BadCharacter(1)),

@@ -1,7 +1,7 @@
 //! Ignore comments in every spelling, and comments that are none.
 
 pub(super) const CASES: &[(&str, &str)] = &[
-    // before the first logical line a bare one silences the file
+    // before the first logical line a bare one suppresses the file
     ("# type: ignore\nx", "0 [2:1 Name(Other) x];#1;!"),
     ("# type: ignore", "#1;!"),
     ("\n \t# a\n  # type: ignore\n", "#3;!"),

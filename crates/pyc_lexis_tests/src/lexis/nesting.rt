@@ -26,7 +26,7 @@ pub(super) const CASES: &[(&[u8], LexFault)] = &[
     (b"x = [1,\ny = 2\n", LexFault::Bracket(1)),
     (b"def f(\n  x", LexFault::Bracket(1)),
     (b"x\n\n(", LexFault::Bracket(3)),
-    // told last of all
+    // reported last of all
     (b"( $", LexFault::BadCharacter(1)),
     (b"(\n'a", LexFault::OpenString(2)),
     (b"(\n)\n)", LexFault::Bracket(3)),

@@ -9,7 +9,7 @@ use std::alloc::Global;
 use std::process::Abort;
 use std::test::Fail;
 
-/// The lines and ignore comments of a text, or what is told of its fault.
+/// The lines and ignore comments of a text, or what is reported of its fault.
 fn scanned(alloc: Global, source: &str) -> Result<String, Fail> {
     let bytes = source.as_bytes();
     match scan(alloc, bytes) {
@@ -67,7 +67,7 @@ fn reads_ignores(rt: HostRuntime) -> Result<(), Fail> {
 }
 
 #[test]
-fn tells_faults(rt: HostRuntime) {
+fn reports_faults(rt: HostRuntime) {
     check_faults(&rt, rt.alloc(), encoding::CASES);
     check_faults(&rt, rt.alloc(), characters::CASES);
     check_faults(&rt, rt.alloc(), open_strings::CASES);

@@ -193,8 +193,8 @@ impl<F: Fn(Global, &mut Lines, usize, usize) -> Result<Vec<Stmt>, BlockFault>> R
         Ok(Stmt::Compound(marks, first, more))
     }
 
-    /// The same without decorators.
-    fn undecorated(
+    /// A compound statement without decorators.
+    fn undecorated_statement(
         &self,
         lines: &mut Lines,
         indent: usize,
@@ -230,10 +230,11 @@ impl<F: Fn(Global, &mut Lines, usize, usize) -> Result<Vec<Stmt>, BlockFault>> R
     }
 
     /// A row of decorators and a definition.
-    #[tactic(auto, unfolding(crate::specs::Blocks::decorated))]
-    fn decorated(&self, lines: &mut Lines, indent: usize) -> Result<Stmt, BlockFault>
+    #[tactic(auto, unfolding(crate::specs::Blocks::decorated_definition))]
+    fn decorated_definition(&self, lines: &mut Lines, indent: usize) -> Result<Stmt, BlockFault>
         requires { ReadsBlocks self.now.depth (F.pre self.now.block) (F.post self.now.block) }
-        ensures { ReadsLines stmt_of (spec.decorated (spec.block_at self.now.depth) indent (lines_of lines.old))
+        ensures { ReadsLines stmt_of (spec.decorated_definition (spec.block_at self.now.depth) indent
+            (lines_of lines.old))
             result (lines_of lines.new) }
     {
         let number = lines.number();
@@ -253,9 +254,9 @@ impl<F: Fn(Global, &mut Lines, usize, usize) -> Result<Vec<Stmt>, BlockFault>> R
             Next::End => return Ok(None),
             Next::Fault(number) => return Err(BlockFault::Block(number)),
             Next::Simple => simple_line(lines)?,
-            Next::Decorator => self.decorated(lines, indent)?,
-            Next::Definition => self.undecorated(lines, indent, After::Nothing)?,
-            Next::Header(after) => self.undecorated(lines, indent, after)?,
+            Next::Decorator => self.decorated_definition(lines, indent)?,
+            Next::Definition => self.undecorated_statement(lines, indent, After::Nothing)?,
+            Next::Header(after) => self.undecorated_statement(lines, indent, after)?,
         };
         Ok(Some(found))
     }

@@ -50,7 +50,7 @@ fn faults_come_in_their_order(rt: HostRuntime) -> Result<(), Fail> {
     Ok(())
 }
 
-/// How many statements and ignore comments a source has, and whether one of these silences the file.
+/// How many statements and ignore comments a source has, and whether one of these suppresses the file.
 fn counts(alloc: Global, source: &str) -> Result<Option<(usize, usize, bool)>, Fail> {
     let scan = pyc_lex::scan(alloc, source.as_bytes())
         .ok()

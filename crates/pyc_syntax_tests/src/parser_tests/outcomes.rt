@@ -6,8 +6,8 @@ use std::alloc::{AllocError, Global};
 use std::fmt::Write;
 use std::test::Fail;
 
-/// The first fault of a source: its line, and what is told.
-fn told(alloc: Global, source: &[u8]) -> Result<Option<(usize, &'static str)>, Fail> {
+/// The first fault of a source: its line, and what is reported.
+fn reported(alloc: Global, source: &[u8]) -> Result<Option<(usize, &'static str)>, Fail> {
     let found = outcome(alloc, source).ok().ok_or("no memory")?;
     Ok(match found {
         Outcome::Tree(_) => None,
@@ -74,7 +74,10 @@ const LEXICAL: &[(&str, usize, &str)] = &[
 #[test]
 fn bytes_that_are_no_text(rt: HostRuntime) -> Result<(), Fail> {
     let source = b"x = 1\ny = $\n\xff\n";
-    assert_eq!(rt; told(rt.alloc(), source)?, Some((1, "Source is not UTF-8")));
+    assert_eq!(rt;
+        reported(rt.alloc(), source)?,
+        Some((1, "Source is not UTF-8"))
+    );
     Ok(())
 }
 
@@ -94,10 +97,13 @@ const ENCLOSED: &[(usize, Option<(usize, &str)>)] = &[
 fn limits_of_depth(rt: HostRuntime) -> Result<(), Fail> {
     let alloc = rt.alloc();
     for (levels, want) in NESTED {
-        assert_eq!(rt; told(alloc, nested(alloc, *levels)?.as_bytes())?, *want);
+        assert_eq!(rt; reported(alloc, nested(alloc, *levels)?.as_bytes())?, *want);
     }
     for (levels, want) in ENCLOSED {
-        assert_eq!(rt; told(alloc, enclosed(alloc, *levels)?.as_bytes())?, *want);
+        assert_eq!(rt;
+            reported(alloc, enclosed(alloc, *levels)?.as_bytes())?,
+            *want
+        );
     }
     Ok(())
 }
@@ -140,7 +146,7 @@ const FAULTS: &[&[(&str, usize, &str)]] = &[LEXICAL, OF_LINES_AND_BLOCKS, SEVERA
 fn first_faults(rt: HostRuntime) -> Result<(), Fail> {
     for sources in FAULTS {
         for (source, line, text) in *sources {
-            let found = told(rt.alloc(), source.as_bytes())?;
+            let found = reported(rt.alloc(), source.as_bytes())?;
             assert_eq!(rt; found, Some((*line, *text)), "{source}");
         }
     }
@@ -148,7 +154,7 @@ fn first_faults(rt: HostRuntime) -> Result<(), Fail> {
 }
 
 /// How many statements a tree has, its ignore comments, each as its line with `*` where it has no codes, and `!` where
-/// one silences the file.
+/// one suppresses the file.
 fn shown(alloc: Global, module: &Module) -> Result<String, Fail> {
     let mut shown = String::new(alloc);
     write!(shown, "{}", module.statements.len())?;
@@ -164,7 +170,7 @@ fn shown(alloc: Global, module: &Module) -> Result<String, Fail> {
     Ok(shown)
 }
 
-/// The same of the tree of a source.
+/// How many statements the tree of `source` has, its ignore comments, and `!` where the whole file is suppressed.
 fn tree_shown(alloc: Global, source: &str) -> Result<String, Fail> {
     match outcome(alloc, source.as_bytes()).ok().ok_or("no memory")? {
         Outcome::Tree(found) => shown(alloc, &found),

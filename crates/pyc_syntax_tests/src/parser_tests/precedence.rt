@@ -27,7 +27,7 @@ fn nested(tree: &Expr) -> &'static str {
     }
 }
 
-/// The same of the outermost operator of a line.
+/// Which operands of the outermost operator of `line` have an operator themselves.
 fn nested_in(line: &Line) -> &'static str {
     match expression(line) {
         Some(tree) => nested(tree),
@@ -35,7 +35,7 @@ fn nested_in(line: &Line) -> &'static str {
     }
 }
 
-/// The same of the outermost operator of a source.
+/// Which operands of the outermost operator of `source` have an operator themselves.
 fn nested_operands(alloc: Global, source: &str) -> Result<&'static str, Fail> {
     match parsed(alloc, source)? {
         Ok(line) => Ok(nested_in(&line)),

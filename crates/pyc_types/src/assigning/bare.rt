@@ -7,7 +7,7 @@ ghost use Rattle.pyc_types.specs.Ways as spec;
 use super::instances::{is_object, is_unknown_instance};
 use super::is_any;
 use crate::ways::Ways;
-use pyc_class::{InstanceForm, Lins};
+use pyc_class_ids::{InstanceForm, Lins};
 use pyc_type_forms::Ty;
 
 /// The ways between the instances of list, dict or tuple and any type.

@@ -11,7 +11,7 @@ ghost use Rattle.pyc_types.specs.Ways.{ways, ways_of};
 
 use super::walk;
 use crate::ways::Ways;
-use pyc_class::Lins;
+use pyc_class_ids::Lins;
 use pyc_type_forms::Ty;
 
 /// How many items the second union may have.

@@ -1,8 +1,8 @@
 //! Instances of classes, and class objects.
 
 ghost use Rattle.std.specs.Prelude.{◌≡◌};
-ghost use Rattle.pyc_class.specs.Class.{form_of};
-ghost use Rattle.pyc_class.specs.Order.{leads, is_unknown};
+ghost use Rattle.pyc_class_ids.specs.Class.{form_of};
+ghost use Rattle.pyc_class_ids.specs.Mro.{leads, is_unknown};
 ghost use Rattle.pyc_type_forms.specs.Types.{instance};
 ghost use Rattle.pyc_type_forms.specs.TypeView.{ty_of, row};
 ghost use Rattle.pyc_types.specs.Ways as spec;
@@ -10,7 +10,7 @@ ghost use Rattle.pyc_types.specs.Ways as spec;
 use super::bare::bare_ways;
 use super::is_any;
 use crate::ways::Ways;
-use pyc_class::{BuiltinClass, ClassId, InstanceForm, Lins};
+use pyc_class_ids::{BuiltinClass, ClassId, InstanceForm, Lins};
 use pyc_type_forms::Ty;
 
 /// The ways between an instance of a class and any type.

@@ -10,7 +10,7 @@ ghost use Rattle.pyc_types.specs.Ways.{ways, params_ways, params_ways_of, listed
 use super::walk;
 use crate::fitting::{fits, serves};
 use crate::ways::Ways;
-use pyc_class::Lins;
+use pyc_class_ids::Lins;
 use pyc_type_forms::{Param, Params};
 
 /// The ways between what two callables take.

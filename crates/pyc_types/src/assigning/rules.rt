@@ -9,7 +9,7 @@ use super::parameters::params_ways;
 use super::unions::{is_each_there, union_ways};
 use super::walk;
 use crate::ways::Ways;
-use pyc_class::{ClassId, Lins};
+use pyc_class_ids::{ClassId, Lins};
 use pyc_type_forms::{DictTypes, Signature, Ty};
 
 /// The ways that the rule of a type's own form gives, the other type being no union.

@@ -8,7 +8,7 @@ use super::crossing::{cross_ways, is_crossable};
 use super::instances::{is_object, is_unknown_instance};
 use super::{is_any, walk};
 use crate::ways::Ways;
-use pyc_class::Lins;
+use pyc_class_ids::Lins;
 use pyc_type_forms::Ty;
 
 /// The ways between a union and any type.

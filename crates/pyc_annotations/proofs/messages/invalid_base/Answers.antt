@@ -7,9 +7,9 @@ pub returns : goal.returns
 unfolding invalid_base
 returns g c = first_of (grind (arith, performing), search rules)
 
-pub returns-in_err-tell_error : goal.returns-in_err-tell_error
+pub returns-in_err-report_error : goal.returns-in_err-report_error
 unfolding invalid_base
-returns-in_err-tell_error g c = first_of (grind (arith, performing), search rules)
+returns-in_err-report_error g c = first_of (grind (arith, performing), search rules)
 
 pub returns-in_err-text : goal.returns-in_err-text
 unfolding invalid_base

@@ -5,11 +5,11 @@ use Rattle.pyc_annotations.proofs.Arguments.{readings_of, length_readings, form_
 use Rattle.pyc_annotations.proofs.Sizes.{arguments_below}
 use Rattle.pyc_annotations.proofs.Steps.{performs_same, performing}
 use Rattle.pyc_annotations.proofs.Turns.{argument_turn, type_turn}
-use Rattle.pyc_annotations.specs.Annotations.{Annotation, of_type, plain_callable, more_types, type_readings, read_type, callable_of, shape_reading, takes, subscripted_rule, union_rule, subscript_rule, built_rule, form_rule}
+use Rattle.pyc_annotations.specs.Annotations.{Annotation, annotation_of_type, plain_callable, more_types, type_readings, read_type, callable_of, shape_reading, takes, subscripted_rule, union_rule, subscript_rule, built_rule, form_rule}
 use Rattle.pyc_annotations.specs.Views.{annotation_in, subscripted_of}
 use Rattle.pyc_names.specs.InterfaceView.{interface_in}
 use Rattle.pyc_reading.proofs.RunLemmas.{after, grown_trans}
-use Rattle.pyc_reading.specs.Desks.{Step, run}
+use Rattle.pyc_reading.specs.Traces.{Step, run}
 use Rattle.pyc_reading.specs.Readings.{Done, and_then}
 use Rattle.pyc_type_exprs.specs.declared.forms.ArgumentShape.TheFolds.{the_lemmas}
 use Rattle.pyc_type_exprs.specs.declared.forms.ArgumentShape.TheViews.{size-TypeExpr, size-TypeArgument}
@@ -46,15 +46,15 @@ listed_types-loop-written-preserved g t c =
 pub read_callable-returns-in_ok-found-in-List : goal.read_callable-returns-in_ok-found-in-List
 read_callable-returns-in_ok-found-in-List g t c =
     let file = interface_in c.args.file.now in
-    let desk = g.N.Notes.desk c.args.notes.now in
+    let trace = g.N.Ask.trace c.args.recorder.now in
     let answer = read_type file (type_expr_of c.answer-item.result.written) in
     let listed : shape_in c.params-item.result.shape ≡ list_shape (type_exprs (map type_expr_of c.deref.result.now)) = rw c.in-List.is (search (rules, the_lemmas)) in
-    let found : run (and_then answer (λ found. Done (of_type (plain_callable (map ty_of c.in_ok-types-in-List.types.items) found.ty)))) (g.N.Notes.desk c.listed_types.new.notes) ≡ (annotation_in c.in_ok-found-in-List.found, g.N.Notes.desk c.read_plain_callable.new.notes)
-    = subst (λ (l : List Ty). run (and_then answer (λ found. Done (of_type (plain_callable (map ty_of l) found.ty)))) (g.N.Notes.desk c.listed_types.new.notes) ≡ (annotation_in c.in_ok-found-in-List.found, g.N.Notes.desk c.read_plain_callable.new.notes)) c.deref-in-List.ensures.value c.in_ok-found-in-List.ensures.done in
+    let found : run (and_then answer (λ found. Done (annotation_of_type (plain_callable (map ty_of c.in_ok-types-in-List.types.items) found.ty)))) (g.N.Ask.trace c.listed_types.new.recorder) ≡ (annotation_in c.in_ok-found-in-List.found, g.N.Ask.trace c.read_plain_callable.new.recorder)
+    = subst (λ (l : List Ty). run (and_then answer (λ found. Done (annotation_of_type (plain_callable (map ty_of l) found.ty)))) (g.N.Ask.trace c.listed_types.new.recorder) ≡ (annotation_in c.in_ok-found-in-List.found, g.N.Ask.trace c.read_plain_callable.new.recorder)) c.deref-in-List.ensures.value c.in_ok-found-in-List.ensures.done in
     record {
       done =
-          ap (λ (r : Step Annotation). run r desk) (callable_two file c.args.at c.args.arguments.now _ _ c.in-len2.len_at_least c.in-len2.len_below c.params-item.is c.answer-item.is ∙ ap (λ s. callable_of c.args.at (shape_reading file s) answer) listed)
-          ∙ after (more_types [] (type_readings file (type_exprs (map type_expr_of c.deref.result.now)))) (λ tys. and_then answer (λ found. Done (of_type (plain_callable tys found.ty)))) desk _ _ _ _ c.in_ok-types-in-List.ensures.done found;
+          ap (λ (r : Step Annotation). run r trace) (callable_two file c.args.at c.args.arguments.now _ _ c.in-len2.len_at_least c.in-len2.len_below c.params-item.is c.answer-item.is ∙ ap (λ s. callable_of c.args.at (shape_reading file s) answer) listed)
+          ∙ after (more_types [] (type_readings file (type_exprs (map type_expr_of c.deref.result.now)))) (λ tys. and_then answer (λ found. Done (annotation_of_type (plain_callable tys found.ty)))) trace _ _ _ _ c.in_ok-types-in-List.ensures.done found;
       grown = grown_trans c.listed_types.ensures.grown c.read_plain_callable.ensures.grown;
     }
 
@@ -103,14 +103,14 @@ pub read_type-returns-in_ok-union-in-Union : goal.read_type-returns-in_ok-union-
 unfolding union_rule
 read_type-returns-in_ok-union-in-Union g t c =
     let file = interface_in c.args.file.now in
-    let desk = g.N.Notes.desk c.args.notes.now in
+    let trace = g.N.Ask.trace c.args.recorder.now in
     let left = c.deref.result.now in
     let right = c.deref-in-Union.result.now in
     let written : type_expr_of c.args.written.now ≡ union_written (type_expr_of left) (type_expr_of right) = rw c.in-Union.is (search (rules, the_lemmas)) in
     record {
       done =
-          ap (λ (w : Written). run (read_type file w) desk) written
-          ∙ after (read_type file (type_expr_of left)) (λ l. and_then (read_type file (type_expr_of right)) (λ r. Done (of_type (union_of (l.ty ∷ r.ty ∷ []))))) desk _ _ _ _ c.in_ok-left-in-Union.ensures.done c.in_ok-union-in-Union.ensures.done;
+          ap (λ (w : Written). run (read_type file w) trace) written
+          ∙ after (read_type file (type_expr_of left)) (λ l. and_then (read_type file (type_expr_of right)) (λ r. Done (annotation_of_type (union_of (l.ty ∷ r.ty ∷ []))))) trace _ _ _ _ c.in_ok-left-in-Union.ensures.done c.in_ok-union-in-Union.ensures.done;
       grown = grown_trans c.read_type.ensures.grown c.read_right.ensures.grown;
     }
 

@@ -9,7 +9,7 @@ use Rattle.pyc_arguments.proofs.arguments.read_each.Goals as goal
 pub loop-argument-preserved : goal.loop-argument-preserved
 loop-argument-preserved g c = record {
   same =
-      read_turn (g.R.Reader.reads c.args.reader.now) c.args.arguments.now c.loop-argument.argument-index c.argument-item.result _ _ _ c.loop-argument-test.true c.argument-item.is c.in_ok-read.ensures.done
+      read_turn (g.R.InferType.reads c.args.reader.now) c.args.arguments.now c.loop-argument.argument-index c.argument-item.result _ _ _ c.loop-argument-test.true c.argument-item.is c.in_ok-read.ensures.done
       ∙ c.loop-argument.invariant.same;
   grown = grown_trans c.loop-argument.invariant.grown c.read.ensures.grown;
 }

@@ -10,7 +10,7 @@ use Rattle.pyc_arguments.proofs.arguments.read_once.Goals as goal
 pub loop-argument-preserved : goal.loop-argument-preserved
 loop-argument-preserved g c = record {
   same =
-      once_turn (g.R.Reader.reads c.args.reader.now) (map read_in c.loop-argument.read.items) _ c.args.arguments.now c.loop-argument.argument-index c.argument-item.result _ _ _ c.loop-argument-test.true c.argument-item.is c.in_ok-ty.ensures.done c.in_ok-push_read.ensures
+      once_turn (g.R.InferType.reads c.args.reader.now) (map read_in c.loop-argument.read.items) _ c.args.arguments.now c.loop-argument.argument-index c.argument-item.result _ _ _ c.loop-argument-test.true c.argument-item.is c.in_ok-ty.ensures.done c.in_ok-push_read.ensures
       ∙ c.loop-argument.invariant.same;
   grown = grown_trans c.loop-argument.invariant.grown c.read.ensures.grown;
 }

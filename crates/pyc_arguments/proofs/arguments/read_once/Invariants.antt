@@ -1,11 +1,11 @@
 use Rattle.std.proofs.Common.{map, drop, []}
 use Rattle.pyc_arguments.specs.Arguments.{more_read}
 use Rattle.pyc_arguments.specs.Views.{read_in, unread_in}
-use Rattle.pyc_reading.specs.Desks.{Going}
+use Rattle.pyc_reading.specs.Traces.{Going}
 use Rattle.pyc_arguments.proofs.arguments.read_once.Given as goal
 
 -- what is left to do comes to the same as all
 abbrev pub invariant-loop-argument : goal.invariant-loop-argument
 invariant-loop-argument g l =
-    Going (more_read (map read_in l.read.items) (unread_in (g.R.Reader.reads l.reader) (drop l.argument-index l.arguments))) (g.N.Notes.desk l.notes)
-    (more_read [] (unread_in (g.R.Reader.reads l.reader) l.arguments)) (g.N.Notes.desk l.fn.notes)
+    Going (more_read (map read_in l.read.items) (unread_in (g.R.InferType.reads l.reader) (drop l.argument-index l.arguments))) (g.N.Ask.trace l.recorder)
+    (more_read [] (unread_in (g.R.InferType.reads l.reader) l.arguments)) (g.N.Ask.trace l.fn.recorder)

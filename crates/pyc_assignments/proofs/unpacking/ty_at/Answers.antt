@@ -1,4 +1,4 @@
-use Rattle.pyc_items.proofs.RowLemmas.{found_at}
+use Rattle.pyc_subscripts.proofs.RowLemmas.{found_at}
 use Rattle.pyc_assignments.proofs.unpacking.ty_at.Goals as goal
 
 pub returns : goal.returns

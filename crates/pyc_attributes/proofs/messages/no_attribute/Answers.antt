@@ -7,6 +7,6 @@ pub returns-in_err-text : goal.returns-in_err-text
 unfolding no_attribute
 returns-in_err-text g c = first_of (grind (arith, performing), search rules)
 
-pub returns-in_err-tell_error : goal.returns-in_err-tell_error
+pub returns-in_err-report_error : goal.returns-in_err-report_error
 unfolding no_attribute
-returns-in_err-tell_error g c = first_of (grind (arith, performing), search rules)
+returns-in_err-report_error g c = first_of (grind (arith, performing), search rules)

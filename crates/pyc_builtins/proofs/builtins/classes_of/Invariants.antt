@@ -1,5 +1,5 @@
 use Rattle.std.proofs.Common.{◌≡◌, map, take}
-use Rattle.pyc_class.specs.Class.{builtin}
+use Rattle.pyc_class_ids.specs.Class.{builtin}
 use Rattle.pyc_builtins.proofs.builtins.classes_of.Given as goal
 
 abbrev pub invariant-loop-class : goal.invariant-loop-class

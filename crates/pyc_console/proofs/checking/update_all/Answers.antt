@@ -11,7 +11,7 @@ loop-file-preserved g c =
     let one = rw c.deref.ensures at c.update_one-refused.ensures.update in
     record {
       buffers = c.update_one-refused.ensures.buffers ∙ c.loop-file.invariant.buffers;
-      updates = rw next at (updates_on _ _ _ _ _ _ _ _ _ _ _ _ _ _ _ _ _ one.0 c.requires.untold.0 c.requires.untold.1 c.loop-file.invariant.updates one.1 one.2);
+      updates = rw next at (updates_on _ _ _ _ _ _ _ _ _ _ _ _ _ _ _ _ _ one.0 c.requires.unreported.0 c.requires.unreported.1 c.loop-file.invariant.updates one.1 one.2);
     }
 
 pub returns-clause-updates : goal.returns-clause-updates

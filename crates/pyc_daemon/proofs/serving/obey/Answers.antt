@@ -1,8 +1,8 @@
 use Rattle.std.proofs.Common.{false, None, Some, [], refl, sym, ap, ◌∙◌, option_map}
-use Rattle.pyc_session.specs.Session.{told}
+use Rattle.pyc_session.specs.Session.{reported}
 use Rattle.pyc_daemon.proofs.Moving.{advances_none}
-use Rattle.pyc_session.proofs.Turns.{told_remove, if_ok}
-use Rattle.pyc_daemon.proofs.Ended.{status_told}
+use Rattle.pyc_session.proofs.Turns.{reported_remove, if_ok}
+use Rattle.pyc_daemon.proofs.Ended.{status_reported}
 use Rattle.pyc_daemon.proofs.serving.obey.Goals as goal
 
 pub returns-in-Check-clause-obeyed : goal.returns-in-Check-clause-obeyed
@@ -12,17 +12,17 @@ returns-in-Check-clause-obeyed g c =
 
 pub returns-in-Status-clause-obeyed : goal.returns-in-Status-clause-obeyed
 returns-in-Status-clause-obeyed g c =
-    ([], record { wants_memory = false; fetched = None }, advances_none _ _, λ rest last. rw (c.in-Status.is, c.counts.ensures.reply, c.counts.ensures.end, status_told _ _ c.status.ensures.files c.status.ensures.bodies c.status.ensures.rechecked) refl, λ e. (refl, e), refl)
+    ([], record { wants_memory = false; fetched = None }, advances_none _ _, λ rest last. rw (c.in-Status.is, c.counts.ensures.reply, c.counts.ensures.end, status_reported _ _ c.status.ensures.files c.status.ensures.bodies c.status.ensures.rechecked) refl, λ e. (refl, e), refl)
 
 pub returns-in-Update-clause-obeyed : goal.returns-in-Update-clause-obeyed
 returns-in-Update-clause-obeyed g c =
-    let p = c.update.ensures.told in
-    ([], p.0, advances_none _ _, λ rest last. rw c.in-Update.is (ap (option_map (λ outcome. told outcome rest)) p.2 ∙ ap Some (sym (c.tell.ensures _ rest))), λ e. (refl, e), p.1)
+    let p = c.update.ensures.reported in
+    ([], p.0, advances_none _ _, λ rest last. rw c.in-Update.is (ap (option_map (λ outcome. reported outcome rest)) p.2 ∙ ap Some (sym (c.short_answer.ensures _ rest))), λ e. (refl, e), p.1)
 
 pub returns-in-Remove-clause-obeyed : goal.returns-in-Remove-clause-obeyed
 returns-in-Remove-clause-obeyed g c =
     let left = c.remove.ensures in
-    ([], record { wants_memory = false; fetched = None }, advances_none _ _, λ rest last. rw c.in-Remove.is (ap (λ outcome. Some (told outcome rest)) (told_remove _ _ _ c.remove.result left.ok left.after left.refusal left.same) ∙ ap Some (sym (c.tell-in-Remove.ensures _ rest))), λ e. (refl, e), refl)
+    ([], record { wants_memory = false; fetched = None }, advances_none _ _, λ rest last. rw c.in-Remove.is (ap (λ outcome. Some (reported outcome rest)) (reported_remove _ _ _ c.remove.result left.ok left.after left.refusal left.same) ∙ ap Some (sym (c.short_answer-in-Remove.ensures _ rest))), λ e. (refl, e), refl)
 
 pub returns-in-Stop-clause-obeyed : goal.returns-in-Stop-clause-obeyed
 returns-in-Stop-clause-obeyed g c =

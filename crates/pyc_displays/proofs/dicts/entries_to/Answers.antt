@@ -10,14 +10,14 @@ use Rattle.pyc_displays.proofs.dicts.entries_to.Goals as goal
 pub loop-index-preserved : goal.loop-index-preserved
 loop-index-preserved g c = record {
   same =
-      entry_to_turn (g.R.Reader.reads c.args.reader.now) (entry_in c.args.want.now) c.args.items.now c.loop-index.index c.index-items-index.result _ _ _ c.loop-index-test.true c.index-items-index.is c.in_ok-entry_to.ensures.done
+      entry_to_turn (g.R.InferType.reads c.args.reader.now) (entry_in c.args.want.now) c.args.items.now c.loop-index.index c.index-items-index.result _ _ _ c.loop-index-test.true c.index-items-index.is c.in_ok-check_entry_types.ensures.done
       ∙ c.loop-index.invariant.same;
-  grown = grown_trans c.loop-index.invariant.grown c.entry_to.ensures.grown;
+  grown = grown_trans c.loop-index.invariant.grown c.check_entry_types.ensures.grown;
 }
 
-pub returns-in_err-entry_to : goal.returns-in_err-entry_to
+pub returns-in_err-check_entry_types : goal.returns-in_err-check_entry_types
 unfolding entries_to
-returns-in_err-entry_to g c = first_of (grind (arith, performing), search rules)
+returns-in_err-check_entry_types g c = first_of (grind (arith, performing), search rules)
 
 pub loop-index-init : goal.loop-index-init
 unfolding entries_to

@@ -10,7 +10,7 @@ use Rattle.pyc_displays.proofs.dicts.read_entries.Goals as goal
 pub loop-item-preserved : goal.loop-item-preserved
 loop-item-preserved g c = record {
   same =
-      entry_turn (g.R.Reader.reads c.args.reader.now) (entry_types_in c.loop-item.types) _ c.args.items.now c.loop-item.item-index c.item-item.result _ _ _ c.loop-item-test.true c.item-item.is c.in_ok-found.ensures.done c.in_ok-push_entry.ensures
+      entry_turn (g.R.InferType.reads c.args.reader.now) (entry_types_in c.loop-item.types) _ c.args.items.now c.loop-item.item-index c.item-item.result _ _ _ c.loop-item-test.true c.item-item.is c.in_ok-found.ensures.done c.in_ok-push_entry.ensures
       ∙ c.loop-item.invariant.same;
   grown = grown_trans c.loop-item.invariant.grown c.free_entry.ensures.grown;
 }

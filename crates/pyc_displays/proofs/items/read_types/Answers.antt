@@ -9,7 +9,7 @@ use Rattle.pyc_ast.specs.ExprView.{expr_of}
 use Rattle.pyc_displays.proofs.Parts.{lent}
 use Rattle.pyc_displays.proofs.Turns.{type_turn}
 use Rattle.pyc_reading.proofs.RunLemmas.{grown_trans}
-use Rattle.pyc_reading.specs.Desks.{run}
+use Rattle.pyc_reading.specs.Traces.{run}
 use Rattle.pyc_type_forms.specs.declared.types.Ty.{Ty as TyOf}
 use Rattle.pyc_type_forms.specs.TypeView.{ty_of}
 use Rattle.pyc_displays.proofs.items.read_types.Goals as goal
@@ -17,10 +17,10 @@ use Rattle.pyc_displays.proofs.items.read_types.Goals as goal
 pub loop-index-preserved : goal.loop-index-preserved
 loop-index-preserved g c =
     let types = c.loop-index.types.items in
-    let read = g.R.Reader.reads c.args.reader.now in
+    let read = g.R.InferType.reads c.args.reader.now in
     let want = option_map (λ (ty : Bor TyOf). ty_of ty.now) c.get.result in
-    let first : run (read (expr_of c.index-items-index.result.value) want) (g.N.Notes.desk c.loop-index.notes) ≡ (ty_of c.in_ok-ty.ty, g.N.Notes.desk c.read.new.notes) =
-    ap (λ (x : Element). run (read (expr_of x.value) want) (g.N.Notes.desk c.loop-index.notes)) c.index-items-index.is ∙ c.in_ok-ty.ensures.done in
+    let first : run (read (expr_of c.index-items-index.result.value) want) (g.N.Ask.trace c.loop-index.recorder) ≡ (ty_of c.in_ok-ty.ty, g.N.Ask.trace c.read.new.recorder) =
+    ap (λ (x : Element). run (read (expr_of x.value) want) (g.N.Ask.trace c.loop-index.recorder)) c.index-items-index.is ∙ c.in_ok-ty.ensures.done in
     let pushed : map ty_of c.push.new.self.items ≡ map ty_of types ++ (ty_of c.in_ok-ty.ty ∷ []) = ap (map ty_of) c.in_ok-push.ensures.items ∙ map_push ty_of types c.in_ok-ty.ty in
     record {
       same =

@@ -12,7 +12,7 @@ pub returns : goal.returns
 unfolding set_display
 returns g c = record {
   done =
-      after (types_of (g.R.Reader.reads c.args.reader.now) [] (map element_of c.args.items.now)) (λ types. Done any) (g.N.Notes.desk c.args.notes.now) _ _ _ _ c.in_ok-read_types.ensures.done (ap (λ ty. (ty, g.N.Notes.desk c.read_types.new.notes)) any_in);
+      after (types_of (g.R.InferType.reads c.args.reader.now) [] (map element_of c.args.items.now)) (λ types. Done any) (g.N.Ask.trace c.args.recorder.now) _ _ _ _ c.in_ok-read_types.ensures.done (ap (λ ty. (ty, g.N.Ask.trace c.read_types.new.recorder)) any_in);
   grown = c.read_types.ensures.grown;
 }
 

@@ -12,7 +12,7 @@ returns g c =
     let s = state_of c.args.state.now in
     record {
       done =
-          after (g.P.Parts.parts c.args.parts.now s (expr_of c.args.owner.now) None) (attribute_of s (expr_of c.args.whole.now) c.args.at c.args.name.now) (g.N.Notes.desk c.args.notes.now) _ _ _ _ c.in_ok-owner.ensures.done c.in_ok-value.ensures.done;
+          after (g.P.InferValue.parts c.args.parts.now s (expr_of c.args.owner.now) None) (attribute_of s (expr_of c.args.whole.now) c.args.at c.args.name.now) (g.N.Ask.trace c.args.recorder.now) _ _ _ _ c.in_ok-owner.ensures.done c.in_ok-value.ensures.done;
       grown = grown_trans c.part.ensures.grown c.attribute_of.ensures.grown;
     }
 

@@ -3,9 +3,9 @@ use Rattle.pyc_obligations.proofs.Steps.{performing}
 use Rattle.std.proofs.Common.{arith, rules}
 use Rattle.pyc_expr_forms.proofs.operations.chain_type.Goals as goal
 
-pub returns-in_err-all_compared : goal.returns-in_err-all_compared
+pub returns-in_err-infer_comparisons : goal.returns-in_err-infer_comparisons
 unfolding chain_type
-returns-in_err-all_compared g c = first_of (grind (arith, performing), search rules)
+returns-in_err-infer_comparisons g c = first_of (grind (arith, performing), search rules)
 
 pub returns : goal.returns
 unfolding chain_type

@@ -7,9 +7,9 @@ pub returns-in_err-ty : goal.returns-in_err-ty
 unfolding cast_to
 returns-in_err-ty g c = first_of (grind (arith, performing), search rules)
 
-pub returns-in_err-only_read : goal.returns-in_err-only_read
+pub returns-in_err-infer_freely : goal.returns-in_err-infer_freely
 unfolding cast_to
-returns-in_err-only_read g c = first_of (grind (arith, performing), search rules)
+returns-in_err-infer_freely g c = first_of (grind (arith, performing), search rules)
 
 pub returns : goal.returns
 unfolding cast_to

@@ -13,7 +13,7 @@ index_types-loop-index-preserved g t c =
     let types = c.loop-index.types.items in
     record {
       same =
-          index_turn (g.P.Parts.parts c.args.parts.now) (state_of c.args.state.now) (map ty_of types) _ c.args.indices.now c.loop-index.index-index c.index-item.result _ _ _ c.loop-index-test.true c.index-item.is c.in_ok-ty.ensures.done (ap (map ty_of) c.in_ok-push.ensures.items ∙ map_push ty_of types c.in_ok-ty.ty)
+          index_turn (g.P.InferValue.parts c.args.parts.now) (state_of c.args.state.now) (map ty_of types) _ c.args.indices.now c.loop-index.index-index c.index-item.result _ _ _ c.loop-index-test.true c.index-item.is c.in_ok-ty.ensures.done (ap (map ty_of) c.in_ok-push.ensures.items ∙ map_push ty_of types c.in_ok-ty.ty)
           ∙ c.loop-index.invariant.same;
       grown = grown_trans c.loop-index.invariant.grown c.index_type.ensures.grown;
     }

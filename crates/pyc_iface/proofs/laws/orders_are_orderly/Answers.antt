@@ -1,5 +1,5 @@
 use Rattle.std.proofs.Common.{map}
-use Rattle.pyc_classes.proofs.LawLemmas.{orders_orderly}
+use Rattle.pyc_class_table.proofs.LawLemmas.{orders_orderly}
 use Rattle.pyc_declarations.specs.ClassEntries.{class_entries}
 use Rattle.pyc_iface.specs.Answers.{orders_by}
 use Rattle.pyc_names.specs.Interfaces.{interface_of}

@@ -14,7 +14,7 @@ loop-turn-init c = on_the_way-start _ _ _ _ c.in_ok-reader.ensures (omega arith)
 
 pub split_at-requires : goal.split_at-requires
 split_at-requires c =
-    (cut_lexeme c.loop-turn.rest.now c.in-Ok.lexeme c.in-Ok.len c.loop-turn.invariant.utf8 (grind (arith, common_steps)) (sym c.cut.ensures ∙ c.in-Ok.is)).boundary
+    (cut_lexeme c.loop-turn.rest.now c.in-Ok.lexeme c.in-Ok.len c.loop-turn.invariant.utf8 (grind (arith, common_steps)) (sym c.cut_first_lexeme.ensures ∙ c.in-Ok.is)).boundary
 
 pub step-requires-clause-within : goal.step-requires-clause-within
 step-requires-clause-within c =
@@ -22,7 +22,7 @@ step-requires-clause-within c =
 
 pub step-requires-clause-not_empty : goal.step-requires-clause-not_empty
 step-requires-clause-not_empty c =
-    let least = (cut_lexeme c.loop-turn.rest.now c.in-Ok.lexeme c.in-Ok.len c.loop-turn.invariant.utf8 (grind (arith, common_steps)) (sym c.cut.ensures ∙ c.in-Ok.is)).least in
+    let least = (cut_lexeme c.loop-turn.rest.now c.in-Ok.lexeme c.in-Ok.len c.loop-turn.invariant.utf8 (grind (arith, common_steps)) (sym c.cut_first_lexeme.ensures ∙ c.in-Ok.is)).least in
     omega (arith, c.split_at.ensures.front_len, least)
 
 pub returns-in_err-step-in-Ok : goal.returns-in_err-step-in-Ok
@@ -30,19 +30,19 @@ returns-in_err-step-in-Ok c =
     let some : 0 < length c.loop-turn.rest.now = grind (arith, common_steps) in
     answers_err _ c.in_err-step-in-Ok.field-0.0 c.from_residual-in_err-step-in-Ok.result c.from_residual-in_err-step-in-Ok.ensures.1 (λ other.
     ap (λ (x : Result Reading LexFault). and_then x finished)
-    (sym (on_the_way-fault _ _ _ _ _ c.loop-turn.invariant some c.in-Ok.lexeme c.in-Ok.len (length c.args.text.now - (c.loop-turn._turn + 1)) (sym c.cut.ensures ∙ c.in-Ok.is) (omega arith)
+    (sym (on_the_way-fault _ _ _ _ _ c.loop-turn.invariant some c.in-Ok.lexeme c.in-Ok.len (length c.args.text.now - (c.loop-turn._turn + 1)) (sym c.cut_first_lexeme.ensures ∙ c.in-Ok.is) (omega arith)
     c.in_err-step-in-Ok.field-0.0 c.split_at.result.0.now c.split_at.ensures.front (c.in_err-step-in-Ok.ensures other))))
 
 pub returns-in-Err : goal.returns-in-Err
 returns-in-Err c = λ other.
     let some : 0 < length c.loop-turn.rest.now = grind (arith, common_steps) in
     ap (λ (x : Result Reading LexFault). and_then x finished)
-    (sym (on_the_way-bad _ _ _ _ _ c.loop-turn.invariant some c.in-Err.fault (sym c.cut.ensures ∙ c.in-Err.is)) ∙ c.fault.ensures other)
+    (sym (on_the_way-bad _ _ _ _ _ c.loop-turn.invariant some c.in-Err.fault (sym c.cut_first_lexeme.ensures ∙ c.in-Err.is)) ∙ c.fault.ensures other)
 
 pub loop-turn-preserved : goal.loop-turn-preserved
 loop-turn-preserved c =
     let some : 0 < length c.loop-turn.rest.now = grind (arith, common_steps) in
-    on_the_way-step _ _ _ _ _ c.loop-turn.invariant some c.in-Ok.lexeme c.in-Ok.len (length c.args.text.now - (c.loop-turn._turn + 1)) (sym c.cut.ensures ∙ c.in-Ok.is) (omega arith)
+    on_the_way-step _ _ _ _ _ c.loop-turn.invariant some c.in-Ok.lexeme c.in-Ok.len (length c.args.text.now - (c.loop-turn._turn + 1)) (sym c.cut_first_lexeme.ensures ∙ c.in-Ok.is) (omega arith)
     (reading_of c.step.new.self) c.split_at.result.0.now c.split_at.result.1.now c.split_at.ensures.front c.split_at.ensures.back c.in_ok-step-in-Ok.ensures
 
 pub returns : goal.returns

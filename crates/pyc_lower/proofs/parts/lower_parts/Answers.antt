@@ -31,7 +31,7 @@ returns-in-Some-2 g c =
     let bad = ap (λ (v : Vec LogicalLine). part_in s o (map line_in v.items)) (sym c.replace-whole.ensures.value)
     ∙ adds_some (part_in s o (map line_in c.replace-whole.result.items)) (lowered_of c.loop-line.found) (lowered_of c.add_part.new.found) c.in_ok-fault.field-0
     c.in-Some-2.fault c.in_ok-fault.ensures c.in-Some-2.is in
-    answers_part (part_in s o all) c.in-Some-2.fault c.of_part.result c.of_part.ensures
+    answers_part (part_in s o all) c.in-Some-2.fault c.parts_of_fault.result c.parts_of_fault.ensures
     (parted_bad s o all part (map line_in (into_iter_items c.loop-line.line-iterator)) (lowered_of c.loop-line.found) c.in-Some-2.fault c.loop-line.invariant.0 bad)
 
 pub loop-line-preserved : goal.loop-line-preserved
@@ -70,7 +70,7 @@ returns-in-Some-3 g c =
     let part = map line_in c.loop-line.part.items in
     let bad = adds_some (part_in s o part) (lowered_of c.loop-line.found) (lowered_of c.add_part-2.new.found) c.in_ok-fault-2.field-0
     c.in-Some-3.fault c.in_ok-fault-2.ensures c.in-Some-3.is in
-    answers_part (part_in s o all) c.in-Some-3.fault c.of_part-in-Some-3.result c.of_part-in-Some-3.ensures
+    answers_part (part_in s o all) c.in-Some-3.fault c.parts_of_fault-in-Some-3.result c.parts_of_fault-in-Some-3.ensures
     (parted_bad s o all part (map line_in (into_iter_items c.loop-line.line-iterator)) (lowered_of c.loop-line.found) c.in-Some-3.fault c.loop-line.invariant.0 bad)
 
 pub returns-in-None-2 : goal.returns-in-None-2

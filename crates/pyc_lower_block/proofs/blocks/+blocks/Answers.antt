@@ -103,11 +103,11 @@ pub push_handler-returns-in_ok-push-in-Except : goal.push_handler-returns-in_ok-
 push_handler-returns-in_ok-push-in-Except g t c =
     let s = g.Q.Quotes.spelled c.args.lowering.now.quotes.now in
     let o = origin_of c.args.lowering.now.origin in
-    let made = c.handler_of_all-handler.result in
+    let made = c.bare_handler-handler.result in
     let body = c.in_ok-suite-in-Except.field-0 in
     pushed handler_of c.args.found.now.items c.push.new.self.items made c.in_ok-push-in-Except.ensures.items refl
     ∙ ap (λ (rest : List plain.Handler). map handler_of c.args.found.now.items ++ rest) (sym (handler_of_all_made s o c.args.clause.now c.in-Except.word (block_of (Of body))
-    (sym c.deref.ensures ∙ c.in-Except.is) c.handler_of_all-handler.ensures (block_made body c.in_ok-suite-in-Except.ensures)))
+    (sym c.deref.ensures ∙ c.in-Except.is) c.bare_handler-handler.ensures (block_made body c.in_ok-suite-in-Except.ensures)))
 
 pub push_handler-returns-in_ok-push-in-ExceptOf : goal.push_handler-returns-in_ok-push-in-ExceptOf
 push_handler-returns-in_ok-push-in-ExceptOf g t c =
@@ -121,31 +121,31 @@ push_handler-returns-in_ok-push-in-ExceptOf g t c =
 
 -- ---- clauses that end a statement
 
-pub ended-returns-then-is_ending : goal.ended-returns-then-is_ending
-ended-returns-then-is_ending g t c =
+pub ending_block-returns-then-is_ending : goal.ending_block-returns-then-is_ending
+ending_block-returns-then-is_ending g t c =
     let s = g.Q.Quotes.spelled c.args.lowering.now.quotes.now in
     let o = origin_of c.args.lowering.now.origin in
-    let all = spec.ended_in s o c.args.ending (clauses_before c.args.clauses.now tree.no_clause) in
+    let all = spec.ending_block_in s o c.args.ending (clauses_before c.args.clauses.now tree.no_clause) in
     let is : spec.suite_in s o (suite_of c.clause-item.result.suite) ≡ all =
-    chosen_at (λ (xs : List CompoundClause). spec.ended_in s o c.args.ending (clauses_before xs tree.no_clause)) (λ (x : CompoundClause). spec.is_ending c.args.ending (header_of x.header.value))
+    chosen_at (λ (xs : List CompoundClause). spec.ending_block_in s o c.args.ending (clauses_before xs tree.no_clause)) (λ (x : CompoundClause). spec.is_ending c.args.ending (header_of x.header.value))
     (λ (x : CompoundClause). spec.suite_in s o (suite_of x.suite)) (lowered_ended s o c.args.ending) c.args.clauses.now c.loop-clause.clause-index c.clause-item.result c.loop-clause-test.true c.clause-item.is
     (ap (λ (h : Header). spec.is_ending c.args.ending (header_of h)) (sym c.deref.ensures) ∙ sym c.is_ending.ensures ∙ c.if-is_ending.true) c.loop-clause.invariant in
     IfOk-weaker c.suite.result _ _ (λ found made. made ∙ is) c.suite.ensures
 
-pub ended-loop-clause-preserved : goal.ended-loop-clause-preserved
-ended-loop-clause-preserved g t c =
+pub ending_block-loop-clause-preserved : goal.ending_block-loop-clause-preserved
+ending_block-loop-clause-preserved g t c =
     let s = g.Q.Quotes.spelled c.args.lowering.now.quotes.now in
     let o = origin_of c.args.lowering.now.origin in
-    skipped_at (λ (xs : List CompoundClause). spec.ended_in s o c.args.ending (clauses_before xs tree.no_clause)) (λ (x : CompoundClause). spec.is_ending c.args.ending (header_of x.header.value))
+    skipped_at (λ (xs : List CompoundClause). spec.ending_block_in s o c.args.ending (clauses_before xs tree.no_clause)) (λ (x : CompoundClause). spec.is_ending c.args.ending (header_of x.header.value))
     (λ (x : CompoundClause). spec.suite_in s o (suite_of x.suite)) (lowered_ended s o c.args.ending) c.args.clauses.now c.loop-clause.clause-index c.clause-item.result c.loop-clause-test.true c.clause-item.is
     (ap (λ (h : Header). spec.is_ending c.args.ending (header_of h)) (sym c.deref.ensures) ∙ sym c.is_ending.ensures ∙ c.if-is_ending.false) c.loop-clause.invariant
 
-pub ended-returns : goal.ended-returns
-ended-returns g t c =
+pub ending_block-returns : goal.ending_block-returns
+ending_block-returns g t c =
     let s = g.Q.Quotes.spelled c.args.lowering.now.quotes.now in
     let o = origin_of c.args.lowering.now.origin in
     ap (map made_of) c.new.ensures.items ∙ sym (lowered_not_ended s o c.args.ending)
-    ∙ no_more (λ (xs : List CompoundClause). spec.ended_in s o c.args.ending (clauses_before xs tree.no_clause)) c.args.clauses.now c.loop-clause.clause-index c.loop-clause-test.false c.loop-clause.invariant
+    ∙ no_more (λ (xs : List CompoundClause). spec.ending_block_in s o c.args.ending (clauses_before xs tree.no_clause)) c.args.clauses.now c.loop-clause.clause-index c.loop-clause-test.false c.loop-clause.invariant
 
 -- ---- compound statements
 
@@ -171,8 +171,8 @@ branches-loop-clause-init g t c = first_of (grind (arith, blocks), search rules)
 pub branches-returns-in_err-push_branch : goal.branches-returns-in_err-push_branch
 branches-returns-in_err-push_branch g t c = first_of (grind (arith, blocks), search rules)
 
-pub ended-loop-clause-init : goal.ended-loop-clause-init
-ended-loop-clause-init g t c = first_of (grind (arith, blocks), search rules)
+pub ending_block-loop-clause-init : goal.ending_block-loop-clause-init
+ending_block-loop-clause-init g t c = first_of (grind (arith, blocks), search rules)
 
 pub handlers-loop-clause-init : goal.handlers-loop-clause-init
 handlers-loop-clause-init g t c = first_of (grind (arith, blocks), search rules)
@@ -183,11 +183,11 @@ handlers-returns-in_err-push_handler g t c = first_of (grind (arith, blocks), se
 pub parts-returns-in_err-branches : goal.parts-returns-in_err-branches
 parts-returns-in_err-branches g t c = first_of (grind (arith, blocks), search rules)
 
-pub parts-returns-in_err-ended : goal.parts-returns-in_err-ended
-parts-returns-in_err-ended g t c = first_of (grind (arith, blocks), search rules)
+pub parts-returns-in_err-ending_block : goal.parts-returns-in_err-ending_block
+parts-returns-in_err-ending_block g t c = first_of (grind (arith, blocks), search rules)
 
-pub parts-returns-in_err-ended-2 : goal.parts-returns-in_err-ended-2
-parts-returns-in_err-ended-2 g t c = first_of (grind (arith, blocks), search rules)
+pub parts-returns-in_err-ending_block-2 : goal.parts-returns-in_err-ending_block-2
+parts-returns-in_err-ending_block-2 g t c = first_of (grind (arith, blocks), search rules)
 
 pub parts-returns-in_err-handlers : goal.parts-returns-in_err-handlers
 parts-returns-in_err-handlers g t c = first_of (grind (arith, blocks), search rules)

@@ -1,6 +1,6 @@
 use Rattle.std.proofs.Common.{◌≡◌, ◌++◌, map, drop}
 use Rattle.pyc_ast.specs.StatementView.{stmt_of as made_of, branch_of, handler_of}
-use Rattle.pyc_lower_block.specs.Blocks.{stmts_in, branches_in, handlers_in, ended_in}
+use Rattle.pyc_lower_block.specs.Blocks.{stmts_in, branches_in, handlers_in, ending_block_in}
 use Rattle.pyc_lower_atom.specs.OriginView.{origin_of}
 use Rattle.pyc_tree.specs.BlockTrees as tree
 use Rattle.pyc_tree.specs.BlockView.{clauses_before, stmts_before}
@@ -13,14 +13,14 @@ invariant-statements-loop-statement g l =
     ++ stmts_in (g.Q.Quotes.spelled l.lowering.quotes.now) (origin_of l.lowering.origin) (stmts_before (drop l.statement-index l.trees) tree.no_statement)
     ≡ stmts_in (g.Q.Quotes.spelled l.lowering.quotes.now) (origin_of l.lowering.origin) (stmts_before l.trees tree.no_statement)
 
--- the same of branches
+-- the branches made so far, and those of the clauses that are left, are those of all
 abbrev pub invariant-branches-loop-clause : goal.invariant-branches-loop-clause
 invariant-branches-loop-clause g l =
     map branch_of l.found.items
     ++ branches_in (g.Q.Quotes.spelled l.lowering.quotes.now) (origin_of l.lowering.origin) (clauses_before (drop l.clause-index l.clauses) tree.no_clause)
     ≡ branches_in (g.Q.Quotes.spelled l.lowering.quotes.now) (origin_of l.lowering.origin) (clauses_before l.clauses tree.no_clause)
 
--- the same of handlers
+-- the handlers made so far, and those of the clauses that are left, are those of all
 abbrev pub invariant-handlers-loop-clause : goal.invariant-handlers-loop-clause
 invariant-handlers-loop-clause g l =
     map handler_of l.found.items
@@ -28,7 +28,7 @@ invariant-handlers-loop-clause g l =
     ≡ handlers_in (g.Q.Quotes.spelled l.lowering.quotes.now) (origin_of l.lowering.origin) (clauses_before l.clauses tree.no_clause)
 
 -- no clause so far ends the statement
-abbrev pub invariant-ended-loop-clause : goal.invariant-ended-loop-clause
-invariant-ended-loop-clause g l =
-    ended_in (g.Q.Quotes.spelled l.lowering.quotes.now) (origin_of l.lowering.origin) l.ending (clauses_before (drop l.clause-index l.clauses) tree.no_clause)
-    ≡ ended_in (g.Q.Quotes.spelled l.lowering.quotes.now) (origin_of l.lowering.origin) l.ending (clauses_before l.clauses tree.no_clause)
+abbrev pub invariant-ending_block-loop-clause : goal.invariant-ending_block-loop-clause
+invariant-ending_block-loop-clause g l =
+    ending_block_in (g.Q.Quotes.spelled l.lowering.quotes.now) (origin_of l.lowering.origin) l.ending (clauses_before (drop l.clause-index l.clauses) tree.no_clause)
+    ≡ ending_block_in (g.Q.Quotes.spelled l.lowering.quotes.now) (origin_of l.lowering.origin) l.ending (clauses_before l.clauses tree.no_clause)

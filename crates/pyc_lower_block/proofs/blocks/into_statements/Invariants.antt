@@ -7,7 +7,8 @@ use Rattle.pyc_tree.specs.BlockTrees as tree
 use Rattle.pyc_tree.specs.BlockView.{stmts_before}
 use Rattle.pyc_lower_block.proofs.blocks.into_statements.Given as goal
 
--- the statements made so far, and those of the trees that are left, are those of all, and the iterator counts what is left
+-- the statements made so far, and those of the trees that are left, are those of all, and the iterator counts what is
+-- left
 abbrev pub invariant-loop-tree : goal.invariant-loop-tree
 invariant-loop-tree g l =
     (map made_of l.found.items

@@ -18,7 +18,7 @@ use Rattle.pyc_lower_statement.proofs.targets.+targets.Goals as goal
 pub target-returns-in_default : goal.target-returns-in_default
 target-returns-in_default g t c =
     let d = c.in_default in
-    c.nowhere.ensures ∙ sym (target_other (g.Q.Quotes.spelled c.args.lowering.now.quotes.now) (origin_of c.args.lowering.now.origin) c.args.tree.now
+    c.placeholder.ensures ∙ sym (target_other (g.Q.Quotes.spelled c.args.lowering.now.quotes.now) (origin_of c.args.lowering.now.origin) c.args.tree.now
     d.not-Name d.not-Attribute d.not-Subscript d.not-Parenthesized d.not-Display d.not-Bare d.not-Starred)
 
 pub elements-loop-piece-init : goal.elements-loop-piece-init

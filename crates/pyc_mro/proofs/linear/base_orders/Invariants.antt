@@ -1,8 +1,8 @@
 use Rattle.std.proofs.Common.{◌≡◌, length, map, drop}
-use Rattle.pyc_mro.specs.Orders.{base_orders}
-use Rattle.pyc_mro.specs.OrderView.{order_in}
+use Rattle.pyc_mro.specs.MroTable.{base_orders}
+use Rattle.pyc_mro.specs.MroView.{order_in}
 use Rattle.pyc_mro.specs.Passes.{made_at}
-use Rattle.pyc_mro.proofs.OrderLemmas.{after_orders}
+use Rattle.pyc_mro.proofs.MroLemmas.{after_orders}
 use Rattle.pyc_mro.proofs.linear.base_orders.Given as goal
 
 -- the orders so far, before those of the bases that are left, are the whole

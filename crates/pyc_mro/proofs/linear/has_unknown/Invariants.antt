@@ -1,7 +1,7 @@
 use Rattle.std.proofs.Common.{◌≡◌, map, drop}
 use Rattle.std.specs.List.{list_any}
-use Rattle.pyc_mro.specs.Orders.{is_unknown}
-use Rattle.pyc_mro.specs.OrderView.{order_in}
+use Rattle.pyc_mro.specs.MroTable.{is_unknown}
+use Rattle.pyc_mro.specs.MroView.{order_in}
 use Rattle.pyc_mro.proofs.linear.has_unknown.Given as goal
 
 -- the answer is that of the orders that are left

@@ -14,7 +14,7 @@ returns g c =
     record {
       done =
           tested_done (state_of c.args.state.now) c.args.place.now (ty_of c.args.ty.now) c.args.classes.now _ _ _ _ c.in_ok-ask_written.ensures.done c.in_ok-ask_classes.ensures.done grown.answers
-          (c.in_ok-states.ensures ∙ ap (λ n. instance_states (orders_at (g.N.Notes.desk n)) (state_of c.args.state.now) c.args.place.now (ty_of c.args.ty.now) c.args.classes.now) c.known_orders.ensures);
+          (c.in_ok-states.ensures ∙ ap (λ n. instance_states (orders_at (g.N.Ask.trace n)) (state_of c.args.state.now) c.args.place.now (ty_of c.args.ty.now) c.args.classes.now) c.known_orders.ensures);
       grown = grown;
     }
 

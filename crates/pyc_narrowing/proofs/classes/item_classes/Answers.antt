@@ -10,8 +10,8 @@ use Rattle.pyc_narrowing.proofs.classes.item_classes.Goals as goal
 pub loop-item-preserved : goal.loop-item-preserved
 loop-item-preserved g c = record {
   same =
-      class_turn (g.L.Looks.looks c.args.looks.now) (state_of c.args.state.now) c.loop-item.classes.items _ c.args.items.now c.loop-item.item-index c.item-item.result c.in-Some.class _ (g.N.Notes.desk c.item_class.new.notes) c.loop-item-test.true c.item-item.is
-      (c.in_ok-class.ensures.done ∙ ap (λ class. (class, g.N.Notes.desk c.item_class.new.notes)) c.in-Some.is) c.in_ok-push-in-Some.ensures.items
+      class_turn (g.L.InferOperand.looks c.args.looks.now) (state_of c.args.state.now) c.loop-item.classes.items _ c.args.items.now c.loop-item.item-index c.item-item.result c.in-Some.class _ (g.N.Ask.trace c.item_class.new.recorder) c.loop-item-test.true c.item-item.is
+      (c.in_ok-class.ensures.done ∙ ap (λ class. (class, g.N.Ask.trace c.item_class.new.recorder)) c.in-Some.is) c.in_ok-push-in-Some.ensures.items
       ∙ c.loop-item.invariant.same;
   grown = grown_trans c.loop-item.invariant.grown c.item_class.ensures.grown;
 }
@@ -20,8 +20,8 @@ pub returns-in-None : goal.returns-in-None
 returns-in-None g c = record {
   done =
       sym c.loop-item.invariant.same
-      ∙ last_turn (g.L.Looks.looks c.args.looks.now) (state_of c.args.state.now) c.loop-item.classes.items c.args.items.now c.loop-item.item-index c.item-item.result _ (g.N.Notes.desk c.item_class.new.notes) c.loop-item-test.true c.item-item.is
-      (c.in_ok-class.ensures.done ∙ ap (λ class. (class, g.N.Notes.desk c.item_class.new.notes)) c.in-None.is);
+      ∙ last_turn (g.L.InferOperand.looks c.args.looks.now) (state_of c.args.state.now) c.loop-item.classes.items c.args.items.now c.loop-item.item-index c.item-item.result _ (g.N.Ask.trace c.item_class.new.recorder) c.loop-item-test.true c.item-item.is
+      (c.in_ok-class.ensures.done ∙ ap (λ class. (class, g.N.Ask.trace c.item_class.new.recorder)) c.in-None.is);
   grown = grown_trans c.loop-item.invariant.grown c.item_class.ensures.grown;
 }
 

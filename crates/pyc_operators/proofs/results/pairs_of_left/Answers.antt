@@ -13,7 +13,7 @@ loop-right-preserved g c = record {
   same =
       pair_turn (g.C.CallsMethods.caller c.args.caller.now) c.args.operation (results_of c.loop-right.results) _ (ty_of c.args.left.now) c.args.rights.now c.loop-right.right-index _ _ _ _ c.loop-right-test.true c.right-item.is c.in_ok-found.ensures.done c.in_ok-results.ensures
       ∙ c.loop-right.invariant.same;
-  grown = grown_trans c.loop-right.invariant.grown c.pair.ensures.grown;
+  grown = grown_trans c.loop-right.invariant.grown c.infer_pair.ensures.grown;
 }
 
 pub loop-right-init : goal.loop-right-init

@@ -1,12 +1,12 @@
 use Rattle.std.proofs.Common.{map, drop}
 use Rattle.pyc_operators.specs.Results.{pairs_of_left}
 use Rattle.pyc_operators.specs.ResultsView.{results_of}
-use Rattle.pyc_reading.specs.Desks.{Going}
+use Rattle.pyc_reading.specs.Traces.{Going}
 use Rattle.pyc_type_forms.specs.TypeView.{ty_of}
 use Rattle.pyc_operators.proofs.results.pairs_of_left.Given as goal
 
 -- what is left to do comes to the same as all
 abbrev pub invariant-loop-right : goal.invariant-loop-right
 invariant-loop-right g l =
-    Going (pairs_of_left (g.C.CallsMethods.caller l.caller) l.operation (results_of l.results) (ty_of l.left) (map ty_of (drop l.right-index l.rights))) (g.N.Notes.desk l.notes)
-    (pairs_of_left (g.C.CallsMethods.caller l.caller) l.operation (results_of l.fn.before) (ty_of l.left) (map ty_of l.rights)) (g.N.Notes.desk l.fn.notes)
+    Going (pairs_of_left (g.C.CallsMethods.caller l.caller) l.operation (results_of l.results) (ty_of l.left) (map ty_of (drop l.right-index l.rights))) (g.N.Ask.trace l.recorder)
+    (pairs_of_left (g.C.CallsMethods.caller l.caller) l.operation (results_of l.fn.before) (ty_of l.left) (map ty_of l.rights)) (g.N.Ask.trace l.fn.recorder)

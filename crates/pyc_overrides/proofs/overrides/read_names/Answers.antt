@@ -2,14 +2,14 @@ use Rattle.pyc_obligations.proofs.Steps.{performing}
 use Rattle.std.proofs.Common.{sym, ◌∙◌, refl, arith, rules}
 use Rattle.std.proofs.lemmas.Grind.{common_steps}
 use Rattle.pyc_overrides.specs.Overrides.{name_read}
-use Rattle.pyc_overrides.specs.Views.{heir_of}
+use Rattle.pyc_overrides.specs.Views.{subclass_of}
 use Rattle.pyc_reading.specs.Readings.{each}
 use Rattle.pyc_reading.proofs.RunLemmas.{one_turn, grown_trans}
 use Rattle.pyc_overrides.proofs.overrides.read_names.Goals as goal
 
 pub loop-name-preserved : goal.loop-name-preserved
 loop-name-preserved g c =
-    let read = name_read (heir_of c.args.heir.now) in
+    let read = name_read (subclass_of c.args.subclass.now) in
     record {
       same =
           sym (one_turn (each read) read (λ u xs. each read xs) (λ x xs. refl) c.args.names.now c.loop-name.name-index _ _ _ _ c.loop-name-test.true c.name-item.is c.in_ok-read_name.ensures.done)

@@ -2,7 +2,7 @@ use Rattle.std.proofs.Common.{◌≡◌, ◌+◌, Bool, [], drop, ap, sym, ◌�
 use Rattle.std.proofs.lemmas.List.{drop_all}
 use Rattle.pyc_overrides.proofs.Turns.{asked_turn, no_details, placed_after}
 use Rattle.pyc_overrides.specs.Parameters.{parameters_details, place_after}
-use Rattle.pyc_reading.specs.Desks.{all_noted}
+use Rattle.pyc_reading.specs.Traces.{all_noted}
 use Rattle.pyc_reading.specs.Owing.{detail_keys}
 use Rattle.pyc_overrides.specs.Views.{override_of}
 use Rattle.pyc_reading.proofs.RunLemmas.{grown_trans}
@@ -22,7 +22,7 @@ loop-want-preserved g c =
     ] in
     record {
       same =
-          asked_turn (override_of c.args.told.now) (param_row c.args.gots.now) place c.if-is_plain.place c.args.wants.now c.loop-want.want-index want _ _ _
+          asked_turn (override_of c.args.reported.now) (param_row c.args.gots.now) place c.if-is_plain.place c.args.wants.now c.loop-want.want-index want _ _ _
           c.loop-want-test.true c.want-item.is c.in_ok-ask_parameter.ensures.done placed c.loop-want.invariant.same;
       grown = grown_trans c.loop-want.invariant.grown c.ask_parameter.ensures.grown;
       within =
@@ -34,15 +34,15 @@ loop-want-preserved g c =
 
 pub returns : goal.returns
 returns g c =
-    let told = override_of c.args.told.now in
+    let reported = override_of c.args.reported.now in
     let gots = param_row c.args.gots.now in
     let place = c.loop-want.place in
-    let now = g.N.Notes.desk c.loop-want.notes in
+    let now = g.N.Ask.trace c.loop-want.recorder in
     let left : drop c.loop-want.want-index c.args.wants.now ≡ [] = drop_all c.loop-want.want-index c.args.wants.now (omega arith) in
     record {
       done =
-          sym (ap (λ l. all_noted now (detail_keys (parameters_details told gots place (param_row l)))) left
-          ∙ ap (λ ds. all_noted now (detail_keys ds)) (no_details told gots place))
+          sym (ap (λ l. all_noted now (detail_keys (parameters_details reported gots place (param_row l)))) left
+          ∙ ap (λ ds. all_noted now (detail_keys ds)) (no_details reported gots place))
           ∙ c.loop-want.invariant.same;
       grown = c.loop-want.invariant.grown;
     }

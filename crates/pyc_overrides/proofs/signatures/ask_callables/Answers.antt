@@ -9,5 +9,5 @@ pub returns : goal.returns
 returns g c =
     let got = c.args.got.now in
     let want = c.args.want.now in
-    asks_both (pair_keys (ty_of got.result) (ty_of want.result)) (detail_keys (rows_details (override_of c.args.told.now) (params_of got.params) (params_of want.params))) _ _ _ _
+    asks_both (pair_keys (ty_of got.result) (ty_of want.result)) (detail_keys (rows_details (override_of c.args.reported.now) (params_of got.params) (params_of want.params))) _ _ _ _
     c.in_ok-ask_types.ensures.done c.ask_types.ensures.grown c.ask_rows.ensures

@@ -1,5 +1,5 @@
-use Rattle.pyc_parse.proofs.MisplacedBlocks.{told}
+use Rattle.pyc_parse.proofs.MisplacedBlocks.{reported}
 use Rattle.pyc_parse.proofs.laws.misplaced_lines.Goals as goal
 
 pub returns : goal.returns
-returns c = told
+returns c = reported

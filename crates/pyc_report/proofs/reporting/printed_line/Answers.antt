@@ -7,7 +7,7 @@ unfolding printed_line
 returns c =
     rw (
       c.in_ok-push_str-5.ensures.bytes,
-      c.in_ok-push_told.ensures,
+      c.in_ok-push_reported.ensures,
       c.in_ok-push_str-4.ensures.bytes,
       c.in_ok-push_str-3.ensures.bytes,
       c.in_ok-push_str-2.ensures.bytes,

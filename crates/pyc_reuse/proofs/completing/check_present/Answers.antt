@@ -1,7 +1,7 @@
 use Rattle.std.proofs.Common.{List, subst, sym}
 use Rattle.pyc_keys.specs.Numbering.{Extends, Numbering}
 use Rattle.pyc_known_answers.proofs.KnownLemmas.{stay_with_more_keys}
-use Rattle.pyc_known_answers.specs.AnsweredKeysView.{held_by, interfaces_by}
+use Rattle.pyc_known_answers.specs.WorldView.{held_by, interfaces_by}
 use Rattle.pyc_known_answers.specs.KnownAnswersView.{interfaces_of, known_at}
 use Rattle.pyc_names.specs.Interfaces.{Interface}
 use Rattle.pyc_reading.specs.Keys.{Key}
@@ -11,24 +11,24 @@ use Rattle.pyc_reuse.proofs.completing.check_present.Goals as goal
 pub complete-requires-clause-answers : goal.complete-requires-clause-answers
 complete-requires-clause-answers c =
     let answers = rw c.in-Some.is at c.in_ok-list.ensures.answers in
-    subst (λ (interfaces : List Interface). AnswerAs interfaces c.args.present.now) (sym c.exchange-before.ensures.world)
+    subst (λ (interfaces : List Interface). AnswerAs interfaces c.args.present.now) (sym c.replace_world-before.ensures.world)
     (subst (AnswerAs (interfaces_of c.in-Some.next)) c.files.ensures.all answers)
 
 pub returns-in-Ok-clause-extends : goal.returns-in-Ok-clause-extends
 returns-in-Ok-clause-extends c =
-    subst (λ (held : Numbering Key). Extends held (held_by c.complete.new.keys)) c.exchange-before.ensures.held c.complete.ensures.extends
+    subst (λ (held : Numbering Key). Extends held (held_by c.complete.new.keys)) c.replace_world-before.ensures.held c.complete.ensures.extends
 
-pub exchange-requires : goal.exchange-requires
-exchange-requires c =
-    let before = c.exchange-before.result in
+pub replace_world-requires : goal.replace_world-requires
+replace_world-requires c =
+    let before = c.replace_world-before.result in
     let held = held_by c.complete.new.keys in
     stay_with_more_keys (interfaces_of before) (held_by c.args.keys.now) held (known_at before)
-    (subst (λ (first : Numbering Key). Extends first held) c.exchange-before.ensures.held c.complete.ensures.extends) c.exchange-before.ensures.over
+    (subst (λ (first : Numbering Key). Extends first held) c.replace_world-before.ensures.held c.complete.ensures.extends) c.replace_world-before.ensures.over
 
 pub returns-in-Some-clause-extends : goal.returns-in-Some-clause-extends
 returns-in-Some-clause-extends c =
-    subst (λ (held : Numbering Key). Extends (held_by c.args.keys.now) held) (sym c.exchange.ensures.held)
-    (subst (λ (held : Numbering Key). Extends held (held_by c.complete.new.keys)) c.exchange-before.ensures.held c.complete.ensures.extends)
+    subst (λ (held : Numbering Key). Extends (held_by c.args.keys.now) held) (sym c.replace_world.ensures.held)
+    (subst (λ (held : Numbering Key). Extends held (held_by c.complete.new.keys)) c.replace_world-before.ensures.held c.complete.ensures.extends)
 
 pub complete-requires-in-None-clause-answers : goal.complete-requires-in-None-clause-answers
 complete-requires-in-None-clause-answers c =

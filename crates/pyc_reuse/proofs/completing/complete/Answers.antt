@@ -2,39 +2,39 @@ use Rattle.std.proofs.Common.{◌++◌, ap, length, List, map, subst, sym, ◌�
 use Rattle.std.proofs.lemmas.List.{length-map}
 use Rattle.std.specs.declared.alloc.Global.{Global}
 use Rattle.std.specs.declared.rc.Rc.{Rc}
-use Rattle.pyc_known_answers.specs.AnsweredKeysView.{held_by, interfaces_by}
+use Rattle.pyc_known_answers.specs.WorldView.{held_by, interfaces_by}
 use Rattle.pyc_names.specs.Interfaces.{Interface}
 use Rattle.pyc_reuse.proofs.ExactLemmas.{exact_from}
 use Rattle.pyc_reuse.proofs.RowLemmas.{report_is}
 use Rattle.pyc_reuse.specs.Answering.{AnswerAs}
-use Rattle.pyc_reuse.specs.declared.row.Row.{Row as RowOf}
+use Rattle.pyc_reuse.specs.declared.file_result.FileResult.{FileResult as FileResultOf}
 use Rattle.pyc_reuse.specs.Examined.{examined}
-use Rattle.pyc_reuse.specs.Past.{row_among, rows_among}
+use Rattle.pyc_reuse.specs.Revision.{file_result_among, file_results_among}
 use Rattle.pyc_reuse.specs.RecheckView.{last_in, options_in, present_in}
-use Rattle.pyc_reuse.specs.RowView.{row_in, rows_in}
-use Rattle.pyc_reuse.specs.Works.{work_of}
+use Rattle.pyc_reuse.specs.FileResultView.{file_result_in, file_results_in}
+use Rattle.pyc_reuse.specs.FileStatuses.{file_status_of}
 use Rattle.pyc_workspace.specs.declared.file.File.{File as FileOf}
 use Rattle.pyc_workspace.specs.Files.{file_in, files_in}
 use Rattle.pyc_workspace.specs.Fresh.{units_of}
 use Rattle.pyc_workspace.specs.Workspace.{File}
 use Rattle.pyc_reuse.proofs.completing.complete.Goals as goal
 
-pub next_rows-requires-clause-answers : goal.next_rows-requires-clause-answers
-next_rows-requires-clause-answers c =
+pub next_file_results-requires-clause-answers : goal.next_file_results-requires-clause-answers
+next_file_results-requires-clause-answers c =
     subst (λ (files : List File). AnswerAs (interfaces_by c.args.keys.now) files) (sym c.requires.present) c.requires.answers
 
-pub next_rows-requires-clause-list : goal.next_rows-requires-clause-list
-next_rows-requires-clause-list c =
+pub next_file_results-requires-clause-list : goal.next_file_results-requires-clause-list
+next_file_results-requires-clause-list c =
     let recheck = c.args.recheck in
-    c.requires.list ∙ ap (λ (files : List File). map (work_of (options_in recheck) (last_in recheck) files) files) (sym c.requires.present)
+    c.requires.list ∙ ap (λ (files : List File). map (file_status_of (options_in recheck) (last_in recheck) files) files) (sym c.requires.present)
 
 pub report_on-requires : goal.report_on-requires
-unfolding rows_among
+unfolding file_results_among
 report_on-requires c =
     let files = present_in c.args.recheck in
-    let rows = c.in_ok-rows.rows.items in
-    ap length c.deref.ensures.value ∙ sym (length-map rows (λ (r : Rc RowOf Global). row_in (held_by c.next_rows.new.keys) r.value)) ∙ ap length c.in_ok-rows.ensures.rows
-    ∙ length-map files (row_among (options_in c.args.recheck) files)
+    let file_results = c.in_ok-file_results.file_results.items in
+    ap length c.deref.ensures.value ∙ sym (length-map file_results (λ (r : Rc FileResultOf Global). file_result_in (held_by c.next_file_results.new.keys) r.value)) ∙ ap length c.in_ok-file_results.ensures.file_results
+    ∙ length-map files (file_result_among (options_in c.args.recheck) files)
     ∙ ap length (c.requires.present ∙ sym c.files.ensures.all)
     ∙ length-map c.files.result.now (λ (f : Rc FileOf Global). file_in f.value)
 
@@ -43,27 +43,27 @@ invariant_of-result c = record { bodies_are = c.in_ok-bodies.ensures ∙ ap (λ 
 
 pub returns-clause-report : goal.returns-clause-report
 returns-clause-report c =
-    let held = held_by c.next_rows.new.keys in
+    let held = held_by c.next_file_results.new.keys in
     let options = options_in c.args.recheck in
     report_is held options c.args.present.now (files_in c.files.result.now) c.deref.result.now _ c.in_ok-report.ensures c.files.ensures.all
-    (ap (rows_in held) c.deref.ensures.value ∙ c.in_ok-rows.ensures.rows ∙ ap (rows_among options) c.requires.present)
+    (ap (file_results_in held) c.deref.ensures.value ∙ c.in_ok-file_results.ensures.file_results ∙ ap (file_results_among options) c.requires.present)
 
 pub returns-clause-exact : goal.returns-clause-exact
 returns-clause-exact c =
-    let held = held_by c.next_rows.new.keys in
+    let held = held_by c.next_file_results.new.keys in
     let options = options_in c.args.recheck in
     let last = last_in c.args.recheck in
     let present = c.args.present.now in
     let fresh =
     report_is held options present (files_in c.files.result.now) c.deref.result.now _ c.in_ok-report.ensures c.files.ensures.all
-    (ap (rows_in held) c.deref.ensures.value ∙ c.in_ok-rows.ensures.rows ∙ ap (rows_among options) c.requires.present) in
+    (ap (file_results_in held) c.deref.ensures.value ∙ c.in_ok-file_results.ensures.file_results ∙ ap (file_results_among options) c.requires.present) in
     exact_from options last present _ _ c.files.ensures.ordered fresh
-    (c.in_ok-rows.ensures.metered ∙ ap (λ m. m ++ examined options last (present_in c.args.recheck)) c.new-meter.ensures ∙ ap (examined options last) c.requires.present)
+    (c.in_ok-file_results.ensures.metered ∙ ap (λ m. m ++ examined options last (present_in c.args.recheck)) c.new-meter.ensures ∙ ap (examined options last) c.requires.present)
 
-pub returns-clause-rows : goal.returns-clause-rows
-returns-clause-rows c = c.in_ok-rows.ensures.rows ∙ ap (rows_among (options_in c.args.recheck)) (c.requires.present ∙ sym c.in_ok-files.ensures.same)
+pub returns-clause-file_results : goal.returns-clause-file_results
+returns-clause-file_results c = c.in_ok-file_results.ensures.file_results ∙ ap (file_results_among (options_in c.args.recheck)) (c.requires.present ∙ sym c.in_ok-files.ensures.same)
 
 pub returns-clause-answers : goal.returns-clause-answers
 returns-clause-answers c =
-    subst (λ (interfaces : List Interface). AnswerAs interfaces c.in_ok-files.files) (sym c.in_ok-rows.ensures.world)
+    subst (λ (interfaces : List Interface). AnswerAs interfaces c.in_ok-files.files) (sym c.in_ok-file_results.ensures.world)
     (subst (AnswerAs (interfaces_by c.args.keys.now)) (sym c.in_ok-files.ensures.same) c.requires.answers)

@@ -1,12 +1,12 @@
 use Rattle.std.proofs.Common.{map, drop}
 use Rattle.pyc_targets.specs.AttributeTargets.{more_wants, no_wants}
 use Rattle.pyc_targets.specs.Views.{wants_in}
-use Rattle.pyc_reading.specs.Desks.{Going}
+use Rattle.pyc_reading.specs.Traces.{Going}
 use Rattle.pyc_type_forms.specs.TypeView.{ty_of}
 use Rattle.pyc_targets.proofs.attribute_targets.all_wants.Given as goal
 
 -- what is left to do comes to the same as all
 abbrev pub invariant-loop-item : goal.invariant-loop-item
 invariant-loop-item g l =
-    Going (more_wants l.at l.inside (ty_of l.whole) l.name (wants_in l.found) (map ty_of (drop l.item-index l.items))) (g.N.Notes.desk l.notes)
-    (more_wants l.at l.inside (ty_of l.whole) l.name no_wants (map ty_of l.items)) (g.N.Notes.desk l.fn.notes)
+    Going (more_wants l.at l.inside (ty_of l.whole) l.name (wants_in l.found) (map ty_of (drop l.item-index l.items))) (g.N.Ask.trace l.recorder)
+    (more_wants l.at l.inside (ty_of l.whole) l.name no_wants (map ty_of l.items)) (g.N.Ask.trace l.fn.recorder)

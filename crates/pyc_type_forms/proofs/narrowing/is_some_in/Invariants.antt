@@ -1,6 +1,6 @@
 use Rattle.std.proofs.Common.{◌≡◌, drop}
 use Rattle.std.specs.List.{list_any}
-use Rattle.pyc_class.specs.Order.{order_of, order_contains}
+use Rattle.pyc_class_ids.specs.Mro.{order_of, order_contains}
 use Rattle.pyc_type_forms.proofs.narrowing.is_some_in.Given as goal
 
 -- the classes that are left decide

@@ -1,6 +1,6 @@
 use Rattle.std.proofs.lemmas.Grind.{common_steps}
 use Rattle.std.proofs.Common.{rules, suc, ◌≡◌, ◌≤◌, false, true, length, ap, sym, ◌∙◌, refl, arith}
-use Rattle.pyc_class.specs.Class.{form_of}
+use Rattle.pyc_class_ids.specs.Class.{form_of}
 use Rattle.pyc_type_forms.specs.Types.{class_object, union}
 use Rattle.pyc_type_forms.specs.Instances.{instance_of}
 use Rattle.pyc_types.specs.Cross as cross

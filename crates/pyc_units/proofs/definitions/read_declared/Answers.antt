@@ -3,11 +3,11 @@ use Rattle.std.proofs.Common.{map, sym, ap, ◌∙◌, arith, rules}
 use Rattle.std.proofs.lemmas.Grind.{common_steps}
 use Rattle.pyc_annotations.specs.Views.{base_of}
 use Rattle.pyc_units.specs.DefinitionReadings.{base_reading, order_reading}
-use Rattle.pyc_class.specs.Class.{Id, user}
+use Rattle.pyc_class_ids.specs.Class.{Id, user}
 use Rattle.pyc_names.specs.Interfaces.{Interface}
 use Rattle.pyc_names.specs.SourceFileView.{source_in}
 use Rattle.pyc_reading.proofs.RunLemmas.{after, grown_trans}
-use Rattle.pyc_reading.specs.Desks.{run, asking}
+use Rattle.pyc_reading.specs.Traces.{run, asking}
 use Rattle.pyc_reading.specs.Keys.{class}
 use Rattle.pyc_reading.specs.Readings.{and_then, each}
 use Rattle.pyc_units.proofs.definitions.read_declared.Goals as goal
@@ -17,8 +17,8 @@ returns g c =
     let file = source_in c.args.file.now in
     let name = c.args.name.now in
     let key = class (user file.name name) in
-    let start = g.N.Notes.desk c.args.notes.now in
-    let middle = g.N.Notes.desk c.read_base_orders.new.notes in
+    let start = g.N.Ask.trace c.args.recorder.now in
+    let middle = g.N.Ask.trace c.read_base_orders.new.recorder in
     let own = c.in_ok-class.ensures ∙ ap (λ (f : Interface). user f.name name) c.interface.ensures in
     let asked = sym (ap (λ (found : Id). run (asking (class found)) middle) own) ∙ c.in_ok-answer.ensures.done in
     record {

@@ -8,8 +8,8 @@ returns g c = first_of (grind (arith, performing), search rules)
 pub returns-in_err-found : goal.returns-in_err-found
 returns-in_err-found g c = first_of (grind (arith, performing), search rules)
 
-pub returns-in_err-home : goal.returns-in_err-home
-returns-in_err-home g c = first_of (grind (arith, performing), search rules)
+pub returns-in_err-module_path : goal.returns-in_err-module_path
+returns-in_err-module_path g c = first_of (grind (arith, performing), search rules)
 
 pub returns-in_err-name : goal.returns-in_err-name
 returns-in_err-name g c = first_of (grind (arith, performing), search rules)

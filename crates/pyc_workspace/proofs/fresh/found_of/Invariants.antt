@@ -1,8 +1,8 @@
 use Rattle.std.proofs.Common.{◌≡◌, map, take}
 use Rattle.pyc_report.specs.Report.{found_in}
-use Rattle.pyc_workspace.specs.ToldView.{told_in}
+use Rattle.pyc_workspace.specs.ReportedView.{reported_in}
 use Rattle.pyc_workspace.proofs.fresh.found_of.Given as goal
 
--- those so far are what is told so far
+-- those so far are what is reported so far
 abbrev pub invariant-loop-one : goal.invariant-loop-one
-invariant-loop-one l = map found_in l.all.items ≡ map told_in (take l.one-index l.told)
+invariant-loop-one l = map found_in l.all.items ≡ map reported_in (take l.one-index l.reported)

@@ -14,7 +14,7 @@ use Rattle.pyc_arguments.proofs.argument_matching.ListedCall.match_unread.Goals 
 
 pub loop-argument-preserved : goal.loop-argument-preserved
 loop-argument-preserved g c =
-    let read = g.R.Reader.reads c.args.reader.now in
+    let read = g.R.InferType.reads c.args.reader.now in
     let number = c.loop-argument.number in
     let counted = ap (λ n. number + n) (c.places_of-number.ensures ∙ ap places_of c.given_by.ensures) ∙ counted_unread read c.argument-item.result number in (
       record {

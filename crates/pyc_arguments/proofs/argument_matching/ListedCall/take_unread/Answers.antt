@@ -21,15 +21,15 @@ returns g c =
     let filling = filling_in c.args.filling.now in
     let given = given_in c.given_by-given.result in
     let found = match_in c.matched-found.result in
-    let read = g.R.Reader.reads c.args.reader.now in
+    let read = g.R.InferType.reads c.args.reader.now in
     let arg = unread read (argument_of c.args.argument.now) in
     let same = matched_unread call params number filling read c.args.argument.now
     ∙ ap (λ h. argument_taken call number filling h (match_of filling.fill params h) arg) (sym c.given_by-given.ensures)
     ∙ ap (λ m. argument_taken call number filling given m arg) (sym c.matched-found.ensures) in
     performs_same _ _ _ _ _ _ same (record {
       done =
-          after (argument_read call number given found arg) (λ u. Done (filling_after filling given found)) (g.N.Notes.desk c.args.notes.now) _ _ _ _ c.in_ok-read.ensures.done
-          (ap (λ f. (f, g.N.Notes.desk c.read.new.notes)) (sym c.in_ok-take.ensures));
+          after (argument_read call number given found arg) (λ u. Done (filling_after filling given found)) (g.N.Ask.trace c.args.recorder.now) _ _ _ _ c.in_ok-read.ensures.done
+          (ap (λ f. (f, g.N.Ask.trace c.read.new.recorder)) (sym c.in_ok-take.ensures));
       grown = c.read.ensures.grown;
     })
 

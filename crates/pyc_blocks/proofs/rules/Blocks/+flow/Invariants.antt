@@ -13,24 +13,24 @@ use Rattle.pyc_ast.specs.StatementView.{stmt_of, branch_of, handler_of}
 use Rattle.pyc_blocks.specs.Blocks.{block_read, branches_read, handlers_read}
 use Rattle.pyc_blocks.specs.Views.{flow_in, handled_in, rules_of}
 use Rattle.pyc_places.specs.StateView.{state_of}
-use Rattle.pyc_reading.specs.Desks.{Going}
+use Rattle.pyc_reading.specs.Traces.{Going}
 use Rattle.pyc_blocks.proofs.rules.Blocks.+flow.Given as goal
 
 -- what is left to do comes to the same as all
 abbrev pub invariant-read_block-loop-statement : goal.invariant-read_block-loop-statement
 invariant-read_block-loop-statement g l =
-    Going (block_read (rules_of g.P.PartReader.parts l.self) (stmts (map stmt_of (drop l.statement-index l.statements))) (flow_in l.flow)) (g.N.Notes.desk l.notes)
-    (block_read (rules_of g.P.PartReader.parts l.self) (stmts (map stmt_of l.statements)) (flow_in l.fn.flow)) (g.N.Notes.desk l.fn.notes)
+    Going (block_read (rules_of g.P.PartReader.parts l.self) (stmts (map stmt_of (drop l.statement-index l.statements))) (flow_in l.flow)) (g.N.Ask.trace l.recorder)
+    (block_read (rules_of g.P.PartReader.parts l.self) (stmts (map stmt_of l.statements)) (flow_in l.fn.flow)) (g.N.Ask.trace l.fn.recorder)
 
 abbrev pub invariant-read_branches-loop-branch : goal.invariant-read_branches-loop-branch
 invariant-read_branches-loop-branch g l =
-    Going (branches_read (rules_of g.P.PartReader.parts l.self) (branches (map branch_of (drop l.branch-index l.row))) (handled_in l.flow l.ends)) (g.N.Notes.desk l.notes)
-    (branches_read (rules_of g.P.PartReader.parts l.self) (branches (map branch_of l.row)) (handled_in l.fn.flow l.fn.ends)) (g.N.Notes.desk l.fn.notes)
+    Going (branches_read (rules_of g.P.PartReader.parts l.self) (branches (map branch_of (drop l.branch-index l.row))) (handled_in l.flow l.ends)) (g.N.Ask.trace l.recorder)
+    (branches_read (rules_of g.P.PartReader.parts l.self) (branches (map branch_of l.row)) (handled_in l.fn.flow l.fn.ends)) (g.N.Ask.trace l.fn.recorder)
 
 abbrev pub invariant-read_handlers-loop-handler : goal.invariant-read_handlers-loop-handler
 invariant-read_handlers-loop-handler g l =
-    Going (handlers_read (rules_of g.P.PartReader.parts l.self) (handlers (map handler_of (drop l.handler-index l.row))) (state_of l.raised) (handled_in l.flow l.ends)) (g.N.Notes.desk l.notes)
-    (handlers_read (rules_of g.P.PartReader.parts l.self) (handlers (map handler_of l.row)) (state_of l.raised) (handled_in l.fn.flow l.fn.ends)) (g.N.Notes.desk l.fn.notes)
+    Going (handlers_read (rules_of g.P.PartReader.parts l.self) (handlers (map handler_of (drop l.handler-index l.row))) (state_of l.raised) (handled_in l.flow l.ends)) (g.N.Ask.trace l.recorder)
+    (handlers_read (rules_of g.P.PartReader.parts l.self) (handlers (map handler_of l.row)) (state_of l.raised) (handled_in l.fn.flow l.fn.ends)) (g.N.Ask.trace l.fn.recorder)
 
 -- ---- each call is of a part that stands less deep, or of a function further down in its rule
 

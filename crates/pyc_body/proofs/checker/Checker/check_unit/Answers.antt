@@ -2,16 +2,16 @@ use Rattle.std.proofs.Common.{◌∙◌, ap, List, Some, map}
 use Rattle.pyc_body.proofs.CheckLemmas.{check_from}
 use Rattle.pyc_body.specs.CheckerView.{options_in}
 use Rattle.pyc_body.specs.FileUnitView.{file_unit_in}
-use Rattle.pyc_body.specs.FoundMessages.{desk_by}
-use Rattle.pyc_found.specs.FoundOrder.{in_order}
-use Rattle.pyc_known_answers.specs.AnsweredKeysView.{held_by, interfaces_by}
+use Rattle.pyc_body.specs.FoundMessages.{trace_by}
+use Rattle.pyc_report.specs.FoundOrder.{in_order}
+use Rattle.pyc_known_answers.specs.WorldView.{held_by, interfaces_by}
 use Rattle.pyc_reading.specs.Keys.{Key}
 use Rattle.pyc_body.proofs.checker.Checker.check_unit.Goals as goal
 
 pub returns-clause-checked : goal.returns-clause-checked
 returns-clause-checked c =
-    let read = c.in_ok-transcript.ensures in
+    let read = c.in_ok-unit_trace.ensures in
     check_from (held_by c.into_checked.new.keys) c.in_ok-checked.checked
-    (desk_by (options_in c.args.self.now) (interfaces_by c.args.keys.now) (file_unit_in c.args.unit.now))
+    (trace_by (options_in c.args.self.now) (interfaces_by c.args.keys.now) (file_unit_in c.args.unit.now))
     (c.in_ok-checked.ensures.reads ∙ ap (λ (asked : List Key). map (λ (key : Key). Some key) asked) read.keys)
     (c.in_ok-checked.ensures.messages ∙ ap in_order read.messages)

@@ -1,7 +1,7 @@
 use Rattle.std.proofs.Common.{◌≡◌, map, ap, rules, ◌∙◌, ◌-◌, take, drop}
 use Rattle.std.proofs.lemmas.List.{take-map, drop-map}
-use Rattle.pyc_class.specs.Class.{builtin}
-use Rattle.pyc_builtins.specs.Orders.{chains}
+use Rattle.pyc_class_ids.specs.Class.{builtin}
+use Rattle.pyc_builtins.specs.MroTable.{chains}
 use Rattle.pyc_builtins.proofs.builtins.Builtins.order.Goals as goal
 
 pub returns : goal.returns

@@ -6,7 +6,7 @@ use Rattle.pyc_calls.specs.Called.{most_calls, typed}
 use Rattle.pyc_calls.specs.Views.{count_of, memory_in}
 use Rattle.pyc_calls.specs.Walks.{Walk, calls, left}
 use Rattle.pyc_obligations.proofs.Steps.{performs_same}
-use Rattle.pyc_reading.specs.Desks.{Performs}
+use Rattle.pyc_reading.specs.Traces.{Performs}
 use Rattle.pyc_type_forms.specs.TypeView.{ty_of}
 use Rattle.pyc_calls.proofs.caller.Caller.call_with.Goals as goal
 
@@ -20,5 +20,5 @@ returns g c =
     let args = map read_in c.args.read.now in
     let ty = ty_of c.args.callee in
     performs_same _ _ _ _ _ _ (walk_begins call args top (memory_in c.args.memory) ty)
-    (subst (λ (walk : Walk). Performs ty_of (typed (left top call args walk (calls ty))) (g.N.Notes.desk c.args.notes.now) c.walk.result (g.N.Notes.desk c.walk.new.notes)) c.new-walk.ensures.walk
+    (subst (λ (walk : Walk). Performs ty_of (typed (left top call args walk (calls ty))) (g.N.Ask.trace c.args.recorder.now) c.walk.result (g.N.Ask.trace c.walk.new.recorder)) c.new-walk.ensures.walk
     (c.walk.ensures top (deep_enough (count_of c.args.memory) c.requires.small)))

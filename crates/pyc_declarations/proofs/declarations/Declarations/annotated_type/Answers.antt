@@ -12,7 +12,7 @@ pub returns : goal.returns
 unfolding annotated_type
 returns c =
     let r = read_type (interface_in c.args.file.now) (type_expr (expr_of c.args.annotation.now)) in
-    c.type_in.ensures ∙ ap (λ (found : Annotation). found.ty) (result_read r _ _ _ _ c.new-notes.ensures c.in_ok-found.ensures.done)
+    c.type_in.ensures ∙ ap (λ (found : Annotation). found.ty) (result_read r _ _ _ _ c.new-recorder.ensures c.in_ok-found.ensures.done)
 
 pub returns-in_err-found : goal.returns-in_err-found
 unfolding annotated_type

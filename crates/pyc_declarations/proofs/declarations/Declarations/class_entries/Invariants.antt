@@ -1,5 +1,5 @@
 use Rattle.std.proofs.Common.{◌≡◌, ◌++◌, map, flat_map, drop}
-use Rattle.pyc_classes.specs.EntryView.{entry_in}
+use Rattle.pyc_class_table.specs.EntryView.{entry_in}
 use Rattle.pyc_declarations.specs.ClassEntries.{file_entries}
 use Rattle.pyc_declarations.specs.KindsView.{declarations_in}
 use Rattle.pyc_names.specs.InterfaceView.{interfaces_in}

@@ -12,7 +12,7 @@ pub returns : goal.returns
 unfolding declared_function
 returns c =
     let r = function_type (interface_in c.args.file.now) (ty_of c.args.receiver) (function_of c.args.head.now) in
-    result_read r _ _ _ _ c.new-notes.ensures c.in_ok-ty.ensures.done
+    result_read r _ _ _ _ c.new-recorder.ensures c.in_ok-ty.ensures.done
 
 pub returns-in_err-ty : goal.returns-in_err-ty
 unfolding declared_function

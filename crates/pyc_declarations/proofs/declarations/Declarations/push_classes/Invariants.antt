@@ -1,5 +1,5 @@
 use Rattle.std.proofs.Common.{◌≡◌, ◌++◌, map, take}
-use Rattle.pyc_classes.specs.EntryView.{entry_in}
+use Rattle.pyc_class_table.specs.EntryView.{entry_in}
 use Rattle.pyc_declarations.specs.ClassEntries.{class_entry}
 use Rattle.pyc_declarations.specs.KindsView.{declarations_in}
 use Rattle.pyc_members.specs.DeclaredClassView.{declared_class_in}

@@ -10,4 +10,4 @@ pub returns : goal.returns
 unfolding written_bases
 returns c =
     let r = bases (interface_in c.args.file.now) (map argument_of c.args.arguments.now) in
-    c.in_ok-bases.ensures ∙ ap (map written_base) (result_read r _ _ _ _ c.new-notes.ensures c.in_ok-found.ensures.done)
+    c.in_ok-bases.ensures ∙ ap (map written_base) (result_read r _ _ _ _ c.new-recorder.ensures c.in_ok-found.ensures.done)

@@ -1,7 +1,7 @@
 use Rattle.std.proofs.Common.{◌≡◌, ◌∷◌, [], ◌++◌, map, sym, ◌∙◌, refl, rules}
 use Rattle.std.proofs.lemmas.List.{map-append}
 use Rattle.pyc_ast.specs.StatementView.{parameter_of}
-use Rattle.pyc_bodies.specs.Views.{body_in}
+use Rattle.pyc_body_context.specs.Views.{body_in}
 use Rattle.pyc_functions.specs.Parameters.{parameter_read, parameters_read}
 use Rattle.pyc_functions.specs.Views.{parameter_type_in}
 use Rattle.pyc_reading.proofs.RunLemmas.{one_turn, grown_trans}

@@ -8,8 +8,8 @@ returns g c = first_of (grind (arith, performing), search rules)
 pub returns-in_err-found : goal.returns-in_err-found
 returns-in_err-found g c = first_of (grind (arith, performing), search rules)
 
-pub returns-in_err-joined : goal.returns-in_err-joined
-returns-in_err-joined g c = first_of (grind (arith, performing), search rules)
+pub returns-in_err-module_of_parts : goal.returns-in_err-module_of_parts
+returns-in_err-module_of_parts g c = first_of (grind (arith, performing), search rules)
 
 pub returns-in_err-shown : goal.returns-in_err-shown
 returns-in_err-shown g c = first_of (grind (arith, performing), search rules)

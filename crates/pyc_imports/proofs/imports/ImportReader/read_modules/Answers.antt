@@ -2,7 +2,7 @@ use Rattle.std.proofs.lemmas.Grind.{common_steps}
 use Rattle.std.proofs.Common.{map, ap, sym, ◌∙◌, refl, arith, rules}
 use Rattle.pyc_ast.specs.StatementView.{imported_of, imported_module_of}
 use Rattle.pyc_imports.specs.ImportReadings.{module_checked}
-use Rattle.pyc_reading.specs.Desks.{run}
+use Rattle.pyc_reading.specs.Traces.{run}
 use Rattle.pyc_reading.specs.Readings.{each}
 use Rattle.pyc_reading.proofs.RunLemmas.{one_turn, grown_trans}
 use Rattle.pyc_imports.proofs.imports.ImportReader.read_modules.Goals as goal
@@ -10,7 +10,7 @@ use Rattle.pyc_imports.proofs.imports.ImportReader.read_modules.Goals as goal
 pub loop-imported-preserved : goal.loop-imported-preserved
 loop-imported-preserved g c =
     let read = module_checked c.args.self.options c.args.self.at in
-    let first = ap (λ m. run (read (imported_module_of m)) (g.N.Notes.desk c.loop-imported.notes)) (sym c.deref.ensures) ∙ c.in_ok-check_module.ensures.done in
+    let first = ap (λ m. run (read (imported_module_of m)) (g.N.Ask.trace c.loop-imported.recorder)) (sym c.deref.ensures) ∙ c.in_ok-check_module.ensures.done in
     record {
       same =
           sym (one_turn (λ xs. each read (map imported_of xs)) (λ x. read (imported_of x)) (λ u xs. each read (map imported_of xs)) (λ x xs. refl) c.args.modules.now c.loop-imported.imported-index _ _ _ _ c.loop-imported-test.true c.imported-item.is first)

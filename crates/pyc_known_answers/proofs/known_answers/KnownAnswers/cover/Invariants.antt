@@ -2,7 +2,7 @@ use Rattle.std.proofs.Common.{◌≡◌, ◌-◌, ◌+◌, length}
 use Rattle.pyc_known_answers.specs.KnownAnswersView.{interfaces_of, known_at}
 use Rattle.pyc_known_answers.proofs.known_answers.KnownAnswers.cover.Given as goal
 
--- the same answers are known
+-- no turn changes the interfaces or the answers that are known
 abbrev pub invariant-loop-self : goal.invariant-loop-self
 invariant-loop-self l = record {
   world : interfaces_of l.self ≡ interfaces_of l.fn.self;

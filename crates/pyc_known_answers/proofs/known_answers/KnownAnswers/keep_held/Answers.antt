@@ -3,7 +3,7 @@ use Rattle.pyc_keys.specs.KeyNumbers.{key_at}
 use Rattle.pyc_keys.specs.Numbering.{without}
 use Rattle.pyc_reading.specs.AnswerView.{answer_in}
 use Rattle.pyc_known_answers.specs.KnownAnswersView.{interfaces_of, known_at}
-use Rattle.pyc_known_answers.specs.KnownAnswers.{where_held}
+use Rattle.pyc_known_answers.specs.KnownAnswers.{restrict_to_held}
 use Rattle.pyc_known_answers.proofs.SlotLemmas.{passed_next, passed_whole}
 use Rattle.pyc_known_answers.proofs.KnownLemmas.{over_same, stay_with_fewer_keys}
 use Rattle.pyc_known_answers.proofs.known_answers.KnownAnswers.keep_held.Goals as goal
@@ -28,7 +28,7 @@ returns-clause-over c =
     let self = c.args.self.now in
     let keys = key_at c.args.keys.now in
     λ before fewer are.
-    over_same (interfaces_of self) (interfaces_of c.loop-number.self) keys (where_held keys (known_at self)) (known_at c.loop-number.self)
+    over_same (interfaces_of self) (interfaces_of c.loop-number.self) keys (restrict_to_held keys (known_at self)) (known_at c.loop-number.self)
     c.loop-number.invariant.world
     (passed_whole (λ shared. answer_in shared.value) keys self.known.items c.loop-number.number (known_at c.loop-number.self) c.loop-number.invariant.passed
     (omega (arith, c.loop-number-test.false, c.len-number-end.ensures, c.loop-number.auto.number-end)))

@@ -7,7 +7,7 @@ use Rattle.pyc_lower_expression.proofs.ItemLemmas.{pieces_of-fields, single-only
 use Rattle.pyc_ast.proofs.ViewLemmas.{view_Unpacking, view_comparison, views}
 use Rattle.pyc_lower_expression.proofs.Loops.{started_at, turned_at, pushed, pushed_at, ended_at, last_at}
 use Rattle.pyc_lower_expression.proofs.LoweredForms.{lowered_piece, lowered_last, lowered_none, entry_piece, entry_last, entry_none, index_piece, index_last, index_none, lowered_Stride, subscript_many, subscript_one, argument_piece, argument_last, argument_none, link_more, link_none, lowered}
-use Rattle.pyc_lower_expression.proofs.OtherForms.{atom_other, operation_other, nowhere_other, dict_item_other, index_other, slice_at}
+use Rattle.pyc_lower_expression.proofs.OtherForms.{atom_other, operation_other, placeholder_other, dict_item_other, index_other, slice_at}
 use Rattle.pyc_lower_expression.specs.Expressions as spec
 use Rattle.pyc_lower_atom.specs.declared.role.Role.{Role}
 use Rattle.pyc_lower_atom.specs.Operators.{comparison_operator}
@@ -207,8 +207,8 @@ item-returns-in_default g t c =
     let s = g.Q.Quotes.spelled c.args.self.now.quotes.now in
     let o = origin_of c.args.self.now.origin in
     let d = c.in_default in
-    c.nowhere.ensures
-    ∙ nowhere_other s o c.args.role c.args.expr.now c.requires.no_atom c.requires.no_operation
+    c.placeholder.ensures
+    ∙ placeholder_other s o c.args.role c.args.expr.now c.requires.no_atom c.requires.no_operation
     d.not-Starred d.not-DoubleStarred d.not-Entry d.not-Mapping d.not-Argument d.not-Keyword d.not-WithItem
 
 pub expr-operation-requires : goal.expr-operation-requires
@@ -253,7 +253,7 @@ index-returns-in_ok-expr-in_default g t c =
     let s = g.Q.Quotes.spelled c.args.self.now.quotes.now in
     let o = origin_of c.args.self.now.origin in
     let value = spec.expr_in s o c.args.role (tree_of c.args.item.now) in
-    c.indexed.ensures
+    c.single_index.ensures
     ∙ (ap (λ (v : plain.Expr). plain.index (plain.at_of v) (plain.item v)) c.in_ok-expr-in_default.ensures
     ∙ index_other s o c.args.role value c.args.item.now c.in_default.not-Slice c.in_default.not-Stride)
 
@@ -320,11 +320,11 @@ call-returns g t c = first_of (grind (arith, views, lowered), search rules)
 pub call-returns-in_err-found : goal.call-returns-in_err-found
 call-returns-in_err-found g t c = first_of (grind (arith, views, lowered), search rules)
 
-pub compared-returns : goal.compared-returns
-compared-returns g t c = first_of (grind (arith, views, lowered), search rules)
+pub lower_comparisons-returns : goal.lower_comparisons-returns
+lower_comparisons-returns g t c = first_of (grind (arith, views, lowered), search rules)
 
-pub compared-returns-in_err-rest : goal.compared-returns-in_err-rest
-compared-returns-in_err-rest g t c = first_of (grind (arith, views, lowered), search rules)
+pub lower_comparisons-returns-in_err-rest : goal.lower_comparisons-returns-in_err-rest
+lower_comparisons-returns-in_err-rest g t c = first_of (grind (arith, views, lowered), search rules)
 
 pub comparisons-loop-link-init : goal.comparisons-loop-link-init
 comparisons-loop-link-init g t c = first_of (grind (arith, views, lowered), search rules)
@@ -581,8 +581,8 @@ optional-returns-in_err-expr-in-Some g t c = first_of (grind (arith, views, lowe
 pub optional-returns-in_ok-expr-in-Some : goal.optional-returns-in_ok-expr-in-Some
 optional-returns-in_ok-expr-in-Some g t c = first_of (grind (arith, views, lowered), search rules)
 
-pub subscripted-returns : goal.subscripted-returns
-subscripted-returns g t c = first_of (grind (arith, views, lowered), search rules)
+pub lower_subscript-returns : goal.lower_subscript-returns
+lower_subscript-returns g t c = first_of (grind (arith, views, lowered), search rules)
 
-pub subscripted-returns-in_err-index : goal.subscripted-returns-in_err-index
-subscripted-returns-in_err-index g t c = first_of (grind (arith, views, lowered), search rules)
+pub lower_subscript-returns-in_err-index : goal.lower_subscript-returns-in_err-index
+lower_subscript-returns-in_err-index g t c = first_of (grind (arith, views, lowered), search rules)

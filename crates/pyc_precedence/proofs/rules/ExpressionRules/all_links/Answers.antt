@@ -4,7 +4,7 @@ use Rattle.pyc_tree.specs.Expressions.{expr, links, all_links}
 use Rattle.pyc_tree.specs.Parser.{Parsed}
 use Rattle.pyc_tree.specs.Tree as tree
 use Rattle.pyc_tree.specs.View.{tree_of, links_before}
-use Rattle.pyc_item.proofs.LoopLemmas.{with_links, with_no_link, links_step, links_bad, links_done, links_over}
+use Rattle.pyc_list_rules.proofs.LoopLemmas.{with_links, with_no_link, links_step, links_bad, links_done, links_over}
 use Rattle.pyc_build.proofs.Steps.{ReadsTokens_err}
 use Rattle.pyc_tree.proofs.Turns.{one_more}
 use Rattle.pyc_precedence.proofs.rules.ExpressionRules.all_links.Goals as goal

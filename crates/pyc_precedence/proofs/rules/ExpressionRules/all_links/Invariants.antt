@@ -1,6 +1,6 @@
 use Rattle.std.proofs.Common.{◌≡◌, ◌-◌}
 use Rattle.pyc_tree.specs.Expressions.{expr, links, all_links}
-use Rattle.pyc_item.proofs.LoopLemmas.{with_links}
+use Rattle.pyc_list_rules.proofs.LoopLemmas.{with_links}
 use Rattle.pyc_precedence.proofs.rules.ExpressionRules.all_links.Given as goal
 
 abbrev pub invariant-loop-turn : goal.invariant-loop-turn

@@ -4,7 +4,7 @@ use Rattle.pyc_build.specs.declared.built.Built.{Built}
 use Rattle.pyc_tree.specs.Expressions.{expr, climb, operations}
 use Rattle.pyc_tree.specs.Precedence.{infix_precedence}
 use Rattle.pyc_tree.specs.View.{tree_of}
-use Rattle.pyc_item.proofs.LoopLemmas.{climb_step, climb_bad, climb_done, climb_over}
+use Rattle.pyc_list_rules.proofs.LoopLemmas.{climb_step, climb_bad, climb_done, climb_over}
 use Rattle.pyc_build.proofs.Steps.{ReadsTokens_err}
 use Rattle.pyc_tree.proofs.Turns.{one_more}
 use Rattle.pyc_precedence.proofs.rules.ExpressionRules.operations.Goals as goal

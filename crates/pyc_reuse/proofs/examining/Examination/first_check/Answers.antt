@@ -1,8 +1,8 @@
 use Rattle.std.proofs.Common.{ap, ◌∙◌}
 use Rattle.pyc_body.specs.FileUnitView.{file_unit_in}
 use Rattle.pyc_body.specs.FoundMessages.{checked_by}
-use Rattle.pyc_examiner.specs.CheckedView.{checked_in}
-use Rattle.pyc_known_answers.specs.AnsweredKeysView.{held_by, interfaces_by}
+use Rattle.pyc_recorder.specs.CheckedView.{checked_in}
+use Rattle.pyc_known_answers.specs.WorldView.{held_by, interfaces_by}
 use Rattle.pyc_reuse.proofs.UnitLemmas.{check_over}
 use Rattle.pyc_reuse.specs.Examination.{last_in, options_in, present_in}
 use Rattle.pyc_reuse.proofs.examining.Examination.first_check.Goals as goal

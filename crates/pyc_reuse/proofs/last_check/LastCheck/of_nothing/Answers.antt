@@ -4,25 +4,25 @@ use Rattle.std.specs.declared.rc.Rc.{Rc}
 use Rattle.pyc_iface.specs.Answers.{answer_by}
 use Rattle.pyc_keys.specs.Marks.{is_in}
 use Rattle.pyc_keys.specs.Numbering.{Numbering}
-use Rattle.pyc_known_answers.specs.AnsweredKeysView.{held_by, interfaces_by}
+use Rattle.pyc_known_answers.specs.WorldView.{held_by, interfaces_by}
 use Rattle.pyc_names.specs.Interfaces.{Interface}
 use Rattle.pyc_reading.specs.Keys.{Key}
-use Rattle.pyc_reuse.specs.declared.row.Row.{Row as RowOf}
+use Rattle.pyc_reuse.specs.declared.file_result.FileResult.{FileResult as FileResultOf}
 use Rattle.pyc_reuse.specs.Examined.{answers_of}
-use Rattle.pyc_reuse.specs.Past.{rows_among}
-use Rattle.pyc_reuse.specs.RowView.{reads_in, rows_in}
+use Rattle.pyc_reuse.specs.Revision.{file_results_among}
+use Rattle.pyc_reuse.specs.FileResultView.{reads_in, file_results_in}
 use Rattle.pyc_workspace.specs.Workspace.{File}
 use Rattle.pyc_reuse.proofs.last_check.LastCheck.of_nothing.Goals as goal
 
 pub invariant_of-result-2 : goal.invariant_of-result-2
-unfolding rows_among answers_of
+unfolding file_results_among answers_of
 invariant_of-result-2 c =
     let none : c.new-files.result ≡ [] = search rules in
-    let rows : c.new-2.result.items ≡ [] = search rules in
+    let file_results : c.new-2.result.items ≡ [] = search rules in
     let keys = c.new-4.result in
     let world : interfaces_by keys ≡ [] = search rules in
     record {
-      rows_are = ∣ ap (rows_in (held_by keys)) rows ∙ ap (rows_among c.args.options) (sym none) ∣₁;
+      file_results_are = ∣ ap (file_results_in (held_by keys)) file_results ∙ ap (file_results_among c.args.options) (sym none) ∣₁;
       answers_are = ∣ (λ key. ap (λ (fs : List Interface). answer_by fs key) world ∙ ap (λ (fs : List File). answers_of fs key) (sym none)) ∣₁;
-      held = λ i. ap (λ (h : Numbering Key). is_some (h i)) c.new-4.ensures.held ∙ sym (ap (λ (rs : List (Rc RowOf Global)). is_in (reads_in rs) i) rows);
+      held = λ i. ap (λ (h : Numbering Key). is_some (h i)) c.new-4.ensures.held ∙ sym (ap (λ (rs : List (Rc FileResultOf Global)). is_in (reads_in rs) i) file_results);
     }

@@ -1,6 +1,6 @@
 use Rattle.std.proofs.Common.{ap, refl, ◌∙◌}
 use Rattle.std.proofs.Math.Logic.{∥∥₁_elim}
-use Rattle.pyc_iface.specs.WorldView.{world_in}
+use Rattle.pyc_iface.specs.PlainWorldView.{world_in}
 use Rattle.pyc_names.specs.InterfaceView.{interfaces_in}
 use Rattle.pyc_reuse.proofs.InterfaceLemmas.{alike_where, as_files}
 use Rattle.pyc_reuse.specs.RecheckView.{last_in, present_in}

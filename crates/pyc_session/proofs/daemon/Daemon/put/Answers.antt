@@ -1,5 +1,5 @@
 use Rattle.std.proofs.Common.{ap, sym, ◌∙◌}
-use Rattle.pyc_session.specs.DaemonView.{past_of}
+use Rattle.pyc_session.specs.DaemonView.{revision_of}
 use Rattle.pyc_session.proofs.KeptFiles.{kept-put, touched-put}
 use Rattle.pyc_workspace.specs.Files.{file_in}
 use Rattle.pyc_workspace.specs.Workspace.{File}
@@ -13,5 +13,5 @@ invariant_of-self-2 c =
     let touched = touched-put before.touched c.reserve.new.self c.insert.new.self file.path c.in_ok-touched.touched (c.in_ok-touched.ensures.ok ∙ sym path) c.reserve.ensures.keys c.in_ok-insert.ensures.updates in
     record {
       options_are = c.self.invariant.options_are;
-      kept = rw c.in_ok-put.ensures.after (kept-put (past_of before.options before.last).files before.present before.touched c.insert.new.self file touched c.self.invariant.kept);
+      kept = rw c.in_ok-put.ensures.after (kept-put (revision_of before.options before.last).files before.present before.touched c.insert.new.self file touched c.self.invariant.kept);
     }

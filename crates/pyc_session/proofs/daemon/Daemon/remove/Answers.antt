@@ -1,6 +1,6 @@
 use Rattle.std.proofs.Common.{false, sym, ◌∙◌}
 use Rattle.std.proofs.lemmas.Map.Text.{hash_set_updates_text}
-use Rattle.pyc_session.specs.DaemonView.{past_of}
+use Rattle.pyc_session.specs.DaemonView.{revision_of}
 use Rattle.pyc_session.proofs.KeptFiles.{kept-take}
 use Rattle.pyc_session.proofs.Refusals.{removed_path_is_text}
 use Rattle.pyc_workspace.proofs.Texts.{IsOk-utf8}
@@ -17,5 +17,5 @@ invariant_of-self c =
     let touched = hash_set_updates_text c.args.path.now before.touched c.swap_remove.new.self false (rw text at c.swap_remove.ensures.updates) in
     record {
       options_are = c.self.invariant.options_are;
-      kept = rw c.take.ensures.after (kept-take (past_of before.options before.last).files before.present before.touched c.swap_remove.new.self c.args.path.now touched c.self.invariant.kept);
+      kept = rw c.take.ensures.after (kept-take (revision_of before.options before.last).files before.present before.touched c.swap_remove.new.self c.args.path.now touched c.self.invariant.kept);
     }

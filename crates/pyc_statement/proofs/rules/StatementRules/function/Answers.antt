@@ -23,9 +23,9 @@ pub returns-in_err-closing : goal.returns-in_err-closing
 unfolding function
 returns-in_err-closing g c = first_of (grind (arith, reading), search rules)
 
-pub returns-in_err-returned : goal.returns-in_err-returned
+pub returns-in_err-return_type : goal.returns-in_err-return_type
 unfolding function
-returns-in_err-returned g c = first_of (grind (arith, reading), search rules)
+returns-in_err-return_type g c = first_of (grind (arith, reading), search rules)
 
 pub returns : goal.returns
 unfolding function

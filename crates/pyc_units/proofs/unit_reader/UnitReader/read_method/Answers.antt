@@ -3,9 +3,9 @@ use Rattle.pyc_ast.specs.declared.stmt.Block.TheFolds.{the_lemmas}
 use Rattle.pyc_ast.specs.Statements.{Stmt, stmt}
 use Rattle.pyc_ast.specs.Statements as plain
 use Rattle.pyc_ast.specs.StatementView.{block_of, class_of, stmt_of}
-use Rattle.pyc_bodies.specs.Bodies.{Body, in_class}
-use Rattle.pyc_bodies.specs.ClassBodies.{ClassBody}
-use Rattle.pyc_bodies.specs.Views.{body_in}
+use Rattle.pyc_body_context.specs.Bodies.{Body, in_class}
+use Rattle.pyc_body_context.specs.ClassBodies.{ClassBody}
+use Rattle.pyc_body_context.specs.Views.{body_in}
 use Rattle.pyc_names.specs.SourceFileView.{source_in}
 use Rattle.pyc_obligations.proofs.Steps.{performs_same}
 use Rattle.pyc_units.specs.DefinitionReadings.{body_of, function_in, method_reading, statement_body}

@@ -1,0 +1,12 @@
+use Rattle.std.proofs.Common.{arith, rules}
+use Rattle.std.proofs.lemmas.Grind.{common_steps}
+use Rattle.pyc_attributes.proofs.binding.bind_member.Goals as goal
+
+pub returns-in-ClassMethod : goal.returns-in-ClassMethod
+returns-in-ClassMethod c = first_of (grind (arith, common_steps), search rules)
+
+pub returns-in-Method : goal.returns-in-Method
+returns-in-Method c = first_of (grind (arith, common_steps), search rules)
+
+pub returns-in_default : goal.returns-in_default
+returns-in_default c = first_of (grind (arith, common_steps), search rules)

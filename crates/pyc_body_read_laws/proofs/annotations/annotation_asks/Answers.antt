@@ -1,5 +1,0 @@
-use Rattle.pyc_body_read_laws.proofs.AnnotationLemmas.{annotation_asks}
-use Rattle.pyc_body_read_laws.proofs.annotations.annotation_asks.Goals as goal
-
-pub returns : goal.returns
-returns c = annotation_asks

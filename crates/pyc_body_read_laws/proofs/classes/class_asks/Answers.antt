@@ -1,5 +1,0 @@
-use Rattle.pyc_body_read_laws.proofs.ClassLemmas.{class_asks}
-use Rattle.pyc_body_read_laws.proofs.classes.class_asks.Goals as goal
-
-pub returns : goal.returns
-returns c = class_asks

@@ -1,5 +1,0 @@
-use Rattle.pyc_body_read_laws.proofs.ClassLemmas.{override_asks}
-use Rattle.pyc_body_read_laws.proofs.classes.override_asks.Goals as goal
-
-pub returns : goal.returns
-returns c = override_asks

@@ -1,5 +1,0 @@
-use Rattle.pyc_body_read_laws.proofs.FunctionLemmas.{function_asks}
-use Rattle.pyc_body_read_laws.proofs.functions.function_asks.Goals as goal
-
-pub returns : goal.returns
-returns c = function_asks

@@ -1,5 +1,0 @@
-use Rattle.pyc_body_read_laws.proofs.FunctionLemmas.{parameter_asks}
-use Rattle.pyc_body_read_laws.proofs.functions.parameter_asks.Goals as goal
-
-pub returns : goal.returns
-returns c = parameter_asks

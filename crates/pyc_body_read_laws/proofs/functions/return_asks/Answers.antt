@@ -1,5 +1,0 @@
-use Rattle.pyc_body_read_laws.proofs.FunctionLemmas.{return_asks}
-use Rattle.pyc_body_read_laws.proofs.functions.return_asks.Goals as goal
-
-pub returns : goal.returns
-returns c = return_asks

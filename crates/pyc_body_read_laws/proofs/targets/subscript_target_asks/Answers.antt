@@ -1,5 +1,0 @@
-use Rattle.pyc_body_read_laws.proofs.TargetLemmas.{subscript_target_asks}
-use Rattle.pyc_body_read_laws.proofs.targets.subscript_target_asks.Goals as goal
-
-pub returns : goal.returns
-returns c = subscript_target_asks

@@ -1,6 +1,0 @@
-pub mod AnnotationRows
-pub mod ClassRows
-pub mod FunctionRows
-pub mod TargetRows
-pub mod FileKeys
-pub mod OwedRows

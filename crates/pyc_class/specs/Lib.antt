@@ -1,5 +1,0 @@
-pub mod BuiltinClasses
-pub mod Class
-pub mod ClassEquality
-pub mod ClassHash
-pub mod Order

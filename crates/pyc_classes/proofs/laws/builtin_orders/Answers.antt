@@ -1,5 +1,0 @@
-use Rattle.pyc_classes.proofs.BuiltinLemmas.{builtins_follow_the_rule}
-use Rattle.pyc_classes.proofs.laws.builtin_orders.Goals as goal
-
-pub returns : goal.returns
-returns c = builtins_follow_the_rule

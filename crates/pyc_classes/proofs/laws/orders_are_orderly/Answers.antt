@@ -1,5 +1,0 @@
-use Rattle.pyc_classes.proofs.LawLemmas.{orders_orderly}
-use Rattle.pyc_classes.proofs.laws.orders_are_orderly.Goals as goal
-
-pub returns : goal.returns
-returns c = orders_orderly

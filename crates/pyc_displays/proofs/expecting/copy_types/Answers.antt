@@ -1,0 +1,18 @@
+use Rattle.std.proofs.Common.{arith, rules}
+use Rattle.std.proofs.lemmas.Grind.{common_steps}
+use Rattle.pyc_displays.proofs.expecting.copy_types.Goals as goal
+
+pub loop-ty-init : goal.loop-ty-init
+loop-ty-init c = first_of (grind (arith, common_steps), search rules)
+
+pub returns : goal.returns
+returns c = first_of (grind (arith, common_steps), search rules)
+
+pub returns-in_err-clone : goal.returns-in_err-clone
+returns-in_err-clone c = first_of (grind (arith, common_steps), search rules)
+
+pub returns-in_err-copies : goal.returns-in_err-copies
+returns-in_err-copies c = first_of (grind (arith, common_steps), search rules)
+
+pub returns-in_err-push : goal.returns-in_err-push
+returns-in_err-push c = first_of (grind (arith, common_steps), search rules)

@@ -1,3 +1,0 @@
-pub mod FileKeys
-pub mod RuleKeys
-pub mod ExpressionKeys

@@ -1,0 +1,11 @@
+pub mod Rows
+pub mod NameRows
+pub mod AttributeRows
+pub mod ObligationRows
+pub mod ItemRows
+pub mod OperatorRows
+pub mod TestRows
+pub mod CallRows
+pub mod FileKeys
+pub mod RuleKeys
+pub mod ExpressionKeys

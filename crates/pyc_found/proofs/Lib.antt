@@ -1,2 +1,0 @@
-pub mod SortLemmas
-pub mod FoundLemmas

@@ -1,4 +1,0 @@
-pub mod FoundOrder
-pub mod FoundLaws
-pub mod PrintedMessages
-pub mod PlaceView

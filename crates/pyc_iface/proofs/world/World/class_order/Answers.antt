@@ -1,9 +1,0 @@
-use Rattle.std.proofs.Common.{arith, rules}
-use Rattle.std.proofs.lemmas.Grind.{common_steps}
-use Rattle.pyc_iface.proofs.world.World.class_order.Goals as goal
-
-pub returns : goal.returns
-returns c = first_of (grind (arith, common_steps), search rules)
-
-pub returns-in_err-copied : goal.returns-in_err-copied
-returns-in_err-copied c = first_of (grind (arith, common_steps), search rules)

@@ -1,9 +1,0 @@
-use Rattle.pyc_build.proofs.Steps.{ReadsTokens_made}
-use Rattle.std.proofs.Common.{arith, rules}
-use Rattle.pyc_item.proofs.rules.ItemRules.starred_or.Goals as goal
-
-pub returns-then-is_star : goal.returns-then-is_star
-returns-then-is_star g c = first_of (grind (arith, ReadsTokens_made), search rules)
-
-pub returns-else-is_star : goal.returns-else-is_star
-returns-else-is_star g c = first_of (grind (arith, ReadsTokens_made), search rules)

@@ -1,5 +1,0 @@
-use Rattle.pyc_items.proofs.RowLemmas.{found_at}
-use Rattle.pyc_items.proofs.chosen.ty_at.Goals as goal
-
-pub returns : goal.returns
-returns c = found_at c.args.items.now c.args.place c.get.result c.get.ensures.lookup.0 c.get.ensures.lookup.1

@@ -1,0 +1,20 @@
+use Rattle.pyc_tree.specs.Items.{plain_parameter}
+use Rattle.pyc_build.proofs.Steps.{ReadsTokens_made}
+use Rattle.std.proofs.Common.{arith, rules}
+use Rattle.pyc_list_rules.proofs.rules.ItemRules.plain_parameter.Goals as goal
+
+pub returns-in_err-name : goal.returns-in_err-name
+unfolding plain_parameter
+returns-in_err-name g c = first_of (grind (arith, ReadsTokens_made), search rules)
+
+pub returns-in_err-annotation : goal.returns-in_err-annotation
+unfolding plain_parameter
+returns-in_err-annotation g c = first_of (grind (arith, ReadsTokens_made), search rules)
+
+pub returns-in_err-default : goal.returns-in_err-default
+unfolding plain_parameter
+returns-in_err-default g c = first_of (grind (arith, ReadsTokens_made), search rules)
+
+pub returns : goal.returns
+unfolding plain_parameter
+returns g c = first_of (grind (arith, ReadsTokens_made), search rules)

@@ -1,0 +1,16 @@
+use Rattle.pyc_tree.specs.Items.{parse_filled_call}
+use Rattle.pyc_build.proofs.Steps.{ReadsTokens_made}
+use Rattle.std.proofs.Common.{arith, rules}
+use Rattle.pyc_precedence.proofs.rules.ExpressionRules.parse_filled_call.Goals as goal
+
+pub returns-in_err-first : goal.returns-in_err-first
+unfolding parse_filled_call
+returns-in_err-first g c = first_of (grind (arith, ReadsTokens_made), search rules)
+
+pub returns-then-begins_comprehension : goal.returns-then-begins_comprehension
+unfolding parse_filled_call
+returns-then-begins_comprehension g c = first_of (grind (arith, ReadsTokens_made), search rules)
+
+pub returns-else-begins_comprehension : goal.returns-else-begins_comprehension
+unfolding parse_filled_call
+returns-else-begins_comprehension g c = first_of (grind (arith, ReadsTokens_made), search rules)

@@ -1,5 +1,0 @@
-use Rattle.pyc_read_laws.proofs.AttributeLemmas.{union_attribute_asks}
-use Rattle.pyc_read_laws.proofs.attributes.union_attribute_asks.Goals as goal
-
-pub returns : goal.returns
-returns c = union_attribute_asks

@@ -1,5 +1,0 @@
-use Rattle.pyc_read_laws.proofs.CallLemmas.{instance_call_asks}
-use Rattle.pyc_read_laws.proofs.calls.instance_call_asks.Goals as goal
-
-pub returns : goal.returns
-returns c = instance_call_asks

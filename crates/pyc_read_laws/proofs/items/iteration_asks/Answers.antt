@@ -1,5 +1,0 @@
-use Rattle.pyc_read_laws.proofs.ItemLemmas.{iteration_asks}
-use Rattle.pyc_read_laws.proofs.items.iteration_asks.Goals as goal
-
-pub returns : goal.returns
-returns c = iteration_asks

@@ -1,5 +1,0 @@
-use Rattle.pyc_read_laws.proofs.OperatorLemmas.{unary_asks}
-use Rattle.pyc_read_laws.proofs.operators.unary_asks.Goals as goal
-
-pub returns : goal.returns
-returns c = unary_asks

@@ -1,5 +1,0 @@
-use Rattle.pyc_read_laws.proofs.TestLemmas.{instance_test_asks}
-use Rattle.pyc_read_laws.proofs.tests.instance_test_asks.Goals as goal
-
-pub returns : goal.returns
-returns c = instance_test_asks

@@ -1,5 +1,0 @@
-use Rattle.pyc_reading.proofs.RunLemmas.{keeps_tells}
-use Rattle.pyc_reading.proofs.telling.tell_error.Goals as goal
-
-pub returns : goal.returns
-returns g c = keeps_tells _ _ _ _ _ c.error_at.ensures c.tell.ensures

@@ -1,0 +1,167 @@
+-- Asking where answers are kept.
+use Rattle.std.proofs.Common.{◌≡◌, ◌∙◌, ap, ap₂, subst, sym, refl, true≢false, Bool, true, false, cond, ◌||◌, if◌then◌else◌}
+use Rattle.std.proofs.Common.{append-nil, List, [], ◌∷◌, ◌++◌, map, Some, None, is_some, unwrap_or, Result, Ok, Err, IfOk}
+use Rattle.std.proofs.Math.Logic.{∥∥₁_elim}
+use Rattle.std.specs.List.{list_any}
+use Rattle.std.specs.Map.{lookup, keys_of, values_of}
+use Rattle.std.specs.declared.alloc.AllocError.{AllocError}
+use Rattle.std.specs.declared.alloc.Global.{Global}
+use Rattle.std.specs.declared.rc.Rc.{Rc}
+use Rattle.indexmap.specs.IndexMap.{insert_entry}
+use Rattle.pyc_recorder.proofs.AnswerSets.{one_list, one_proof}
+use Rattle.pyc_recorder.specs.KeptAnswers.{AreAnswers}
+use Rattle.pyc_keys.specs.KeyEquality.{is_asked, keys_are}
+use Rattle.pyc_reading.specs.AnswerView.{answer_in}
+use Rattle.pyc_reading.specs.Answers.{Answer}
+use Rattle.pyc_reading.specs.Traces.{Trace, Performs, asking, with_key}
+use Rattle.pyc_reading.specs.Keys.{Key}
+use Rattle.pyc_reading.specs.declared.answer.Answer.{Answer as AnswerOf}
+use Rattle.pyc_report.specs.Message.{Message}
+
+none_some : {A : Type 0} {x : A} → None ≡ Some x → ⊥
+none_some e = true≢false (sym (ap is_some e))
+
+same_some : {A : Type 0} {x y : A} → Some x ≡ Some y → x ≡ y
+same_some {A} {x} e = ap (λ r. unwrap_or r x) e
+
+module _ {V : Type 0} (t : Key → Bool) where
+  -- a key whose answer is kept is among the keys
+  among : (es : List (Key × V)) (a : V) → lookup t es ≡ Some a → list_any t (keys_of es) ≡ true
+  among [] a h = absurd (none_some h)
+  among (e ∷ es) a h = by (t e.0) refl (among es a)
+    where
+      by : (b : Bool) → t e.0 ≡ b → (lookup t es ≡ Some a → list_any t (keys_of es) ≡ true)
+          → list_any t (keys_of (e ∷ es)) ≡ true
+      by true p rest = ap (λ c. c || list_any t (keys_of es)) p
+      by false p rest =
+          ap (λ c. c || list_any t (keys_of es)) p
+          ∙ rest (sym (ap (λ c. cond c (Some e.1) (lookup t es)) p) ∙ h)
+
+  -- a key without an answer is not among them
+  apart : (es : List (Key × V)) → lookup t es ≡ None → list_any t (keys_of es) ≡ false
+  apart [] h = refl
+  apart (e ∷ es) h = by (t e.0) refl (apart es)
+    where
+      by : (b : Bool) → t e.0 ≡ b → (lookup t es ≡ None → list_any t (keys_of es) ≡ false)
+          → list_any t (keys_of (e ∷ es)) ≡ false
+      by true p rest = absurd (none_some (sym h ∙ ap (λ c. cond c (Some e.1) (lookup t es)) p))
+      by false p rest =
+          ap (λ c. c || list_any t (keys_of es)) p
+          ∙ rest (sym (ap (λ c. cond c (Some e.1) (lookup t es)) p) ∙ h)
+
+-- a new key goes last
+last : {V : Type 0} (k : Key) (a : V) (es : List (Key × V)) → lookup (is_asked k) es ≡ None
+    → keys_of (insert_entry is_asked es k a) ≡ keys_of es ++ (k ∷ [])
+last k a [] h = refl
+last k a (e ∷ es) h = by (is_asked k e.0) refl (last k a es)
+  where
+    by : (b : Bool) → is_asked k e.0 ≡ b
+        → (lookup (is_asked k) es ≡ None → keys_of (insert_entry is_asked es k a) ≡ keys_of es ++ (k ∷ []))
+        → keys_of (insert_entry is_asked (e ∷ es) k a) ≡ keys_of (e ∷ es) ++ (k ∷ [])
+    by true p rest = absurd (none_some (sym h ∙ ap (λ c. cond c (Some e.1) (lookup (is_asked k) es)) p))
+    by false p rest =
+        ap (λ c. keys_of (if c then (e.0, a) ∷ es else e ∷ insert_entry is_asked es k a)) p
+        ∙ ap (λ ks. e.0 ∷ ks) (rest (sym (ap (λ c. cond c (Some e.1) (lookup (is_asked k) es)) p) ∙ h))
+
+-- ---- answers to their keys
+
+abbrev Kept : Type 0
+Kept = Key × Rc AnswerOf Global
+
+abbrev first : {A : Type 0} → A → List A → A
+first x [] = x
+first x (y ∷ ys) = y
+
+abbrev others : {A : Type 0} → List A → List A
+others [] = []
+others (y ∷ ys) = ys
+
+module _ (answers : Key → Answer) where
+  own : (e : Kept) (es : List Kept) → AreAnswers answers (e ∷ es) → answer_in e.1.value ≡ answers e.0
+  own e es are = ap (first (answers e.0)) are
+
+  rest_answers : (e : Kept) (es : List Kept) → AreAnswers answers (e ∷ es) → AreAnswers answers es
+  rest_answers e es are = ap others are
+
+  one_more : (e : Kept) (es : List Kept) → answer_in e.1.value ≡ answers e.0 → AreAnswers answers es → AreAnswers answers (e ∷ es)
+  one_more e es is are = ap₂ (λ (x : Answer) (xs : List Answer). x ∷ xs) is are
+
+  -- the answer to a key that is kept
+  kept_answer : (k : Key) (a : Rc AnswerOf Global) (es : List Kept) → AreAnswers answers es → lookup (is_asked k) es ≡ Some a
+      → answer_in a.value ≡ answers k
+  kept_answer k a [] are found = absurd (none_some found)
+  kept_answer k a (e ∷ es) are found = by (is_asked k e.0) refl (kept_answer k a es (rest_answers e es are))
+    where
+      by : (c : Bool) → is_asked k e.0 ≡ c → (lookup (is_asked k) es ≡ Some a → answer_in a.value ≡ answers k)
+          → answer_in a.value ≡ answers k
+      by true p rest =
+          let kept : Some e.1 ≡ Some a = sym (ap (λ c. cond c (Some e.1) (lookup (is_asked k) es)) p) ∙ found in
+          ap (λ (s : Rc AnswerOf Global). answer_in s.value) (sym (same_some kept)) ∙ own e es are ∙ ap answers (keys_are e.0 k p)
+      by false p rest = rest (sym (ap (λ c. cond c (Some e.1) (lookup (is_asked k) es)) p) ∙ found)
+
+  -- the answers that are kept stay the ones to their keys where one more such is kept
+  pub still_answers : (k : Key) (a : Rc AnswerOf Global) (es : List Kept) → answer_in a.value ≡ answers k → AreAnswers answers es
+      → AreAnswers answers (insert_entry is_asked es k a)
+  still_answers k a [] is are = one_more (k, a) [] is refl
+  still_answers k a (e ∷ es) is are = by (is_asked k e.0) refl (still_answers k a es is (rest_answers e es are))
+    where
+      by : (c : Bool) → is_asked k e.0 ≡ c → AreAnswers answers (insert_entry is_asked es k a)
+          → AreAnswers answers (insert_entry is_asked (e ∷ es) k a)
+      by true p rest =
+          subst (λ c. AreAnswers answers (if c then (e.0, a) ∷ es else e ∷ insert_entry is_asked es k a)) (sym p)
+          (one_more (e.0, a) es (is ∙ ap answers (sym (keys_are e.0 k p))) (rest_answers e es are))
+      by false p rest =
+          subst (λ c. AreAnswers answers (if c then (e.0, a) ∷ es else e ∷ insert_entry is_asked es k a)) (sym p)
+          (one_more e (insert_entry is_asked es k a) (own e es are) rest)
+
+  -- the answers to the keys of which some are kept
+  keyed : (es : List Kept) → map (λ entry. answers entry.0) es ≡ map answers (keys_of es)
+  keyed [] = refl
+  keyed (e ∷ es) = ap (λ (xs : List Answer). answers e.0 ∷ xs) (keyed es)
+
+  valued : (es : List Kept) → map (λ answer. answer_in answer.value) (values_of es) ≡ map (λ entry. answer_in entry.1.value) es
+  valued [] = refl
+  valued (e ∷ es) = ap (λ (xs : List Answer). answer_in e.1.value ∷ xs) (valued es)
+
+  -- answers and keys that were listed
+  pub listed_answers : (es : List Kept) (answers_in_order : List (Rc AnswerOf Global)) (asked : List Key) → ∥ AreAnswers answers es ∥₁
+      → map (λ answer. answer_in answer.value) answers_in_order ≡ map (λ answer. answer_in answer.value) (values_of es) → asked ≡ keys_of es
+      → map (λ answer. answer_in answer.value) answers_in_order ≡ map answers asked
+  listed_answers es answers_in_order asked are all keys =
+      ∥∥₁_elim are (one_list _ _) (λ own. all ∙ valued es ∙ own ∙ keyed es ∙ ap (map answers) (sym keys))
+
+module _ (answers : Key → Answer) (messages : List Message) where
+  abbrev pub trace_with : List Key → Trace
+  trace_with keys = record { answers = answers; keys = keys; messages = messages }
+
+  -- an answer that is kept is handed out, and nothing is taken down
+  pub handed_out : (es : List Kept) (k : Key) (a : Rc AnswerOf Global) (result : Result AnswerOf AllocError)
+      → ∥ AreAnswers answers es ∥₁ → lookup (is_asked k) es ≡ Some a
+      → IfOk result (λ copy. answer_in copy ≡ answer_in a.value)
+      → Performs answer_in (asking k) (trace_with (keys_of es)) result (trace_with (keys_of es))
+  handed_out es k a (Ok copy) are found same =
+      let is : answer_in a.value ≡ answers k = ∥∥₁_elim are (one_proof _ _) (λ all. kept_answer answers k a es all found) in
+      let stay : with_key (keys_of es) k ≡ keys_of es =
+      ap (λ c. if c then keys_of es else keys_of es ++ (k ∷ [])) (among (is_asked k) es a found)
+      in
+      record {
+        done = λ j. (sym (same ∙ is) j, trace_with (stay j));
+        grown = record { answers = refl; more = []; keys = sym (append-nil (keys_of es)) };
+      }
+  handed_out es k a (Err e) are found same =
+      record { done = tt; grown = record { answers = refl; more = []; keys = sym (append-nil (keys_of es)) } }
+
+  -- a new answer is handed out, and its key taken down
+  pub newly_kept : (es fs : List Kept) (k : Key) (a : Rc AnswerOf Global) (copy : AnswerOf)
+      → lookup (is_asked k) es ≡ None → answer_in a.value ≡ answers k → answer_in copy ≡ answer_in a.value
+      → fs ≡ insert_entry is_asked es k a
+      → Performs answer_in (asking k) (trace_with (keys_of es)) (Ok copy) (trace_with (keys_of fs))
+  newly_kept es fs k a copy none is same kept =
+      let keys : keys_of fs ≡ keys_of es ++ (k ∷ []) = ap keys_of kept ∙ last k a es none in
+      let taken : with_key (keys_of es) k ≡ keys_of es ++ (k ∷ []) =
+      ap (λ c. if c then keys_of es else keys_of es ++ (k ∷ [])) (apart (is_asked k) es none)
+      in
+      record {
+        done = λ j. (sym (same ∙ is) j, trace_with ((taken ∙ sym keys) j));
+        grown = record { answers = refl; more = k ∷ []; keys = keys };
+      }

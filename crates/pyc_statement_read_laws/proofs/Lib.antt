@@ -1,3 +1,0 @@
-pub mod AskedLemmas
-pub mod ImportLemmas
-pub mod HeaderLemmas

@@ -1,5 +1,0 @@
-use Rattle.pyc_statement_read_laws.proofs.HeaderLemmas.{header_asks}
-use Rattle.pyc_statement_read_laws.proofs.imports.header_asks.Goals as goal
-
-pub returns : goal.returns
-returns c = header_asks

@@ -1,5 +1,0 @@
-use Rattle.pyc_statement_read_laws.proofs.ImportLemmas.{import_asks}
-use Rattle.pyc_statement_read_laws.proofs.imports.import_asks.Goals as goal
-
-pub returns : goal.returns
-returns c = import_asks

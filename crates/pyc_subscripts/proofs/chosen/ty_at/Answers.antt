@@ -1,0 +1,5 @@
+use Rattle.pyc_subscripts.proofs.RowLemmas.{found_at}
+use Rattle.pyc_subscripts.proofs.chosen.ty_at.Goals as goal
+
+pub returns : goal.returns
+returns c = found_at c.args.items.now c.args.place c.get.result c.get.ensures.lookup.0 c.get.ensures.lookup.1

@@ -1,0 +1,12 @@
+use Rattle.pyc_targets.specs.ItemTargets.{ask_target}
+use Rattle.pyc_obligations.proofs.Steps.{performing}
+use Rattle.std.proofs.Common.{arith, rules}
+use Rattle.pyc_targets.proofs.item_targets.ask_target.Goals as goal
+
+pub returns : goal.returns
+unfolding ask_target
+returns g c = first_of (grind (arith, performing), search rules)
+
+pub returns-in_err-found : goal.returns-in_err-found
+unfolding ask_target
+returns-in_err-found g c = first_of (grind (arith, performing), search rules)

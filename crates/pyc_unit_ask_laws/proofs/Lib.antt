@@ -1,4 +1,0 @@
-pub mod AssignmentLemmas
-pub mod BlockLemmas
-pub mod SimpleLemmas
-pub mod UnitLemmas

@@ -1,0 +1,16 @@
+pub mod AskedLemmas
+pub mod NameLemmas
+pub mod AnnotationLemmas
+pub mod ClassLemmas
+pub mod FunctionLemmas
+pub mod TargetLemmas
+pub mod FileLemmas
+pub mod BodyLemmas
+pub mod RequiredLemmas
+pub mod ImportAskedLemmas
+pub mod ImportLemmas
+pub mod HeaderLemmas
+pub mod AssignmentLemmas
+pub mod BlockLemmas
+pub mod SimpleLemmas
+pub mod UnitLemmas

@@ -1,0 +1,5 @@
+use Rattle.pyc_unit_laws.proofs.ClassLemmas.{class_statement_asks}
+use Rattle.pyc_unit_laws.proofs.classes.class_statement_asks.Goals as goal
+
+pub returns : goal.returns
+returns c = class_statement_asks

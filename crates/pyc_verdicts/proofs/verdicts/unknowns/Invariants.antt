@@ -1,7 +1,0 @@
-use Rattle.std.proofs.Common.{◌≡◌}
-use Rattle.pyc_verdicts.specs.Changes.{unknowns}
-use Rattle.pyc_verdicts.proofs.verdicts.unknowns.Given as goal
-
--- those so far are not known
-abbrev pub invariant-loop-number : goal.invariant-loop-number
-invariant-loop-number l = l.found.items ≡ unknowns l.number
