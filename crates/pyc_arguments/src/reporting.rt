@@ -7,12 +7,11 @@ ghost use Rattle.pyc_matching.specs.Views.{missing_in};
 ghost use Rattle.pyc_reading.specs.Traces.{Performs, reporting};
 ghost use Rattle.pyc_type_forms.specs.TypeView.{ty_of};
 
-use crate::texts::{
-    missing_argument_text, repeated_text, shown_text, too_many_text, unexpected_text,
-};
+use crate::texts::{missing_argument_text, shown_text};
 use pyc_ast::Position;
 use pyc_class_ids::BuiltinClass;
 use pyc_matching::{MissingArgument, missing_text};
+use pyc_messages::{repeated_argument_text, too_many_arguments_text, unexpected_argument_text};
 use pyc_obligations::report_error;
 use pyc_reading::Ask;
 use pyc_report::Code;
@@ -64,7 +63,7 @@ pub(crate) fn report_repeated<N: Ask>(
         result (N.trace recorder.new) }
 {
     let shown = shown_text(alloc, call.shown)?;
-    let text = repeated_text(alloc, name, shown.as_str())?;
+    let text = repeated_argument_text(alloc, name, shown.as_str())?;
     report_error(recorder, call.at, Code::CallArg, text)
 }
 
@@ -80,7 +79,7 @@ pub(crate) fn report_unexpected<N: Ask>(
         result (N.trace recorder.new) }
 {
     let shown = shown_text(alloc, call.shown)?;
-    let text = unexpected_text(alloc, name, shown.as_str())?;
+    let text = unexpected_argument_text(alloc, name, shown.as_str())?;
     report_error(recorder, call.at, Code::CallArg, text)
 }
 
@@ -95,7 +94,7 @@ pub(crate) fn report_too_many<N: Ask>(
         (N.trace recorder.new) }
 {
     let shown = shown_text(alloc, call.shown)?;
-    let text = too_many_text(alloc, shown.as_str())?;
+    let text = too_many_arguments_text(alloc, shown.as_str())?;
     report_error(recorder, call.at, Code::CallArg, text)
 }
 

@@ -9,6 +9,8 @@ mod found;
 #[cfg(test)]
 mod imports;
 #[cfg(test)]
+mod messages;
+#[cfg(test)]
 mod module_names;
 #[cfg(test)]
 mod names;
