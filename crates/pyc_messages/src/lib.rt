@@ -1,5 +1,5 @@
-//! The registry of messages: the text of each message stands here once, in the order of docs/RULES.md. The definition of
-//! a message that a rule reports by itself gives its code with it; that of an obligation has the code of the kind of the
+//! The registry of messages: the text of each message stands here once, in the order of docs/RULES.md. The definition
+//! of a message that a rule reports by itself has its code, too; that of an obligation has the code of the kind of the
 //! obligation. The texts of faults are those of `pyc_parse`.
 #![tactic(auto)]
 
