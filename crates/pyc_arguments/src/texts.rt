@@ -1,11 +1,13 @@
 //! The texts of what is reported of the arguments of calls.
 
-ghost use Rattle.std.specs.Prelude.{◌≡◌, IfOk, string_bytes};
+ghost use Rattle.std.specs.Prelude.{◌≡◌, IfOk, option_map, string_bytes};
+ghost use Rattle.std.specs.Fmt.{decimal};
 ghost use Rattle.pyc_arguments.specs.Reporting as spec;
 ghost use Rattle.pyc_arguments.specs.Views.{shown_in};
 ghost use Rattle.pyc_matching.specs.Views.{given_in, missing_in};
 
 use crate::reporting::CalleeName;
+use pyc_ast::Text;
 use pyc_matching::{Given, MissingArgument};
 use pyc_messages::{
     missing_name_text, missing_place_text, named_argument_text, placed_argument_text,
@@ -13,9 +15,9 @@ use pyc_messages::{
 use std::alloc::{AllocError, Global};
 
 /// What is called, in a message.
-#[tactic(auto, unfolding(crate::specs::Reporting::shown_text))]
-pub(crate) fn shown_text(alloc: Global, shown: CalleeName<'_>) -> Result<String, AllocError>
-    ensures { IfOk result (λ text. string_bytes text ≡ spec.shown_text (shown_in shown.entry)) }
+#[tactic(auto, unfolding(crate::specs::Reporting::callee_text))]
+pub(crate) fn callee_text(alloc: Global, shown: CalleeName<'_>) -> Result<String, AllocError>
+    ensures { IfOk result (λ text. string_bytes text ≡ spec.callee_text (shown_in shown.entry)) }
 {
     match shown {
         CalleeName::Name(name) => format!(in alloc; "\"{name}\""),
@@ -56,4 +58,35 @@ pub(crate) fn missing_argument_text(
         MissingArgument::Place(_, _) => missing_place_text(alloc, name, shown),
         MissingArgument::Name(_) => missing_name_text(alloc, name, shown),
     }
+}
+
+/// How a missing parameter is named in a message: by its name, else by its number.
+pub(crate) fn missing_text(
+    alloc: Global,
+    missing: MissingArgument<'_>,
+) -> Result<String, AllocError>
+    ensures { IfOk result (λ text. string_bytes text ≡ spec.missing_text (missing_in missing.entry)) }
+{
+    match missing {
+        MissingArgument::Place(name, number) => place_text(alloc, name, number),
+        MissingArgument::Name(name) => Ok(String::from_str(alloc, name.as_str())?),
+    }
+}
+
+/// How a missing plain parameter is named in a message.
+fn place_text(alloc: Global, name: Option<&Text>, number: usize) -> Result<String, AllocError>
+    ensures { IfOk result (λ text. string_bytes text
+        ≡ spec.place_text (option_map (λ n. n.now) name.entry) number) }
+{
+    match name {
+        Some(name) => Ok(String::from_str(alloc, name.as_str())?),
+        None => number_text(alloc, number),
+    }
+}
+
+/// A number in decimal digits.
+fn number_text(alloc: Global, number: usize) -> Result<String, AllocError>
+    ensures { IfOk result (λ text. string_bytes text ≡ decimal number) }
+{
+    format!(in alloc; "{number}")
 }
