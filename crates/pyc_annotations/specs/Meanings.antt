@@ -1,7 +1,7 @@
 -- What a name means where a type or a base is written (typing specification, "Type annotations", "Valid type expression
 -- forms"; Python reference 3.13, "Resolution of names"). Names are sought at the top level of the module where they
 -- stand, then among Python's builtins, and what is found nowhere is reported.
-use Rattle.std.specs.Prelude.{ℕ, Bool, true, false, bytes_eq, is_some, codes, if◌then◌else◌, List, ◌++◌, Option, None}
+use Rattle.std.specs.Prelude.{ℕ, Bool, true, false, bytes_eq, is_some, codes, if◌then◌else◌, List, Option, None}
 use Rattle.std.specs.Prelude.{Some}
 use Rattle.pyc_ast.specs.declared.position.Position.{Position}
 use Rattle.pyc_bindings.specs.Redefinitions.{declaration}
@@ -10,6 +10,7 @@ use Rattle.pyc_builtins.specs.declared.names.BuiltinName.TheVariants as builtins
 use Rattle.pyc_builtins.specs.Members.{is_dunder}
 use Rattle.pyc_builtins.specs.Names.{builtin_name}
 use Rattle.pyc_class_ids.specs.Class.{Id, builtin}
+use Rattle.pyc_messages.specs.Definitions as message
 use Rattle.pyc_names.specs.declared.fixed.FixedModule.{FixedModule}
 use Rattle.pyc_names.specs.declared.fixed.FixedName.{FixedName}
 use Rattle.pyc_names.specs.FixedModules.{fixed_module, fixed_name}
@@ -19,8 +20,6 @@ use Rattle.pyc_reading.specs.Answers as kind
 use Rattle.pyc_reading.specs.Traces.{Step}
 use Rattle.pyc_reading.specs.Keys.{name}
 use Rattle.pyc_reading.specs.Readings.{Done, Ask, Report, and_then}
-use Rattle.pyc_report.specs.declared.message.Code.TheVariants.{NameDefined, AttrDefined}
-use Rattle.pyc_report.specs.Message.{error_at}
 use Rattle.pyc_type_forms.specs.Types.{Ty, any, class_object}
 
 -- what a name means where a type is written
@@ -41,19 +40,13 @@ pub data Meaning : Type 0 where
 
 -- ---- what is reported
 
-unfoldable pub not_defined_text : List ℕ → List ℕ
-not_defined_text x = codes "Name \"" ++ (x ++ codes "\" is not defined")
-
 -- a name that nothing defines
 unfoldable pub report_undefined : Position → List ℕ → Step Meaning
-report_undefined at x = Report (error_at at NameDefined (not_defined_text x)) (Done any_meant)
-
-unfoldable pub no_attribute_text : List ℕ → List ℕ
-no_attribute_text n = codes "Module has no attribute \"" ++ (n ++ codes "\"")
+report_undefined at x = Report (message.not_defined at x) (Done any_meant)
 
 -- an attribute that a module does not have
 unfoldable pub no_attribute : Position → List ℕ → Step Meaning
-no_attribute at n = Report (error_at at AttrDefined (no_attribute_text n)) (Done any_meant)
+no_attribute at n = Report (message.absent_attribute at (message.no_module_attribute_text n)) (Done any_meant)
 
 -- ---- names of modules
 

@@ -1,11 +1,12 @@
 -- The end of a function (Python reference 3.13, "The return statement").
-use Rattle.std.specs.Prelude.{Bool, true, false, ◌&&◌, codes, if◌then◌else◌, []}
+use Rattle.std.specs.Prelude.{Bool, true, false, ◌&&◌, if◌then◌else◌, []}
 use Rattle.pyc_ast.specs.declared.constant.Constant.TheVariants as constant
 use Rattle.pyc_ast.specs.declared.position.Position.{Position}
 use Rattle.pyc_ast.specs.Exprs.{Expr, expr, Form}
 use Rattle.pyc_ast.specs.Exprs as form
 use Rattle.pyc_ast.specs.Statements.{Stmt, stmt, StmtForm, Stmts, no_stmt, another_stmt}
 use Rattle.pyc_ast.specs.Statements as plain
+use Rattle.pyc_messages.specs.Functions as message
 use Rattle.pyc_reading.specs.Traces.{Step, required}
 use Rattle.pyc_reading.specs.Owing.{Obligation}
 use Rattle.pyc_reading.specs.Readings.{Done}
@@ -49,7 +50,7 @@ required_end at got want =
       got = got;
       want = want;
       details = [];
-      text = codes "Missing return statement";
+      text = message.missing_return_text;
     }
 
 -- where the end of a function is reached, it gives None

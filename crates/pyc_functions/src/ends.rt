@@ -10,6 +10,7 @@ ghost use Rattle.pyc_reading.specs.Traces.{Performs};
 ghost use Rattle.pyc_type_forms.specs.TypeView.{ty_of};
 
 use pyc_ast::{Constant, Expr, Form, Position, Stmt, StmtForm};
+use pyc_messages::missing_return_text;
 use pyc_obligations::{AsObligation, AskTypes, require};
 use pyc_report::{Message, ObligationKind};
 use pyc_type_forms::Ty;
@@ -108,7 +109,7 @@ impl<N: AskTypes> AsObligation<N> for RequiredEnd<'_> {
     }
 
     fn message(&self, alloc: Global, _recorder: &N) -> Result<Message, AllocError> {
-        let text = String::from_str(alloc, "Missing return statement")?;
+        let text = missing_return_text(alloc)?;
         Ok(Message::failing_at(self.at, ObligationKind::MissingReturn, text))
     }
 }

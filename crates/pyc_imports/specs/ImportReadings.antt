@@ -1,12 +1,13 @@
 -- What is reported of imports: modules and names that are not there (Python reference 3.13, "The import statement";
 -- mypy's documentation, "Missing imports").
-use Rattle.std.specs.Prelude.{ℕ, zero, suc, Bool, true, false, is_some, if◌then◌else◌, List, [], ◌∷◌, ◌++◌, codes}
+use Rattle.std.specs.Prelude.{ℕ, zero, suc, Bool, true, false, is_some, if◌then◌else◌, List, [], ◌∷◌, ◌++◌}
 use Rattle.std.specs.Prelude.{Option, None, Some}
 use Rattle.pyc_ast.specs.declared.position.Position.{Position}
 use Rattle.pyc_ast.specs.declared.stmt.Alias.{Alias}
 use Rattle.pyc_ast.specs.Statements.{StmtForm, ImportedModule, ImportFrom}
 use Rattle.pyc_ast.specs.Statements as plain
 use Rattle.pyc_iface.specs.declared.options.Options.{Options}
+use Rattle.pyc_messages.specs.Definitions as message
 use Rattle.pyc_names.specs.FixedModules.{fixed_module}
 use Rattle.pyc_names.specs.Imports.{named_module}
 use Rattle.pyc_names.specs.Interfaces.{Interface}
@@ -16,11 +17,9 @@ use Rattle.pyc_reading.specs.declared.answer.Presence.TheVariants as presence
 use Rattle.pyc_reading.specs.Traces.{Step, reporting}
 use Rattle.pyc_reading.specs.Keys.{Key, has_module, has_name}
 use Rattle.pyc_reading.specs.Readings.{Done, Ask, each, ◌>>=◌}
-use Rattle.pyc_report.specs.declared.message.Code.TheVariants as code
-use Rattle.pyc_report.specs.Message.{error_at}
 use Rattle.pyc_report.specs.NameTexts.{joined_names}
 
--- ---- texts
+-- ---- what messages show
 
 -- so many dots
 abbrev pub dots : ℕ → List ℕ
@@ -30,13 +29,6 @@ dots (suc n) = 46 ∷ dots n
 -- a module as it is written: the dots before its name, and its name
 unfoldable pub written_module : ℕ → List (List ℕ) → List ℕ
 written_module n path = dots n ++ joined_names path
-
-unfoldable pub missing_text : List ℕ → List ℕ
-missing_text shown =
-    codes "Cannot find implementation or library stub for module named \"" ++ (shown ++ codes "\"")
-
-unfoldable pub no_attribute_text : List ℕ → List ℕ → List ℕ
-no_attribute_text shown name = codes "Module \"" ++ (shown ++ (codes "\" has no attribute \"" ++ (name ++ codes "\"")))
 
 -- ---- what is asked
 
@@ -53,7 +45,7 @@ ask_presence key = Ask key (λ answer. Done (presence_in answer))
 -- a module that is not there, reported unless missing imports are left out
 abbrev pub missing : Options → Position → List ℕ → Step (Unit {0})
 missing options at shown =
-    if options.ignore_missing then Done tt else reporting (error_at at code.ImportNotFound (missing_text shown))
+    if options.ignore_missing then Done tt else reporting (message.missing_module at shown)
 
 -- a module, by whether it is there
 abbrev pub module_reported : Options → Position → List ℕ → Option Presence → Step (Unit {0})
@@ -87,7 +79,7 @@ module_checked options at m = do
 abbrev pub name_reported : Options → Position → List ℕ → List ℕ → Option Presence → Step (Unit {0})
 name_reported options at shown name (Some presence.NoModule) = missing options at shown
 name_reported options at shown name (Some presence.NoName) =
-    reporting (error_at at code.AttrDefined (no_attribute_text shown name))
+    reporting (message.no_imported_name at shown name)
 name_reported options at shown name _ = Done tt
 
 -- a name that is imported from a module, or from above the root, where nothing is there

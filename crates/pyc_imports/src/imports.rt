@@ -8,9 +8,10 @@ ghost use Rattle.pyc_reading.specs.Traces.{Performs};
 ghost use Rattle.pyc_reading.specs.Readings.{each};
 
 use crate::asking::ask_presence;
-use crate::texts::{missing_text, no_attribute_text, written_module};
+use crate::texts::written_module;
 use pyc_ast::{Alias, ImportFrom, ImportedModule, Position, StmtForm, Text};
 use pyc_iface::Options;
+use pyc_messages::{missing_module_text, no_imported_name_text};
 use pyc_names::{
     Interface, ModuleName, QualifiedName, fixed_module, module_of_parts, named_module,
 };
@@ -123,7 +124,7 @@ impl ImportReader {
         if self.options.ignore_missing {
             return Ok(());
         }
-        let text = missing_text(self.alloc, shown)?;
+        let text = missing_module_text(self.alloc, shown)?;
         report_error(recorder, self.at, Code::ImportNotFound, text)
     }
 
@@ -210,7 +211,7 @@ impl ImportReader {
         match found {
             Some(Presence::NoModule) => self.report_missing(recorder, shown),
             Some(Presence::NoName) => {
-                let text = no_attribute_text(self.alloc, shown, name.as_str())?;
+                let text = no_imported_name_text(self.alloc, shown, name.as_str())?;
                 report_error(recorder, self.at, Code::AttrDefined, text)
             }
             _ => Ok(()),

@@ -1,6 +1,6 @@
 use Rattle.std.proofs.Common.{arith, rules}
 use Rattle.std.proofs.lemmas.Grind.{common_steps}
-use Rattle.pyc_matching.proofs.unfilled.missing_text.Goals as goal
+use Rattle.pyc_arguments.proofs.texts.missing_text.Goals as goal
 
 pub returns-in-Place : goal.returns-in-Place
 returns-in-Place c = first_of (grind (arith, common_steps), search rules)
