@@ -7,7 +7,7 @@ use Rattle.pyc_builtins.specs.Names.{builtin_name}
 use Rattle.pyc_names.specs.FixedModules.{fixed_module, fixed_name}
 use Rattle.pyc_names.specs.declared.fixed.FixedModule.{FixedModule}
 use Rattle.pyc_names.specs.SourceFiles.{SourceFile}
-use Rattle.pyc_obligations.specs.Asking.{ask_name}
+use Rattle.pyc_reading.specs.Outside.{ask_name}
 use Rattle.pyc_obligations.specs.Values.{Value}
 use Rattle.pyc_scopes.specs.NamedValues.{answered_value, binds, by_local, fixed_value, found_builtin, module_name, name_in_module, resolve_name, no_builtin, report_undefined, own_value, unbound}
 use Rattle.pyc_scopes.specs.Scopes.{Local, Scope, local_of}

@@ -264,11 +264,22 @@ impl Table {
                 return Ok(Step::Ends(Referent::Module(under)));
             }
         }
+        self.seen_step(alloc, next)
+    }
+
+    /// The step to a name that another file sees: one that its module hides stands for its submodule alone.
+    fn seen_step(&self, alloc: Global, next: QualifiedName) -> Result<Step, AllocError>
+        ensures { IfOk result (λ found. step_of found
+            ≡ spec.seen_step (table_in self.now) (qualified_of next)) }
+    {
+        if self.hides(&next) {
+            return Ok(Step::Ends(self.unbound_referent(alloc, &next)?));
+        }
         Ok(Step::Leads(next))
     }
 
-    /// What a name that its module does not bind stands for.
-    fn unbound_referent(&self, alloc: Global, q: &QualifiedName) -> Result<Referent, AllocError>
+    /// What a name that its module does not bind stands for. The only error is that memory runs out.
+    pub fn unbound_referent(&self, alloc: Global, q: &QualifiedName) -> Result<Referent, AllocError>
         ensures { IfOk result (λ found. referent_of found
             ≡ spec.unbound_referent (table_in self.now) (qualified_of q.now)) }
     {

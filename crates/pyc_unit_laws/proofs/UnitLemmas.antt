@@ -18,7 +18,7 @@ use Rattle.pyc_class_ids.specs.Class.{user}
 use Rattle.pyc_expression_laws.proofs.ObligationKeyLemmas.{of-required}
 use Rattle.pyc_expression_laws.proofs.StepLemmas.{Files, files_done, files_each, files_if, files_report, files_then}
 use Rattle.pyc_functions.specs.Bodies.{class_body_reading, class_statements_read, plain_body_read, statements_unless}
-use Rattle.pyc_functions.specs.Ends.{end_read, is_stub, required_end}
+use Rattle.pyc_functions.specs.Ends.{end_read, is_idle_body, required_end}
 use Rattle.pyc_functions.specs.FunctionNames.{function_bindings, function_locals}
 use Rattle.pyc_functions.specs.Functions.{HeadTypes, begun, body_read, function_reading, inside_of, is_checked, statements_and_end_read}
 use Rattle.pyc_functions.specs.Redefined.{redefined_reported, redefinition_reading}
@@ -73,7 +73,7 @@ of-statements_and_end : (outside : Body) (at : Position) (types : HeadTypes) (bi
 unfolding statements_and_end_read
 of-statements_and_end outside at types bindings statements =
     files_then _ _ (of-block (inside_of outside types.result) refl statements (begun (function_locals types.parameters bindings)))
-    (λ p. of-end_read at types.result (is_reachable p.state && not (is_stub statements)))
+    (λ p. of-end_read at types.result (is_reachable p.state && not (is_idle_body statements)))
 
 of-function : (outside : Body) → is_source_around (class_around outside.kind) ≡ true → (at : Position) (head : FunctionDefinition) (statements : Stmts)
     → Files (function_reading outside at head statements)

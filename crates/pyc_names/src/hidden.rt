@@ -1,0 +1,51 @@
+//! What a stub hides from all other files.
+
+ghost use Rattle.std.specs.Prelude.{◌≡◌, option_map};
+ghost use Rattle.pyc_names.specs.FixedModules.{fixed_module as fixed_module_of};
+ghost use Rattle.pyc_bindings.specs.BindingView.{binding_of};
+ghost use Rattle.pyc_names.specs.Following.{is_hidden_name};
+ghost use Rattle.pyc_names.specs.FollowingView.{qualified_of};
+ghost use Rattle.pyc_names.specs.Hidden as spec;
+ghost use Rattle.pyc_names.specs.InterfaceView.{interface_in};
+ghost use Rattle.pyc_names.specs.TableView.{table_in};
+
+use crate::fixed::fixed_module;
+use crate::interface::Interface;
+use crate::qualified_name::QualifiedName;
+use crate::table::Table;
+use pyc_ast::Text;
+use pyc_bindings::Binding;
+
+impl Interface {
+    /// Whether the file hides a name from all others. It takes no memory.
+    pub fn hides(&self, name: &Text) -> bool
+        ensures { result ≡ spec.hides (interface_in self.now) name.now }
+    {
+        self.is_stub() && is_hidden(self.declaration(name))
+    }
+}
+
+impl Table {
+    /// Whether the module of a name hides it. It takes no memory.
+    pub fn hides(&self, q: &QualifiedName) -> bool
+        ensures { result ≡ is_hidden_name (table_in self.now) (qualified_of q.now) }
+    {
+        if fixed_module(q.module_path.parts()).is_some() {
+            return false;
+        }
+        match self.file(q.module_path.parts()) {
+            Some(file) => file.hides(&q.name),
+            None => false,
+        }
+    }
+}
+
+/// Whether the declaration of a name of a stub is an import that passes nothing on.
+fn is_hidden(found: Option<&Binding>) -> bool
+    ensures { result ≡ spec.is_hidden (option_map (λ b. binding_of b.now) found.entry) }
+{
+    match found {
+        Some(binding) => binding.is_import() && !binding.is_passed_on,
+        None => false,
+    }
+}
