@@ -163,8 +163,8 @@ impl ImportReader {
     }
 
     /// Reads one name of a from-import, which asks whether it is there and whether its module passes it on, and answers
-    /// the latter; the reader reports a name or a module that is not there, and a name that is hidden. The only error is
-    /// that memory runs out.
+    /// the latter. The reader reports a name or a module that is not there, and a name that is hidden. The only error
+    /// is that memory runs out.
     pub fn read_imported<N: Ask>(
         self,
         recorder: &mut N,
