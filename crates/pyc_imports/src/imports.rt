@@ -208,7 +208,8 @@ impl ImportReader {
             return Ok(Export::Open);
         }
         let name = name.clone()?;
-        self.read_own_name(recorder, shown, &QualifiedName { module_path, name })
+        let asked = QualifiedName { module_path, name };
+        self.read_own_name(recorder, shown, &asked)
     }
 
     /// Reads a name of a module that is no fixed one.
