@@ -17,6 +17,7 @@ use Rattle.pyc_names.specs.FixedModules.{fixed_module, fixed_name}
 use Rattle.pyc_names.specs.Interfaces.{Interface}
 use Rattle.pyc_reading.specs.Answers.{Answer, NameAnswer, NameKind, name_is}
 use Rattle.pyc_reading.specs.Answers as kind
+use Rattle.pyc_reading.specs.Outside.{ask_outside}
 use Rattle.pyc_reading.specs.Traces.{Step}
 use Rattle.pyc_reading.specs.Keys.{name}
 use Rattle.pyc_reading.specs.Readings.{Done, Ask, Report, and_then}
@@ -128,19 +129,16 @@ module_name_meaning m x = name_in_module m x (fixed_module m)
 unfoldable pub own_name : Interface → Position → List ℕ → Step Meaning
 own_name file at x = and_then (module_name_meaning file.name x) (own_meaning at x (binds file x))
 
--- an attribute of a module, as the answer to its key says it
+-- an attribute of a module, by what other files see there
 abbrev pub attribute_of_kind : Position → List ℕ → NameAnswer → NameKind → Step Meaning
 attribute_of_kind at n found kind.no_name = no_attribute at n
 attribute_of_kind at n found _ = Done (kind_meaning found.kind found.ty)
 
-abbrev pub answered_attribute : Position → List ℕ → Answer → Step Meaning
-answered_attribute at n (name_is found) = attribute_of_kind at n found found.kind
-answered_attribute at n _ = Done any_meant
-
--- an attribute of a module, of a fixed one or by its key
+-- an attribute of a module, of a fixed one or as other files see the name
 abbrev pub attribute_in_module : Position → List (List ℕ) → List ℕ → Option FixedModule → Step Meaning
 attribute_in_module at m n (Some found) = Done (fixed_meaning (fixed_name found n))
-attribute_in_module at m n None = Ask (name (record { module_path = m; name = n })) (answered_attribute at n)
+attribute_in_module at m n None =
+    and_then (ask_outside (record { module_path = m; name = n })) (λ found. attribute_of_kind at n found found.kind)
 
 -- an attribute of a module, of which is reported where its names begin: Any where two underscores stand at both ends
 unfoldable pub module_attribute : Position → List (List ℕ) → List ℕ → Step Meaning

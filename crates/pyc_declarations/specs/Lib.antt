@@ -1,5 +1,6 @@
 pub mod DeclaredTypes
 pub mod Presences
+pub mod Exports
 pub mod Kinds
 pub mod Declarations
 pub mod ClassEntries

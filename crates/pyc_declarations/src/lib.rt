@@ -7,6 +7,7 @@ mod class_entries;
 mod declaration_recorder;
 mod declarations;
 mod declared_types;
+mod exports;
 mod keys;
 mod kinds;
 mod presence;

@@ -13,7 +13,7 @@ use Rattle.pyc_reading.specs.Readings.{Done}
 use Rattle.pyc_report.specs.declared.message.ObligationKind.TheVariants as obligation_kind
 use Rattle.pyc_type_forms.specs.Types.{Ty, none}
 
--- ---- stubs
+-- ---- bodies that do nothing
 
 -- whether an expression does nothing as a statement: `...`, or a string at the beginning
 abbrev pub is_idle_form : Bool → Form → Bool
@@ -36,8 +36,8 @@ all_idle is_first no_stmt = true
 all_idle is_first (another_stmt (stmt at found) rest) = is_idle is_first found && all_idle false rest
 
 -- whether a body is only a docstring, `pass` or `...`
-abbrev pub is_stub : Stmts → Bool
-is_stub statements = all_idle true statements
+abbrev pub is_idle_body : Stmts → Bool
+is_idle_body statements = all_idle true statements
 
 -- ---- what the end requires
 

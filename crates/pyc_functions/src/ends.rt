@@ -17,8 +17,8 @@ use pyc_type_forms::Ty;
 use std::alloc::{AllocError, Global};
 
 /// Whether a body is only a docstring, `pass` or `...`. It takes no memory.
-pub(crate) fn is_stub(statements: &[Stmt]) -> bool
-    ensures { result ≡ spec.is_stub (stmts (map stmt_of statements.now)) }
+pub(crate) fn is_idle_body(statements: &[Stmt]) -> bool
+    ensures { result ≡ spec.is_idle_body (stmts (map stmt_of statements.now)) }
 {
     match statements.split_first() {
         Some((first, rest)) => is_idle(true, &first.form) && all_idle(rest),

@@ -7,6 +7,7 @@ pub mod SourceFiles
 pub mod SourceFileView
 pub mod Interfaces
 pub mod InterfaceView
+pub mod Hidden
 pub mod Following
 pub mod Rings
 pub mod FollowingView

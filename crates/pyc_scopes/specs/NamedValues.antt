@@ -16,7 +16,7 @@ use Rattle.pyc_names.specs.declared.fixed.FixedModule.{FixedModule}
 use Rattle.pyc_names.specs.declared.fixed.FixedName.{FixedName}
 use Rattle.pyc_names.specs.FixedModules.{fixed_module, fixed_name}
 use Rattle.pyc_names.specs.SourceFiles.{SourceFile}
-use Rattle.pyc_obligations.specs.Asking.{ask_name}
+use Rattle.pyc_reading.specs.Outside.{ask_name}
 use Rattle.pyc_obligations.specs.Values.{
   SpecialForm,
   Value,
