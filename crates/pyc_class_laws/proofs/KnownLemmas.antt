@@ -282,8 +282,7 @@ module _ (declared : List Entry) where
   c3-where : (c : Id) → HasMerge order declared c
       → (merged : List Id) × ((order c).classes ≡ c ∷ merged) × IsC3Merge (merged_rows order declared c) merged
   c3-where c has =
-      let b = build c has in
-      (
+      let b = build c has in (
         ids b.merged,
         ap (λ o. (order_at all o).classes) b.found ∙ ap (λ o. ids o.classes) b.is ∙ ap (λ x. x ∷ ids b.merged) (number-is declared b.at c b.found),
         subst (λ rs. IsC3Merge rs (ids b.merged)) (sym (rows-ids declared b.bases)) (c3-merge (rows_of declared b.row) b.merged (rows-own declared b.bases) b.merges),
@@ -335,7 +334,7 @@ module _ (declared : List Entry) where
         to_found = rest.to_found;
         steps = suc rest.steps;
         there = reaches-through table rest.steps f.number b.0 rest.to b.1
-        (subst (λ n. reaches table rest.steps n rest.to ≡ true) same rest.there);
+            (subst (λ n. reaches table rest.steps n rest.to ≡ true) same rest.there);
       }
 
   no-cycle : (c : Id) → IsKnown order c → IsAncestor declared c c → ⊥

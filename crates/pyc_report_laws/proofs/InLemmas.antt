@@ -151,7 +151,6 @@ any-from p (x ∷ xs) some = elim (or_cases (p x) (list_any p xs) some) [
 
 -- ---- texts, each once
 
-
 pub in-without : (x : List ℕ) (xs : List (List ℕ)) → In x xs → In x (without_repeats xs)
 in-without x [] s = elim s [ ]
 in-without x (y ∷ xs) (first is) = first is

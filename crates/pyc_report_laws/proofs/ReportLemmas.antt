@@ -255,8 +255,7 @@ module _ (founds : List Found) where
       let file = from-map path_of path (filter has_error founds) (from-without path (map path_of (filter has_error founds)) s) in
       let kept = from-filter file.0 has_error founds file.1 in
       let x = any-from is_error (located_messages file.0) kept.1 in
-      let own = from-map (located file.0.path) x.0 file.0.messages x.1 in
-      (
+      let own = from-map (located file.0.path) x.0 file.0.messages x.1 in (
         own.0,
         (file.0, contains-in file.0 founds kept.0, file.2, contains-in own.0 file.0.messages own.1),
         coded-error file.0.path own.0 (ap is_error own.2 ∙ x.2),
