@@ -10,7 +10,7 @@ use Rattle.pyc_class_ids.specs.Class.{Id, same_class}
 use Rattle.pyc_class_ids.specs.ClassEquality.{same_class_equiv}
 use Rattle.pyc_class_ids.specs.Mro.{MroTable, leads}
 use Rattle.pyc_mro.specs.Merge as numbers
-use Rattle.pyc_mro.specs.Merge.{free_head, first_free, is_empty, merge_from, merge_within, entry_count, merge}
+use Rattle.pyc_mro.specs.Merge.{first_free, is_empty, merge_from, merge_within, entry_count, merge}
 use Rattle.pyc_mro.specs.MroLaws as numbered
 use Rattle.pyc_mro.specs.MroTable.{known as known_order, order_of}
 use Rattle.pyc_mro.specs.Tables.{Table, parents, reaches}
@@ -23,7 +23,7 @@ use Rattle.pyc_class_table.specs.MroLaws.{IsKnown, Sublist, ended, kept, left_ou
 use Rattle.pyc_class_table.specs.Numbers.{number_in, id_at, table_of}
 use Rattle.pyc_class_table.proofs.BuiltinLemmas.{same_class-is}
 use Rattle.pyc_class_table.proofs.LawLemmas.{classes_begin, classes_once, orders_kept}
-use Rattle.pyc_class_laws.specs.ClassLaws.{entry_of, written_bases, bases_of, has_base, IsAncestor, at_once, by_base, IsKnownBase}
+use Rattle.pyc_class_laws.specs.ClassLaws.{written_bases, bases_of, has_base, IsAncestor, at_once, by_base}
 use Rattle.pyc_class_laws.specs.KnownMros.{contains, IsMerge, merged_rows, HasMerge, KnowsWhereBasesMerge, stands_in_tail, is_free, IsFirstFree, here, later, without, IsC3Merge, done, next, HoldsC3Merge}
 use Rattle.pyc_class_laws.proofs.LawLemmas.{number-is, known-found, bases-of-known, base-known, same_orders, any-map, any-at, leads-base, written_bases_kept, written_bases_known, ancestors_held}
 use Rattle.pyc_class_laws.proofs.MergeLemmas.{AreKept, no_row, one_row, merge-exists}

@@ -28,7 +28,7 @@ use Rattle.pyc_class_table.specs.Numbers.{number_in, id_at, base_by, numbered_ba
 use Rattle.pyc_class_table.proofs.NumberLemmas.{number_from, number_from-within}
 use Rattle.pyc_class_laws.specs.ClassLaws.{classes_among, written_bases, IsKnownBase}
 use Rattle.pyc_class_laws.proofs.BaseLemmas.{numbers_among-classes}
-use Rattle.pyc_class_laws.proofs.LawLemmas.{Found, known-found, number-is, own-number, bases-numbered, bases-of-known, base-known}
+use Rattle.pyc_class_laws.proofs.LawLemmas.{known-found, number-is, own-number, bases-numbered, bases-of-known, base-known}
 
 -- a class that has an entry has a number
 number-of-entry : (n : ℕ) (entries : List Entry) (c : Id) → is_some (find (λ entry. same_class entry.id c) entries) ≡ true
@@ -153,9 +153,6 @@ module _ (declared : List Entry) where
 
       numbers : numbered_bases table k ≡ map base.Class row
       numbers = bases-numbered declared k c found ∙ ap (map (numbered_base (number_in all))) (sym are) ∙ bases-are have
-
-      orders : List Mro
-      orders = map (order_of table) row
 
       linear : linear_order k (map base.Class row) (map (order_of table) row) ≡ known_order (k ∷ merged)
       linear =

@@ -23,15 +23,16 @@ pub fn single_bases_in_line()
     ensures { SingleBasesMakeALine }
 {}
 
-/// The order of a class is known exactly where the class is declared or builtin, is no ancestor of itself, has as
-/// written bases classes alone, whose instances have the plain form and whose orders are known, and these orders have a
-/// merge with the bases as they are written: a sequence of just their classes, each once, that keeps each of them.
+/// The order of a class is known exactly where the class has a merge. The class is then declared or builtin, and no
+/// ancestor of itself. Each of its written bases is a class of known order, whose instances have the plain form. The
+/// orders of the bases have a merge with the bases as they are written: a row of just their classes, each once, that
+/// keeps each of them in its own sequence.
 pub fn known_where_merged()
     ensures { KnowsWhereBasesMerge }
 {}
 
-/// A known order is its class before the merge of C3: of the orders of the written bases, and last these bases, the
-/// first head that stands in no tail comes next, and is removed from every row.
+/// A known order is its class before the merge of C3, whose rows are the orders of the written bases, and last these
+/// bases. The first head that stands in no tail comes next, and is removed from every row, until all rows are empty.
 pub fn c3_merge_held()
     ensures { HoldsC3Merge }
 {}

@@ -19,7 +19,7 @@ use Rattle.pyc_report.specs.Sort.{sorted}
 use Rattle.pyc_report.proofs.ListLemmas.{map-filter}
 use Rattle.pyc_report.proofs.OrderLemmas.{message_cmp_total, same_message}
 use Rattle.pyc_report.proofs.SortLemmas.{IsAscending, IsAscending-sorted, IsBelow}
-use Rattle.pyc_report_laws.specs.Reports.{HasNoRepeats, Counts, IsError, IsReported, PrintsError, HasError, ArePrinted, IsReport, HasFound, ReportsFound}
+use Rattle.pyc_report_laws.specs.Reports.{HasNoRepeats, Counts, IsError, IsReported, PrintsError, HasError, ArePrinted, HasFound, ReportsFound}
 use Rattle.pyc_report_laws.proofs.InLemmas.{In, first, after, in-none, in-cases, in-contains, contains-in, in-filter, from-filter, any-in, in-sorted, from-sorted, in-map, from-map, in-flat, from-flat, any-from, in-without, from-without, no_repeats}
 
 -- ---- the first message of each line
