@@ -32,7 +32,7 @@ IsPlain class = form_of class ≡ form.Plain
 
 -- ---- rows
 
-any-map : {X Y : Type 0} (p : Y → Bool) (f : X → Y) (xs : List X) → list_any p (map f xs) ≡ list_any (λ x. p (f x)) xs
+pub any-map : {X Y : Type 0} (p : Y → Bool) (f : X → Y) (xs : List X) → list_any p (map f xs) ≡ list_any (λ x. p (f x)) xs
 any-map p f [] = refl
 any-map p f (x ∷ xs) = ap (λ b. p (f x) || b) (any-map p f xs)
 
@@ -50,7 +50,7 @@ Sublist-any p (kept {c} {part} {whole} s) some = elim (or_cases (p c) (list_any 
 Sublist-any p (left_out {c} {part} {whole} s) some = or_right (p c) (list_any p whole) (Sublist-any p s some)
 
 -- each class of a row is among them
-any-at : (classes : List Id) (k : ℕ) (d : Id) → k < length classes → list_any (λ other. same_class other (slice_index_or classes k d)) classes ≡ true
+pub any-at : (classes : List Id) (k : ℕ) (d : Id) → k < length classes → list_any (λ other. same_class other (slice_index_or classes k d)) classes ≡ true
 any-at [] k d below = absurd (omega arith)
 any-at (c ∷ classes) zero d below = or_left (same_class c c) (list_any (λ other. same_class other c) classes) (same_class_equiv.refl c)
 any-at (c ∷ classes) (suc k) d below =
@@ -108,20 +108,20 @@ module _ (declared : List Entry) where
   abbrev table : Table
   table = table_of all
 
-  number-is : (k : ℕ) (c : Id) → number_in all c ≡ Some k → id_at all k ≡ c
+  pub number-is : (k : ℕ) (c : Id) → number_in all c ≡ Some k → id_at all k ≡ c
   number-is k c found = (number_in-at k all c found).1
 
   -- a number is that of the class that stands at it
   abbrev IsOwn : ℕ → Type 0
   IsOwn j = number_in all (id_at all j) ≡ Some j
 
-  own-number : (k : ℕ) (c : Id) → number_in all c ≡ Some k → IsOwn k
+  pub own-number : (k : ℕ) (c : Id) → number_in all c ≡ Some k → IsOwn k
   own-number k c found = ap (number_in all) (number-is k c found) ∙ found
 
   -- ---- written bases
 
   -- the bases of a class by number are its written ones
-  bases-numbered : (k : ℕ) (c : Id) → number_in all c ≡ Some k
+  pub bases-numbered : (k : ℕ) (c : Id) → number_in all c ≡ Some k
       → numbered_bases table k ≡ map (numbered_base (number_in all)) (written_bases declared c)
   bases-numbered k c found =
       ap (λ o. unwrap_or o []) (slice_get-map (λ (e : Entry). map (numbered_base (number_in all)) e.bases) all k)
@@ -147,13 +147,13 @@ module _ (declared : List Entry) where
       All-cons IsPlain class classes plain (numbers-plain rest)
 
   -- the bases of a class whose order is known, by number and as they are written
-  record Bases (k : ℕ) (c : Id) : Type 0 where
-    are_classes : written_bases declared c ≡ map written.Class (bases_of declared c)
-    plain : All IsPlain (bases_of declared c)
-    classes : map (id_at all) (parents table k) ≡ bases_of declared c
-    own : (j : ℕ) → contains (parents table k) j ≡ true → IsOwn j
+  pub record Bases (k : ℕ) (c : Id) : Type 0 where
+    pub are_classes : written_bases declared c ≡ map written.Class (bases_of declared c)
+    pub plain : All IsPlain (bases_of declared c)
+    pub classes : map (id_at all) (parents table k) ≡ bases_of declared c
+    pub own : (j : ℕ) → contains (parents table k) j ≡ true → IsOwn j
 
-  bases-of-known : (k : ℕ) (c : Id) → number_in all c ≡ Some k → numbered.IsKnown table k → Bases k c
+  pub bases-of-known : (k : ℕ) (c : Id) → number_in all c ≡ Some k → numbered.IsKnown table k → Bases k c
   bases-of-known k c found known =
       let is = known_bases table k known in
       let row : parents table k ≡ is.0 = ap numbers_among is.1 ∙ numbers_among-classes is.0 in
@@ -169,16 +169,16 @@ module _ (declared : List Entry) where
   -- ---- known orders
 
   -- a class whose order is known has a number
-  record Found (c : Id) : Type 0 where
-    number : ℕ
-    found : number_in all c ≡ Some number
-    known : numbered.IsKnown table number
+  pub record Found (c : Id) : Type 0 where
+    pub number : ℕ
+    pub found : number_in all c ≡ Some number
+    pub known : numbered.IsKnown table number
 
   found_by : (c : Id) (o : Option ℕ) → number_in all c ≡ o → (order_at all o).unknown ≡ None → Found c
   found_by c None is known = absurd (cc)
   found_by c (Some k) is known = record { number = k; found = is; known = known }
 
-  known-found : (c : Id) → IsKnown order c → Found c
+  pub known-found : (c : Id) → IsKnown order c → Found c
   known-found c known = found_by c (number_in all c) refl known
 
   classes-found : (c : Id) (f : Found c) → (order c).classes ≡ map (id_at all) (classes_of table f.number)
@@ -211,7 +211,7 @@ module _ (declared : List Entry) where
       ap (list_any is_b) (sym bases.classes) ∙ any-map is_b (id_at all) (parents table x)
       ∙ any-from (λ j. is_b (id_at all j)) (parents table x) b among (same_class_equiv.refl (id_at all b))
 
-  base-known : (x b : ℕ) → numbered.IsKnown table x → contains (parents table x) b ≡ true → numbered.IsKnown table b
+  pub base-known : (x b : ℕ) → numbered.IsKnown table x → contains (parents table x) b ≡ true → numbered.IsKnown table b
   base-known x b known among =
       (keeps_orders table x b known ((holds_ancestors table x b known).1 (inr (1, reaches-base table 0 x b among)))).0
 
@@ -245,7 +245,7 @@ module _ (declared : List Entry) where
       ]
 
   -- the orders of declared classes are those of the one rule
-  same_orders : orders_of declared ≡ order
+  pub same_orders : orders_of declared ≡ order
   same_orders i c = builtins_follow_the_rule declared c i
 
 -- ---- the laws
@@ -256,7 +256,7 @@ written_bases_kept declared =
     (keeps-bases declared)
 
 -- where its order is known, a class leads to its bases
-leads-base : (declared : List Entry) (c d : Id) → IsKnown (orders_of declared) c → has_base declared c d ≡ true
+pub leads-base : (declared : List Entry) (c d : Id) → IsKnown (orders_of declared) c → has_base declared c d ≡ true
     → leads (orders_of declared) c d ≡ true
 leads-base declared c d known base = Sublist-any (λ other. same_class other d) (written_bases_kept declared c known) base
 

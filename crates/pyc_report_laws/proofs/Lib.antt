@@ -1,0 +1,2 @@
+pub mod InLemmas
+pub mod ReportLemmas
