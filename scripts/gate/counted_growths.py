@@ -159,7 +159,7 @@ def judge(comparison, growths, tally):
 def judge_paths(growths, tally):
     """Judges that the paths that were put are let go where they are checked."""
     first, second = (adds({f"{word}{at}.py": "" for at in range(BATCH)}) for word in ("a", "b"))
-    after_check, without = growths.after(first + CHECK, second), growths.after(first, second)
+    after_check, without = growths.after(CHECK + first + CHECK, second), growths.after(CHECK + first, second)
     told = f"{BATCH} files more take {after_check} growths after a check, and {without} without one"
     tally.judge(after_check < without, told)
 
