@@ -23,6 +23,7 @@ from deep_sources import DEEPEST
 from judging import PROGRAM, SECONDS, Tally
 from replies import OK, add, report
 
+CHECK = b"check\n"
 STACK = 2048
 STEP = 16
 MOST = 64 * 1024
@@ -35,7 +36,8 @@ def session_of(deep):
     first, text = next(iter(deep.files.items()))
     removals = [f"remove {path}\n".encode() for path in deep.files]
     told, done = report(deep.messages, len(deep.files)), OK * len(deep.files)
-    session = [*adds, b"check\n", *changes, b"check\n", change(first, f"{text}added: int = 1\n"), b"check\n", *removals, b"check\n"]
+    added = change(first, f"{text}added: int = 1\n")
+    session = [*adds, CHECK, *changes, CHECK, added, CHECK, *removals, CHECK]
     return b"".join(session), done + told + done + told + OK + told + done + report([], 0)
 
 

@@ -50,6 +50,12 @@ def item(shown, wanted):
     return f'List item 0 has incompatible type "{shown}"; expected "{wanted}"  [list-item]'
 
 
+def overriding(number, wanted):
+    """The message on a parameter of a method that overrides that of a class A."""
+    told = f'Argument {number} of "f" is incompatible with supertype "A"; supertype defines the argument type as "{wanted}"'
+    return f"{told}  [override]"
+
+
 def mismatch(shown, wanted="str"):
     """The message on a value that is assigned to a variable, each with its type as it is shown."""
     return f'Incompatible types in assignment (expression has type "{shown}", variable has type "{wanted}")  [assignment]'
@@ -205,8 +211,7 @@ def two_parameters(name, first, second, shown, wanted):
 def overridden(first, second, shown):
     """A method whose parameter is of another type than that of the method that it overrides, at the innermost place."""
     text = f"class A:\n    def f(self, a: {first}) -> None: ...\nclass B(A):\n    def f(self, a: {second}) -> None: ...\n"
-    told = f'Argument 1 of "f" is incompatible with supertype "A"; supertype defines the argument type as "{shown}"  [override]'
-    return one_file("overridden by a parameter that differs", text, (4, told))
+    return one_file("overridden by a parameter that differs", text, (4, overriding(1, shown)))
 
 
 ANNOTATIONS = [
@@ -314,7 +319,8 @@ IN_BLOCKS = [
 
 def grown(name, start, wrap, count):
     """Locals of which each wraps the one before, in the body of a function."""
-    return "".join([f"    {name}0 = {start}\n", *(f"    {name}{at} = {wrap.format(f'{name}{at - 1}')}\n" for at in range(1, count))])
+    wrapped = (f"    {name}{at} = {wrap.format(f'{name}{at - 1}')}\n" for at in range(1, count))
+    return "".join([f"    {name}0 = {start}\n", *wrapped])
 
 
 LISTS = TYPES - 1
@@ -330,7 +336,7 @@ def of_grown(name, start, wrap, count, shown):
 
 
 def with_grown(name, text, told):
-    """A line behind locals that are lists of lists, `v0` to `v999` of `int` and `w0` to `w999` of `str`, and the message on it."""
+    """A line behind locals that are lists of lists, `v0` to `v999` of `int` and `w0` to `w999` of `str`, and its message."""
     return one_file(name, f"{BOTH_GROWN}    {text}\n    return 1\n", (BOTH_GROWN.count("\n") + 1, told))
 
 
@@ -348,7 +354,8 @@ def expected_in_blocks(kind):
     text = in_blocks(kind, f"v{LISTS} = {''.join(parts)}w{left}{']' * NESTED}", IN_A_FUNCTION, 1)
     front = f"{GROWN}    c = g\n{grown('v', '1', '[{}]', TYPES)}{grown('w', NO_TEXT, '[{}]', TYPES)}".replace("    ", " ")
     line = line_in_blocks(kind, IN_A_FUNCTION, front)
-    return one_file(f"display of the largest type in blocks: {kind}", f"{front}{text} return 1\n", (line, item(list_text(left, "str"), list_text(left))))
+    told = item(list_text(left, "str"), list_text(left))
+    return one_file(f"display of the largest type in blocks: {kind}", f"{front}{text} return 1\n", (line, told))
 
 
 LARGE_TYPES = [
@@ -376,6 +383,12 @@ def class_line(name, *bases, body="pass"):
 def chain(count, body="pass"):
     """So many classes, each of which stands on the one before; the first has this body."""
     return class_line("D0", body=body) + "".join(class_line(f"D{at}", f"D{at - 1}") for at in range(1, count))
+
+
+def chain_backwards(count):
+    """So many classes, each of which stands on the one after it, and the last."""
+    lines = [class_line(f"D{at}", f"D{at + 1}") for at in range(count)]
+    return "".join(lines) + class_line(f"D{count}", body="k: int = 1")
 
 
 def chain_over_files(count):
@@ -426,7 +439,7 @@ MANY_CLASSES = [
     one_file("classes in a chain", f"{chain(CLASSES, 'k: int = 1')}x: str = D999().k\n", (CLASSES + 1, mismatch("int"))),
     one_file(
         "classes in a chain backwards",
-        "".join(class_line(f"D{at}", f"D{at + 1}") for at in range(CLASSES)) + f"class D{CLASSES}: k: int = 1\nx: str = D0().k\n",
+        chain_backwards(CLASSES) + "x: str = D0().k\n",
         (CLASSES + 2, mismatch("int")),
     ),
     chain_over_files(MODULES),
@@ -502,6 +515,7 @@ def method(word, last):
 
 
 INTS = row("int", TYPES - 2)
+MISSING = f'Missing positional argument "p{PARAMETERS - 1}" in call to "g"  [call-arg]'
 MANY_PARAMETERS = [
     called("called by place", row("p{}: int"), row("1", PARAMETERS - 1) + ', ""', argument("str", number=PARAMETERS)),
     called(
@@ -510,7 +524,7 @@ MANY_PARAMETERS = [
         row("p{}=1", PARAMETERS - 1) + f', p{PARAMETERS - 1}=""',
         f'Argument "p{PARAMETERS - 1}" to "g" has incompatible type "str"; expected "int"  [arg-type]',
     ),
-    called("called with less", row("p{}: int"), row("1", PARAMETERS - 1), f'Missing positional argument "p{PARAMETERS - 1}" in call to "g"  [call-arg]'),
+    called("called with less", row("p{}: int"), row("1", PARAMETERS - 1), MISSING),
     one_file(
         "callables",
         f"from typing import Callable\ndef f(a: Callable[[{INTS}], int], b: Callable[[{INTS}], str]) -> None:\n    a = b\n",
@@ -519,7 +533,7 @@ MANY_PARAMETERS = [
     one_file(
         "overridden",
         method("A", "int") + method("B(A)", "str"),
-        (4, f'Argument {PARAMETERS} of "f" is incompatible with supertype "A"; supertype defines the argument type as "int"  [override]'),
+        (4, overriding(PARAMETERS, "int")),
     ),
     marked("parameters of a lambda", f"x = lambda {row('p{}')}: 1\n"),
 ]
