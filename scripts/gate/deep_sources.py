@@ -184,6 +184,10 @@ def shown_callables(inner):
     return nested("Callable[[", inner, "], int]", IN_A_FUNCTION // 2 * (len(QUOTES) + 1))
 
 
+def subscripts_around(inner):
+    return f"A[{inner}]" + "[int]" * (TYPES - 10)
+
+
 def lists_or_ints_around(inner):
     return union_of(lists_around(inner), count=HIGHEST - 2 * NESTED)
 
@@ -218,8 +222,6 @@ ANNOTATIONS = [
     parameter("lists in strings", quoted(lists_around, "int"), list_text(DEEP_LISTS)),
     parameter("optional in strings", quoted(optional_around, "int"), "int | None"),
     parameter("callables in strings", quoted(callables_around, "int"), shown_callables("int")),
-    parameter("unions in strings", quoted(union_of, "str"), "str | int"),
-    parameter("unions of lists in strings", quoted(lists_or_ints_around, "str"), SHOWN_LISTS_OR_INTS),
     parameter("subscripts of a class", "A" + "[int]" * 900, "A"),
     two_parameters(
         "lists that differ",
@@ -237,6 +239,13 @@ ANNOTATIONS = [
     ),
     overridden(quoted(lists_around, "int"), quoted(lists_around, "str"), list_text(DEEP_LISTS)),
     marked("attributes of a module in an annotation", f"import a\nclass C: ...\ndef f(b: a{'.a' * 990}.C) -> None: ...\n"),
+]
+
+# in each string a tree stands that is nearly as high as the whole line may be
+HIGH_STRINGS = [
+    parameter("unions in strings", quoted(union_of, "str"), "str | int"),
+    parameter("unions of lists in strings", quoted(lists_or_ints_around, "str"), SHOWN_LISTS_OR_INTS),
+    parameter("subscripts in strings", quoted(subscripts_around, "int"), "A"),
 ]
 
 # ---- blocks in blocks, and expressions in them
@@ -558,3 +567,5 @@ ROWS = [
 ]
 
 DEEPEST = [*HIGH_TREES, *ANNOTATIONS, *IN_BLOCKS, *LARGE_TYPES, *MANY_CLASSES, *MANY_MODULES, *MANY_PARAMETERS, *ROWS]
+# these take more stack: a tree in a string is read and lowered below the tree around it, up to five high trees in one
+LATER = HIGH_STRINGS
