@@ -9,6 +9,7 @@ mod declarations;
 mod declared_types;
 mod keys;
 mod kinds;
+pub mod laws;
 mod presence;
 
 pub use answers::Answers;
