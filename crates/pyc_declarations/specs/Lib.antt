@@ -7,3 +7,5 @@ pub mod ClassEntries
 pub mod KindsView
 pub mod RecorderView
 pub mod SameKeys
+pub mod Looks
+pub mod CarryLaws

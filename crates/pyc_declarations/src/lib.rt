@@ -10,6 +10,7 @@ mod declared_types;
 mod exports;
 mod keys;
 mod kinds;
+pub mod laws;
 mod presence;
 
 pub use answers::Answers;

@@ -68,7 +68,7 @@ count-bare (b ∷ bindings) =
     sum_by-cons one (bare_binding b) (map bare_binding bindings) ∙ ap₂ (λ m n. m + n) (ap (λ i. cond i 1 0) (is_import_from-bare b.form)) (count-bare bindings)
     ∙ sym (sum_by-cons one b bindings)
 
-import_count-bare : (files : List Interface) → import_count (map bare_interface files) ≡ import_count files
+pub import_count-bare : (files : List Interface) → import_count (map bare_interface files) ≡ import_count files
 import_count-bare [] = refl
 import_count-bare (file ∷ files) = ap₂ (λ m n. m + n) (count-bare file.bindings) (import_count-bare files)
 
@@ -142,7 +142,7 @@ module _ (files : List Interface) where
   module_step-bare q (Some fixed) = refl
   module_step-bare q None = ap (file_step alike q) (file_of-bare files q.module_path) ∙ file_step-bare q (file_of files q.module_path)
 
-  step-bare : (q : QualifiedName) → step alike q ≡ step files q
+  pub step-bare : (q : QualifiedName) → step alike q ≡ step files q
   unfolding step
   step-bare q =
       ap (λ b. if b then module_step alike q (fixed_module q.module_path) else ends names.no_module) (has_module-bare q.module_path)
@@ -271,7 +271,7 @@ module _ (files : List Interface) where
   module_attribute-bare : (m : List (List ℕ)) (n : List ℕ) → module_attribute alike m n ≡ module_attribute files m n
   module_attribute-bare m n = ap (λ r. if is_looked_up m n then r else names.no_name) (outside_referent-bare (record { module_path = m; name = n }))
 
-  attribute_referent-bare : (r : Referent) (n : List ℕ) → attribute_referent alike r n ≡ attribute_referent files r n
+  pub attribute_referent-bare : (r : Referent) (n : List ℕ) → attribute_referent alike r n ≡ attribute_referent files r n
   attribute_referent-bare (names.module_itself m) n = module_attribute-bare m n
   attribute_referent-bare (names.declared r) n = refl
   attribute_referent-bare names.opaque n = refl
@@ -284,7 +284,7 @@ module _ (files : List Interface) where
   attributes_referent-bare r [] = refl
   attributes_referent-bare r (n ∷ ns) = ap (λ s. attributes_referent alike s ns) (attribute_referent-bare r n) ∙ attributes_referent-bare (attribute_referent files r n) ns
 
-  own_referent-bare : (file : Interface) (x : List ℕ) → own_referent alike (bare_interface file) x ≡ own_referent files file x
+  pub own_referent-bare : (file : Interface) (x : List ℕ) → own_referent alike (bare_interface file) x ≡ own_referent files file x
   own_referent-bare file x =
       ap (λ b. if b then follow alike (record { module_path = file.name; name = x }) else names.no_name) (is_bound-bare file.bindings x)
       ∙ ap (λ r. if is_some (declaration file.bindings x) then r else names.no_name) (follow-bare (record { module_path = file.name; name = x }))

@@ -12,3 +12,6 @@ pub mod Following
 pub mod Rings
 pub mod FollowingView
 pub mod TableView
+pub mod Looks
+pub mod LookNumbers
+pub mod CarryLaws
