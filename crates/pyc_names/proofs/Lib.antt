@@ -8,6 +8,7 @@ pub mod FileLemmas
 pub mod FuelLemmas
 pub mod LookLemmas
 pub mod CarryLemmas
+pub mod HiddenLemmas
 pub mod StepLemmas
 pub mod ViewLemmas
 pub mod ReachLemmas

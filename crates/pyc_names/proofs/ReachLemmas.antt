@@ -8,7 +8,7 @@ use Rattle.pyc_names.specs.declared.fixed.FixedModule.{FixedModule}
 use Rattle.pyc_names.specs.declared.fixed.FixedName.{FixedName}
 use Rattle.pyc_names.specs.FixedModules.{fixed_module, fixed_name}
 use Rattle.pyc_names.specs.Imports.{named_module}
-use Rattle.pyc_names.specs.Following.{QualifiedName, declared, module_itself, no_module, no_name, ends, leads, step, same_name, submodule, has_module, fixed_referent, unbound_referent, import_step, form_step, binding_step, source_step, file_step, module_step, import_count, arrive, walk, follow}
+use Rattle.pyc_names.specs.Following.{QualifiedName, declared, module_itself, no_module, no_name, ends, leads, step, same_name, submodule, has_module, is_hidden_name, fixed_referent, unbound_referent, seen_step, import_step, form_step, binding_step, source_step, file_step, module_step, import_count, arrive, walk, follow}
 use Rattle.pyc_names.specs.Interfaces.{Interface, file_of}
 use Rattle.pyc_names.specs.ModuleName.{same_module}
 use Rattle.pyc_names.specs.Rings.{onward, reached}
@@ -23,9 +23,15 @@ file_is_named files m file is = sym (same_module-is m file.name (find_passes (λ
 
 module _ (files : List Interface) (q r : QualifiedName) where
   -- a step that ends in a declaration ends in that of its own name
-  declares_unbound : ends (unbound_referent files q) ≡ ends (declared r) → q ≡ r
-  declares_unbound e = elim (has_module files (submodule q)) as (λ b. ends (if b then module_itself (submodule q) else no_name) ≡ ends (declared r) → q ≡ r) [
+  declares_unbound : (next : QualifiedName) → ends (unbound_referent files next) ≡ ends (declared r) → q ≡ r
+  declares_unbound next e = elim (has_module files (submodule next)) as (λ b. ends (if b then module_itself (submodule next) else no_name) ≡ ends (declared r) → q ≡ r) [
     | true ↦ λ e. absurd (cc)
+    | false ↦ λ e. absurd (cc)
+  ] e
+
+  declares_seen : (next : QualifiedName) → seen_step files next ≡ ends (declared r) → q ≡ r
+  declares_seen next e = elim (is_hidden_name files next) as (λ b. (if b then ends (unbound_referent files next) else leads next) ≡ ends (declared r) → q ≡ r) [
+    | true ↦ λ e. declares_unbound next e
     | false ↦ λ e. absurd (cc)
   ] e
 
@@ -33,9 +39,9 @@ module _ (files : List Interface) (q r : QualifiedName) where
   declares_import None name e = absurd (cc)
   declares_import (Some m) name e =
       let next : QualifiedName = record { module_path = m; name = name } in
-      elim (same_name next q && has_module files (submodule q)) as (λ b. (if b then ends (module_itself (submodule q)) else leads next) ≡ ends (declared r) → q ≡ r) [
+      elim (same_name next q && has_module files (submodule q)) as (λ b. (if b then ends (module_itself (submodule q)) else seen_step files next) ≡ ends (declared r) → q ≡ r) [
         | true ↦ λ e. absurd (cc)
-        | false ↦ λ e. absurd (cc)
+        | false ↦ λ e. declares_seen next e
       ] e
 
   declares_form : (file : Interface) (form : BindingForm) → form_step files q file form ≡ ends (declared r) → q ≡ r
@@ -52,7 +58,7 @@ module _ (files : List Interface) (q r : QualifiedName) where
 
   declares_binding : (file : Interface) (found : Option Binding) → binding_step files q file found ≡ ends (declared r) → q ≡ r
   declares_binding file (Some b) e = declares_form file b.form e
-  declares_binding file None e = declares_unbound e
+  declares_binding file None e = declares_unbound q e
 
   declares_source : (file : Interface) (fault : Bool) → source_step files q file fault ≡ ends (declared r) → q ≡ r
   declares_source file false e = declares_binding file (declaration file.bindings q.name) e
@@ -60,7 +66,7 @@ module _ (files : List Interface) (q r : QualifiedName) where
 
   declares_file : (found : Option Interface) → file_step files q found ≡ ends (declared r) → q ≡ r
   declares_file (Some file) e = declares_source file file.has_fault e
-  declares_file None e = declares_unbound e
+  declares_file None e = declares_unbound q e
 
   declares_fixed : (found : Option FixedName) → ends (fixed_referent q found) ≡ ends (declared r) → q ≡ r
   declares_fixed (Some name) e = cc

@@ -42,6 +42,7 @@ pub record BindingSeen : Type 0 where
   pub is_there : Bool
   pub home : List (List ℕ)
   pub is_package : Bool
+  pub is_stub : Bool
   pub has_fault : Bool
   pub binding : Binding
 
@@ -53,6 +54,7 @@ binding_seen is_there file (Some b) =
       is_there = is_there;
       home = file.name;
       is_package = file.is_package;
+      is_stub = file.is_stub;
       has_fault = file.has_fault;
       binding = b;
     })

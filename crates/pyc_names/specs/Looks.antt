@@ -6,7 +6,7 @@ use Rattle.pyc_names.specs.declared.fixed.FixedModule.{FixedModule}
 use Rattle.pyc_names.specs.FixedModules.{fixed_module}
 use Rattle.pyc_names.specs.Imports.{named_module}
 use Rattle.pyc_names.specs.Following.{QualifiedName, Step, ends, leads, step, same_name, submodule, import_count}
-use Rattle.pyc_names.specs.Following.{has_module}
+use Rattle.pyc_names.specs.Following.{has_module, is_hidden_name}
 use Rattle.pyc_names.specs.Interfaces.{Interface, file_of}
 
 -- what may be looked at: what a file binds under a name, a module, what a class of a source has of its own under a
@@ -17,38 +17,49 @@ pub data Look : Type 0 where
   of_member : QualifiedName → List ℕ → Look
   of_order : QualifiedName → Look
 
--- a from-import that leads to a name: where that is the name that it binds, the submodule is looked at
-abbrev pub same_looks : QualifiedName → QualifiedName → List Look
-same_looks q next = if same_name next q then of_module (submodule q) ∷ [] else []
+-- what other files look at of a name, by whether its module hides it: then its submodule too
+abbrev pub looks_by_hidden : QualifiedName → Bool → List Look
+looks_by_hidden q is_hidden = of_name q ∷ (if is_hidden then of_module (submodule q) ∷ [] else [])
 
-abbrev pub to_looks : QualifiedName → Option (List (List ℕ)) → List ℕ → List Look
-to_looks q None name = []
-to_looks q (Some m) name = same_looks q (record { module_path = m; name = name })
+abbrev pub seen_looks : List Interface → QualifiedName → List Look
+seen_looks files q = looks_by_hidden q (is_hidden_name files q)
 
-abbrev pub form_looks : QualifiedName → Interface → BindingForm → List Look
-form_looks q file (import_from dots path name) = to_looks q (named_module file.is_package file.name dots path) name
-form_looks q file (import path) = of_module path ∷ []
-form_looks q file _ = []
+-- the name that a from-import leads to: where that is the name that it binds, the submodule is looked at
+abbrev pub own_submodule_looks : QualifiedName → Bool → List Look
+own_submodule_looks q is_same = if is_same then of_module (submodule q) ∷ [] else []
+
+abbrev pub next_looks : List Interface → QualifiedName → QualifiedName → List Look
+next_looks files q next = own_submodule_looks q (same_name next q) ++ seen_looks files next
+
+abbrev pub to_looks : List Interface → QualifiedName → Option (List (List ℕ)) → List ℕ → List Look
+to_looks files q None name = []
+to_looks files q (Some m) name = next_looks files q (record { module_path = m; name = name })
+
+abbrev pub form_looks : List Interface → QualifiedName → Interface → BindingForm → List Look
+form_looks files q file (import_from dots path name) =
+    to_looks files q (named_module file.is_package file.name dots path) name
+form_looks files q file (import path) = of_module path ∷ []
+form_looks files q file _ = []
 
 -- a name that nothing binds
 abbrev pub unbound_looks : QualifiedName → List Look
 unbound_looks q = of_module q.module_path ∷ of_module (submodule q) ∷ []
 
-abbrev pub binding_looks : QualifiedName → Interface → Option Binding → List Look
-binding_looks q file (Some b) = form_looks q file b.form
-binding_looks q file None = unbound_looks q
+abbrev pub binding_looks : List Interface → QualifiedName → Interface → Option Binding → List Look
+binding_looks files q file (Some b) = form_looks files q file b.form
+binding_looks files q file None = unbound_looks q
 
-abbrev pub source_looks : QualifiedName → Interface → Bool → List Look
-source_looks q file false = binding_looks q file (declaration file.bindings q.name)
-source_looks q file true = of_module q.module_path ∷ []
+abbrev pub source_looks : List Interface → QualifiedName → Interface → Bool → List Look
+source_looks files q file false = binding_looks files q file (declaration file.bindings q.name)
+source_looks files q file true = of_module q.module_path ∷ []
 
-abbrev pub file_looks : QualifiedName → Option Interface → List Look
-file_looks q (Some file) = source_looks q file file.has_fault
-file_looks q None = unbound_looks q
+abbrev pub file_looks : List Interface → QualifiedName → Option Interface → List Look
+file_looks files q (Some file) = source_looks files q file file.has_fault
+file_looks files q None = unbound_looks q
 
 abbrev pub module_looks : List Interface → QualifiedName → Option FixedModule → List Look
 module_looks files q (Some fixed) = []
-module_looks files q None = file_looks q (file_of files q.module_path)
+module_looks files q None = file_looks files q (file_of files q.module_path)
 
 -- what a step looks at
 unfoldable pub step_looks : List Interface → QualifiedName → List Look
