@@ -1,5 +1,5 @@
 -- What files declare under names, among other files that are the same at all that is looked at.
-use Rattle.std.proofs.Common.{◌≡◌, ℕ, ◌||◌, Bool, true, false, if◌then◌else◌, List, [], ◌∷◌, ◌++◌, Option, None, Some, is_some, refl, sym, ap, ap₂, subst, ◌∙◌}
+use Rattle.std.proofs.Common.{◌≡◌, ℕ, ◌||◌, ◌&&◌, Bool, true, false, if◌then◌else◌, List, [], ◌∷◌, ◌++◌, Option, None, Some, is_some, refl, sym, ap, ap₂, subst, ◌∙◌}
 use Rattle.std.proofs.lemmas.Bool.{or_parts, false≢true}
 use Rattle.std.proofs.lemmas.List.Folds.{list_any-append}
 use Rattle.std.specs.List.{list_any}
@@ -11,26 +11,30 @@ use Rattle.pyc_ast.specs.Statements.{FunctionDefinition}
 use Rattle.pyc_bindings.specs.Bindings.{Binding, BindingForm, import, import_from, function, class, annotated, assigned, other}
 use Rattle.pyc_bindings.specs.Redefinitions.{declaration, is_decorated}
 use Rattle.pyc_declarations.specs.Declarations.{annotated_type, declared_function, form_answer, found_answer, name_answer, declared_answer}
-use Rattle.pyc_declarations.specs.Kinds.{Found, declared_in, answered, answer_with, of_kind, found_binding, found_in_file, fixed_found, found_declared, absent_name, found_referent, found_name, is_looked_up, attribute_referent, attributes_referent, own_referent, dotted_referent, is_fixed_any, is_alias_type, is_alias, variable_kind, class_kind, form_kind, found_kind, name_kind, kind_answer}
-use Rattle.pyc_declarations.specs.Looks.{binding_looks, source_looks, file_looks, module_looks, presence_looks, attribute_looks, attributes_looks, own_name_looks, dotted_looks, alias_type_looks, alias_looks, form_kind_looks, found_kind_looks, name_kind_looks, kind_looks, annotated_looks, function_looks, form_looks, found_looks, name_looks, declared_looks}
+use Rattle.pyc_declarations.specs.Kinds.{Found, declared_in, answered, answer_with, of_kind, found_binding, found_in_file, fixed_found, found_declared, absent_name, faulty_name, found_referent, found_name, is_looked_up, may_be_hidden, outside_referent, attribute_referent, attributes_referent, own_referent, dotted_referent, is_fixed_any, is_alias_type, is_alias, variable_kind, class_kind, form_kind, found_kind, name_kind, kind_answer}
+use Rattle.pyc_declarations.specs.Looks.{binding_looks, source_looks, file_looks, module_looks, presence_looks, outside_looks, attribute_looks, attributes_looks, own_name_looks, dotted_looks, alias_type_looks, alias_looks, referent_looks, found_name_looks, form_kind_looks, found_kind_looks, name_kind_looks, kind_looks, annotated_looks, function_looks, form_looks, found_looks, name_looks, declared_looks}
 use Rattle.pyc_declarations.specs.CarryLaws.{DeclaredCarriesOver}
+use Rattle.pyc_declarations.specs.Exports.{hidden_export, name_export}
 use Rattle.pyc_declarations.specs.Presences.{source_presence, file_presence, unfixed_presence, module_presence, submodule_presence, binding_presence, name_in_source, name_in_file, name_in_module, name_presence}
 use Rattle.pyc_names.specs.declared.fixed.FixedModule.{FixedModule}
 use Rattle.pyc_names.specs.declared.fixed.FixedName.{FixedName}
 use Rattle.pyc_names.specs.FixedModules.{fixed_module, fixed_name}
 use Rattle.pyc_names.specs.Following as names
-use Rattle.pyc_names.specs.Following.{QualifiedName, Referent, has_module, submodule, follow, on_ring}
+use Rattle.pyc_names.specs.Following.{QualifiedName, Referent, has_module, submodule, unbound_referent, is_hidden_name, follow, on_ring}
 use Rattle.pyc_names.specs.Interfaces.{Interface, file_of}
-use Rattle.pyc_names.specs.Looks.{Look, of_name, of_module, unbound_looks, follow_looks, on_ring_looks}
+use Rattle.pyc_names.specs.Looks.{Look, of_name, of_module, unbound_looks, looks_by_hidden, seen_looks, follow_looks, on_ring_looks}
 use Rattle.pyc_names.specs.CarryLaws.{BindingSeen, binding_seen, name_in, name_seen, fault_in, AreAlike, SameLooks}
 use Rattle.pyc_names.proofs.CarryLemmas.{follow_carries, on_ring_carries}
+use Rattle.pyc_names.proofs.HiddenLemmas.{hidden_carries}
 use Rattle.pyc_names.proofs.LookLemmas.{Clear, clear_parts}
 use Rattle.pyc_names.proofs.ReachLemmas.{file_is_named, declared_clear, own_clear}
 use Rattle.pyc_names.proofs.StepLemmas.{steps_carry}
 use Rattle.pyc_names.proofs.ViewLemmas.{NameView, away, in_fixed, in_opaque, not_bound, bound, binding_view, source_view, file_view, module_view, view_looks, name_view, view_carries, bound_in, unbound_in, binds_seen}
+use Rattle.pyc_reading.specs.declared.answer.Export.{Export}
+use Rattle.pyc_reading.specs.declared.answer.Export.TheVariants as passed
 use Rattle.pyc_reading.specs.declared.answer.Presence.{Presence}
 use Rattle.pyc_reading.specs.declared.answer.Presence.TheVariants as presence
-use Rattle.pyc_reading.specs.Answers.{Answer, presence_of, name_is}
+use Rattle.pyc_reading.specs.Answers.{Answer, NameKind, presence_of, name_is, export_is}
 use Rattle.pyc_reading.specs.Answers as kind
 use Rattle.pyc_reading.specs.Keys.{Key}
 use Rattle.pyc_reading.specs.Keys as key
@@ -165,6 +169,10 @@ module _ (differs : Look → Bool) (files others : List Interface) (alike : AreA
   pub followed : (q : QualifiedName) → Clear differs (follow_looks files q) → (follow files q ≡ follow others q) × SameLooks (follow_looks files q) (follow_looks others q)
   followed q clear = follow_carries differs files others (steps_carry differs files others alike) q clear
 
+  -- where a name leads into a file with a fault, the module is looked at
+  pub own_found_clear : (q : QualifiedName) → Clear differs (found_name_looks files q) → differs (of_name q) ≡ false
+  own_found_clear q clear = own_clear differs files q (clear_parts differs (follow_looks files q) (referent_looks q (follow files q)) clear).0
+
   -- ---- whether things are there
 
   module_carries : (m : List (List ℕ)) → differs (of_module m) ≡ false → module_presence files m ≡ module_presence others m
@@ -208,6 +216,47 @@ module _ (differs : Look → Bool) (files others : List Interface) (alike : AreA
             ∙ ap (list_any t) (sym (presence_looks-is others q)),
       )
 
+  -- ---- what other files see
+
+  hidden_alike : (q : QualifiedName) → Clear differs (seen_looks files q) → is_hidden_name files q ≡ is_hidden_name others q
+  hidden_alike q clear = hidden_carries files others q (alike.names q (one_first (of_name q) (if is_hidden_name files q then of_module (submodule q) ∷ [] else []) clear))
+
+  hidden_module : (q : QualifiedName) → Clear differs (looks_by_hidden q true) → has_module files (submodule q) ≡ has_module others (submodule q)
+  hidden_module q clear = alike.modules (submodule q) (one_first (of_module (submodule q)) [] (one_rest (of_name q) (of_module (submodule q) ∷ []) clear))
+
+  abbrev export_by : List Interface → QualifiedName → Bool → Export
+  export_by some q b = if b then hidden_export some q else passed.Open
+
+  export_hidden : (q : QualifiedName) (b : Bool) → Clear differs (looks_by_hidden q b) → export_by files q b ≡ export_by others q b
+  export_hidden q true clear = ap (λ there. if there then passed.Submodule else passed.Hidden) (hidden_module q clear)
+  export_hidden q false clear = refl
+
+  export_carries : (q : QualifiedName) → Clear differs (seen_looks files q) → (name_export files q ≡ name_export others q) × SameLooks (seen_looks files q) (seen_looks others q)
+  unfolding name_export
+  export_carries q clear =
+      let same = hidden_alike q clear in (export_hidden q (is_hidden_name files q) clear ∙ ap (export_by others q) same, λ t. ap (λ b. list_any t (looks_by_hidden q b)) same)
+
+  -- a name that stands for this, by whether its module hides it
+  abbrev outside_by : List Interface → QualifiedName → Referent → Bool → Referent
+  outside_by some q found b = if may_be_hidden found && b then unbound_referent some q else found
+
+  outside_hidden : (q : QualifiedName) (found : Referent) (b : Bool) → Clear differs (looks_by_hidden q b) → outside_by files q found b ≡ outside_by others q found b
+  outside_hidden q found true clear =
+      ap (λ there. if may_be_hidden found && true then (if there then names.module_itself (submodule q) else names.no_name) else found) (hidden_module q clear)
+  outside_hidden q found false clear = elim (may_be_hidden found) as (λ b. (if b && false then unbound_referent files q else found) ≡ (if b && false then unbound_referent others q else found)) [
+    | true ↦ refl
+    | false ↦ refl
+  ]
+
+  outside_carries : (q : QualifiedName) → Clear differs (outside_looks files q) → (outside_referent files q ≡ outside_referent others q) × SameLooks (outside_looks files q) (outside_looks others q)
+  outside_carries q clear =
+      let parts = clear_parts differs (follow_looks files q) (seen_looks files q) clear in
+      let found = followed q parts.0 in
+      let same = hidden_alike q parts.1 in (
+        outside_hidden q (follow files q) (is_hidden_name files q) parts.1 ∙ ap (λ r. outside_by others q r (is_hidden_name files q)) found.0 ∙ ap (outside_by others q (follow others q)) same,
+        same_both (follow_looks files q) (follow_looks others q) (seen_looks files q) (seen_looks others q) found.1 (λ t. ap (λ b. list_any t (looks_by_hidden q b)) same),
+      )
+
   -- ---- two files of a module
 
   module _ (file twin : Interface) (twins : TwinFiles files others file twin) where
@@ -226,9 +275,9 @@ module _ (differs : Look → Bool) (files others : List Interface) (alike : AreA
       → (attribute_referent files found n ≡ attribute_referent others found n) × SameLooks (attribute_looks files found n) (attribute_looks others found n)
   attribute_carries (names.module_itself m) n clear =
       let q : QualifiedName = record { module_path = m; name = n } in
-      elim (is_looked_up m n) as (λ b. Clear differs (if b then follow_looks files q else [])
-      → ((if b then follow files q else names.no_name) ≡ (if b then follow others q else names.no_name)) × SameLooks (if b then follow_looks files q else []) (if b then follow_looks others q else [])) [
-        | true ↦ λ clear. followed q clear
+      elim (is_looked_up m n) as (λ b. Clear differs (if b then outside_looks files q else [])
+      → ((if b then outside_referent files q else names.no_name) ≡ (if b then outside_referent others q else names.no_name)) × SameLooks (if b then outside_looks files q else []) (if b then outside_looks others q else [])) [
+        | true ↦ λ clear. outside_carries q clear
         | false ↦ λ clear. (refl, λ t. refl)
       ] clear
   attribute_carries (names.declared q) n clear = (refl, λ t. refl)
@@ -377,22 +426,37 @@ module _ (differs : Look → Bool) (files others : List Interface) (alike : AreA
       by None = refl
       by (Some b) = refl
 
-  referent_alike : (q : QualifiedName) (found : Referent) → follow files q ≡ found → Clear differs (follow_looks files q) → FoundAlike (found_referent files q found) (found_referent others q found)
-  referent_alike q (names.declared r) is clear = declared_alike r (fixed_module r.module_path) refl (alike.names r (declared_clear differs files q r clear is))
-  referent_alike q (names.module_itself m) is clear = refl
-  referent_alike q names.opaque is clear = refl
-  referent_alike q names.fixed_any is clear = refl
-  referent_alike q names.no_module is clear = refl
-  referent_alike q names.no_name is clear =
+  abbrev faulty_by : Option Bool → NameKind
+  faulty_by (Some fault) = if fault then kind.opaque else kind.unknown
+  faulty_by None = kind.unknown
+
+  faulty-is : (o : Option Interface) → faulty_name o ≡ faulty_by (fault_in o)
+  faulty-is (Some file) = refl
+  faulty-is None = refl
+
+  referent_alike : (q : QualifiedName) (found : Referent) → follow files q ≡ found → Clear differs (follow_looks files q) → Clear differs (referent_looks q found) → FoundAlike (found_referent files q found) (found_referent others q found)
+  referent_alike q (names.declared r) is clear more = declared_alike r (fixed_module r.module_path) refl (alike.names r (declared_clear differs files q r clear is))
+  referent_alike q (names.module_itself m) is clear more = refl
+  referent_alike q names.opaque is clear more =
+      ap of_kind (faulty-is (file_of files q.module_path) ∙ ap faulty_by (alike.faults q.module_path (one_first (of_module q.module_path) [] more)) ∙ sym (faulty-is (file_of others q.module_path)))
+  referent_alike q names.fixed_any is clear more = refl
+  referent_alike q names.no_module is clear more = refl
+  referent_alike q names.no_name is clear more =
       ap of_kind (absent-is files q (file_of files q.module_path)
       ∙ ap (λ s. if is_some s then kind.no_target else kind.no_name) (alike.names q (own_clear differs files q clear))
       ∙ sym (absent-is others q (file_of others q.module_path)))
-  referent_alike q names.cycle is clear = refl
+  referent_alike q names.cycle is clear more = refl
 
-  pub found_alike : (q : QualifiedName) → Clear differs (follow_looks files q) → FoundAlike (found_name files q) (found_name others q)
+  pub found_alike : (q : QualifiedName) → Clear differs (found_name_looks files q) → FoundAlike (found_name files q) (found_name others q)
   unfolding found_name
   found_alike q clear =
-      subst (λ (found : Referent). FoundAlike (found_referent files q (follow files q)) (found_referent others q found)) (followed q clear).0 (referent_alike q (follow files q) refl clear)
+      let parts = clear_parts differs (follow_looks files q) (referent_looks q (follow files q)) clear in
+      subst (λ (found : Referent). FoundAlike (found_referent files q (follow files q)) (found_referent others q found)) (followed q parts.0).0 (referent_alike q (follow files q) refl parts.0 parts.1)
+
+  pub found_looks_same : (q : QualifiedName) → Clear differs (found_name_looks files q) → SameLooks (found_name_looks files q) (found_name_looks others q)
+  found_looks_same q clear =
+      let found = followed q (clear_parts differs (follow_looks files q) (referent_looks q (follow files q)) clear).0 in
+      same_both (follow_looks files q) (follow_looks others q) (referent_looks q (follow files q)) (referent_looks q (follow others q)) found.1 (λ t. ap (λ r. list_any t (referent_looks q r)) found.0)
 
   found_kind_carries : (x y : Found) → FoundAlike x y → Clear differs (found_kind_looks files x) → (found_kind files x ≡ found_kind others y) × SameLooks (found_kind_looks files x) (found_kind_looks others y)
   found_kind_carries (declared_in file form) (declared_in twin more) both clear =
@@ -404,9 +468,9 @@ module _ (differs : Look → Bool) (files others : List Interface) (alike : AreA
 
   name_kind_carries : (q : QualifiedName) → Clear differs (name_kind_looks files q) → (name_kind files q ≡ name_kind others q) × SameLooks (name_kind_looks files q) (name_kind_looks others q)
   name_kind_carries q clear =
-      let parts = clear_parts differs (follow_looks files q) (found_kind_looks files (found_name files q)) clear in
+      let parts = clear_parts differs (found_name_looks files q) (found_kind_looks files (found_name files q)) clear in
       let one = found_kind_carries (found_name files q) (found_name others q) (found_alike q parts.0) parts.1 in
-      (one.0, same_both (follow_looks files q) (follow_looks others q) (found_kind_looks files (found_name files q)) (found_kind_looks others (found_name others q)) (followed q parts.0).1 one.1)
+      (one.0, same_both (found_name_looks files q) (found_name_looks others q) (found_kind_looks files (found_name files q)) (found_kind_looks others (found_name others q)) (found_looks_same q parts.0) one.1)
 
   pub kind_carries : (k : Key) → Clear differs (kind_looks files k) → (kind_answer files k ≡ kind_answer others k) × SameLooks (kind_looks files k) (kind_looks others k)
   kind_carries (key.has_module m) clear = (ap presence_of (module_carries m (one_first (of_module m) [] clear)), λ t. refl)
@@ -414,6 +478,7 @@ module _ (differs : Look → Bool) (files others : List Interface) (alike : AreA
   kind_carries (key.name q) clear = let one = name_kind_carries q clear in (ap name_is one.0, one.1)
   kind_carries (key.class c) clear = (refl, λ t. refl)
   kind_carries (key.member c) clear = (refl, λ t. refl)
+  kind_carries (key.export q) clear = let one = export_carries q clear in (ap export_is one.0, one.1)
 
   -- ---- the types of declarations
 
@@ -429,7 +494,7 @@ module _ (differs : Look → Bool) (files others : List Interface) (alike : AreA
       named = twins.file_named ∙ sym twins.twin_named;
       by_key = λ x clear.
           let q : QualifiedName = record { module_path = file.name; name = x } in
-          let looked = own_clear differs files q (clear_parts differs (follow_looks files q) (found_kind_looks files (found_name files q)) clear).0 in
+          let looked = own_found_clear q (clear_parts differs (found_name_looks files q) (found_kind_looks files (found_name files q)) clear).0 in
           bind_alike file twin twins x (sym (ap (λ (m : List (List ℕ)). differs (of_name (record { module_path = m; name = x }))) twins.file_named) ∙ looked);
       in_fixed = fixed_alike file twin twins;
     }
@@ -475,9 +540,9 @@ module _ (differs : Look → Bool) (files others : List Interface) (alike : AreA
 
   name_carries : (q : QualifiedName) → Clear differs (name_looks files q) → (name_answer files q ≡ name_answer others q) × SameLooks (name_looks files q) (name_looks others q)
   name_carries q clear =
-      let parts = clear_parts differs (follow_looks files q) (found_looks files (found_name files q)) clear in
+      let parts = clear_parts differs (found_name_looks files q) (found_looks files (found_name files q)) clear in
       let one = found_carries (found_name files q) (found_name others q) (found_alike q parts.0) parts.1 in
-      (one.0, same_both (follow_looks files q) (follow_looks others q) (found_looks files (found_name files q)) (found_looks others (found_name others q)) (followed q parts.0).1 one.1)
+      (one.0, same_both (found_name_looks files q) (found_name_looks others q) (found_looks files (found_name files q)) (found_looks others (found_name others q)) (found_looks_same q parts.0) one.1)
 
   pub declared_carries : (k : Key) → Clear differs (declared_looks files k) → (declared_answer files k ≡ declared_answer others k) × SameLooks (declared_looks files k) (declared_looks others k)
   declared_carries (key.has_module m) clear = (ap presence_of (module_carries m (one_first (of_module m) [] clear)), λ t. refl)
@@ -485,6 +550,7 @@ module _ (differs : Look → Bool) (files others : List Interface) (alike : AreA
   declared_carries (key.name q) clear = let one = name_carries q clear in (ap name_is one.0, one.1)
   declared_carries (key.class c) clear = (refl, λ t. refl)
   declared_carries (key.member c) clear = (refl, λ t. refl)
+  declared_carries (key.export q) clear = let one = export_carries q clear in (ap export_is one.0, one.1)
 
 pub declared_carry : DeclaredCarriesOver
 declared_carry differs files others k alike clear = declared_carries differs files others alike k clear

@@ -12,21 +12,20 @@ use Rattle.pyc_class_table.specs.Entries.{Entry}
 use Rattle.pyc_declarations.specs.ClassEntries.{written_base, written_bases, class_entry, file_entries, class_entries}
 use Rattle.pyc_declarations.specs.Declarations.{declared_answer}
 use Rattle.pyc_declarations.specs.Kinds.{found_name}
-use Rattle.pyc_declarations.specs.Looks.{found_looks, declared_looks, fixed_looks, bases_looks, class_looks, entries_looks}
+use Rattle.pyc_declarations.specs.Looks.{found_looks, found_name_looks, declared_looks, fixed_looks, bases_looks, class_looks, entries_looks}
 use Rattle.pyc_declarations.specs.CarryLaws.{ClassHead, class_head, class_heads, AreOwnFiles, FixedFilesAreAlike, EntriesCarryOver}
 use Rattle.pyc_members.specs.DeclaredClasses.{DeclaredClass}
 use Rattle.pyc_names.specs.declared.fixed.FixedModule.{FixedModule}
 use Rattle.pyc_names.specs.FixedModules.{fixed_module}
 use Rattle.pyc_names.specs.Following.{QualifiedName}
 use Rattle.pyc_names.specs.Interfaces.{Interface, file_of}
-use Rattle.pyc_names.specs.Looks.{Look, of_name, of_module, follow_looks}
+use Rattle.pyc_names.specs.Looks.{Look, of_name, of_module}
 use Rattle.pyc_names.specs.CarryLaws.{AreAlike, SameLooks}
 use Rattle.pyc_names.proofs.LookLemmas.{Clear, clear_parts}
-use Rattle.pyc_names.proofs.ReachLemmas.{own_clear}
 use Rattle.pyc_reading.specs.Keys.{Key}
 use Rattle.pyc_reading.specs.Readings.{asked}
 use Rattle.pyc_declarations.proofs.CarriedLemmas.{AreTwins, bases-carried}
-use Rattle.pyc_declarations.proofs.CarryLemmas.{TwinFiles, same_both, reading_carries, good_holds, bind_alike, fixed_alike, declared_carries}
+use Rattle.pyc_declarations.proofs.CarryLemmas.{TwinFiles, same_both, reading_carries, good_holds, bind_alike, fixed_alike, declared_carries, own_found_clear}
 
 -- ---- entries by the heads of classes
 
@@ -120,7 +119,7 @@ module _ (differs : Look → Bool) (files others : List Interface) (alike : AreA
     named = twins.file_named ∙ sym twins.twin_named;
     by_key = λ x clear.
         let q : QualifiedName = record { module_path = file.name; name = x } in
-        let looked = own_clear differs files q (clear_parts differs (follow_looks files q) (found_looks files (found_name files q)) clear).0 in
+        let looked = own_found_clear differs files others alike q (clear_parts differs (found_name_looks files q) (found_looks files (found_name files q)) clear).0 in
         bind_alike differs files others alike file twin twins x (sym (ap (λ (m : List (List ℕ)). differs (of_name (record { module_path = m; name = x }))) twins.file_named) ∙ looked);
     in_fixed = fixed_alike differs files others alike file twin twins;
   }

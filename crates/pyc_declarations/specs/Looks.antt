@@ -13,9 +13,9 @@ use Rattle.pyc_declarations.specs.Kinds.{is_looked_up, attribute_referent, own_r
 use Rattle.pyc_names.specs.declared.fixed.FixedModule.{FixedModule}
 use Rattle.pyc_names.specs.FixedModules.{fixed_module}
 use Rattle.pyc_names.specs.Following as names
-use Rattle.pyc_names.specs.Following.{QualifiedName, Referent}
+use Rattle.pyc_names.specs.Following.{QualifiedName, Referent, follow}
 use Rattle.pyc_names.specs.Interfaces.{Interface, file_of}
-use Rattle.pyc_names.specs.Looks.{Look, of_name, of_module, unbound_looks, follow_looks, on_ring_looks}
+use Rattle.pyc_names.specs.Looks.{Look, of_name, of_module, unbound_looks, seen_looks, follow_looks, on_ring_looks}
 use Rattle.pyc_members.specs.DeclaredClasses.{DeclaredClass}
 use Rattle.pyc_reading.specs.Keys.{Key, has_module, has_name, name}
 use Rattle.pyc_reading.specs.Keys as key
@@ -52,9 +52,13 @@ presence_looks files q =
 
 -- ---- aliases
 
+-- what is looked at for what a name of a module is to other files
+abbrev pub outside_looks : List Interface → QualifiedName → List Look
+outside_looks files q = follow_looks files q ++ seen_looks files q
+
 abbrev pub module_attribute_looks : List Interface → List (List ℕ) → List ℕ → List Look
 module_attribute_looks files m n =
-    if is_looked_up m n then follow_looks files (record { module_path = m; name = n }) else []
+    if is_looked_up m n then outside_looks files (record { module_path = m; name = n }) else []
 
 abbrev pub attribute_looks : List Interface → Referent → List ℕ → List Look
 attribute_looks files (names.module_itself m) n = module_attribute_looks files m n
@@ -86,6 +90,15 @@ alias_looks files file annotation = alias_type_looks files file (type_expr annot
 
 -- ---- kinds
 
+-- a name that leads into a file with a fault: whether that is the file of its own module
+abbrev pub referent_looks : QualifiedName → Referent → List Look
+referent_looks q names.opaque = of_module q.module_path ∷ []
+referent_looks q _ = []
+
+-- what is looked at for what is found under a name
+abbrev pub found_name_looks : List Interface → QualifiedName → List Look
+found_name_looks files q = follow_looks files q ++ referent_looks q (follow files q)
+
 abbrev pub form_kind_looks : List Interface → Interface → BindingForm → List Look
 form_kind_looks files file (annotated found) = alias_looks files file found.annotation
 form_kind_looks files file _ = []
@@ -96,7 +109,7 @@ found_kind_looks files (answered found) = []
 
 -- what is looked at for the kind of what a name stands for
 abbrev pub name_kind_looks : List Interface → QualifiedName → List Look
-name_kind_looks files q = follow_looks files q ++ found_kind_looks files (found_name files q)
+name_kind_looks files q = found_name_looks files q ++ found_kind_looks files (found_name files q)
 
 -- what is looked at for an answer by kinds alone
 abbrev pub kind_looks : List Interface → Key → List Look
@@ -105,6 +118,7 @@ kind_looks files (has_name q) = presence_looks files q
 kind_looks files (name q) = name_kind_looks files q
 kind_looks files (key.class c) = []
 kind_looks files (key.member c) = []
+kind_looks files (key.export q) = seen_looks files q
 
 -- ---- declared types
 
@@ -132,7 +146,7 @@ found_looks files (answered found) = []
 
 -- what is looked at for what a name stands for, with its type
 abbrev pub name_looks : List Interface → QualifiedName → List Look
-name_looks files q = follow_looks files q ++ found_looks files (found_name files q)
+name_looks files q = found_name_looks files q ++ found_looks files (found_name files q)
 
 -- what is looked at for an answer that is read of names
 abbrev pub declared_looks : List Interface → Key → List Look
@@ -141,6 +155,7 @@ declared_looks files (has_name q) = presence_looks files q
 declared_looks files (name q) = name_looks files q
 declared_looks files (key.class c) = []
 declared_looks files (key.member c) = []
+declared_looks files (key.export q) = seen_looks files q
 
 -- ---- classes
 

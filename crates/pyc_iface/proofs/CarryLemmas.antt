@@ -385,6 +385,7 @@ module _ (differs : Look → Bool) (files others : List Interface) (alike : AreA
   answer_carries (key.has_module m) clear = declared_carries differs files others alike.names (key.has_module m) clear
   answer_carries (key.has_name q) clear = declared_carries differs files others alike.names (key.has_name q) clear
   answer_carries (key.name q) clear = declared_carries differs files others alike.names (key.name q) clear
+  answer_carries (key.export q) clear = declared_carries differs files others alike.names (key.export q) clear
   answer_carries (key.class c) clear = (ap order_is (order_carries c clear), λ t. refl)
   answer_carries (key.member name) clear = let one = member_carries name clear in (ap member_is one.0, one.1)
 
