@@ -17,14 +17,14 @@ use Rattle.pyc_class_ids.specs.Mro.{MroTable}
 use Rattle.pyc_declarations.specs.Declarations.{declared_answer}
 use Rattle.pyc_declarations.specs.Kinds.{Found, declared_in, answered, found_name, is_looked_up, attribute_referent, own_referent, kind_answer}
 use Rattle.pyc_declarations.specs.Looks as look
-use Rattle.pyc_declarations.specs.Looks.{presence_looks, module_attribute_looks, attribute_looks, attributes_looks, own_name_looks, dotted_looks, alias_type_looks, alias_looks, form_kind_looks, found_kind_looks, name_kind_looks, kind_looks, annotated_looks, function_looks, form_looks, found_looks, name_looks, declared_looks, fixed_looks, bases_looks, class_looks, entries_looks}
+use Rattle.pyc_declarations.specs.Looks.{presence_looks, outside_looks, module_attribute_looks, attribute_looks, attributes_looks, own_name_looks, dotted_looks, alias_type_looks, alias_looks, referent_looks, found_name_looks, form_kind_looks, found_kind_looks, name_kind_looks, kind_looks, annotated_looks, function_looks, form_looks, found_looks, name_looks, declared_looks, fixed_looks, bases_looks, class_looks, entries_looks}
 use Rattle.pyc_iface.specs.Answers.{orders_by}
 use Rattle.pyc_iface.specs.Looks as member
 use Rattle.pyc_iface.specs.Looks.{method_type_looks, property_looks, method_looks, form_member_looks, bound_member_looks, plain_looks, parameter_looks, value_by_name_looks, value_looks, attribute_type_looks, own_looks, deciding_looks, declared_in_user_looks, assigned_in_user_looks, declared_by_kind_looks, assigned_by_kind_looks, unless_found, first_declared_looks, first_assigned_looks, order_looks, member_looks, answer_looks}
 use Rattle.pyc_iface.specs.Members.{Declared, declared_of, parameter_named, name_written}
 use Rattle.pyc_iface.proofs.CarryLemmas.{answers_carry}
 use Rattle.pyc_interfaces.proofs.HeadLemmas.{has_setter-bare, method_kind-bare, is_decorated-bare, declaration-bare, is_bound-bare, annotation-same, function_type-same, bases-same}
-use Rattle.pyc_interfaces.proofs.NameLemmas.{bare_found, file_of-bare, import_count-bare, has_module-bare, step-bare, found_name-bare, attribute_referent-bare, own_referent-bare, kinds-bare}
+use Rattle.pyc_interfaces.proofs.NameLemmas.{bare_found, file_of-bare, import_count-bare, has_module-bare, is_hidden_name-bare, step-bare, follow-bare, found_name-bare, attribute_referent-bare, own_referent-bare, kinds-bare}
 use Rattle.pyc_interfaces.proofs.ReadingLemmas.{Came}
 use Rattle.pyc_interfaces.proofs.TypeLemmas.{drop_type, type_expr-bare}
 use Rattle.pyc_interfaces.proofs.WorldLemmas.{bare_own, in_body-bare, assigned_through-bare, same_names, name_written-bare, bare_at, parameter_named-bare, declared_of-bare, declared_by_kind-bare, assigned_by_kind-bare, first_declared-bare, declared-bare, orders-bare, answer_by-bare}
@@ -43,9 +43,10 @@ use Rattle.pyc_names.specs.declared.fixed.FixedModule.{FixedModule}
 use Rattle.pyc_names.specs.FixedModules.{fixed_module}
 use Rattle.pyc_names.specs.Following as names
 use Rattle.pyc_names.specs.Following.{QualifiedName, Referent, Step, ends, leads, has_module, step, same_name, import_count}
+use Rattle.pyc_names.specs.Imports.{named_module}
 use Rattle.pyc_names.specs.Interfaces.{Interface, file_of}
 use Rattle.pyc_names.specs.Looks as step_look
-use Rattle.pyc_names.specs.Looks.{Look, of_name, of_module, step_looks, looks_on, walk_looks, follow_looks, looks_on_to, ring_looks, on_ring_looks}
+use Rattle.pyc_names.specs.Looks.{Look, of_name, of_module, looks_by_hidden, seen_looks, own_submodule_looks, to_looks, step_looks, looks_on, walk_looks, follow_looks, looks_on_to, ring_looks, on_ring_looks}
 use Rattle.pyc_reading.specs.Answers.{Answer}
 use Rattle.pyc_reading.specs.Keys.{Key, MemberName}
 use Rattle.pyc_reading.specs.Keys as key
@@ -61,30 +62,39 @@ module _ (files : List Interface) where
 
   -- ---- steps
 
-  form_step-looks : (q : QualifiedName) (file : Interface) (form : BindingForm) → step_look.form_looks q (bare_interface file) (bare_form form) ≡ step_look.form_looks q file form
+  seen_looks-bare : (q : QualifiedName) → seen_looks alike q ≡ seen_looks files q
+  seen_looks-bare q = ap (looks_by_hidden q) (is_hidden_name-bare files q)
+
+  to_step-looks : (q : QualifiedName) (m : Option (List (List ℕ))) (n : List ℕ) → to_looks alike q m n ≡ to_looks files q m n
+  to_step-looks q None n = refl
+  to_step-looks q (Some m) n =
+      let next : QualifiedName = record { module_path = m; name = n } in
+      ap (λ (l : List Look). own_submodule_looks q (same_name next q) ++ l) (seen_looks-bare next)
+
+  form_step-looks : (q : QualifiedName) (file : Interface) (form : BindingForm) → step_look.form_looks alike q (bare_interface file) (bare_form form) ≡ step_look.form_looks files q file form
   form_step-looks q file (import path) = refl
-  form_step-looks q file (import_from dots path n) = refl
+  form_step-looks q file (import_from dots path n) = to_step-looks q (named_module file.is_package file.name dots path) n
   form_step-looks q file (function head) = refl
   form_step-looks q file (class head) = refl
   form_step-looks q file (annotated found) = refl
   form_step-looks q file (assigned value) = refl
   form_step-looks q file other = refl
 
-  binding_step-looks : (q : QualifiedName) (file : Interface) (o : Option Binding) → step_look.binding_looks q (bare_interface file) (option_map bare_binding o) ≡ step_look.binding_looks q file o
+  binding_step-looks : (q : QualifiedName) (file : Interface) (o : Option Binding) → step_look.binding_looks alike q (bare_interface file) (option_map bare_binding o) ≡ step_look.binding_looks files q file o
   binding_step-looks q file (Some b) = form_step-looks q file b.form
   binding_step-looks q file None = refl
 
-  source_step-looks : (q : QualifiedName) (file : Interface) (has_fault : Bool) → step_look.source_looks q (bare_interface file) has_fault ≡ step_look.source_looks q file has_fault
+  source_step-looks : (q : QualifiedName) (file : Interface) (has_fault : Bool) → step_look.source_looks alike q (bare_interface file) has_fault ≡ step_look.source_looks files q file has_fault
   source_step-looks q file true = refl
-  source_step-looks q file false = ap (step_look.binding_looks q (bare_interface file)) (declaration-bare file.bindings q.name) ∙ binding_step-looks q file (declaration file.bindings q.name)
+  source_step-looks q file false = ap (step_look.binding_looks alike q (bare_interface file)) (declaration-bare file.bindings q.name) ∙ binding_step-looks q file (declaration file.bindings q.name)
 
-  file_step-looks : (q : QualifiedName) (o : Option Interface) → step_look.file_looks q (option_map bare_interface o) ≡ step_look.file_looks q o
+  file_step-looks : (q : QualifiedName) (o : Option Interface) → step_look.file_looks alike q (option_map bare_interface o) ≡ step_look.file_looks files q o
   file_step-looks q (Some file) = source_step-looks q file file.has_fault
   file_step-looks q None = refl
 
   module_step-looks : (q : QualifiedName) (fixed : Option FixedModule) → step_look.module_looks alike q fixed ≡ step_look.module_looks files q fixed
   module_step-looks q (Some fixed) = refl
-  module_step-looks q None = ap (step_look.file_looks q) (file_of-bare files q.module_path) ∙ file_step-looks q (file_of files q.module_path)
+  module_step-looks q None = ap (step_look.file_looks alike q) (file_of-bare files q.module_path) ∙ file_step-looks q (file_of files q.module_path)
 
   step_looks-bare : (q : QualifiedName) → step_looks alike q ≡ step_looks files q
   unfolding step_looks
@@ -146,8 +156,11 @@ module _ (files : List Interface) where
 
   -- ---- aliases
 
+  outside-looks : (q : QualifiedName) → outside_looks alike q ≡ outside_looks files q
+  outside-looks q = ap₂ (λ (xs ys : List Look). xs ++ ys) (follow_looks-bare q) (seen_looks-bare q)
+
   module_attribute-looks : (m : List (List ℕ)) (n : List ℕ) → module_attribute_looks alike m n ≡ module_attribute_looks files m n
-  module_attribute-looks m n = ap (λ l. if is_looked_up m n then l else []) (follow_looks-bare (record { module_path = m; name = n }))
+  module_attribute-looks m n = ap (λ l. if is_looked_up m n then l else []) (outside-looks (record { module_path = m; name = n }))
 
   attribute-looks : (r : Referent) (n : List ℕ) → attribute_looks alike r n ≡ attribute_looks files r n
   attribute-looks (names.module_itself m) n = module_attribute-looks m n
@@ -202,9 +215,12 @@ module _ (files : List Interface) where
   found_kind-looks (declared_in file form) = form_kind-looks file form
   found_kind-looks (answered found) = refl
 
+  found_name-looks : (q : QualifiedName) → found_name_looks alike q ≡ found_name_looks files q
+  found_name-looks q = ap₂ (λ (xs ys : List Look). xs ++ ys) (follow_looks-bare q) (ap (referent_looks q) (follow-bare files q))
+
   name_kind-looks : (q : QualifiedName) → name_kind_looks alike q ≡ name_kind_looks files q
   name_kind-looks q =
-      ap₂ (λ (xs ys : List Look). xs ++ ys) (follow_looks-bare q) (ap (found_kind_looks alike) (found_name-bare files q) ∙ found_kind-looks (found_name files q))
+      ap₂ (λ (xs ys : List Look). xs ++ ys) (found_name-looks q) (ap (found_kind_looks alike) (found_name-bare files q) ∙ found_kind-looks (found_name files q))
 
   kind_looks-bare : (k : Key) → kind_looks alike k ≡ kind_looks files k
   kind_looks-bare (key.has_module m) = refl
@@ -212,6 +228,7 @@ module _ (files : List Interface) where
   kind_looks-bare (key.name q) = name_kind-looks q
   kind_looks-bare (key.class c) = refl
   kind_looks-bare (key.member c) = refl
+  kind_looks-bare (key.export q) = seen_looks-bare q
 
   all_kind_looks : kind_looks alike ≡ kind_looks files
   all_kind_looks = λ t k. kind_looks-bare k t
@@ -246,7 +263,7 @@ module _ (files : List Interface) where
   found-looks (answered found) = refl
 
   name-looks : (q : QualifiedName) → name_looks alike q ≡ name_looks files q
-  name-looks q = ap₂ (λ (xs ys : List Look). xs ++ ys) (follow_looks-bare q) (ap (found_looks alike) (found_name-bare files q) ∙ found-looks (found_name files q))
+  name-looks q = ap₂ (λ (xs ys : List Look). xs ++ ys) (found_name-looks q) (ap (found_looks alike) (found_name-bare files q) ∙ found-looks (found_name files q))
 
   declared-looks : (k : Key) → declared_looks alike k ≡ declared_looks files k
   declared-looks (key.has_module m) = refl
@@ -254,6 +271,7 @@ module _ (files : List Interface) where
   declared-looks (key.name q) = name-looks q
   declared-looks (key.class c) = refl
   declared-looks (key.member c) = refl
+  declared-looks (key.export q) = seen_looks-bare q
 
   all_declared_looks : declared_looks alike ≡ declared_looks files
   all_declared_looks = λ t k. declared-looks k t
@@ -388,6 +406,7 @@ module _ (files : List Interface) where
   answer_looks-bare (key.name q) = name-looks q
   answer_looks-bare (key.class c) = refl
   answer_looks-bare (key.member m) = member-looks m
+  answer_looks-bare (key.export q) = seen_looks-bare q
 
 pub positions_change_no_look : PositionsChangeNoLook
 positions_change_no_look interfaces k = answer_looks-bare interfaces k

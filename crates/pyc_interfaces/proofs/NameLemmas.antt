@@ -103,7 +103,7 @@ module _ (files : List Interface) where
   hides_from-bare m x (Some fixed) = refl
   hides_from-bare m x None = ap (λ o. hides_in o x) (file_of-bare files m) ∙ hides_in-bare (file_of files m) x
 
-  is_hidden_name-bare : (q : QualifiedName) → is_hidden_name alike q ≡ is_hidden_name files q
+  pub is_hidden_name-bare : (q : QualifiedName) → is_hidden_name alike q ≡ is_hidden_name files q
   is_hidden_name-bare q = hides_from-bare q.module_path q.name (fixed_module q.module_path)
 
   seen_step-bare : (next : QualifiedName) → seen_step alike next ≡ seen_step files next

@@ -78,8 +78,6 @@ module _ (f : Key → Answer) where
   pub same_done : {A : Type 0} (a b : A) → a ≡ b → Same (Done a) (Done b)
   same_done {A} a b same = let made : A → Came A = λ a. record { result = a; keys = [] } in ap made same
 
-  same_ask : {A : Type 0} (k : Key) (go on : Answer → Step A) → Same (go (f k)) (on (f k)) → Same (Ask k go) (Ask k on)
-  same_ask {A} k go on same = let made : Came A → Came A = λ c. record { result = c.result; keys = k ∷ c.keys } in ap made same
 
   pub same_then : {A B : Type 0} (r s : Step A) (next more : A → Step B) → Same r s → ((a : A) → Same (next a) (more a)) → Same (and_then r next) (and_then s more)
   same_then {A} {B} r s next more same later =
