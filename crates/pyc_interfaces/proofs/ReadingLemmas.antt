@@ -78,7 +78,6 @@ module _ (f : Key → Answer) where
   pub same_done : {A : Type 0} (a b : A) → a ≡ b → Same (Done a) (Done b)
   same_done {A} a b same = let made : A → Came A = λ a. record { result = a; keys = [] } in ap made same
 
-
   pub same_then : {A B : Type 0} (r s : Step A) (next more : A → Step B) → Same r s → ((a : A) → Same (next a) (more a)) → Same (and_then r next) (and_then s more)
   same_then {A} {B} r s next more same later =
       let joined : Came B → Came B = λ c. record { result = c.result; keys = asked f r ++ c.keys } in

@@ -51,7 +51,7 @@ module _ (differs : Look → Bool) (files others : List Interface) (alike : AreA
   next_carries next true clear =
       let seen = seen_carries next (rest (of_module (submodule q)) (seen_looks files next) clear) in (
         ap (next_step files next true) (alike.modules (submodule q) (first (of_module (submodule q)) (seen_looks files next) clear))
-        ∙ ap (λ s. if has_module others (submodule q) then ends (module_itself (submodule q)) else s) seen.0,
+            ∙ ap (λ s. if has_module others (submodule q) then ends (module_itself (submodule q)) else s) seen.0,
         ap (λ l. of_module (submodule q) ∷ l) seen.1,
       )
   next_carries next false clear = seen_carries next clear
