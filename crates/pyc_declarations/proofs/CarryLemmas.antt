@@ -169,7 +169,7 @@ module _ (differs : Look → Bool) (files others : List Interface) (alike : AreA
   pub followed : (q : QualifiedName) → Clear differs (follow_looks files q) → (follow files q ≡ follow others q) × SameLooks (follow_looks files q) (follow_looks others q)
   followed q clear = follow_carries differs files others (steps_carry differs files others alike) q clear
 
-  -- where a name leads into a file with a fault, the module is looked at
+  -- a name whose kind or type is asked is looked at itself
   pub own_found_clear : (q : QualifiedName) → Clear differs (found_name_looks files q) → differs (of_name q) ≡ false
   own_found_clear q clear = own_clear differs files q (clear_parts differs (follow_looks files q) (referent_looks q (follow files q)) clear).0
 

@@ -22,7 +22,6 @@ use Rattle.pyc_reading.specs.Answers as kind
 use Rattle.pyc_reading.specs.Outside.{ask_outside}
 use Rattle.pyc_reading.specs.Traces.{Step}
 use Rattle.pyc_reading.specs.Keys.{Key}
-use Rattle.pyc_reading.specs.Keys as key
 use Rattle.pyc_reading.specs.Owing.{row_keys}
 use Rattle.pyc_reading.specs.Readings.{Done, Ask, Report, Require, and_then, result_of, asked}
 use Rattle.pyc_type_exprs.specs.TypeExprs.{DottedName, TypeExpr, none_written, name_written, union_written, subscript_written, wrong_written, TypeArgument, type_argument, ArgumentShape, ellipsis_shape, list_shape, other_shape, TypeExprs, no_type, another_type, TypeArguments, no_argument, another_argument}
