@@ -1,14 +1,16 @@
 -- How readings of an input follow one another.
-use Rattle.std.proofs.Common.{◌≡◌, ℕ, ◌+◌, ◌-◌, ◌<◌, ◌≤◌, List, [], ◌∷◌, ◌++◌, length, take, drop, min, Option, None, Some, Err, true, false, true≢false, Bool, refl, sym, ap, if◌then◌else◌, subst, ◌==◌, ◌∙◌, append_assoc, arith, length-append}
+use Rattle.std.proofs.Common.{◌≡◌, ℕ, ◌+◌, ◌-◌, ◌<◌, ◌≤◌, List, [], ◌∷◌, ◌++◌, length, take, drop, min, Option, None, Some, Ok, Err, true, false, true≢false, Bool, refl, sym, ap, if◌then◌else◌, subst, ◌==◌, ◌∙◌, append_assoc, arith, length-append}
 use Rattle.std.proofs.lemmas.Bool.Decides.{nat_tests}
 use Rattle.std.proofs.lemmas.List.{take-append-le, take-append-drop, length-take, length-drop, drop-take, drop-drop}
 use Rattle.std.proofs.Math.ListN.{drop_of_length-le}
 use native.Mathlib.Numerals.{unary_clauses}
 use Rattle.std.specs.Io.KnownBytes.{Consumes}
-use Rattle.pyc_daemon.specs.Counted.{IsSound, FailsOnce, at_fault, at_empty, one_more}
+use Rattle.pyc_daemon.specs.Counted.{IsSound, FailsOnce, at_fault, at_empty, one_more, calls_of}
+use Rattle.pyc_daemon.specs.ReadBuffer.{ended_of}
+use Rattle.pyc_daemon.specs.declared.read_buffer.ReadBuffer.{ReadBuffer}
 use Rattle.pyc_daemon.specs.Runs.{ComesOfServing}
 use Rattle.pyc_daemon.specs.declared.counted.Counted.{Counted}
-use Rattle.pyc_daemon.specs.Reading.{Advances, ComesOfReading, work_left}
+use Rattle.pyc_daemon.specs.Reading.{Advances, IsReading, ReadsOn, ComesOfReading, work_left}
 use Rattle.pyc_session.specs.declared.ending.RunFault.{RunFault}
 use Rattle.pyc_session.specs.declared.ending.RunFault.TheVariants.{Read, Write, TooManyTurns, Memory}
 use Rattle.pyc_session.specs.Input.{has_line_feed}
@@ -236,3 +238,9 @@ read_fault reader reader' writer writer' Memory turns e sound = absurd e
 pub write_fault : {W : Type 0} (a b c : Counted W) → IsSound a b → FailsOnce b c → FailsOnce a c
 write_fault a b c sound (at_fault faults zeros) = at_fault (faults ∙ ap one_more sound.faults) (zeros ∙ sound.zeros)
 write_fault a b c sound (at_empty faults zeros) = at_empty (faults ∙ sound.faults) (zeros ∙ ap one_more sound.zeros)
+
+-- an answer for which nothing was read
+pub reads_nothing : {R T : Type 0} (left : Option (List ℕ)) (buffer : ReadBuffer) (reader : Counted R) (turns : ℕ) (answer : T) → IsReading left (ended_of buffer) (calls_of reader) turns
+    → ReadsOn left buffer buffer reader reader turns (Ok answer)
+reads_nothing left buffer reader turns answer reading =
+    record { reading = reading; buffers = refl; work = omega arith; sound = sound_none reader; fault = tt; unended = tt; empty = tt }

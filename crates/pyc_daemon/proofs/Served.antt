@@ -5,7 +5,7 @@ use Rattle.std.proofs.lemmas.Bool.Decides.{nat_tests}
 use native.Mathlib.Numerals.{unary_clauses}
 use Rattle.pyc_session.specs.Command.{unknown, bytes_after, spelled}
 use Rattle.pyc_session.specs.Input.{has_line_feed, first_line, after_line, command_line}
-use Rattle.pyc_daemon.specs.Replies.{Serves, turn_of}
+use Rattle.pyc_daemon.specs.Replies.{IsObeyed, Serves}
 use Rattle.pyc_daemon.specs.Runs.{IsLast}
 use Rattle.pyc_session.specs.Event.{Event}
 use Rattle.pyc_session.specs.Session.{turn, act, has_command}
@@ -42,8 +42,7 @@ spelled_cut raw fed =
 
 -- what a line and what it asks for are used for
 abbrev pub Obeys : State → State → List ℕ → Bool → List ℕ → Event → Bool → Answer → Type 0
-Obeys s s' line fed bytes event ended answer =
-    (rest : List ℕ) → IsLast ended rest → act s (spelled (command_line line fed)) event (bytes ++ rest) ≡ Some (turn_of answer s' rest)
+Obeys s s' line fed bytes event ended answer = IsObeyed s s' (spelled (command_line line fed)) bytes event ended answer
 
 turn-is : (s : State) (input : List ℕ) (event : Event) → 0 < length input → turn s input event ≡ act s (spelled (command_line (first_line input) (has_line_feed input))) event (after_line input)
 unfolding turn

@@ -10,7 +10,8 @@ use Rattle.pyc_session.specs.declared.status.Status.{Status}
 use Rattle.pyc_daemon.specs.declared.reply.Answer.{Answer}
 use Rattle.pyc_session.specs.Event.{Event}
 use Rattle.pyc_report.specs.Report.{report_in}
-use Rattle.pyc_session.specs.Session.{Turn, goes_on, ends, turn, check_reply}
+use Rattle.pyc_session.specs.Command.{Spelled}
+use Rattle.pyc_session.specs.Session.{Turn, act, goes_on, ends, turn, check_reply}
 use Rattle.pyc_session.specs.State.{State}
 use Rattle.pyc_daemon.specs.Runs.{IsLast}
 
@@ -38,6 +39,11 @@ turn_after reply (Some end) s rest = record { reply = reply; state = s; onward =
 
 abbrev pub turn_of : Answer → State → List ℕ → Turn
 turn_of answer s rest = turn_after (reply_bytes answer.reply) answer.end s rest
+
+-- an answer is the turn of a command and the bytes that it used, whatever follows them
+abbrev pub IsObeyed : State → State → Spelled → List ℕ → Event → Bool → Answer → Type 0
+IsObeyed old new said bytes event ended answer =
+    (rest : List ℕ) → IsLast ended rest → act old said event (bytes ++ rest) ≡ Some (turn_of answer new rest)
 
 -- What serving one command did, from a state to a state: with no answer the input is at its end; an answer is the turn
 -- of the bytes that were used, whatever follows them.

@@ -1,16 +1,16 @@
 //! Reads one command and does it.
 
 ghost use Rattle.std.specs.Prelude.{◌≡◌, ◌==◌, ◌&&◌, not, ◌<◌, ◌≤◌, ◌++◌, [], ℕ, Bool, List, true, false, length};
-ghost use Rattle.std.specs.Prelude.{vec_capacity, Some, IfOk, IfErr, OnErr, OnOk};
+ghost use Rattle.std.specs.Prelude.{vec_capacity, IfOk, OnErr, OnOk};
 ghost use Rattle.pyc_daemon.specs.Body.{CameAs, IsWanted};
 ghost use Rattle.pyc_session.specs.Command.{said, bytes_after};
-ghost use Rattle.pyc_daemon.specs.Counted.{inner_of, calls_of, IsSound, GivesRoom};
+ghost use Rattle.pyc_daemon.specs.Counted.{inner_of, calls_of};
 ghost use Rattle.pyc_session.specs.Event.{Event, FetchStep};
-ghost use Rattle.pyc_daemon.specs.Reading.{Advances, IsReading, ComesOfReading, work_left};
+ghost use Rattle.pyc_daemon.specs.Reading.{Advances, EndsNothing, IsReading, ReadsOn, work_of};
 ghost use Rattle.pyc_session.specs.Refusal.{early_refusal};
-ghost use Rattle.pyc_daemon.specs.Replies.{Serves, turn_of};
+ghost use Rattle.pyc_daemon.specs.Replies.{IsObeyed, Serves, turn_of};
 ghost use Rattle.pyc_daemon.specs.Runs.{IsLast};
-ghost use Rattle.pyc_session.specs.Session.{act, has_command, check_turn, file_turn, reported, refusal_in};
+ghost use Rattle.pyc_session.specs.Session.{has_command, check_turn, file_turn, reported, refusal_in};
 ghost use Rattle.pyc_daemon.specs.ReadBuffer.{held_of, ended_of};
 ghost use Rattle.pyc_session.specs.State.{State};
 
@@ -37,8 +37,8 @@ pub fn serve<R: Read, S: Sources>(
     requires reading { IsReading (R.remaining (inner_of reader.old)) (ended_of read_buffer.old) (calls_of reader.old)
         turns }
     ensures room { KEPT ≤ vec_capacity line.new }
-    ensures reading { IsReading (R.remaining (inner_of reader.new)) (ended_of read_buffer.new) (calls_of reader.new)
-        turns }
+    ensures reads { ReadsOn (R.remaining (inner_of reader.new)) read_buffer.old read_buffer.new reader.old reader.new
+        turns result }
     ensures served { IfOk result (λ answer. (bytes : List ℕ) × (event : Event)
         × Advances (R.remaining (inner_of reader.old)) (held_of read_buffer.old) (R.remaining (inner_of reader.new))
         (held_of read_buffer.new) bytes
@@ -48,15 +48,8 @@ pub fn serve<R: Read, S: Sources>(
         × Advances (R.remaining (inner_of reader.old)) (held_of read_buffer.old) (R.remaining (inner_of reader.new))
         (held_of read_buffer.new) bytes
         × (has_command bytes ≡ false)) }
-    ensures empty { OnErr result (held_of read_buffer.new ≡ []) }
-    ensures stopped { OnErr result (ended_of read_buffer.new ≡ false) }
     ensures untouched { OnErr result (sources.new ≡ sources.old) }
-    ensures work { OnOk result
-        (work_left (ended_of read_buffer.new) (length (held_of read_buffer.new)) (calls_of reader.new) turns
-        < work_left (ended_of read_buffer.old) (length (held_of read_buffer.old)) (calls_of reader.old) turns) }
-    ensures sound { OnOk result (IsSound reader.old reader.new) }
-    ensures fault { IfErr result (λ e. ComesOfReading e reader.old reader.new turns) }
-    ensures buffers { GivesRoom reader.old reader.new }
+    ensures work { OnOk result (work_of read_buffer.new reader.new turns < work_of read_buffer.old reader.old turns) }
 {
     let fed = read_line(reader, read_buffer, line, turns)?;
     if is_end(line, fed) {
@@ -74,7 +67,7 @@ fn is_end(line: &[u8], fed: bool) -> bool
     !fed && line.is_empty()
 }
 
-/// Does a command.
+/// Does a command. Where its bytes do not come, or not all, it is not done.
 fn obey<R: Read, S: Sources>(
     alloc: Global,
     reader: &mut Counted<R>,
@@ -86,54 +79,36 @@ fn obey<R: Read, S: Sources>(
 ) -> Result<Answer, RunFault>
     requires reading { IsReading (R.remaining (inner_of reader.old)) (ended_of read_buffer.old) (calls_of reader.old)
         turns }
-    ensures reading { IsReading (R.remaining (inner_of reader.new)) (ended_of read_buffer.new) (calls_of reader.new)
-        turns }
+    ensures reads { ReadsOn (R.remaining (inner_of reader.new)) read_buffer.old read_buffer.new reader.old reader.new
+        turns result }
     ensures obeyed { IfOk result (λ answer. (bytes : List ℕ) × (event : Event)
         × Advances (R.remaining (inner_of reader.old)) (held_of read_buffer.old) (R.remaining (inner_of reader.new))
         (held_of read_buffer.new) bytes
-        × ((rest : List ℕ) → IsLast (ended_of read_buffer.new) rest
-        → act daemon.old (said command.entry) event (bytes ++ rest) ≡ Some (turn_of answer daemon.new rest))
-        × (ended_of read_buffer.old ≡ true → (bytes ≡ []) × (ended_of read_buffer.new ≡ true))
+        × IsObeyed daemon.old daemon.new (said command.entry) bytes event (ended_of read_buffer.new) answer
+        × EndsNothing (ended_of read_buffer.old) (ended_of read_buffer.new) bytes
         × FetchStep S.step sources.old event.fetched sources.new) }
     ensures err { OnErr result ((bytes : List ℕ)
         × Advances (R.remaining (inner_of reader.old)) (held_of read_buffer.old) (R.remaining (inner_of reader.new))
         (held_of read_buffer.new) bytes
         × (length bytes < bytes_after (said command.entry))) }
-    ensures begun { OnErr result (ended_of read_buffer.old ≡ false) }
-    ensures empty { OnErr result (held_of read_buffer.new ≡ []) }
-    ensures stopped { OnErr result (ended_of read_buffer.new ≡ false) }
     ensures untouched { OnErr result (sources.new ≡ sources.old) }
-    ensures work { OnOk result
-        (work_left (ended_of read_buffer.new) (length (held_of read_buffer.new)) (calls_of reader.new) turns
-        ≤ work_left (ended_of read_buffer.old) (length (held_of read_buffer.old)) (calls_of reader.old) turns) }
-    ensures sound { OnOk result (IsSound reader.old reader.new) }
-    ensures fault { IfErr result (λ e. ComesOfReading e reader.old reader.new turns) }
-    ensures buffers { GivesRoom reader.old reader.new }
 {
     match command {
         Command::Add { path, size } => {
-            keep_file(
-                alloc,
-                reader,
-                read_buffer,
-                daemon,
-                Keep::Add,
+            let file = AnnouncedFile {
+                keep: Keep::Add,
                 path,
                 size,
-                turns,
-            )
+            };
+            keep_file(alloc, reader, read_buffer, daemon, file, turns)
         }
         Command::Change { path, size } => {
-            keep_file(
-                alloc,
-                reader,
-                read_buffer,
-                daemon,
-                Keep::Change,
+            let file = AnnouncedFile {
+                keep: Keep::Change,
                 path,
                 size,
-                turns,
-            )
+            };
+            keep_file(alloc, reader, read_buffer, daemon, file, turns)
         }
         Command::Update { path } => Ok(short_answer(daemon.update(sources, path))),
         Command::Remove { path } => Ok(short_answer(daemon.remove(path))),
@@ -169,63 +144,61 @@ fn check(daemon: &mut Daemon) -> Answer
     }
 }
 
+/// A file that a command announces: its path, how many bytes of the input are its text, and whether it is a new one.
+#[derive(Clone, Copy)]
+struct AnnouncedFile<'a> {
+    keep: Keep,
+    path: &'a [u8],
+    size: usize,
+}
+
 /// Does `add` or `change`: the next bytes are the file's, also where it is refused.
 fn keep_file<R: Read>(
     alloc: Global,
     reader: &mut Counted<R>,
     read_buffer: &mut ReadBuffer,
     daemon: &mut Daemon,
-    keep: Keep,
-    path: &[u8],
-    size: usize,
+    file: AnnouncedFile<'_>,
     turns: u64,
 ) -> Result<Answer, RunFault>
     requires reading { IsReading (R.remaining (inner_of reader.old)) (ended_of read_buffer.old) (calls_of reader.old)
         turns }
-    ensures reading { IsReading (R.remaining (inner_of reader.new)) (ended_of read_buffer.new) (calls_of reader.new)
-        turns }
+    ensures reads { ReadsOn (R.remaining (inner_of reader.new)) read_buffer.old read_buffer.new reader.old reader.new
+        turns result }
     ensures kept { IfOk result (λ answer. (bytes : List ℕ) × (mark : Bool)
         × Advances (R.remaining (inner_of reader.old)) (held_of read_buffer.old) (R.remaining (inner_of reader.new))
         (held_of read_buffer.new) bytes
         × ((rest : List ℕ) → IsLast (ended_of read_buffer.new) rest
-        → file_turn keep daemon.old path.now size mark (bytes ++ rest) ≡ turn_of answer daemon.new rest)
-        × (ended_of read_buffer.old ≡ true → (bytes ≡ []) × (ended_of read_buffer.new ≡ true))) }
+        → file_turn file.entry.keep daemon.old file.entry.path.now file.entry.size mark (bytes ++ rest)
+        ≡ turn_of answer daemon.new rest)
+        × EndsNothing (ended_of read_buffer.old) (ended_of read_buffer.new) bytes) }
     ensures err { OnErr result ((bytes : List ℕ)
         × Advances (R.remaining (inner_of reader.old)) (held_of read_buffer.old) (R.remaining (inner_of reader.new))
         (held_of read_buffer.new) bytes
-        × (length bytes < size)) }
-    ensures begun { OnErr result (ended_of read_buffer.old ≡ false) }
-    ensures empty { OnErr result (held_of read_buffer.new ≡ []) }
-    ensures stopped { OnErr result (ended_of read_buffer.new ≡ false) }
-    ensures work { OnOk result
-        (work_left (ended_of read_buffer.new) (length (held_of read_buffer.new)) (calls_of reader.new) turns
-        ≤ work_left (ended_of read_buffer.old) (length (held_of read_buffer.old)) (calls_of reader.old) turns) }
-    ensures sound { OnOk result (IsSound reader.old reader.new) }
-    ensures fault { IfErr result (λ e. ComesOfReading e reader.old reader.new turns) }
-    ensures buffers { GivesRoom reader.old reader.new }
+        × (length bytes < file.entry.size)) }
 {
-    let refusal = daemon.early_refusal(keep, path, size);
-    let body = read_body(alloc, reader, read_buffer, size, refusal.is_none(), turns)?;
-    Ok(answer_body(daemon, keep, path, size, refusal, body))
+    let refusal = daemon.early_refusal(file.keep, file.path, file.size);
+    let wanted = refusal.is_none();
+    let body = read_body(alloc, reader, read_buffer, file.size, wanted, turns)?;
+    Ok(answer_body(daemon, file, refusal, body))
 }
 
 /// The answer to a command whose bytes came, or did not.
 fn answer_body(
     daemon: &mut Daemon,
-    keep: Keep,
-    path: &[u8],
-    size: usize,
+    file: AnnouncedFile<'_>,
     refusal: Option<Refusal>,
     body: Body,
 ) -> Answer
-    requires refusal { refusal ≡ early_refusal keep daemon.old.present path.now size }
-    requires whole { IsWanted body size refusal }
+    requires refusal { refusal ≡ early_refusal file.keep daemon.old.present file.path.now file.size }
+    requires whole { IsWanted body file.size refusal }
     ensures { (mark : Bool) × ((bytes : List ℕ) (wanted ended : Bool) (rest : List ℕ)
-        → CameAs body bytes size wanted ended → IsLast ended rest
-        → file_turn keep daemon.old path.now size mark (bytes ++ rest) ≡ turn_of result daemon.new rest) }
+        → CameAs body bytes file.entry.size wanted ended → IsLast ended rest
+        → file_turn file.entry.keep daemon.old file.entry.path.now file.entry.size mark (bytes ++ rest)
+        ≡ turn_of result daemon.new rest) }
 {
     match body {
-        Body::Whole(bytes) => match daemon.keep(keep, path, bytes) {
+        Body::Whole(bytes) => match daemon.keep(file.keep, file.path, bytes) {
             Ok(()) => Answer::line("ok\n"),
             Err(why) => Answer::line(why.text()),
         },

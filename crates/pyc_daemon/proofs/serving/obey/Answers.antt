@@ -1,6 +1,6 @@
 use Rattle.std.proofs.Common.{false, None, Some, [], refl, sym, ap, ◌∙◌, option_map}
 use Rattle.pyc_session.specs.Session.{reported}
-use Rattle.pyc_daemon.proofs.Moving.{advances_none}
+use Rattle.pyc_daemon.proofs.Moving.{advances_none, reads_nothing}
 use Rattle.pyc_session.proofs.Turns.{reported_remove, if_ok}
 use Rattle.pyc_daemon.proofs.Ended.{status_reported}
 use Rattle.pyc_daemon.proofs.serving.obey.Goals as goal
@@ -45,3 +45,24 @@ pub returns-in-Change-clause-obeyed : goal.returns-in-Change-clause-obeyed
 returns-in-Change-clause-obeyed g c =
     if_ok c.keep_file-in-Change.result _ _ (λ answer kept. (kept.0, record { wants_memory = kept.1; fetched = None }, kept.2, λ rest last. rw c.in-Change.is (ap Some (kept.3 rest last)), kept.4, refl))
     c.keep_file-in-Change.ensures.kept
+
+pub returns-in-Check-clause-reads : goal.returns-in-Check-clause-reads
+returns-in-Check-clause-reads g c = reads_nothing _ _ _ _ _ c.requires.reading
+
+pub returns-in-Status-clause-reads : goal.returns-in-Status-clause-reads
+returns-in-Status-clause-reads g c = reads_nothing _ _ _ _ _ c.requires.reading
+
+pub returns-in-Update-clause-reads : goal.returns-in-Update-clause-reads
+returns-in-Update-clause-reads g c = reads_nothing _ _ _ _ _ c.requires.reading
+
+pub returns-in-Remove-clause-reads : goal.returns-in-Remove-clause-reads
+returns-in-Remove-clause-reads g c = reads_nothing _ _ _ _ _ c.requires.reading
+
+pub returns-in-Stop-clause-reads : goal.returns-in-Stop-clause-reads
+returns-in-Stop-clause-reads g c = reads_nothing _ _ _ _ _ c.requires.reading
+
+pub returns-in-Endless-clause-reads : goal.returns-in-Endless-clause-reads
+returns-in-Endless-clause-reads g c = reads_nothing _ _ _ _ _ c.requires.reading
+
+pub returns-in-Unknown-clause-reads : goal.returns-in-Unknown-clause-reads
+returns-in-Unknown-clause-reads g c = reads_nothing _ _ _ _ _ c.requires.reading

@@ -1,4 +1,4 @@
-use Rattle.std.proofs.Common.{refl, ◌++◌, ◌∷◌, [], if◌then◌else◌, sym, ◌∙◌, false, None}
+use Rattle.std.proofs.Common.{refl, ◌++◌, ◌∷◌, [], if◌then◌else◌, sym, ◌∙◌, false, None, arith, rules}
 use Rattle.std.proofs.lemmas.Result.{err_from_is_err_and}
 use Rattle.pyc_daemon.proofs.Moving.{advances_trans, sound_trans, fault_after}
 use Rattle.pyc_session.proofs.Turns.{no_line}
@@ -19,17 +19,63 @@ returns-in_err-answer-clause-err g c =
     rw p.1 (
       (line.0 ++ (if c.in_ok-fed.fed then 10 ∷ [] else [])) ++ more.0,
       advances_trans _ _ _ _ _ _ _ _ line.1 more.1,
-      less_than_command line.0 _ more.0 c.in_ok-fed.fed _ line.2 line.3 c.in_ok-fed.ensures.last c.in_err-answer.ensures.begun
+      less_than_command line.0 _ more.0 c.in_ok-fed.fed _ line.2 line.3 c.in_ok-fed.ensures.last c.in_err-answer.ensures.reads.unended.0
           (rw (c.parse-command.ensures, c.command_line.ensures, c.deref-2.ensures.value) at more.2),
     )
 
-pub returns-in_err-answer-clause-fault : goal.returns-in_err-answer-clause-fault
-returns-in_err-answer-clause-fault g c =
-    let p = err_from_is_err_and c.from_residual-in_err-answer.result c.from_residual-in_err-answer.ensures.1 in
-    rw (p.1, p.2) (fault_after _ _ _ _ _ c.in_ok-fed.ensures.sound c.in_err-answer.ensures.fault)
+pub returns-in_err-fed-clause-reads : goal.returns-in_err-fed-clause-reads
+returns-in_err-fed-clause-reads g c =
+    let p = err_from_is_err_and c.from_residual.result c.from_residual.ensures.1 in
+    rw (p.1, p.2) (record {
+      reading = search rules;
+      buffers = search rules;
+      work = tt;
+      sound = tt;
+      fault = c.in_err-fed.ensures.fault;
+      unended = (c.requires.open, c.in_err-fed.ensures.open);
+      empty = c.in_err-fed.ensures.empty;
+    })
 
-pub returns-clause-sound : goal.returns-clause-sound
-returns-clause-sound g c = sound_trans _ _ _ c.in_ok-fed.ensures.sound c.in_ok-answer.ensures.sound
+pub returns-in_err-answer-clause-reads : goal.returns-in_err-answer-clause-reads
+returns-in_err-answer-clause-reads g c =
+    let after = c.in_err-answer.ensures.reads in
+    let p = err_from_is_err_and c.from_residual-in_err-answer.result c.from_residual-in_err-answer.ensures.1 in
+    rw (p.1, p.2) (record {
+      reading = after.reading;
+      buffers = after.buffers ∙ c.in_ok-fed.ensures.buffers;
+      work = tt;
+      sound = tt;
+      fault = fault_after _ _ _ _ _ c.in_ok-fed.ensures.sound after.fault;
+      unended = (c.requires.open, after.unended.1);
+      empty = after.empty;
+    })
+
+pub returns-clause-reads : goal.returns-clause-reads
+returns-clause-reads g c =
+    let after = c.in_ok-answer.ensures.reads in
+    record {
+      reading = after.reading;
+      buffers = after.buffers ∙ c.in_ok-fed.ensures.buffers;
+      work = omega (arith, c.in_ok-fed.ensures.work, after.work);
+      sound = sound_trans _ _ _ c.in_ok-fed.ensures.sound after.sound;
+      fault = tt;
+      unended = tt;
+      empty = tt;
+    }
+
+pub returns-then-is_end-clause-reads : goal.returns-then-is_end-clause-reads
+returns-then-is_end-clause-reads g c = record {
+  reading = search rules;
+  buffers = search rules;
+  work = omega (arith, c.in_ok-fed.ensures.work);
+  sound = c.in_ok-fed.ensures.sound;
+  fault = tt;
+  unended = tt;
+  empty = tt;
+}
+
+pub returns-clause-work : goal.returns-clause-work
+returns-clause-work g c = omega (arith, c.in_ok-fed.ensures.work, c.in_ok-answer.ensures.reads.work)
 
 pub returns-clause-served : goal.returns-clause-served
 returns-clause-served g c =
