@@ -10,7 +10,7 @@ interface is compared; gives one of them a name more and checks again, so that a
 reports the same, and the last nothing.
 
 With `--all` those inputs are run as well that take more stack yet: nearly the highest trees in strings in annotations, inside
-one another, and dictionaries in as many blocks. Each input is one judgement. With `--least` nothing is judged: the smallest stack is printed, in steps of 16 KiB,
+one another. Each input is one judgement. With `--least` nothing is judged: the smallest stack is printed, in steps of 16 KiB,
 under which the program answers so. Ends with the line `deep inputs: P passed, F failed`, and with status 0 or 1.
 """
 

@@ -290,9 +290,6 @@ INSIDE = {
     "comparisons": shared("1 < ", "(", ")", WRONG_SUM, most=NESTED),
 }
 
-# these take a little more stack yet than there is
-DEEPER = "dictionaries"
-
 
 def in_blocks(kind, inner, count, first=0):
     """A line in so many blocks of a kind, the outermost with an indent of so many spaces."""
@@ -332,10 +329,9 @@ IN_BLOCKS = [
     *(blocks(kind) for kind in BLOCKS),
     marked("blocks: class", "".join(f"{' ' * at}class C:\n" for at in range(NESTED)) + " " * NESTED + "pass\n"),
     marked("blocks: def", "".join(f"{' ' * at}def f() -> None:\n" for at in range(NESTED)) + " " * NESTED + "pass\n"),
-    *(expression_in_blocks(kind, inside) for kind in BLOCKS for inside in INSIDE if inside != DEEPER),
-    *(condition_in_blocks(inside) for inside in INSIDE if inside != DEEPER),
+    *(expression_in_blocks(kind, inside) for kind in BLOCKS for inside in INSIDE),
+    *(condition_in_blocks(inside) for inside in INSIDE),
 ]
-DEEPER_IN_BLOCKS = [*(expression_in_blocks(kind, DEEPER) for kind in BLOCKS), condition_in_blocks(DEEPER)]
 
 # ---- types of as many types as there may be
 
@@ -582,4 +578,4 @@ ROWS = [
 
 DEEPEST = [*HIGH_TREES, *ANNOTATIONS, *IN_BLOCKS, *LARGE_TYPES, *MANY_CLASSES, *MANY_MODULES, *MANY_PARAMETERS, *ROWS]
 # these take more stack yet: a tree in a string is read and lowered below the tree around it, up to five high trees in one
-LATER = [*HIGH_STRINGS, *DEEPER_IN_BLOCKS]
+LATER = HIGH_STRINGS
