@@ -30,11 +30,12 @@ class Run(NamedTuple):
 
 
 class Program:
-    """The built program. `files` is the folder in which it runs."""
+    """The built program, or another. `files` is the folder in which it runs."""
 
-    def __init__(self, folder):
-        if not PROGRAM.is_file():
-            raise Stop(f"{PROGRAM} is not built: run `rt ci` first")
+    def __init__(self, folder, program=PROGRAM):
+        if not program.is_file():
+            raise Stop(f"{program} is not built: run `rt ci` first")
+        self.program = program
         self.note = folder / "note"
         self.log = folder / "log"
         self.files = folder / "files"
@@ -66,9 +67,9 @@ class Program:
             stdin.write(given)
             stdin.seek(0)
             try:
-                done = subprocess.run([PROGRAM, *words], stdin=stdin, check=False, **how)
+                done = subprocess.run([self.program, *words], stdin=stdin, check=False, **how)
             except (OSError, subprocess.TimeoutExpired) as error:
-                raise Stop(f"{PROGRAM.name}: {error}") from error
+                raise Stop(f"{self.program.name}: {error}") from error
             # the program and this script share the place in the file
             count = os.lseek(stdin.fileno(), 0, os.SEEK_CUR)
         return Run(done.stdout, done.stderr, done.returncode, count, self.note.exists())
