@@ -298,6 +298,7 @@ module _ {S : Type 0} (step : S → List ℕ → Entry → S → Type 0) (option
           before = record { text = g.written; state = s; rest = bytes ++ (held'' ++ rest) };
           last = turn_of answer s' (held'' ++ rest);
           later = part.later;
+          is_left = part.is_left;
           replied = ap (λ input. progress (start options) input g.events) (input_is rest) ∙ before_next (bytes ++ (held'' ++ rest));
           text = refl;
           turn = last_turned (held'' ++ rest) (last_held ended' held'' rest none last);
