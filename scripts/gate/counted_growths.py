@@ -10,7 +10,8 @@ parameters of a function whose answer is known. The two counts differ by at most
 doubling. So a check fails that examines a unit beside those that it counts, forms an answer that it has, keeps none, or
 builds a world that it has.
 
-A check lets the paths go that were put before it: as many files as were put then cost less after it than without it.
+A unit is examined once: a line more of it costs what a line costs, and not twice that. A check lets the paths go that were
+put before it: as many files as were put then cost less after it than without it.
 
 With `--all` those are judged as well that do not hold yet, LATER below. Each comparison is one judgement. Ends with the line
 `counted growths: P passed, F failed`, and with status 0 or 1.
@@ -30,6 +31,8 @@ FEW, MANY = 1, 40
 MOST = 8
 # for each unchanged file the name of its module is copied
 MOST_WITH_FILES = MOST + 2 * (MANY - FEW)
+# a line that names a variable takes one growth where it is examined, and would take two where it were examined twice
+MOST_EXAMINED = MOST + 3 * (MANY - FEW) // 2
 BATCH = 50
 CHECK = b"check\n"
 
@@ -103,6 +106,11 @@ def parameters(count):
     return checked({"c.py": f"def f({parts}) -> int: ...\n", "reader.py": READER + "    1\n"})
 
 
+def examined(count):
+    """A file that is given so many lines, each of which names a variable."""
+    return checked({}) + change("z.py", "k: int = 1\ndef f() -> None:\n" + "    k\n" * count)
+
+
 EDITS = {
     "no edit": b"",
     "another body": change("z.py", "k: int = 2\n"),
@@ -124,6 +132,7 @@ HOLDING = [
     *compared("unchanged files", files, BODIES, MOST_WITH_FILES),
     *compared("parameters of a function that is named", parameters, BODIES),
     Comparison("parameters of a function, another body that names it", parameters, READER_EDITED + CHECK),
+    Comparison("lines that are examined", examined, CHECK, MOST_EXAMINED),
 ]
 # after an edit of an interface answers are formed anew; a report is; the map of modules is copied at each check
 LATER = [

@@ -22,6 +22,7 @@ IN_A_METHOD = NESTED - 2
 IN_A_FUNCTION = NESTED - 1
 NO_SUM = 'Unsupported operand types for + ("int" and "str")  [operator]'
 NOT_ITERABLE = '"int" has no attribute "__iter__" (not iterable)  [attr-defined]'
+NO_TYPE = "Invalid type comment or annotation  [valid-type]"
 NO_TEXT = '""'
 WRONG_SUM = '1 + ""'
 MARK = "mark: str = 1\n"
@@ -207,6 +208,12 @@ def parameter(name, annotation, shown):
     return one_file(name, f"{HEAD}def f(a: {annotation}) -> None:\n    x: bytes = a\n", (4, mismatch(shown, "bytes")))
 
 
+def no_type(name, opening, closing, height=1):
+    """An annotation that is no type, in brackets with conditionals."""
+    part = lambda inner: shared("1 if y else ", opening, closing, inner, height, HIGHEST - 4)
+    return one_file(name, f"y: bool = True\nz: {quoted(part, 'int')} = 1\n", (2, NO_TYPE))
+
+
 def two_parameters(name, first, second, shown, wanted):
     """Two parameters of which the second is assigned to the first, whose type is another at the innermost place."""
     return one_file(name, f"{HEAD}def f(a: {first}, b: {second}) -> None:\n    a = b\n", (4, mismatch(shown, wanted)))
@@ -246,6 +253,9 @@ HIGH_STRINGS = [
     parameter("unions in strings", quoted(union_of, "str"), "str | int"),
     parameter("unions of lists in strings", quoted(lists_or_ints_around, "str"), SHOWN_LISTS_OR_INTS),
     parameter("subscripts in strings", quoted(subscripts_around, "int"), "A"),
+    no_type("dictionaries in strings", "{1: ", "}"),
+    no_type("lists in strings that are no types", "[", "]"),
+    no_type("calls in strings", "f(", ")", height=2),
 ]
 
 # ---- blocks in blocks, and expressions in them
@@ -567,5 +577,5 @@ ROWS = [
 ]
 
 DEEPEST = [*HIGH_TREES, *ANNOTATIONS, *IN_BLOCKS, *LARGE_TYPES, *MANY_CLASSES, *MANY_MODULES, *MANY_PARAMETERS, *ROWS]
-# these take more stack: a tree in a string is read and lowered below the tree around it, up to five high trees in one
+# these take more stack yet: a tree in a string is read and lowered below the tree around it, up to five high trees in one
 LATER = HIGH_STRINGS

@@ -15,6 +15,7 @@ use Rattle.pyc_obligations.specs.Asking.{ask_member, is_unknown_class}
 use Rattle.pyc_reading.specs.Answers.{MemberAnswer}
 use Rattle.pyc_reading.specs.Traces.{Step}
 use Rattle.pyc_reading.specs.Readings.{Done, Report, and_then, ◌>>=◌}
+use Rattle.pyc_report.specs.Message.{Diagnostic}
 use Rattle.pyc_type_forms.specs.Instances.{instance_of}
 use Rattle.pyc_type_forms.specs.Text.{text_of}
 use Rattle.pyc_type_forms.specs.Types.{Ty, Tys, Params, any, instance, class_object}
@@ -23,9 +24,13 @@ use Rattle.pyc_type_forms.specs.Unions.{union_of}
 
 -- ---- what cannot be called
 
--- it is reported that a value of a type cannot be called, and the call is Any
+-- a call of which this is reported is Any
+abbrev pub report_call_error : Diagnostic → Step Ty
+report_call_error reported = Report reported (Done any)
+
+-- it is reported that a value of a type cannot be called
 unfoldable pub not_callable : Call → Ty → Step Ty
-not_callable call ty = Report (message.not_callable call.at (text_of ty)) (Done any)
+not_callable call ty = report_call_error (message.not_callable call.at (text_of ty))
 
 -- ---- what needs no further call
 

@@ -243,4 +243,4 @@ write_fault a b c sound (at_empty faults zeros) = at_empty (faults ∙ sound.fau
 pub reads_nothing : {R T : Type 0} (left : Option (List ℕ)) (buffer : ReadBuffer) (reader : Counted R) (turns : ℕ) (answer : T) → IsReading left (ended_of buffer) (calls_of reader) turns
     → ReadsOn left buffer buffer reader reader turns (Ok answer)
 reads_nothing left buffer reader turns answer reading =
-    record { reading = reading; buffers = refl; work = arith; sound = sound_none reader; fault = tt; unended = tt; empty = tt }
+    record { reading = reading; buffers = refl; work = omega arith; sound = sound_none reader; fault = tt; unended = tt; empty = tt }

@@ -1,1 +1,2 @@
+pub mod FileReports
 pub mod Reports

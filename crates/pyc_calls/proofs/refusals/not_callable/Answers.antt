@@ -11,10 +11,6 @@ pub returns-in_err-got : goal.returns-in_err-got
 unfolding not_callable
 returns-in_err-got g c = first_of (grind (arith, performing), search rules)
 
-pub returns-in_err-report_error : goal.returns-in_err-report_error
-unfolding not_callable
-returns-in_err-report_error g c = first_of (grind (arith, performing), search rules)
-
 pub returns-in_err-text : goal.returns-in_err-text
 unfolding not_callable
 returns-in_err-text g c = first_of (grind (arith, performing), search rules)
