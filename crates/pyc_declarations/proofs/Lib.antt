@@ -1,4 +1,1 @@
 pub mod ReadLemmas
-pub mod CarriedLemmas
-pub mod CarryLemmas
-pub mod EntryLemmas

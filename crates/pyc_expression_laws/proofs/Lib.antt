@@ -1,6 +1,5 @@
 pub mod AskedLemmas
 pub mod NameLemmas
-pub mod OutsideLemmas
 pub mod AttributeLemmas
 pub mod ObligationLemmas
 pub mod ItemLemmas

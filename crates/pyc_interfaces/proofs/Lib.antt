@@ -5,4 +5,3 @@ pub mod NameLemmas
 pub mod WorldLemmas
 pub mod SameRows
 pub mod SameLemmas
-pub mod LookLemmas

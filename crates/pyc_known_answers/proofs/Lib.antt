@@ -2,4 +2,3 @@ pub mod SlotLemmas
 pub mod KnownLemmas
 pub mod EqualityLemmas
 pub mod KeyChangeLemmas
-pub mod CarryLemmas

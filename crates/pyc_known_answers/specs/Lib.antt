@@ -5,4 +5,3 @@ pub mod WorldView
 pub mod SameAnswers
 pub mod Changes
 pub mod ChangedKeysView
-pub mod CarryLaws

@@ -1,5 +1,4 @@
 pub mod OwingLemmas
 pub mod ReadingLemmas
 pub mod RunLemmas
-pub mod Steps
 pub mod ListingLemmas

@@ -3,6 +3,7 @@
 
 mod definitions;
 mod header;
+mod header_texts;
 mod unit;
 mod unit_reader;
 mod units;
