@@ -20,7 +20,7 @@ use crate::kinds::{Found, Kinds, unknown_order};
 use pyc_annotations::{Annotation, read_annotation};
 use pyc_ast::{Expr, FunctionDefinition};
 use pyc_bindings::BindingForm;
-use pyc_names::{Interface, QualifiedName, Table};
+use pyc_names::{Interface, Looks, QualifiedName, Table};
 use pyc_reading::{Answer, Key, NameAnswer, NameKind};
 use pyc_signatures::read_function;
 use pyc_types::Ty;
@@ -40,9 +40,14 @@ impl Answers for Declarations<'_> {
     ghost answers = { λ d. declared_answer (declarations_in d) };
 
     fn answer(&self, alloc: Global, key: &Key) -> Result<Answer, AllocError> {
+        let mut looks = Looks::new(alloc);
         match key {
-            Key::HasModule(name) => Ok(Answer::Presence(self.kinds.module_presence(name))),
-            Key::HasName(name) => Ok(Answer::Presence(self.kinds.name_presence(alloc, name)?)),
+            Key::HasModule(name) => {
+                Ok(Answer::Presence(self.kinds.module_presence(name, &mut looks)?))
+            }
+            Key::HasName(name) => {
+                Ok(Answer::Presence(self.kinds.name_presence(alloc, name, &mut looks)?))
+            }
             Key::Name(name) => Ok(Answer::Name(self.name_answer(alloc, name)?)),
             Key::Class(_) => Ok(Answer::Mro(unknown_order(alloc))),
             Key::Member(_) => Ok(Answer::Member(None)),
@@ -74,7 +79,8 @@ impl<'a> Declarations<'a> {
         ensures { IfOk result (λ found. name_answer_of found
             ≡ spec.name_answer (declarations_in self.now) (qualified_of q.now)) }
     {
-        match self.kinds.found_name(alloc, q)? {
+        let mut looks = Looks::new(alloc);
+        match self.kinds.found_name(alloc, q, &mut looks)? {
             Found::Declared(file, form) => self.form_answer(alloc, file, form),
             Found::Answered(found) => Ok(found),
         }
@@ -90,19 +96,22 @@ impl<'a> Declarations<'a> {
         ensures { IfOk result (λ found. name_answer_of found
             ≡ spec.form_answer (declarations_in self.now) (interface_in file.now) (binding_form_of form.now)) }
     {
+        let mut looks = Looks::new(alloc);
         match form {
             BindingForm::Function(head) => Ok(NameAnswer {
                 kind: NameKind::Function,
                 ty: self.declared_function(alloc, file, Ty::Any, head)?,
             }),
             BindingForm::Annotated(found) => {
-                let is_alias = self.kinds.is_alias(alloc, file, &found.annotation)?;
+                let is_alias = self
+                    .kinds
+                    .is_alias(alloc, file, &found.annotation, &mut looks)?;
                 Ok(NameAnswer {
                     kind: variable_kind(is_alias),
                     ty: self.annotated_type(alloc, file, &found.annotation)?,
                 })
             }
-            _ => self.kinds.form_kind(alloc, file, form),
+            _ => self.kinds.form_kind(alloc, file, form, &mut looks),
         }
     }
 

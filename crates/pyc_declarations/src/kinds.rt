@@ -1,14 +1,17 @@
 //! What names stand for before annotations are read.
 
-ghost use Rattle.std.specs.Prelude.{◌≡◌, IfOk, option_map};
+ghost use Rattle.std.specs.Prelude.{◌≡◌, ◌++◌, map, IfOk, option_map};
 ghost use Rattle.pyc_ast.specs.ExprView.{expr_of};
 ghost use Rattle.pyc_bindings.specs.BindingView.{binding_of, binding_form_of};
 ghost use Rattle.pyc_class_ids.specs.Class.{user};
 ghost use Rattle.pyc_declarations.specs.Kinds as spec;
 ghost use Rattle.pyc_declarations.specs.KindsView.{found_in};
+ghost use Rattle.pyc_declarations.specs.Looks as look;
 ghost use Rattle.pyc_names.specs.FixedModules.{fixed_module as fixed_module_of};
 ghost use Rattle.pyc_names.specs.FollowingView.{qualified_of, referent_of};
 ghost use Rattle.pyc_names.specs.InterfaceView.{interface_in};
+ghost use Rattle.pyc_names.specs.LookNumbers.{number_of};
+ghost use Rattle.pyc_names.specs.Looks.{follow_looks};
 ghost use Rattle.pyc_class_table.specs.ClassMros.{undeclared};
 ghost use Rattle.pyc_reading.specs.AnswerView.{answer_in, class_order_of, kind_of, name_answer_of};
 ghost use Rattle.pyc_reading.specs.KeyView.{key_of};
@@ -20,7 +23,8 @@ use pyc_ast::{ClassDefinition, Text};
 use pyc_bindings::{Binding, BindingForm, is_decorated};
 use pyc_class_ids::{ClassId, UnknownMro};
 use pyc_names::{
-    FixedName, Interface, ModuleName, QualifiedName, Referent, Table, fixed_module, fixed_name,
+    FixedName, Interface, Looks, ModuleName, QualifiedName, Referent, Table, fixed_module,
+    fixed_name,
 };
 use pyc_reading::{Answer, Key, MroAnswer, NameAnswer, NameKind};
 use pyc_types::Ty;
@@ -49,26 +53,49 @@ impl Answers for Kinds<'_> {
     ghost answers = { λ kinds. kind_answer (kinds_in kinds) };
 
     fn answer(&self, alloc: Global, key: &Key) -> Result<Answer, AllocError> {
-        match key {
-            Key::HasModule(name) => Ok(Answer::Presence(self.module_presence(name))),
-            Key::HasName(name) => Ok(Answer::Presence(self.name_presence(alloc, name)?)),
-            Key::Name(name) => Ok(Answer::Name(self.name_kind(alloc, name)?)),
-            Key::Class(_) => Ok(Answer::Mro(unknown_order(alloc))),
-            Key::Member(_) => Ok(Answer::Member(None)),
-        }
+        let mut looks = Looks::new(alloc);
+        self.answer_noted(alloc, key, &mut looks)
     }
 }
 
 impl<'a> Kinds<'a> {
     ghost use Rattle.pyc_declarations.specs.KindsView.{kinds_in};
 
-    /// What a name stands for, by its kind alone.
-    fn name_kind(&self, alloc: Global, q: &QualifiedName) -> Result<NameAnswer, AllocError>
-        ensures { IfOk result (λ found. name_answer_of found
-            ≡ spec.name_kind (kinds_in self.now) (qualified_of q.now)) }
+    /// The answer to a key by kinds alone; what is looked at for it is noted.
+    fn answer_noted(
+        &self,
+        alloc: Global,
+        key: &Key,
+        looks: &mut Looks,
+    ) -> Result<Answer, AllocError>
+        ensures answer { IfOk result (λ answer. answer_in answer
+            ≡ spec.kind_answer (kinds_in self.now) (key_of key.now)) }
+        ensures looks { IfOk result (λ answer. looks.new
+            ≡ looks.old ++ map number_of (look.kind_looks (kinds_in self.now) (key_of key.now))) }
     {
-        match self.found_name(alloc, q)? {
-            Found::Declared(file, form) => self.form_kind(alloc, file, form),
+        match key {
+            Key::HasModule(name) => Ok(Answer::Presence(self.module_presence(name, looks)?)),
+            Key::HasName(name) => Ok(Answer::Presence(self.name_presence(alloc, name, looks)?)),
+            Key::Name(name) => Ok(Answer::Name(self.name_kind(alloc, name, looks)?)),
+            Key::Class(_) => Ok(Answer::Mro(unknown_order(alloc))),
+            Key::Member(_) => Ok(Answer::Member(None)),
+        }
+    }
+
+    /// What a name stands for, by its kind alone.
+    fn name_kind(
+        &self,
+        alloc: Global,
+        q: &QualifiedName,
+        looks: &mut Looks,
+    ) -> Result<NameAnswer, AllocError>
+        ensures found { IfOk result (λ found. name_answer_of found
+            ≡ spec.name_kind (kinds_in self.now) (qualified_of q.now)) }
+        ensures looks { IfOk result (λ found. looks.new
+            ≡ looks.old ++ map number_of (look.name_kind_looks (kinds_in self.now) (qualified_of q.now))) }
+    {
+        match self.found_name(alloc, q, looks)? {
+            Found::Declared(file, form) => self.form_kind(alloc, file, form, looks),
             Found::Answered(found) => Ok(found),
         }
     }
@@ -79,10 +106,14 @@ impl<'a> Kinds<'a> {
         &self,
         alloc: Global,
         q: &QualifiedName,
+        looks: &mut Looks,
     ) -> Result<Found<'a>, AllocError>
-        ensures { IfOk result (λ found. found_in found ≡ spec.found_name (kinds_in self.now) (qualified_of q.now)) }
+        ensures found { IfOk result (λ found. found_in found
+            ≡ spec.found_name (kinds_in self.now) (qualified_of q.now)) }
+        ensures looks { IfOk result (λ found. looks.new
+            ≡ looks.old ++ map number_of (follow_looks (kinds_in self.now) (qualified_of q.now))) }
     {
-        let found = self.table.follow(alloc, q)?;
+        let found = self.table.follow(alloc, q, looks)?;
         self.found_referent(alloc, q, found)
     }
 
@@ -127,15 +158,19 @@ impl<'a> Kinds<'a> {
         alloc: Global,
         file: &Interface,
         form: &BindingForm,
+        looks: &mut Looks,
     ) -> Result<NameAnswer, AllocError>
-        ensures { IfOk result (λ found. name_answer_of found
+        ensures found { IfOk result (λ found. name_answer_of found
             ≡ spec.form_kind (kinds_in self.now) (interface_in file.now) (binding_form_of form.now)) }
+        ensures looks { IfOk result (λ found. looks.new
+            ≡ looks.old ++ map number_of
+            (look.form_kind_looks (kinds_in self.now) (interface_in file.now) (binding_form_of form.now))) }
     {
         match form {
             BindingForm::Function(_) => Ok(of_kind(NameKind::Function)),
             BindingForm::Class(head) => class_kind(alloc, file, head),
             BindingForm::Annotated(found) => {
-                let is_alias = self.is_alias(alloc, file, &found.annotation)?;
+                let is_alias = self.is_alias(alloc, file, &found.annotation, looks)?;
                 Ok(of_kind(variable_kind(is_alias)))
             }
             BindingForm::Assigned(value) => Ok(NameAnswer {

@@ -1,11 +1,17 @@
-use Rattle.std.proofs.Common.{◌≡◌, drop}
+use Rattle.std.proofs.Common.{◌≡◌, ◌++◌, drop, map}
 use Rattle.pyc_declarations.specs.Kinds.{attributes_referent}
 use Rattle.pyc_declarations.specs.KindsView.{kinds_in}
+use Rattle.pyc_declarations.specs.Looks.{attributes_looks}
 use Rattle.pyc_names.specs.FollowingView.{referent_of}
+use Rattle.pyc_names.specs.LookNumbers.{number_of}
 use Rattle.pyc_declarations.proofs.kinds.Kinds.attributes_referent.Given as goal
 
--- the attributes that are left lead to the same
+-- the attributes that are left lead to the same, and what is noted, with what they look at, is the whole
 abbrev pub invariant-loop-name : goal.invariant-loop-name
 invariant-loop-name l =
-    attributes_referent (kinds_in l.self) (referent_of l.end) (drop l.name-index l.names)
-    ≡ attributes_referent (kinds_in l.self) (referent_of l.fn.found) l.names
+    record {
+      rest : attributes_referent (kinds_in l.self) (referent_of l.end) (drop l.name-index l.names)
+          ≡ attributes_referent (kinds_in l.self) (referent_of l.fn.found) l.names;
+      noted : l.looks ++ map number_of (attributes_looks (kinds_in l.self) (referent_of l.end) (drop l.name-index l.names))
+          ≡ l.fn.looks ++ map number_of (attributes_looks (kinds_in l.self) (referent_of l.fn.found) l.names);
+    }

@@ -1,6 +1,6 @@
 use Rattle.std.proofs.Common.{arith, rules}
 use Rattle.std.proofs.lemmas.Grind.{common_steps}
-use Rattle.pyc_declarations.proofs.kinds.KindsAnswers.answer.Goals as goal
+use Rattle.pyc_declarations.proofs.kinds.Kinds.answer_noted.Goals as goal
 
 pub returns-in-Class : goal.returns-in-Class
 returns-in-Class c = first_of (grind (arith, common_steps), search rules)
