@@ -13,6 +13,7 @@ use Rattle.pyc_session.specs.declared.ending.RunFault.TheVariants as run_fault
 use Rattle.pyc_session.specs.declared.refusal.Refusal.{Refusal}
 use Rattle.pyc_session.specs.declared.refusal.Refusal.TheVariants as refusal
 use Rattle.pyc_workspace.specs.Fresh.{fresh}
+use Rattle.pyc_workspace.specs.Workspace.{taken}
 use Rattle.pyc_console.specs.declared.checking.CheckFault.{CheckFault}
 use Rattle.pyc_console.specs.declared.checking.CheckFault.TheVariants as check_fault
 use Rattle.pyc_console.specs.Lines.{Writes, fault_line, program_line, refusal_line}
@@ -58,7 +59,7 @@ is_any (file ∷ files) = true
 
 -- the report on the files that are accepted
 abbrev pub accepted_report : UpdatedFiles → Report
-accepted_report done = fresh done.state.options done.state.present
+accepted_report done = fresh done.state.options (taken done.state.present)
 
 -- the status of a report that was printed: 2 where a file is refused, else 0 where it is clean, and 1 where it is not
 abbrev pub report_status : Report → Bool → ℕ

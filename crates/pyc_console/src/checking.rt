@@ -6,6 +6,7 @@ ghost use Rattle.pyc_daemon.specs.Counted.{inner_of, faults_of, zeros_of, IsSoun
 ghost use Rattle.pyc_daemon.specs.Replies.{joined};
 ghost use Rattle.pyc_session.specs.Event.{Event, FetchStep};
 ghost use Rattle.pyc_workspace.specs.Fresh.{fresh};
+ghost use Rattle.pyc_workspace.specs.Workspace.{taken};
 ghost use Rattle.pyc_console.specs.CheckFiles.{Checks, Prints, check_fault_line, end_line, exit_status, outside};
 ghost use Rattle.pyc_console.specs.Lines.{program_line};
 ghost use Rattle.pyc_console.specs.Updates.{UpdatesAll, UpdatesOne, WritesOn, has_failed};
@@ -124,7 +125,7 @@ fn print_report<O: Write>(
     out: &mut Counted<O>,
     refused: bool,
 ) -> Result<u8, CheckFault>
-    ensures prints { Prints result (fresh daemon.old.options daemon.old.present) refused out.old out.new
+    ensures prints { Prints result (fresh daemon.old.options (taken daemon.old.present)) refused out.old out.new
         (O.contents (inner_of out.old)) (O.contents (inner_of out.new)) }
     ensures buffers { GivesRoom out.old out.new }
 {

@@ -14,7 +14,7 @@ ghost use Rattle.pyc_reuse.specs.RevisionView.{revision_in};
 ghost use Rattle.pyc_session.specs.DaemonView.{revision_of};
 ghost use Rattle.pyc_session.specs.Session.{after_check, keeping, dropping, updated, refusal_in};
 ghost use Rattle.pyc_session.specs.State.{State, start};
-ghost use Rattle.pyc_workspace.specs.Workspace.{has_file};
+ghost use Rattle.pyc_workspace.specs.Workspace.{has_file, taken};
 
 use crate::keep::Keep;
 use crate::refusal::Refusal;
@@ -150,9 +150,9 @@ impl Daemon {
 
     /// Checks all files. Where memory is refused all is as before.
     pub fn check(&mut self) -> Result<Report, AllocError>
-        ensures fresh { IfOk result (λ report. report_in report ≡ fresh self.old.options self.old.present) }
+        ensures fresh { IfOk result (λ report. report_in report ≡ fresh self.old.options (taken self.old.present)) }
         ensures after { OnOk result (self.new ≡ after_check self.old) }
-        ensures exact { IfOk result (λ report. IsExact self.old.options self.old.last self.old.present
+        ensures exact { IfOk result (λ report. IsExact self.old.options self.old.last (taken self.old.present)
             (report_in report) self.new.examined) }
         ensures same { OnErr result (self.new ≡ self.old) }
     {
@@ -183,14 +183,15 @@ impl Daemon {
 
     /// A check of all files, after the last completed one if there was one. Where memory is refused all is as before.
     fn check_all_files(&mut self) -> Result<Report, AllocError>
-        ensures fresh { IfOk result (λ report. report_in report ≡ fresh self.old.options self.old.present) }
+        ensures fresh { IfOk result (λ report. report_in report ≡ fresh self.old.options (taken self.old.present)) }
         ensures after { OnOk result (self.new ≡ after_check self.old) }
-        ensures exact { IfOk result (λ report. IsExact self.old.options self.old.last self.old.present
+        ensures exact { IfOk result (λ report. IsExact self.old.options self.old.last (taken self.old.present)
             (report_in report) self.new.examined) }
         ensures same { OnErr result (self.new ≡ self.old) }
     {
+        let taken = self.present.taken(self.alloc)?;
         let last = last_or_nothing(self.alloc, self.options, self.last.take())?;
-        let (next, report) = check_again(self.alloc, last, &self.present, &self.touched);
+        let (next, report) = check_again(self.alloc, last, &taken, &self.touched);
         self.last = Some(next);
         report
     }
@@ -236,7 +237,7 @@ impl Daemon {
         let Ok(name) = ModuleName::of_path(self.alloc, path) else {
             return Err(Refusal::Memory);
         };
-        if let Some(why) = module_refusal(&self.present, keep, &name) {
+        if let Some(why) = module_refusal(&self.present, keep, path, &name) {
             return Err(why);
         }
         match self.put(path, name, bytes) {
@@ -317,13 +318,13 @@ fn remove_refusal(files: &Workspace, path: &[u8]) -> Option<Refusal>
 
 /// Why the module that its path names refuses a file that is kept so.
 #[tactic(auto, unfolding(crate::specs::Refusal::reasons))]
-fn module_refusal(files: &Workspace, keep: Keep, name: &ModuleName) -> Option<Refusal>
-    ensures { (path : List ℕ) (size : ℕ) → name.now ≡ module_of path
-        → result ≡ late_refusal keep files.now path size false }
+fn module_refusal(files: &Workspace, keep: Keep, path: &str, name: &ModuleName) -> Option<Refusal>
+    requires { name.now ≡ module_of path.now }
+    ensures { (size : ℕ) → result ≡ late_refusal keep files.now path.now size false }
 {
     if keep == Keep::Change {
         None
-    } else if files.names_module(name) {
+    } else if files.names_module(path, name) {
         Some(Refusal::Module)
     } else if files.len() >= MOST_FILES {
         Some(Refusal::Many)
