@@ -134,13 +134,11 @@ impl Kinds<'_> {
             ≡ spec.module_attribute (kinds_in self.now) module_path.now name.now) }
     {
         if is_looked_up(module_path, name) {
-            self.outside_referent(
-                alloc,
-                &QualifiedName {
-                    module_path: module_path.clone()?,
-                    name: name.clone()?,
-                },
-            )
+            let q = QualifiedName {
+                module_path: module_path.clone()?,
+                name: name.clone()?,
+            };
+            self.outside_referent(alloc, &q)
         } else {
             Ok(Referent::NoName)
         }

@@ -94,9 +94,9 @@ impl FunctionReader<'_> {
     ) -> Result<(), AllocError>
         ensures { Performs (λ u. u)
             (spec.body_if_checked (body_in self.now.outside)
-            (spec.is_checked (source_in self.now.outside.file.now).is_stub self.now.outside.options.check_untyped
-            (function_of head.now)) at (head_types_in types.now) (function_of head.now) (stmts (map stmt_of statements.now))) (N.trace recorder.old) result
-            (N.trace recorder.new) }
+            (spec.is_checked (body_in self.now.outside).file.is_stub self.now.outside.options.check_untyped
+            (function_of head.now)) at (head_types_in types.now) (function_of head.now)
+            (stmts (map stmt_of statements.now))) (N.trace recorder.old) result (N.trace recorder.new) }
     {
         let is_stub = self.outside.file.interface().is_stub();
         if !is_checked(is_stub, self.outside.options.check_untyped, head) {

@@ -163,8 +163,8 @@ impl ImportReader {
     }
 
     /// Reads one name of a from-import, which asks whether it is there and whether its module passes it on, and answers
-    /// the latter; the reader reports a name or a module that is not there, and a name that is hidden. The only error is
-    /// that memory runs out.
+    /// the latter. The reader reports a name or a module that is not there, and a name that is hidden. The only error
+    /// is that memory runs out.
     pub fn read_imported<N: Ask>(
         self,
         recorder: &mut N,
@@ -208,7 +208,8 @@ impl ImportReader {
             return Ok(Export::Open);
         }
         let name = name.clone()?;
-        self.read_own_name(recorder, shown, &QualifiedName { module_path, name })
+        let asked = QualifiedName { module_path, name };
+        self.read_own_name(recorder, shown, &asked)
     }
 
     /// Reads a name of a module that is no fixed one.

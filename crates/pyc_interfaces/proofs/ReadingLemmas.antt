@@ -5,7 +5,7 @@ use Rattle.pyc_annotations.specs.declared.meaning.Role.TheVariants as role
 use Rattle.pyc_annotations.specs.declared.type_form.TypeForm.{TypeForm}
 use Rattle.pyc_annotations.specs.declared.type_form.TypeForm.TheVariants as type_form
 use Rattle.pyc_annotations.specs.Annotations.{Annotation, annotation_of_type, not_a_type, invalid, wrong_count, attribute_meaning, attributes, dotted_meaning, bare_form, resolve_name, name_rule, Subscripted, form_subscripted, class_subscripted, any_subscripted, value_subscripted, wrong_subscripted, with_arguments, ShapeReading, ellipsis_read, list_read, other_read, ArgumentReading, more_types, argument_types, takes, build_form_type, built_rule, object_of, object_rule, class_object_rule, any_length_rule, pair_rule, tuple_rule, plain_callable, any_callable, listed_callable, callable_of, callable_rule, form_rule, subscripted_rule, subscript_rule, union_rule, read_type, argument_readings, argument_reading, shape_reading, type_readings}
-use Rattle.pyc_annotations.specs.Meanings.{Meaning, class_meant, any_meant, type_meant, fixed_meant, module_meant, variable_meant, function_meant, nothing_meant, report_undefined, no_attribute, found_builtin, unbound, own_meaning, binds, own_name, module_name_meaning, attribute_of_kind, answered_attribute, attribute_in_module, module_attribute}
+use Rattle.pyc_annotations.specs.Meanings.{Meaning, class_meant, any_meant, type_meant, fixed_meant, module_meant, variable_meant, function_meant, nothing_meant, report_undefined, no_attribute, found_builtin, unbound, own_meaning, binds, own_name, module_name_meaning, attribute_of_kind, attribute_in_module, module_attribute}
 use Rattle.pyc_ast.specs.declared.position.Position.{Position}
 use Rattle.pyc_builtins.specs.declared.names.BuiltinName.{BuiltinName}
 use Rattle.pyc_builtins.specs.Members.{is_dunder}
@@ -19,6 +19,7 @@ use Rattle.pyc_names.specs.FixedModules.{fixed_module}
 use Rattle.pyc_names.specs.Interfaces.{Interface}
 use Rattle.pyc_reading.specs.Answers.{Answer, NameAnswer, NameKind, presence_of, name_is, order_is, member_is}
 use Rattle.pyc_reading.specs.Answers as kind
+use Rattle.pyc_reading.specs.Outside.{ask_outside}
 use Rattle.pyc_reading.specs.Traces.{Step}
 use Rattle.pyc_reading.specs.Keys.{Key}
 use Rattle.pyc_reading.specs.Keys as key
@@ -95,20 +96,18 @@ module _ (f : Key → Answer) where
   attribute_of_kind-same at there n found (kind.module_name m) = refl
   attribute_of_kind-same at there n found (kind.fixed x) = refl
   attribute_of_kind-same at there n found kind.unknown = refl
+  attribute_of_kind-same at there n found kind.opaque = refl
   attribute_of_kind-same at there n found kind.no_module = refl
   attribute_of_kind-same at there n found kind.no_name = no_attribute-same at there n
   attribute_of_kind-same at there n found kind.no_target = refl
   attribute_of_kind-same at there n found kind.cycle = refl
 
-  answered_attribute-same : (at there : Position) (n : List ℕ) (a : Answer) → Same (answered_attribute at n a) (answered_attribute there n a)
-  answered_attribute-same at there n (name_is found) = attribute_of_kind-same at there n found found.kind
-  answered_attribute-same at there n (presence_of p) = refl
-  answered_attribute-same at there n (order_is o) = refl
-  answered_attribute-same at there n (member_is m) = refl
-
   attribute_in_module-same : (at there : Position) (m : List (List ℕ)) (n : List ℕ) (fixed : Option FixedModule) → Same (attribute_in_module at m n fixed) (attribute_in_module there m n fixed)
   attribute_in_module-same at there m n (Some found) = refl
-  attribute_in_module-same at there m n None = answered_attribute-same at there n (f (key.name (record { module_path = m; name = n })))
+  attribute_in_module-same at there m n None =
+      let seen = ask_outside (record { module_path = m; name = n }) in
+      same_then seen seen (λ found. attribute_of_kind at n found found.kind) (λ found. attribute_of_kind there n found found.kind) refl
+      (λ found. attribute_of_kind-same at there n found found.kind)
 
   module_attribute-by : (at there : Position) (m : List (List ℕ)) (n : List ℕ) (b : Bool)
       → Same (if b then Done any_meant else attribute_in_module at m n (fixed_module m)) (if b then Done any_meant else attribute_in_module there m n (fixed_module m))

@@ -26,7 +26,7 @@ use Rattle.pyc_interfaces.specs.BareExpressions.{bare, bare_argument, bare_value
 use Rattle.pyc_interfaces.specs.BareInterfaces.{bare_parameter, bare_function, bare_form, bare_binding, bare_attribute_form, bare_attribute, bare_body, bare_declared, bare_interface}
 use Rattle.pyc_interfaces.specs.InterfaceLaws.{PositionsChangeNoAnswer, AlikeFilesAnswerAlike}
 use Rattle.pyc_interfaces.proofs.HeadLemmas.{find-map, any-map, is_some-map, has_setter-bare, method_kind-bare, is_decorated-bare, declaration-bare, is_bound-bare, initialiser_type-bare, annotation-same, function_type-same, bases-same}
-use Rattle.pyc_interfaces.proofs.NameLemmas.{bare_found, file_of-bare, found_name-bare, is_alias-bare, form_kind-bare, presences-bare, name_presences-bare, kinds-bare}
+use Rattle.pyc_interfaces.proofs.NameLemmas.{bare_found, file_of-bare, found_name-bare, is_alias-bare, form_kind-bare, presences-bare, name_presences-bare, exports-bare, kinds-bare}
 use Rattle.pyc_interfaces.proofs.ReadingLemmas.{SameNames}
 use Rattle.pyc_members.specs.Attributes.{AttributeForm, SelfAttribute}
 use Rattle.pyc_members.specs.Attributes as attribute
@@ -186,6 +186,7 @@ module _ (files : List Interface) where
   declared_answer-bare (key.name q) = ap name_is (name_answer-bare q)
   declared_answer-bare (key.class c) = refl
   declared_answer-bare (key.member c) = refl
+  declared_answer-bare (key.export q) = exports-bare files q
 
   declared-bare : declared_answer alike ≡ declared_answer files
   declared-bare = λ t k. declared_answer-bare k t
@@ -341,6 +342,7 @@ module _ (files : List Interface) where
   answer_by-bare (key.name q) = declared_answer-bare (key.name q)
   answer_by-bare (key.class c) = ap (λ (o : MroTable). order_is (o c)) orders-bare
   answer_by-bare (key.member m) = ap member_is (member_answer-bare m)
+  answer_by-bare (key.export q) = declared_answer-bare (key.export q)
 
 -- positions change no answer
 pub positions_change_no_answer : PositionsChangeNoAnswer

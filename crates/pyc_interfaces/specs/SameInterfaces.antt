@@ -80,4 +80,5 @@ same_declared c d = (bytes_eq c.name d.name && same_class c.head d.head) && same
 unfoldable pub same_interface : Interface → Interface → Bool
 same_interface i j =
     ((((same_module i.name j.name && beq i.is_package j.is_package) && beq i.is_stub j.is_stub)
-    && beq i.has_fault j.has_fault) && pointwise same_binding i.bindings j.bindings) && pointwise same_declared i.classes j.classes
+    && beq i.has_fault j.has_fault) && pointwise same_binding i.bindings j.bindings)
+    && pointwise same_declared i.classes j.classes

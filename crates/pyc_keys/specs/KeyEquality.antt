@@ -11,7 +11,8 @@ use Rattle.pyc_class_ids.specs.ClassEquality.{same_class_equiv}
 use Rattle.pyc_class_table.proofs.BuiltinLemmas.{same_class-is}
 use Rattle.pyc_names.specs.Following.{QualifiedName, same_name}
 use Rattle.pyc_names.specs.ModuleName.{same_module}
-use Rattle.pyc_reading.specs.Keys.{Key, MemberName, same_key, same_member, has_module, has_name, name, class, member, export}
+use Rattle.pyc_reading.specs.Keys.{Key, MemberName, same_key, same_member, has_module, has_name, name, class, member}
+use Rattle.pyc_reading.specs.Keys.{export}
 
 -- whether two keys are one, as a map of keys asks it: of the one that it holds, with the one that is sought
 abbrev pub is_asked : Key → Key → Bool

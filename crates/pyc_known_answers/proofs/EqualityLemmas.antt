@@ -17,13 +17,15 @@ use Rattle.pyc_class_ids.specs.Mro.{Mro}
 use Rattle.pyc_names.specs.declared.fixed.FixedName.{FixedName}
 use Rattle.pyc_names.specs.declared.fixed.FixedName.TheVariants as name
 use Rattle.pyc_reading.specs.Answers.{Answer, MemberAnswer, NameAnswer, NameKind, presence_of, name_is, order_is}
-use Rattle.pyc_reading.specs.Answers.{member_is, annotated_variable, variable, alias, function_name, class_name}
-use Rattle.pyc_reading.specs.Answers.{module_name, fixed, unknown, no_module, no_name, no_target, cycle}
+use Rattle.pyc_reading.specs.Answers.{member_is, export_is, annotated_variable, variable, alias, function_name, class_name}
+use Rattle.pyc_reading.specs.Answers.{module_name, fixed, unknown, opaque, no_module, no_name, no_target, cycle}
 use Rattle.pyc_reading.specs.declared.answer.MemberKind.{MemberKind}
 use Rattle.pyc_reading.specs.declared.answer.MemberKind.TheVariants as member
+use Rattle.pyc_reading.specs.declared.answer.Export.{Export}
+use Rattle.pyc_reading.specs.declared.answer.Export.TheVariants as passed
 use Rattle.pyc_reading.specs.declared.answer.Presence.{Presence}
 use Rattle.pyc_reading.specs.declared.answer.Presence.TheVariants as there
-use Rattle.pyc_known_answers.specs.SameAnswers.{same_presence, fixed_number, same_kind, same_name, same_classes, same_reason, same_order, same_member_kind, same_found, same_member, same_answer}
+use Rattle.pyc_known_answers.specs.SameAnswers.{same_presence, fixed_number, same_kind, same_name, same_classes, same_reason, same_order, same_member_kind, same_found, same_member, same_export, same_answer}
 use Rattle.pyc_type_forms.specs.Equality.{same_name as same_parameter_name, same_kind as same_parameter_kind, same_slot, same_type, same_types, same_params, same_listed}
 use Rattle.pyc_type_forms.specs.Types.{Kind, plain, star, keyword_only, double_star, Slot}
 use Rattle.pyc_type_forms.specs.Types.{Ty, Tys, Params, Listed, any, none, module_type, instance, class_object}

@@ -9,8 +9,8 @@ use Rattle.pyc_members.specs.DeclaredClasses.{DeclaredClass, declared_classes}
 use Rattle.pyc_names.specs.FixedModules.{fixed_module}
 use Rattle.pyc_names.specs.ModuleName.{module_of, is_stub_path, beside}
 
--- a file: its path, the module that it is, whether it is the `__init__.py` or `__init__.pyi` of a package, whether it is
--- a stub, what its source is, the bindings of its top level in text order, the names that they define again, and the
+-- a file: its path, the module that it is, whether it is the `__init__.py` or `__init__.pyi` of a package, whether it
+-- is a stub, what its source is, the bindings of its top level in text order, the names that they define again, and the
 -- classes that it declares
 pub record SourceFile : Type 0 where
   pub path : List ℕ

@@ -26,8 +26,8 @@ impl Model for ModuleName {
 
 impl ModuleName {
     /// The module that a path names. The path's parts are separated by `/`, the last stands without `.py`, and
-    /// `__init__.py` names its folder; a stub names the module of the path that it stands beside. The only error is that
-    /// memory runs out.
+    /// `__init__.py` names its folder; a stub names the module of the path that it stands beside. The only error is
+    /// that memory runs out.
     #[tactic(auto, unfolding(crate::specs::ModuleName::module_of))]
     pub fn of_path(alloc: Global, path: &str) -> Result<ModuleName, AllocError>
         ensures { IfOk result (λ name. name ≡ module_of path.now) }

@@ -65,6 +65,7 @@ fn export_in(answer: &Answer) -> Export
 }
 
 /// What a name of a module is as other files see it, which is asked. The only error is that memory runs out.
+#[tactic(auto, using(crate::proofs::Steps::performing))]
 pub fn ask_outside<N: Ask>(
     alloc: Global,
     recorder: &mut N,
@@ -79,6 +80,7 @@ pub fn ask_outside<N: Ask>(
 }
 
 /// What a name of a module that stands for this in its own file is as other files see it.
+#[tactic(auto, using(crate::proofs::Steps::performing))]
 fn outside_found<N: Ask>(
     alloc: Global,
     recorder: &mut N,
@@ -111,8 +113,8 @@ fn may_be_hidden(kind: &NameKind) -> bool
     )
 }
 
-/// What a name that stands for this is to other files, by whether its module passes it on. The only error is that memory
-/// runs out.
+/// What a name that stands for this is to other files, by whether its module passes it on. The only error is that
+/// memory runs out.
 pub fn exported(
     alloc: Global,
     name: &QualifiedName,

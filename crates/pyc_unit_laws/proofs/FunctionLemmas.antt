@@ -144,7 +144,7 @@ if_checked-asks answers false r keys same = refl
 pub function_asks : FunctionReads
 unfolding function_reading
 function_asks answers outside at head statements =
-    let checked = is_checked outside.options.check_untyped head in
+    let checked = is_checked outside.file.is_stub outside.options.check_untyped head in
     let bindings = function_bindings head.parameters statements in
     let types : HeadTypes = result_of answers (head_read outside head) in
     asked-after answers (head_read outside head) (λ types. if checked then body_read outside at types bindings statements else Done tt)
