@@ -93,8 +93,8 @@ bound_name imported None = imported
 
 -- whether a from-import has one name on both sides of its `as`
 abbrev pub is_same_alias : List ℕ → Option (List ℕ) → Bool
-is_same_alias name (Some alias) = bytes_eq name alias
-is_same_alias name None = false
+is_same_alias n (Some alias) = bytes_eq n alias
+is_same_alias n None = false
 
 abbrev pub imported_binding : BindingSite → ImportFrom → Alias → Binding
 imported_binding place from found =

@@ -1,7 +1,6 @@
 //! What a stub hides from all other files.
 
 ghost use Rattle.std.specs.Prelude.{◌≡◌, option_map};
-ghost use Rattle.pyc_names.specs.FixedModules.{fixed_module as fixed_module_of};
 ghost use Rattle.pyc_bindings.specs.BindingView.{binding_of};
 ghost use Rattle.pyc_names.specs.Following.{is_hidden_name};
 ghost use Rattle.pyc_names.specs.FollowingView.{qualified_of};
