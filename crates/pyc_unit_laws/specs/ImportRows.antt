@@ -1,6 +1,6 @@
 -- What imports ask (Python reference 3.13, "The import statement" and "The import system").
-use Rattle.std.specs.Prelude.{◌≡◌, ℕ, Bool, ◌&&◌, is_none, is_some, if◌then◌else◌, List, [], ◌∷◌, ◌++◌, flat_map, false}
-use Rattle.std.specs.Prelude.{Option, None, Some}
+use Rattle.std.specs.Prelude.{◌≡◌, ℕ, Bool, true, false, ◌&&◌, is_none, is_some, if◌then◌else◌, List, [], ◌∷◌, ◌++◌}
+use Rattle.std.specs.Prelude.{flat_map, Option, None, Some}
 use Rattle.pyc_ast.specs.declared.position.Position.{Position}
 use Rattle.pyc_ast.specs.declared.stmt.Alias.{Alias}
 use Rattle.pyc_ast.specs.Modules.{Outcome, tree, fault}
