@@ -120,8 +120,8 @@ impl Workspace {
         self.held.taken(alloc)
     }
 
-    /// The files, in order.
-    pub fn files(&self) -> &Files
+    /// The files that are held, in order.
+    pub fn held(&self) -> &Files
         ensures { result.now ≡ self.now }
     {
         &self.held
