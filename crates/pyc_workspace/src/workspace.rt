@@ -16,8 +16,8 @@ use std::alloc::{AllocError, Global};
 use std::marker::Model;
 use std::rc::Rc;
 
-/// The files of a session, in order, and how many of them name each module. Contracts see the list of the files, each as
-/// its path and its bytes.
+/// The files of a session, in order, and how many of them name each module. Contracts see the list of the files, each
+/// as its path and its bytes.
 #[derive(Drop)]
 pub struct Workspace {
     held: Files,
@@ -58,8 +58,8 @@ impl Workspace {
         self.held.contains(path)
     }
 
-    /// Whether a file names the module of a path, and is not the stub beside it, nor stands beside that stub. It takes no
-    /// memory.
+    /// Whether a file names the module of a path, and is not the stub beside it, nor stands beside that stub. It takes
+    /// no memory.
     pub fn names_module(&self, path: &str, name: &ModuleName) -> bool
         requires { name.now ≡ module_of path.now }
         ensures { result ≡ is_module_taken self.now path.now }
@@ -120,7 +120,7 @@ impl Workspace {
         self.held.taken(alloc)
     }
 
-    /// The files that are held, in order.
+    /// The files that are held, in order. The call is for users of the library: the program does not make it.
     pub fn held(&self) -> &Files
         ensures { result.now ≡ self.now }
     {
