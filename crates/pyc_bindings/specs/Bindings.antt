@@ -38,7 +38,7 @@ pub record Binding : Type 0 where
 -- whether a binding is an import
 abbrev pub is_import : BindingForm → Bool
 is_import (import path) = true
-is_import (import_from dots path name) = true
+is_import (import_from dots path n) = true
 is_import _ = false
 
 abbrev pub bound : BindingSite → List ℕ → BindingForm → Binding

@@ -68,14 +68,10 @@ abbrev pub absent_name : Option Interface → List ℕ → NameKind
 absent_name (Some file) x = if is_some (declaration file.bindings x) then kind.no_target else kind.no_name
 absent_name None x = kind.no_name
 
--- whether the file of a module has a fault
-abbrev pub has_fault_in : Option Interface → Bool
-has_fault_in (Some file) = file.has_fault
-has_fault_in None = false
-
--- a name that leads into a file with a fault: it may be its own module's
+-- a name that leads into a file with a fault, which may be the file of its own module
 abbrev pub faulty_name : Option Interface → NameKind
-faulty_name file = if has_fault_in file then kind.opaque else kind.unknown
+faulty_name (Some file) = if file.has_fault then kind.opaque else kind.unknown
+faulty_name None = kind.unknown
 
 -- what following a name came to
 abbrev pub found_referent : List Interface → QualifiedName → Referent → Found

@@ -190,10 +190,10 @@ fn is_looked_up(module_path: &ModuleName, name: &Text) -> bool
 fn may_be_hidden(found: &Referent) -> bool
     ensures { result ≡ spec.may_be_hidden (referent_of found.now) }
 {
-    !matches!(
-        found,
-        Referent::NoModule | Referent::NoName | Referent::Cycle
-    )
+    match found {
+        Referent::NoModule | Referent::NoName | Referent::Cycle => false,
+        _ => true,
+    }
 }
 
 /// Whether a name stands for one of a fixed module that is Any there.

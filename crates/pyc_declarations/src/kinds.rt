@@ -191,8 +191,14 @@ fn faulty_name(file: Option<&Interface>) -> NameKind
     ensures { kind_of result ≡ spec.faulty_name (option_map (λ file. interface_in file.now) file.entry) }
 {
     match file {
-        Some(file) if file.has_fault() => NameKind::Opaque,
-        _ => NameKind::Unknown,
+        Some(file) => {
+            if file.has_fault() {
+                NameKind::Opaque
+            } else {
+                NameKind::Unknown
+            }
+        }
+        None => NameKind::Unknown,
     }
 }
 

@@ -29,13 +29,21 @@ impl Table {
     pub fn hides(&self, q: &QualifiedName) -> bool
         ensures { result ≡ is_hidden_name (table_in self.now) (qualified_of q.now) }
     {
-        if fixed_module(q.module_path.parts()).is_some() {
-            return false;
+        let parts = q.module_path.parts();
+        match fixed_module(parts) {
+            Some(_) => false,
+            None => hides_in(self.file(parts), &q.name),
         }
-        match self.file(q.module_path.parts()) {
-            Some(file) => file.hides(&q.name),
-            None => false,
-        }
+    }
+}
+
+/// Whether a module of this file hides a name.
+fn hides_in(file: Option<&Interface>, name: &Text) -> bool
+    ensures { result ≡ spec.hides_in (option_map (λ file. interface_in file.now) file.entry) name.now }
+{
+    match file {
+        Some(file) => file.hides(name),
+        None => false,
     }
 }
 

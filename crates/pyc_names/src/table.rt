@@ -258,11 +258,12 @@ impl Table {
         ensures { IfOk result (λ found. step_of found
             ≡ spec.step_to (table_in self.now) (qualified_of q.now) (qualified_of next)) }
     {
-        if next.is_same(q) {
-            let under = module_of_parts(alloc, q.module_path.parts(), slice::from_ref(&q.name))?;
-            if self.has_module(under.parts()) {
-                return Ok(Step::Ends(Referent::Module(under)));
-            }
+        if !next.is_same(q) {
+            return self.seen_step(alloc, next);
+        }
+        let under = module_of_parts(alloc, q.module_path.parts(), slice::from_ref(&q.name))?;
+        if self.has_module(under.parts()) {
+            return Ok(Step::Ends(Referent::Module(under)));
         }
         self.seen_step(alloc, next)
     }

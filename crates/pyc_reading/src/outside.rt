@@ -103,14 +103,11 @@ fn outside_found<N: Ask>(
 fn may_be_hidden(kind: &NameKind) -> bool
     ensures { result ≡ spec.may_be_hidden (kind_of kind.now) }
 {
-    !matches!(
-        kind,
-        NameKind::NoModule
-            | NameKind::NoName
-            | NameKind::NoTarget
-            | NameKind::Cycle
-            | NameKind::Opaque
-    )
+    match kind {
+        NameKind::NoModule | NameKind::NoName | NameKind::NoTarget => false,
+        NameKind::Cycle | NameKind::Opaque => false,
+        _ => true,
+    }
 }
 
 /// What a name that stands for this is to other files, by whether its module passes it on. The only error is that
