@@ -1,5 +1,5 @@
 -- What the walk of two types grows smaller by: the size of both.
-use Rattle.std.proofs.Common.{◌≡◌, ℕ, zero, suc, ◌<◌, ◌≤◌, List, [], ◌∷◌, length, get_or, rules, sym, ◌∙◌, ap, arith}
+use Rattle.std.proofs.Common.{◌≡◌, ℕ, zero, suc, ◌<◌, ◌≤◌, List, [], ◌∷◌, length, get_or, drop, rules, sym, ◌∙◌, ap, arith}
 use Rattle.pyc_type_forms.specs.declared.types.Param.{Param}
 use Rattle.pyc_type_forms.specs.declared.types.Params.TheFolds.{the_lemmas}
 use Rattle.pyc_type_forms.specs.declared.types.Ty.{Ty as TyOf}
@@ -13,6 +13,12 @@ size_in_row (y ∷ xs) zero x within is = rw is (omega arith)
 size_in_row (y ∷ xs) (suc k) x within is =
     let rest : size (ty_of x) ≤ row_size (row xs) = size_in_row xs k x (omega arith) is in
     omega (arith, rest)
+
+-- the types behind some are no larger than all
+pub size_of_rest : (xs : List TyOf) (k : ℕ) → row_size (row (drop k xs)) ≤ row_size (row xs)
+size_of_rest xs zero = omega arith
+size_of_rest [] (suc k) = omega arith
+size_of_rest (x ∷ xs) (suc k) = let rest : row_size (row (drop k xs)) ≤ row_size (row xs) = size_of_rest xs k in omega (arith, rest)
 
 -- the type of a parameter
 pub param_ty : (p : Param) → (param_of p).ty ≡ ty_of p.ty

@@ -1,11 +1,13 @@
 -- Two unions against one another, each pair of their items walked once: the ways of a pair serve both directions.
 use Rattle.std.specs.Prelude.{ℕ, suc, Bool, true, false, ◌&&◌, ◌||◌, not, nat_lt, nat_le}
-use Rattle.std.specs.Prelude.{List, [], ◌∷◌, take, replicate}
-use Rattle.std.specs.List.{list_all}
-use Rattle.pyc_type_forms.specs.Types.{Ty, Tys, nil, cons}
+use Rattle.std.specs.Prelude.{List, [], ◌∷◌}
+use Rattle.pyc_class_ids.specs.Class.{same_class}
+use Rattle.pyc_class_ids.specs.Mro.{MroTable}
+use Rattle.pyc_type_forms.specs.Types.{Ty, Tys, instance, nil, cons}
 use Rattle.pyc_types.specs.declared.ways.Ways.{Ways}
 use Rattle.pyc_types.specs.Assignable.{is_union}
 use Rattle.pyc_types.specs.Pairs.{both}
+use Rattle.pyc_types.specs.Ways.{gathered, instance_ways}
 
 -- how many types a row has
 abbrev pub count : Tys → ℕ
@@ -18,11 +20,11 @@ is_flat nil = true
 is_flat (cons ty tys) = not (is_union ty) && is_flat tys
 
 -- whether two unions of these items can be crossed: neither is empty nor has a union as an item, and the second has at
--- most 64
+-- most 1,000
 abbrev pub is_crossable : Tys → Tys → Bool
 is_crossable items others =
     nat_lt 0 (count items)
-    && (nat_lt 0 (count others) && (nat_le (count others) 64 && (is_flat items && is_flat others)))
+    && (nat_lt 0 (count others) && (nat_le (count others) 1000 && (is_flat items && is_flat others)))
 
 -- whether a type goes to some of a row
 abbrev pub goes_to_some : (Ty → Ways) → Tys → Bool
@@ -34,6 +36,17 @@ abbrev pub each_goes : List (Ty → Ways) → Tys → Bool
 each_goes [] others = true
 each_goes (item ∷ items) others = goes_to_some item others && each_goes items others
 
+-- whether each of a row goes to some of these types
+abbrev pub each_back : List (Ty → Ways) → Tys → Bool
+each_back items nil = true
+each_back items (cons other others) = (gathered items other).back && each_back items others
+
+-- the ways between two unions: each item goes to some of the others, and each of the others goes to some item
+abbrev pub cross_ways : List (Ty → Ways) → Tys → Ways
+cross_ways items others = both (each_goes items others) (each_back items others)
+
+-- ---- marks of what is reached
+
 -- the marks of a row's types, with those of the ones that go to a type
 abbrev pub reach : (Ty → Ways) → Tys → List Bool → List Bool
 reach item (cons other others) (mark ∷ marks) = (mark || (item other).back) ∷ reach item others marks
@@ -44,8 +57,21 @@ abbrev pub reach_all : List (Ty → Ways) → Tys → List Bool → List Bool
 reach_all [] others marks = marks
 reach_all (item ∷ items) others marks = reach_all items others (reach item others marks)
 
--- the ways between two unions: each item goes to some of the others, and each of the others goes to some item
-abbrev pub cross_ways : List (Ty → Ways) → Tys → Ways
-cross_ways items others =
-    both (each_goes items others)
-    (list_all (λ mark. mark) (take (count others) (reach_all items others (replicate 64 false))))
+-- whether each of a row is marked or goes to some of these types
+abbrev pub are_reached : List (Ty → Ways) → Tys → List Bool → Bool
+are_reached items nil marks = true
+are_reached items (cons other others) [] = true
+are_reached items (cons other others) (mark ∷ marks) =
+    (mark || (gathered items other).back) && are_reached items others marks
+
+-- ---- what is found first
+
+-- whether two types are the instances of one class
+abbrev pub is_same_instance : Ty → Ty → Bool
+is_same_instance (instance c) (instance d) = same_class c d
+is_same_instance _ _ = false
+
+-- the ways between an instance and a type; of another type none is told
+abbrev pub own_ways : MroTable → Ty → Ty → Ways
+own_ways orders (instance c) other = instance_ways orders c other
+own_ways orders _ other = both false false

@@ -100,7 +100,7 @@ fn is_back_to<L: Lins>(lins: &L, items: &[Ty], other: &Ty) -> bool
 /// Whether a type goes to some item of a union.
 #[cycle(walk)]
 #[tactic(auto, using(crate::proofs::WalkLemmas::joins))]
-fn is_some_back<L: Lins>(lins: &L, items: &[Ty], other: &Ty) -> bool
+pub(super) fn is_some_back<L: Lins>(lins: &L, items: &[Ty], other: &Ty) -> bool
     ensures { result ≡ (spec.gathered (spec.ways_of (L.orders lins.now) (row items.now)) (ty_of other.now)).back }
 {
     for item in items {

@@ -1,5 +1,5 @@
 use Rattle.std.proofs.lemmas.Grind.{common_steps}
-use Rattle.std.proofs.Common.{rules, suc, ◌≡◌, ◌≤◌, false, true, length, ap, sym, ◌∙◌, refl, arith}
+use Rattle.std.proofs.Common.{rules, suc, ◌≡◌, ◌<◌, ◌≤◌, false, true, length, ap, sym, ◌∙◌, refl, arith}
 use Rattle.pyc_class_ids.specs.Class.{form_of}
 use Rattle.pyc_type_forms.specs.Types.{class_object, union}
 use Rattle.pyc_type_forms.specs.Instances.{instance_of}
@@ -13,7 +13,7 @@ use Rattle.pyc_type_forms.specs.Size.{size, row_size, listed_size}
 use Rattle.pyc_types.proofs.Measures.{size_in_row, size_in_params}
 use Rattle.pyc_types.proofs.WalkLemmas.{slots_row, other_lengths, row_step, rows_step, joins}
 use Rattle.pyc_types.proofs.WayLemmas.{is_whole, ways_whole, made_by_form}
-use Rattle.pyc_types.proofs.CrossLemmas.{rows_done, enough_marks, crossed}
+use Rattle.pyc_types.proofs.CrossLemmas.{rows_done, has_items, enough_marks, crossed}
 use Rattle.pyc_types.proofs.Rules.{turned}
 use Rattle.pyc_types.proofs.assigning.+walk.Goals as goal
 
@@ -27,23 +27,25 @@ rules::is_each_back-walk-requires g t c κs within =
     let h : size (ty_of c.other-item.result) ≤ row_size (row c.args.others.now) = size_in_row _ c.loop-other.other-index _ (omega arith) c.other-item.is in
     search rules
 
-pub crossing::cross_row-walk-ways-requires : goal.crossing::cross_row-walk-ways-requires
-crossing::cross_row-walk-ways-requires g t c κs within =
+pub crossing::cross_row-cross_pair-ways-requires : goal.crossing::cross_row-cross_pair-ways-requires
+crossing::cross_row-cross_pair-ways-requires g t c κs within =
     let h : size (ty_of c.index-others-i.result) ≤ row_size (row c.args.others.now) = size_in_row _ c.loop-i.i _ (omega arith) c.index-others-i.is in
     search rules
 
-pub crossing::cross_ways-cross_row-goes-requires : goal.crossing::cross_ways-cross_row-goes-requires
-crossing::cross_ways-cross_row-goes-requires g t c κs within =
-    let h : size (ty_of c.item-item.result) ≤ row_size (row c.args.items.now) = size_in_row _ c.loop-item.item-index _ (omega arith) c.item-item.is in
-    let k : length c.args.others.now ≤ length c.loop-item.reached = omega (arith, c.requires, c.loop-item.invariant.marks) in
+pub crossing::cross_marked-cross_row-goes-requires : goal.crossing::cross_marked-cross_row-goes-requires
+crossing::cross_marked-cross_row-goes-requires g t c κs within =
+    let h : size (ty_of c.index-items-i.result) ≤ row_size (row c.args.items.now) = size_in_row _ c.loop-i.i _ (omega arith) c.index-items-i.is in
+    let k : length c.args.others.now ≤ length c.loop-i.reached = omega (arith, c.requires.marks, c.loop-i.invariant.marks) in
     search rules
 
 pub unions::union_ways-cross_ways-requires : goal.unions::union_ways-cross_ways-requires
 unions::union_ways-cross_ways-requires g t c κs within =
-    let few : length c.deref-then-is_crossable-2.result.now ≤ 64 = enough_marks c.args.items.now c.deref-then-is_crossable-2.result.now (search rules) in
+    let crossable : cross.is_crossable (row c.args.items.now) (row c.deref-then-is_crossable-2.result.now) ≡ true = search rules in
+    let some : 0 < length c.deref-then-is_crossable-2.result.now = has_items c.args.items.now c.deref-then-is_crossable-2.result.now crossable in
+    let few : length c.deref-then-is_crossable-2.result.now ≤ 1000 = enough_marks c.args.items.now c.deref-then-is_crossable-2.result.now crossable in
     let u : ty_of c.args.want.now ≡ union (row c.deref-then-is_crossable-2.result.now) = rw c.in-Union.is (search (rules, the_lemmas)) in
     let m : size (ty_of c.args.want.now) ≡ suc (row_size (row c.deref-then-is_crossable-2.result.now)) = ap size u in
-    (search rules, (search rules, few))
+    (search rules, (search rules, record { some = some; most = few }))
 
 pub unions::is_each_back_to-is_back_to-requires : goal.unions::is_each_back_to-is_back_to-requires
 unions::is_each_back_to-is_back_to-requires g t c κs within =
@@ -99,9 +101,9 @@ pub parameters::rows_ways-loop-i-preserved : goal.parameters::rows_ways-loop-i-p
 parameters::rows_ways-loop-i-preserved g t c =
     rows_step (g.L.Lins.orders c.args.lins.now) (pairs.pair_ways (slots_in c.args.gots.now) (slots_in c.args.wants.now)) (param_row c.args.wants.now) c.args.gots.now c.loop-i.i c.index-gots-i.result c.loop-i.all c.row_ways.result c.meet-all.result _ (omega arith) c.index-gots-i.is c.row_ways.ensures c.meet-all.ensures c.loop-i.invariant
 
-pub crossing::cross_ways-returns : goal.crossing::cross_ways-returns
-crossing::cross_ways-returns g t c =
-    rows_done (g.L.Lins.orders c.args.lins.now) c.args.items.now c.args.others.now c.loop-item.item-index c.loop-item.there c.is_all_reached.result c.loop-item.reached (omega arith) c.loop-item.invariant.there c.loop-item.invariant.reached c.is_all_reached.ensures
+pub crossing::cross_marked-returns : goal.crossing::cross_marked-returns
+crossing::cross_marked-returns g t c =
+    rows_done (g.L.Lins.orders c.args.lins.now) c.args.items.now c.args.others.now c.loop-i.i (length c.args.reached.old) c.is_all_reached.result c.loop-i.reached (omega arith) c.requires.marks c.loop-i.invariant.there c.loop-i.invariant.reached c.is_all_reached.ensures
 
 pub unions::union_ways-returns-then-is_crossable : goal.unions::union_ways-returns-then-is_crossable
 unions::union_ways-returns-then-is_crossable g t c =

@@ -119,20 +119,41 @@ invariant-unions::is_some_back-loop-item g l =
     (spec.gathered (ways_of o (row (drop l.item-index l.items))) (ty_of l.other)).back ≡ (spec.gathered (ways_of o (row l.items)) (ty_of l.other)).back
 
 abbrev pub decreases-crossing::cross_ways : goal.decreases-crossing::cross_ways
-decreases-crossing::cross_ways g l = 8 * (row_size (row l.items.now) + row_size (row l.others.now)) + 5
+decreases-crossing::cross_ways g l = 8 * (row_size (row l.items.now) + row_size (row l.others.now)) + 8
+
+abbrev pub decreases-crossing::cross_few : goal.decreases-crossing::cross_few
+decreases-crossing::cross_few g l = 8 * (row_size (row l.items.now) + row_size (row l.others.now)) + 7
+
+abbrev pub decreases-crossing::cross_many : goal.decreases-crossing::cross_many
+decreases-crossing::cross_many g l = 8 * (row_size (row l.items.now) + row_size (row l.others.now)) + 7
+
+abbrev pub decreases-crossing::cross_marked : goal.decreases-crossing::cross_marked
+decreases-crossing::cross_marked g l = 8 * (row_size (row l.items.now) + row_size (row l.others.now)) + 6
+
+abbrev pub decreases-crossing::is_rest_reached : goal.decreases-crossing::is_rest_reached
+decreases-crossing::is_rest_reached g l = 8 * (row_size (row l.items.now) + row_size (row l.others.now)) + 5
 
 abbrev pub decreases-crossing::cross_row : goal.decreases-crossing::cross_row
-decreases-crossing::cross_row g l = 8 * (size (ty_of l.item.now) + row_size (row l.others.now)) + 4
+decreases-crossing::cross_row g l = 8 * (size (ty_of l.item.now) + row_size (row l.others.now)) + 5
+
+abbrev pub decreases-crossing::cross_pair : goal.decreases-crossing::cross_pair
+decreases-crossing::cross_pair g l = 8 * (size (ty_of l.item.now) + size (ty_of l.other.now)) + 4
 
 -- the items left give the rest of what all give
-abbrev pub invariant-crossing::cross_ways-loop-item : goal.invariant-crossing::cross_ways-loop-item
-invariant-crossing::cross_ways-loop-item g l =
+abbrev pub invariant-crossing::cross_marked-loop-i : goal.invariant-crossing::cross_marked-loop-i
+invariant-crossing::cross_marked-loop-i g l =
     let o = g.L.Lins.orders l.lins in
     record {
-      there : (l.there && cross.each_goes (ways_of o (row (drop l.item-index l.items))) (row l.others)) ≡ cross.each_goes (ways_of o (row l.items)) (row l.others);
-      reached : cross.reach_all (ways_of o (row (drop l.item-index l.items))) (row l.others) l.reached ≡ cross.reach_all (ways_of o (row l.items)) (row l.others) (replicate 64 false);
-      marks : length l.reached ≡ 64;
+      there : cross.each_goes (ways_of o (row (drop l.i l.items))) (row l.others) ≡ cross.each_goes (ways_of o (row l.items)) (row l.others);
+      reached : cross.reach_all (ways_of o (row (drop l.i l.items))) (row l.others) l.reached ≡ cross.reach_all (ways_of o (row l.items)) (row l.others) (replicate (length l.fn.reached) false);
+      marks : length l.reached ≡ length l.fn.reached;
     }
+
+-- the others left decide
+abbrev pub invariant-crossing::is_rest_reached-loop-i : goal.invariant-crossing::is_rest_reached-loop-i
+invariant-crossing::is_rest_reached-loop-i g l =
+    let fs = ways_of (g.L.Lins.orders l.lins) (row l.items) in
+    cross.are_reached fs (row (drop l.i l.others)) (drop l.i l.reached) ≡ cross.are_reached fs (row l.others) l.reached
 
 -- the others left give the rest of what all give
 abbrev pub invariant-crossing::cross_row-loop-i : goal.invariant-crossing::cross_row-loop-i
