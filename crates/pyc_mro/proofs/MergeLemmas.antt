@@ -160,8 +160,3 @@ module _ (order : List ℕ) (rows : List (List ℕ)) (whole : Option (List ℕ))
   merge-fails none left before =
       let step : merge rows ≡ None = merge-step rows ∙ ap (merge_from merge rows) none ∙ ap (λ b. cond b (Some []) None) left in
       ap (option_map (λ classes. order ++ classes)) (sym step) ∙ before
-
--- the head of a row, if it is free
-pub free_head-at : (all : List (List ℕ)) (row : List ℕ) (head : ℕ) → Some head ≡ slice_get row 0 → cond (is_free all head) (Some head) None ≡ free_head all row
-free_head-at all [] head is = absurd (none-some head (sym is))
-free_head-at all (other ∷ row) head is = ap (λ h. cond (is_free all h) (Some h) None) (same_Some head other is)

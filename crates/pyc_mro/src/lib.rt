@@ -8,6 +8,7 @@ mod merging;
 mod orders;
 mod stored;
 mod table;
+mod tails;
 
 pub use orders::{Mro, MroTable};
 pub use table::Base;

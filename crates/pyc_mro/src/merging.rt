@@ -4,7 +4,9 @@ ghost use Rattle.std.specs.Prelude.{◌≡◌, IfOk, List, ℕ, map, option_map}
 ghost use Rattle.std.specs.List.{list_all};
 ghost use Rattle.pyc_mro.specs.Merge as spec;
 ghost use Rattle.pyc_mro.specs.Rows.{rows_in, past};
+ghost use Rattle.pyc_mro.specs.Tails.{AreTailCounts, free_by};
 
+use crate::tails::{is_in_no_tail, past_counted, tail_counts};
 use std::alloc::{AllocError, Global};
 
 /// The merge of rows, or none where it fails. The only error is that memory runs out.
@@ -15,10 +17,11 @@ pub(crate) fn merge(
     ensures { IfOk result (λ merged. option_map (λ classes. classes.items) merged
         ≡ spec.merge (rows_in rows.entry.items)) }
 {
+    let mut counts = tail_counts(alloc, &rows)?;
     let mut classes = Vec::new(alloc);
-    while let Some(class) = first_free(&rows) {
+    while let Some(class) = first_free(&rows, &counts) {
         classes.push(class)?;
-        take_off(&mut rows, class);
+        take_off(&mut rows, class, &mut counts);
     }
     if are_empty(&rows) {
         Ok(Some(classes))
@@ -27,47 +30,26 @@ pub(crate) fn merge(
     }
 }
 
-/// The first head of a row that stands in no tail of a row.
-fn first_free(rows: &[&[usize]]) -> Option<usize>
+/// The first head of a row that stands in no tail of a row. The counts are those of the tails.
+fn first_free(rows: &[&[usize]], counts: &[usize]) -> Option<usize>
+    requires { AreTailCounts counts.now rows.now }
     ensures { result ≡ spec.first_free (rows_in rows.now) (rows_in rows.now) }
 {
     for row in rows {
-        if let Some(head) = free_head(rows, row) {
+        if let Some(head) = free_head(counts, row) {
             return Some(head);
         }
     }
     None
 }
 
-/// The head of a row, if it stands in no tail of these rows.
-fn free_head(rows: &[&[usize]], row: &[usize]) -> Option<usize>
-    ensures { result ≡ spec.free_head (rows_in rows.now) row.now }
+/// The head of a row, if its count is 0.
+fn free_head(counts: &[usize], row: &[usize]) -> Option<usize>
+    ensures { result ≡ free_by counts.now row.now }
 {
     match row.first() {
-        Some(head) if is_free(rows, *head) => Some(*head),
+        Some(head) if is_in_no_tail(counts, *head) => Some(*head),
         _ => None,
-    }
-}
-
-/// Whether a class stands in no tail of a row.
-fn is_free(rows: &[&[usize]], class: usize) -> bool
-    ensures { result ≡ spec.is_free (rows_in rows.now) class }
-{
-    for row in rows {
-        if stands_in_tail(row, class) {
-            return false;
-        }
-    }
-    true
-}
-
-/// Whether a class stands in the tail of a row.
-fn stands_in_tail(row: &[usize], class: usize) -> bool
-    ensures { result ≡ spec.stands_in_tail class row.now }
-{
-    match row.split_first() {
-        Some((_, tail)) => tail.contains(&class),
-        None => false,
     }
 }
 
@@ -83,21 +65,13 @@ fn are_empty(rows: &[&[usize]]) -> bool
     true
 }
 
-/// Takes a class off the rows whose head it is.
-fn take_off(rows: &mut [&[usize]], class: usize)
-    ensures { rows_in rows.new ≡ map (past class) (rows_in rows.old) }
+/// Takes a class off the rows whose head it is, and counts the tails again.
+fn take_off(rows: &mut [&[usize]], class: usize, counts: &mut [usize])
+    requires { AreTailCounts counts.old rows.old }
+    ensures rows { rows_in rows.new ≡ map (past class) (rows_in rows.old) }
+    ensures counts { AreTailCounts counts.new rows.new }
 {
     for i in 0..rows.len() {
-        rows[i] = past(rows[i], class);
-    }
-}
-
-/// A row without a class as its head.
-fn past(row: &[usize], class: usize) -> &[usize]
-    ensures { result.now ≡ past class row.now }
-{
-    match row.split_first() {
-        Some((head, tail)) if *head == class => tail,
-        _ => row,
+        rows[i] = past_counted(rows[i], class, counts);
     }
 }
