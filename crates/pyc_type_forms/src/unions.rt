@@ -1,6 +1,8 @@
 //! Unions.
 
-ghost use Rattle.std.specs.Prelude.{◌≡◌, ◌++◌, [], ◌∷◌, IfOk, OnOk, map};
+ghost use Rattle.std.specs.Prelude.{◌≡◌, ◌++◌, [], ◌∷◌, IfOk, IfSome, OnOk, map};
+ghost use Rattle.std.specs.Bool.{OnTrue};
+ghost use Rattle.std.specs.List.{flat_map};
 ghost use Rattle.pyc_type_forms.specs.TypeView.{ty_of, row};
 ghost use Rattle.pyc_type_forms.specs.Unions as spec;
 
@@ -16,6 +18,56 @@ const MOST_TYPES: u32 = 1000;
 /// The union of some types: flat, without repeats, in the order in which they are first seen. One type is itself, and a
 /// union that is built of more than 1,000 types is Any. The only error is that memory runs out.
 pub fn union_of(alloc: Global, types: &[Ty]) -> Result<Ty, AllocError>
+    ensures { IfOk result (λ union. ty_of union ≡ spec.union_of (map ty_of types.now)) }
+{
+    match only_type(types) {
+        Some(only) => any_if_too_large(only),
+        None => union_of_items(alloc, types),
+    }
+}
+
+/// The one type that each of some types is, where it is no union. Takes no memory.
+fn only_type(types: &[Ty]) -> Option<&Ty>
+    ensures { IfSome result (λ only. spec.with_items [] (flat_map spec.items_of (map ty_of types.now))
+        ≡ ty_of only.now ∷ []) }
+{
+    match types {
+        [first, rest @ ..] => {
+            if is_single(first) && is_each(rest, first) {
+                Some(first)
+            } else {
+                None
+            }
+        }
+        [] => None,
+    }
+}
+
+/// Whether a type is no union, and so the only item of itself.
+fn is_single(ty: &Ty) -> bool
+    ensures { OnTrue result (spec.items_of (ty_of ty.now) ≡ ty_of ty.now ∷ []) }
+{
+    match ty {
+        Ty::Union(_) => false,
+        _ => true,
+    }
+}
+
+/// Whether each of some types is this one, and no union: then they add nothing to it.
+fn is_each(types: &[Ty], ty: &Ty) -> bool
+    ensures { OnTrue result (spec.with_items (ty_of ty.now ∷ []) (flat_map spec.items_of (map ty_of types.now))
+        ≡ ty_of ty.now ∷ []) }
+{
+    for other in types {
+        if !(is_single(other) && same_type(ty, other)) {
+            return false;
+        }
+    }
+    true
+}
+
+/// The union of some types, by their items.
+fn union_of_items(alloc: Global, types: &[Ty]) -> Result<Ty, AllocError>
     ensures { IfOk result (λ union. ty_of union ≡ spec.union_of (map ty_of types.now)) }
 {
     let mut items = Vec::new(alloc);
