@@ -11,6 +11,7 @@ ghost use Rattle.pyc_tree.specs.LineView.{header_of};
 ghost use Rattle.pyc_tree.specs.View.{tree_of, pieces_of, tail_of};
 
 use crate::imports::name;
+use crate::items::count;
 use crate::parameters::{parameters, tail};
 use crate::targets::target;
 use pyc_ast::{
@@ -125,7 +126,7 @@ pub fn with_items<Q: Quotes>(
         ≡ spec.with_items_in (Q.spelled lowering.now.quotes.now) (origin_of lowering.now.origin)
         (pieces_of items.now)) }
 {
-    let mut found = Vec::new(lowering.alloc);
+    let mut found = Vec::with_capacity(lowering.alloc, count(items))?;
     for piece in &items.each {
         found.push(with_item(lowering, &piece.value, names)?)?;
     }

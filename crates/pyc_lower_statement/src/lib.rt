@@ -3,6 +3,7 @@
 
 mod headers;
 mod imports;
+mod items;
 mod parameters;
 mod statements;
 mod suspension;

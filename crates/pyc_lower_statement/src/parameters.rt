@@ -9,6 +9,7 @@ ghost use Rattle.pyc_lower_atom.specs.OriginView.{origin_of};
 ghost use Rattle.pyc_lower_statement.specs.Parameters as spec;
 ghost use Rattle.pyc_tree.specs.View.{tree_of, pieces_of, perhaps_of, tail_of};
 
+use crate::items::count;
 use pyc_ast::{Expr, Parameter, ParameterKind};
 use pyc_lower_expression::{Lowering, Names, Quotes, Role};
 use pyc_tree::{Expr as Tree, Pieces, Tail};
@@ -164,7 +165,7 @@ pub fn parameters<Q: Quotes>(
         ≡ spec.parameters_in (Q.spelled lowering.now.quotes.now) (origin_of lowering.now.origin) false
         (pieces_of items.now)) }
 {
-    let mut found = Vec::new(lowering.alloc);
+    let mut found = Vec::with_capacity(lowering.alloc, count(items))?;
     let mut after_star = false;
     for piece in &items.each {
         push_parameter(lowering, &piece.value, after_star, &mut found, names)?;

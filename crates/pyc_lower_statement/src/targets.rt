@@ -11,6 +11,7 @@ ghost use Rattle.pyc_lower_atom.specs.OriginView.{origin_of};
 ghost use Rattle.pyc_lower_statement.specs.Targets as spec;
 ghost use Rattle.pyc_tree.specs.View.{tree_of, pieces_of};
 
+use crate::items::count;
 use pyc_ast::{Expr, Index, Position, Target, TargetElement, TargetForm, Text};
 use pyc_lower_expression::{Lowering, Names, Origin, Quotes, Role};
 use pyc_tree::{Expr as Tree, Pieces};
@@ -177,7 +178,7 @@ fn elements<Q: Quotes>(
     ensures { IfOk result (λ found. map target_element_of found.items
         ≡ spec.elements_in (Q.spelled lowering.now.quotes.now) (origin_of lowering.now.origin) (pieces_of items.now)) }
 {
-    let mut found = Vec::new(lowering.alloc);
+    let mut found = Vec::with_capacity(lowering.alloc, count(items))?;
     for piece in &items.each {
         let to = target(lowering, &piece.value, names)?;
         found.push(element(&piece.value, to))?;

@@ -19,7 +19,7 @@ loop-piece-init g c =
     let spelled = g.Q.Quotes.spelled c.args.lowering.now.quotes.now in
     let o = origin_of c.args.lowering.now.origin in
     let end = last_of (out-Pieces c.args.items.now).last in
-    ap (λ (found : List WithItemOf). map with_item_of found ++ with_items_in spelled o (pieces_before c.deref-piece-items.result.now end)) c.new-found.ensures.items
+    ap (λ (found : List WithItemOf). map with_item_of found ++ with_items_in spelled o (pieces_before c.deref-piece-items.result.now end)) c.in_ok-found.ensures.items
     ∙ items_begin (with_items_in spelled o) c.args.items.now _ c.deref-piece-items.ensures.value
 
 pub loop-piece-preserved : goal.loop-piece-preserved

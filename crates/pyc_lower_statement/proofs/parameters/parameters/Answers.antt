@@ -20,7 +20,7 @@ loop-piece-init g c =
     let spelled = g.Q.Quotes.spelled c.args.lowering.now.quotes.now in
     let o = origin_of c.args.lowering.now.origin in
     let end = last_of (out-Pieces c.args.items.now).last in
-    ap (λ (found : List ParameterOf). map parameter_of found ++ parameters_in spelled o false (pieces_before c.deref-piece-items.result.now end)) c.new-found.ensures.items
+    ap (λ (found : List ParameterOf). map parameter_of found ++ parameters_in spelled o false (pieces_before c.deref-piece-items.result.now end)) c.in_ok-found.ensures.items
     ∙ items_begin (parameters_in spelled o false) c.args.items.now _ c.deref-piece-items.ensures.value
 
 pub loop-piece-preserved : goal.loop-piece-preserved

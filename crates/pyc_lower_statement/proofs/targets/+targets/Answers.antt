@@ -26,7 +26,7 @@ elements-loop-piece-init g t c =
     let spelled = g.Q.Quotes.spelled c.args.lowering.now.quotes.now in
     let o = origin_of c.args.lowering.now.origin in
     let end = last_of (out-Pieces c.args.items.now).last in
-    ap (λ (found : List TargetElementOf). map target_element_of found ++ elements_in spelled o (pieces_before c.deref-piece-items.result.now end)) c.new-found.ensures.items
+    ap (λ (found : List TargetElementOf). map target_element_of found ++ elements_in spelled o (pieces_before c.deref-piece-items.result.now end)) c.in_ok-found.ensures.items
     ∙ items_begin (elements_in spelled o) c.args.items.now _ c.deref-piece-items.ensures.value
 
 pub elements-loop-piece-preserved : goal.elements-loop-piece-preserved
