@@ -52,7 +52,7 @@ fn decorators<Q: Quotes>(
         ≡ spec.decorators_in (Q.spelled lowering.now.quotes.now) (origin_of lowering.now.origin)
         (map decorator_of marks.now)) }
 {
-    let mut found = Vec::new(lowering.alloc);
+    let mut found = Vec::with_capacity(lowering.alloc, marks.len())?;
     for mark in marks {
         found.push(lowering.expr(&mark.value, Role::Value, names)?)?;
     }

@@ -146,6 +146,7 @@ fn condition<Q: Quotes>(
         test,
         body: parts.body,
     };
+    branches.reserve_exact(1)?;
     branches.insert(0, first)?;
     Ok(StmtForm::If {
         branches,
