@@ -52,7 +52,7 @@ fn read_parameters<N: Ask>(
     match parameters.split_first() {
         Some((first, rest)) => {
             let param = read_parameter(alloc, recorder, file, receiver, first)?;
-            let found = one_param(alloc, param)?;
+            let found = one_param(alloc, param, parameters.len())?;
             let params = read_more(alloc, recorder, file, found, rest)?;
             Ok(params)
         }
@@ -60,11 +60,11 @@ fn read_parameters<N: Ask>(
     }
 }
 
-/// A parameter by itself.
-fn one_param(alloc: Global, param: Param) -> Result<Vec<Param>, AllocError>
+/// A parameter by itself, with room for so many.
+fn one_param(alloc: Global, param: Param, room: usize) -> Result<Vec<Param>, AllocError>
     ensures { IfOk result (λ params. map param_of params.items ≡ param_of param ∷ []) }
 {
-    let mut params = Vec::new(alloc);
+    let mut params = Vec::with_capacity(alloc, room)?;
     params.push(param)?;
     Ok(params)
 }
