@@ -60,11 +60,20 @@ impl ReadSet for FileResult {
 fn all_reads(alloc: Global, checks: &[Rc<Checked>]) -> Result<Vec<KeyId>, AllocError>
     ensures { IfOk result (λ reads. reads.items ≡ reads_of checks.now) }
 {
-    let mut reads = Vec::new(alloc);
+    let mut reads = Vec::with_capacity(alloc, count_reads(checks))?;
     for check in checks {
         reads.extend_from_slice(check.reads())?;
     }
     Ok(reads)
+}
+
+/// How many keys were read in checks.
+fn count_reads(checks: &[Rc<Checked>]) -> usize {
+    let mut count: usize = 0;
+    for check in checks {
+        count = count.saturating_add(check.reads().len());
+    }
+    count
 }
 
 /// The messages of checks, one after another.
