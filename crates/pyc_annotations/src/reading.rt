@@ -120,6 +120,7 @@ fn resolve_name<N: Ask>(
 
 /// A name by itself.
 #[tactic(auto, using(crate::proofs::Steps::performing), unfolding(crate::specs::Annotations::name_rule))]
+#[inline(never)]
 fn read_name<N: Ask>(
     alloc: Global,
     recorder: &mut N,
@@ -176,6 +177,7 @@ fn read_type<N: Ask>(
 
 /// A name with arguments, by what it means.
 #[cycle(reading)]
+#[inline(never)]
 #[tactic(auto, using(crate::proofs::Steps::performing), unfolding(crate::specs::Annotations::subscript_rule))]
 fn read_subscript<N: Ask>(
     alloc: Global,

@@ -73,104 +73,84 @@ pub fn unchecked(at: Position, unchecked: Unchecked) -> Expr
 }
 
 /// An attribute of an object.
-pub fn attribute(alloc: Global, value: Expr, name: Text) -> Result<Expr, AllocError>
-    ensures { IfOk result (λ e. expr_of e ≡ spec.following (expr_of value) (plain.attribute (expr_of value) name)) }
+pub fn attribute(value: Box<Expr>, name: Text) -> Expr
+    ensures { expr_of result
+        ≡ spec.following (expr_of value.value) (plain.attribute (expr_of value.value) name) }
 {
-    let at = value.at;
-    let value = Box::new(alloc, value)?;
-    Ok(with_position(at, Form::Attribute { value, name }))
+    with_position(value.at, Form::Attribute { value, name })
 }
 
 /// A call of a callee.
-pub fn call(alloc: Global, callee: Expr, arguments: Vec<Argument>) -> Result<Expr, AllocError>
-    ensures { IfOk result (λ e. expr_of e
-        ≡ spec.following (expr_of callee)
-        (plain.call (expr_of callee) (plain.arguments (map argument_of arguments.items)))) }
+pub fn call(callee: Box<Expr>, arguments: Vec<Argument>) -> Expr
+    ensures { expr_of result
+        ≡ spec.following (expr_of callee.value)
+        (plain.call (expr_of callee.value) (plain.arguments (map argument_of arguments.items))) }
 {
-    let at = callee.at;
-    let callee = Box::new(alloc, callee)?;
-    Ok(with_position(at, Form::Call { callee, arguments }))
+    with_position(callee.at, Form::Call { callee, arguments })
 }
 
 /// A call whose parenthesis stands here, with the arguments that its items are.
 pub fn call_with_items(
     alloc: Global,
-    callee: Expr,
+    callee: Box<Expr>,
     here: Position,
     items: &Pieces,
     found: Vec<Argument>,
 ) -> Result<Expr, AllocError>
     ensures { IfOk result (λ e. expr_of e
-        ≡ spec.following (expr_of callee) (plain.call (expr_of callee) (plain.arguments
+        ≡ spec.following (expr_of callee.value) (plain.call (expr_of callee.value) (plain.arguments
         (spec.arguments_or_generator here (pieces_of items.now) (map argument_of found.items))))) }
 {
     let found = arguments_or_generator(alloc, here, items, found)?;
-    call(alloc, callee, found)
+    Ok(call(callee, found))
 }
 
 /// A subscript of an object.
-pub fn subscript(alloc: Global, value: Expr, index: Index) -> Result<Expr, AllocError>
-    ensures { IfOk result (λ e. expr_of e
-        ≡ spec.following (expr_of value) (plain.subscript (expr_of value) (index_of index))) }
+pub fn subscript(value: Box<Expr>, index: Box<Index>) -> Expr
+    ensures { expr_of result
+        ≡ spec.following (expr_of value.value) (plain.subscript (expr_of value.value) (index_of index.value)) }
 {
-    let at = value.at;
-    let value = Box::new(alloc, value)?;
-    let index = Box::new(alloc, index)?;
-    Ok(with_position(at, Form::Subscript { value, index }))
+    with_position(value.at, Form::Subscript { value, index })
 }
 
 /// `await` and its operand.
-pub fn await_expression(alloc: Global, at: Position, operand: Expr) -> Result<Expr, AllocError>
-    ensures { IfOk result (λ e. expr_of e ≡ spec.with_position at (plain.await (expr_of operand))) }
+pub fn await_expression(at: Position, operand: Box<Expr>) -> Expr
+    ensures { expr_of result ≡ spec.with_position at (plain.await (expr_of operand.value)) }
 {
-    Ok(with_position(at, Form::Await(Box::new(alloc, operand)?)))
+    with_position(at, Form::Await(operand))
 }
 
 /// An operator before its operand.
-pub fn unary(
-    alloc: Global,
-    at: Position,
-    operator: UnaryOperator,
-    operand: Expr,
-) -> Result<Expr, AllocError>
-    ensures { IfOk result (λ e. expr_of e ≡ spec.with_position at (plain.unary operator (expr_of operand))) }
+pub fn unary(at: Position, operator: UnaryOperator, operand: Box<Expr>) -> Expr
+    ensures { expr_of result ≡ spec.with_position at (plain.unary operator (expr_of operand.value)) }
 {
-    let operand = Box::new(alloc, operand)?;
-    Ok(with_position(at, Form::Unary { operator, operand }))
+    with_position(at, Form::Unary { operator, operand })
 }
 
 /// An operator between its operands, by its token's kind.
-pub fn binary(alloc: Global, left: Expr, sign: Kind, right: Expr) -> Result<Expr, AllocError>
-    ensures { IfOk result (λ e. expr_of e
-        ≡ spec.following (expr_of left) (operation sign (expr_of left) (expr_of right))) }
+pub fn binary(left: Box<Expr>, sign: Kind, right: Box<Expr>) -> Expr
+    ensures { expr_of result
+        ≡ spec.following (expr_of left.value) (operation sign (expr_of left.value) (expr_of right.value)) }
 {
-    let at = left.at;
-    let left = Box::new(alloc, left)?;
-    let right = Box::new(alloc, right)?;
-    Ok(with_position(at, pyc_lower_atom::operation(sign, left, right)))
+    with_position(left.at, pyc_lower_atom::operation(sign, left, right))
 }
 
 /// A chain of comparisons.
-pub fn compare(alloc: Global, left: Expr, rest: Vec<Comparison>) -> Result<Expr, AllocError>
-    ensures { IfOk result (λ e. expr_of e
-        ≡ spec.following (expr_of left)
-        (plain.compare (expr_of left) (plain.comparisons (map comparison_of rest.items)))) }
+pub fn compare(left: Box<Expr>, rest: Vec<Comparison>) -> Expr
+    ensures { expr_of result
+        ≡ spec.following (expr_of left.value)
+        (plain.compare (expr_of left.value) (plain.comparisons (map comparison_of rest.items))) }
 {
-    let at = left.at;
-    let left = Box::new(alloc, left)?;
-    Ok(with_position(at, Form::Compare { left, rest }))
+    with_position(left.at, Form::Compare { left, rest })
 }
 
 /// `body if test else orelse`
-pub fn conditional(alloc: Global, test: Expr, body: Expr, orelse: Expr) -> Result<Expr, AllocError>
-    ensures { IfOk result (λ e. expr_of e
-        ≡ spec.following (expr_of body) (plain.conditional (expr_of test) (expr_of body) (expr_of orelse))) }
+pub fn conditional(test: Box<Expr>, body: Box<Expr>, orelse: Box<Expr>) -> Expr
+    ensures { expr_of result
+        ≡ spec.following (expr_of body.value)
+        (plain.conditional (expr_of test.value) (expr_of body.value) (expr_of orelse.value)) }
 {
-    let at = body.at;
-    let test = Box::new(alloc, test)?;
-    let body = Box::new(alloc, body)?;
-    let orelse = Box::new(alloc, orelse)?;
-    Ok(with_position(at, Form::Conditional { test, body, orelse }))
+    with_position(body.at, Form::Conditional { test, body, orelse })
 }
 
 /// `yield`, perhaps with a value.
@@ -181,17 +161,17 @@ pub fn yield_expression(at: Position, value: OptionalExpr) -> Expr
 }
 
 /// `yield from` and its value.
-pub fn yield_from_expression(alloc: Global, at: Position, value: Expr) -> Result<Expr, AllocError>
-    ensures { IfOk result (λ e. expr_of e ≡ spec.with_position at (plain.yield_from (expr_of value))) }
+pub fn yield_from_expression(at: Position, value: Box<Expr>) -> Expr
+    ensures { expr_of result ≡ spec.with_position at (plain.yield_from (expr_of value.value)) }
 {
-    Ok(with_position(at, Form::YieldFrom(Box::new(alloc, value)?)))
+    with_position(at, Form::YieldFrom(value))
 }
 
 /// An expression in a box.
-pub fn present(alloc: Global, value: Expr) -> Result<OptionalExpr, AllocError>
-    ensures { IfOk result (λ e. optional_of e ≡ plain.present (expr_of value)) }
+pub fn present(value: Box<Expr>) -> OptionalExpr
+    ensures { optional_of result ≡ plain.present (expr_of value.value) }
 {
-    Ok(OptionalExpr::Present(Box::new(alloc, value)?))
+    OptionalExpr::Present(value)
 }
 
 /// A string that spells an expression.

@@ -20,7 +20,7 @@ use pyc_lower_atom::{
     Names, Origin, Quotes, Role, comparison_operator, comprehension, is_plain, number_constant,
     strings_constant, unary_operator, word_constant,
 };
-use pyc_token::{Kind, Token};
+use pyc_token::Token;
 use pyc_tree::{DisplayKind, Expr as Tree, Link, Pieces};
 use std::alloc::{AllocError, Global};
 
@@ -57,6 +57,7 @@ impl<Q: Quotes> Lowering<'_, Q> {
     }
 
     /// A string that may be an annotation.
+    #[inline(never)]
     fn string_annotation(&self, token: Token, names: &mut Names) -> Result<Expr, AllocError>
         ensures { IfOk result (λ e. expr_of e ≡ (let o = origin_of self.now.origin in
             spec.with_position (position_at o token) (spec.string_annotation_form (Q.spelled self.now.quotes.now) o
@@ -95,16 +96,6 @@ impl<Q: Quotes> Lowering<'_, Q> {
         Ok(build::constant(self.origin.position(first), constant))
     }
 
-    /// An attribute of an object.
-    fn attribute(&self, value: Expr, name: Token, names: &mut Names) -> Result<Expr, AllocError>
-        ensures { IfOk result (λ e. expr_of e
-            ≡ spec.following (expr_of value)
-            (plain.attribute (expr_of value) (name_at (origin_of self.now.origin) name))) }
-    {
-        let name = names.shared(self.alloc, self.origin.text(name))?;
-        build::attribute(self.alloc, value, name)
-    }
-
     /// The expression that a tree is; the only error is that memory runs out.
     #[cycle(lower)]
     pub fn expr(&self, expr: &Tree, role: Role, names: &mut Names) -> Result<Expr, AllocError>
@@ -119,10 +110,9 @@ impl<Q: Quotes> Lowering<'_, Q> {
                 word_constant(token.kind),
             )),
             Tree::Strings(first, more) => self.strings(*first, more, role, names),
-            Tree::Parenthesized(opening, inner, _) => {
-                let inner = self.expr(inner, role, names)?;
-                Ok(build::in_parentheses(self.origin.position(*opening), inner))
-            }
+            Tree::Parenthesized(opening, inner, _) => self.parenthesized(
+                inner, *opening, role, names,
+            ),
             Tree::Display(made, opening, items, _) => self.display(
                 items, *made, *opening, role, names,
             ),
@@ -141,8 +131,38 @@ impl<Q: Quotes> Lowering<'_, Q> {
         }
     }
 
+    /// An expression in parentheses.
+    #[cycle(lower)]
+    #[inline(never)]
+    fn parenthesized(
+        &self,
+        inner: &Tree,
+        opening: Token,
+        role: Role,
+        names: &mut Names,
+    ) -> Result<Expr, AllocError>
+        ensures { IfOk result (λ e. expr_of e
+            ≡ spec.in_parentheses (position_at (origin_of self.now.origin) opening)
+            (spec.expr_in (Q.spelled self.now.quotes.now) (origin_of self.now.origin) role (tree_of inner.now))) }
+    {
+        let inner = self.expr(inner, role, names)?;
+        Ok(build::in_parentheses(self.origin.position(opening), inner))
+    }
+
+    /// The expression that a tree is, in a box. Only here is there room on the stack for an expression below another.
+    #[cycle(lower)]
+    #[inline(never)]
+    fn boxed(&self, expr: &Tree, role: Role, names: &mut Names) -> Result<Box<Expr>, AllocError>
+        ensures { IfOk result (λ e. expr_of e.value
+            ≡ spec.expr_in (Q.spelled self.now.quotes.now) (origin_of self.now.origin) role (tree_of expr.now)) }
+    {
+        let expr = self.expr(expr, role, names)?;
+        Ok(Box::new(self.alloc, expr)?)
+    }
+
     /// A display in brackets.
     #[cycle(lower)]
+    #[inline(never)]
     fn display(
         &self,
         items: &Pieces,
@@ -188,148 +208,56 @@ impl<Q: Quotes> Lowering<'_, Q> {
     {
         match expr {
             Tree::Attribute(value, _, name) => {
-                let value = self.expr(value, role, names)?;
-                self.attribute(value, *name, names)
+                let value = self.boxed(value, role, names)?;
+                let name = names.shared(self.alloc, self.origin.text(*name))?;
+                Ok(build::attribute(value, name))
             }
             Tree::Call(callee, opening, items, _) => {
-                let callee = self.expr(callee, role, names)?;
-                self.call(items, *opening, callee, role, names)
+                let callee = self.boxed(callee, role, names)?;
+                let found = self.arguments(items, role, names)?;
+                let here = self.origin.position(*opening);
+                build::call_with_items(self.alloc, callee, here, items, found)
             }
             Tree::Subscript(value, _, items, _) => {
-                let value = self.expr(value, role, names)?;
-                self.lower_subscript(items, value, role, names)
+                let value = self.boxed(value, role, names)?;
+                let index = self.boxed_subscript(items, role, names)?;
+                Ok(build::subscript(value, index))
             }
             Tree::Await(word, operand) => {
-                let operand = self.expr(operand, role, names)?;
-                build::await_expression(self.alloc, self.origin.position(*word), operand)
+                let operand = self.boxed(operand, role, names)?;
+                Ok(build::await_expression(self.origin.position(*word), operand))
             }
             Tree::Unary(sign, operand) => {
-                let operand = self.expr(operand, role, names)?;
+                let operand = self.boxed(operand, role, names)?;
                 let at = self.origin.position(*sign);
-                build::unary(self.alloc, at, unary_operator(sign.kind), operand)
+                Ok(build::unary(at, unary_operator(sign.kind), operand))
             }
             Tree::Binary(left, sign, right) => {
-                let left = self.expr(left, role, names)?;
-                self.binary(right, left, sign.kind, role, names)
+                let left = self.boxed(left, role, names)?;
+                let right = self.boxed(right, role, names)?;
+                Ok(build::binary(left, sign.kind, right))
             }
             Tree::Compare(left, links) => {
-                let left = self.expr(left, role, names)?;
-                self.lower_comparisons(links, left, role, names)
+                let left = self.boxed(left, role, names)?;
+                let rest = self.comparisons(links, role, names)?;
+                Ok(build::compare(left, rest))
             }
             Tree::Conditional(body, _, test, _, orelse) => {
-                let body = self.expr(body, role, names)?;
-                let test = self.expr(test, role, names)?;
-                self.conditional(orelse, test, body, role, names)
+                let body = self.boxed(body, role, names)?;
+                let test = self.boxed(test, role, names)?;
+                let orelse = self.boxed(orelse, role, names)?;
+                Ok(build::conditional(test, body, orelse))
             }
             Tree::Yield(word, value) => {
                 let value = self.optional(value, role, names)?;
                 Ok(build::yield_expression(self.origin.position(*word), value))
             }
             Tree::YieldFrom(word, _, value) => {
-                let value = self.expr(value, role, names)?;
-                build::yield_from_expression(self.alloc, self.origin.position(*word), value)
+                let value = self.boxed(value, role, names)?;
+                Ok(build::yield_from_expression(self.origin.position(*word), value))
             }
             _ => self.item(expr, role, names),
         }
-    }
-
-    /// A call of a callee with the arguments that its items are.
-    #[cycle(lower)]
-    fn call(
-        &self,
-        items: &Pieces,
-        opening: Token,
-        callee: Expr,
-        role: Role,
-        names: &mut Names,
-    ) -> Result<Expr, AllocError>
-        ensures { IfOk result (λ e. expr_of e
-            ≡ (let o = origin_of self.now.origin in
-            let p = pieces_of items.now in
-            spec.following (expr_of callee) (plain.call (expr_of callee) (plain.arguments
-            (spec.arguments_or_generator (position_at o opening) p
-            (spec.arguments_in (Q.spelled self.now.quotes.now) o (spec.first_role role p) role p)))))) }
-    {
-        let found = self.arguments(items, role, names)?;
-        build::call_with_items(
-            self.alloc,
-            callee,
-            self.origin.position(opening),
-            items,
-            found,
-        )
-    }
-
-    /// A subscript of an object by what its items are.
-    #[cycle(lower)]
-    fn lower_subscript(
-        &self,
-        items: &Pieces,
-        value: Expr,
-        role: Role,
-        names: &mut Names,
-    ) -> Result<Expr, AllocError>
-        ensures { IfOk result (λ e. expr_of e
-            ≡ (let p = pieces_of items.now in
-            spec.following (expr_of value) (plain.subscript (expr_of value) (spec.subscript_of p
-            (spec.indices_in (Q.spelled self.now.quotes.now) (origin_of self.now.origin) role p))))) }
-    {
-        let index = self.subscript(items, role, names)?;
-        build::subscript(self.alloc, value, index)
-    }
-
-    /// An operator between a left operand and what the right one is.
-    #[cycle(lower)]
-    fn binary(
-        &self,
-        right: &Tree,
-        left: Expr,
-        sign: Kind,
-        role: Role,
-        names: &mut Names,
-    ) -> Result<Expr, AllocError>
-        ensures { IfOk result (λ e. expr_of e
-            ≡ spec.following (expr_of left) (operators.operation sign (expr_of left)
-            (spec.expr_in (Q.spelled self.now.quotes.now) (origin_of self.now.origin) role (tree_of right.now)))) }
-    {
-        let right = self.expr(right, role, names)?;
-        build::binary(self.alloc, left, sign, right)
-    }
-
-    /// A chain of the comparisons that links are, after its first operand.
-    #[cycle(lower)]
-    fn lower_comparisons(
-        &self,
-        links: &[Link],
-        left: Expr,
-        role: Role,
-        names: &mut Names,
-    ) -> Result<Expr, AllocError>
-        ensures { IfOk result (λ e. expr_of e
-            ≡ spec.following (expr_of left) (plain.compare (expr_of left) (plain.comparisons
-            (spec.comparisons_in (Q.spelled self.now.quotes.now) (origin_of self.now.origin) role
-            (links_before links.now tree.unlinked))))) }
-    {
-        let rest = self.comparisons(links, role, names)?;
-        build::compare(self.alloc, left, rest)
-    }
-
-    /// A choice of a value or of what the other one is.
-    #[cycle(lower)]
-    fn conditional(
-        &self,
-        orelse: &Tree,
-        test: Expr,
-        body: Expr,
-        role: Role,
-        names: &mut Names,
-    ) -> Result<Expr, AllocError>
-        ensures { IfOk result (λ e. expr_of e
-            ≡ spec.following (expr_of body) (plain.conditional (expr_of test) (expr_of body)
-            (spec.expr_in (Q.spelled self.now.quotes.now) (origin_of self.now.origin) role (tree_of orelse.now)))) }
-    {
-        let orelse = self.expr(orelse, role, names)?;
-        build::conditional(self.alloc, test, body, orelse)
     }
 
     /// The value of an item.
@@ -364,13 +292,14 @@ impl<Q: Quotes> Lowering<'_, Q> {
             ≡ spec.optional_in (Q.spelled self.now.quotes.now) (origin_of self.now.origin) role (perhaps_of expr.now)) }
     {
         match expr {
-            Some(expr) => build::present(self.alloc, self.expr(expr, role, names)?),
+            Some(expr) => Ok(build::present(self.boxed(expr, role, names)?)),
             None => Ok(OptionalExpr::Absent),
         }
     }
 
     /// The items of a tuple, a list or a set.
     #[cycle(lower)]
+    #[inline(never)]
     fn elements(
         &self,
         items: &Pieces,
@@ -415,6 +344,7 @@ impl<Q: Quotes> Lowering<'_, Q> {
 
     /// The items of a dictionary.
     #[cycle(lower)]
+    #[inline(never)]
     fn dict_items(
         &self,
         items: &Pieces,
@@ -440,6 +370,7 @@ impl<Q: Quotes> Lowering<'_, Q> {
 
     /// The arguments of a call.
     #[cycle(lower)]
+    #[inline(never)]
     pub fn arguments(
         &self,
         items: &Pieces,
@@ -469,6 +400,7 @@ impl<Q: Quotes> Lowering<'_, Q> {
 
     /// The comparisons of a chain after its first operand.
     #[cycle(lower)]
+    #[inline(never)]
     fn comparisons(
         &self,
         links: &[Link],
@@ -519,6 +451,7 @@ impl<Q: Quotes> Lowering<'_, Q> {
 
     /// The indices of a subscript.
     #[cycle(lower)]
+    #[inline(never)]
     fn indices(
         &self,
         items: &Pieces,
@@ -573,5 +506,21 @@ impl<Q: Quotes> Lowering<'_, Q> {
             Some(only) => self.index(only, role, names),
             None => self.many_indices(items, role, names),
         }
+    }
+
+    /// What stands between the brackets of a subscript, in a box.
+    #[cycle(lower)]
+    #[inline(never)]
+    fn boxed_subscript(
+        &self,
+        items: &Pieces,
+        role: Role,
+        names: &mut Names,
+    ) -> Result<Box<Index>, AllocError>
+        ensures { IfOk result (λ found. index_of found.value ≡ (let p = pieces_of items.now in
+            spec.subscript_of p (spec.indices_in (Q.spelled self.now.quotes.now) (origin_of self.now.origin) role p))) }
+    {
+        let index = self.subscript(items, role, names)?;
+        Ok(Box::new(self.alloc, index)?)
     }
 }

@@ -308,24 +308,6 @@ arguments-returns-in_err-value g t c = first_of (grind (arith, views, lowered), 
 pub arguments-returns-in_err-value-in-Some : goal.arguments-returns-in_err-value-in-Some
 arguments-returns-in_err-value-in-Some g t c = first_of (grind (arith, views, lowered), search rules)
 
-pub binary-returns : goal.binary-returns
-binary-returns g t c = first_of (grind (arith, views, lowered), search rules)
-
-pub binary-returns-in_err-right : goal.binary-returns-in_err-right
-binary-returns-in_err-right g t c = first_of (grind (arith, views, lowered), search rules)
-
-pub call-returns : goal.call-returns
-call-returns g t c = first_of (grind (arith, views, lowered), search rules)
-
-pub call-returns-in_err-found : goal.call-returns-in_err-found
-call-returns-in_err-found g t c = first_of (grind (arith, views, lowered), search rules)
-
-pub lower_comparisons-returns : goal.lower_comparisons-returns
-lower_comparisons-returns g t c = first_of (grind (arith, views, lowered), search rules)
-
-pub lower_comparisons-returns-in_err-rest : goal.lower_comparisons-returns-in_err-rest
-lower_comparisons-returns-in_err-rest g t c = first_of (grind (arith, views, lowered), search rules)
-
 pub comparisons-loop-link-init : goal.comparisons-loop-link-init
 comparisons-loop-link-init g t c = first_of (grind (arith, views, lowered), search rules)
 
@@ -337,12 +319,6 @@ comparisons-returns-in_err-push g t c = first_of (grind (arith, views, lowered),
 
 pub comparisons-returns-in_err-right : goal.comparisons-returns-in_err-right
 comparisons-returns-in_err-right g t c = first_of (grind (arith, views, lowered), search rules)
-
-pub conditional-returns : goal.conditional-returns
-conditional-returns g t c = first_of (grind (arith, views, lowered), search rules)
-
-pub conditional-returns-in_err-orelse : goal.conditional-returns-in_err-orelse
-conditional-returns-in_err-orelse g t c = first_of (grind (arith, views, lowered), search rules)
 
 pub dict_item-returns-in_err-expr-in-Entry : goal.dict_item-returns-in_err-expr-in-Entry
 dict_item-returns-in_err-expr-in-Entry g t c = first_of (grind (arith, views, lowered), search rules)
@@ -434,14 +410,8 @@ expr-returns-in_default g t c = first_of (grind (arith, views, lowered), search 
 pub expr-returns-in_err-found-in-Bare : goal.expr-returns-in_err-found-in-Bare
 expr-returns-in_err-found-in-Bare g t c = first_of (grind (arith, views, lowered), search rules)
 
-pub expr-returns-in_err-inner-in-Parenthesized : goal.expr-returns-in_err-inner-in-Parenthesized
-expr-returns-in_err-inner-in-Parenthesized g t c = first_of (grind (arith, views, lowered), search rules)
-
 pub expr-returns-in_ok-found-in-Bare : goal.expr-returns-in_ok-found-in-Bare
 expr-returns-in_ok-found-in-Bare g t c = first_of (grind (arith, views, lowered), search rules)
-
-pub expr-returns-in_ok-inner-in-Parenthesized : goal.expr-returns-in_ok-inner-in-Parenthesized
-expr-returns-in_ok-inner-in-Parenthesized g t c = first_of (grind (arith, views, lowered), search rules)
 
 pub index-returns-in_err-expr-in_default : goal.index-returns-in_err-expr-in_default
 index-returns-in_err-expr-in_default g t c = first_of (grind (arith, views, lowered), search rules)
@@ -542,29 +512,11 @@ operation-returns-in_err-value-in-Yield g t c = first_of (grind (arith, views, l
 pub operation-returns-in_err-value-in-YieldFrom : goal.operation-returns-in_err-value-in-YieldFrom
 operation-returns-in_err-value-in-YieldFrom g t c = first_of (grind (arith, views, lowered), search rules)
 
-pub operation-returns-in_ok-callee-in-Call : goal.operation-returns-in_ok-callee-in-Call
-operation-returns-in_ok-callee-in-Call g t c = first_of (grind (arith, views, lowered), search rules)
-
-pub operation-returns-in_ok-left-in-Binary : goal.operation-returns-in_ok-left-in-Binary
-operation-returns-in_ok-left-in-Binary g t c = first_of (grind (arith, views, lowered), search rules)
-
-pub operation-returns-in_ok-left-in-Compare : goal.operation-returns-in_ok-left-in-Compare
-operation-returns-in_ok-left-in-Compare g t c = first_of (grind (arith, views, lowered), search rules)
-
 pub operation-returns-in_ok-operand-in-Await : goal.operation-returns-in_ok-operand-in-Await
 operation-returns-in_ok-operand-in-Await g t c = first_of (grind (arith, views, lowered), search rules)
 
 pub operation-returns-in_ok-operand-in-Unary : goal.operation-returns-in_ok-operand-in-Unary
 operation-returns-in_ok-operand-in-Unary g t c = first_of (grind (arith, views, lowered), search rules)
-
-pub operation-returns-in_ok-test-in-Conditional : goal.operation-returns-in_ok-test-in-Conditional
-operation-returns-in_ok-test-in-Conditional g t c = first_of (grind (arith, views, lowered), search rules)
-
-pub operation-returns-in_ok-value-in-Attribute : goal.operation-returns-in_ok-value-in-Attribute
-operation-returns-in_ok-value-in-Attribute g t c = first_of (grind (arith, views, lowered), search rules)
-
-pub operation-returns-in_ok-value-in-Subscript : goal.operation-returns-in_ok-value-in-Subscript
-operation-returns-in_ok-value-in-Subscript g t c = first_of (grind (arith, views, lowered), search rules)
 
 pub operation-returns-in_ok-value-in-Yield : goal.operation-returns-in_ok-value-in-Yield
 operation-returns-in_ok-value-in-Yield g t c = first_of (grind (arith, views, lowered), search rules)
@@ -574,15 +526,3 @@ operation-returns-in_ok-value-in-YieldFrom g t c = first_of (grind (arith, views
 
 pub optional-returns-in-None : goal.optional-returns-in-None
 optional-returns-in-None g t c = first_of (grind (arith, views, lowered), search rules)
-
-pub optional-returns-in_err-expr-in-Some : goal.optional-returns-in_err-expr-in-Some
-optional-returns-in_err-expr-in-Some g t c = first_of (grind (arith, views, lowered), search rules)
-
-pub optional-returns-in_ok-expr-in-Some : goal.optional-returns-in_ok-expr-in-Some
-optional-returns-in_ok-expr-in-Some g t c = first_of (grind (arith, views, lowered), search rules)
-
-pub lower_subscript-returns : goal.lower_subscript-returns
-lower_subscript-returns g t c = first_of (grind (arith, views, lowered), search rules)
-
-pub lower_subscript-returns-in_err-index : goal.lower_subscript-returns-in_err-index
-lower_subscript-returns-in_err-index g t c = first_of (grind (arith, views, lowered), search rules)
