@@ -105,17 +105,15 @@ fn subscript_or_wrong(
 }
 
 /// `left | right`
-fn union_written(alloc: Global, left: TypeExpr, right: TypeExpr) -> Result<TypeExpr, AllocError>
-    ensures { IfOk result (λ written. type_expr_of written
-        ≡ spec.union_written (type_expr_of left) (type_expr_of right)) }
+fn union_written(left: Box<TypeExpr>, right: Box<TypeExpr>) -> TypeExpr
+    ensures { type_expr_of result
+        ≡ spec.union_written (type_expr_of left.value) (type_expr_of right.value) }
 {
-    Ok(TypeExpr::Union {
-        left: Box::new(alloc, left)?,
-        right: Box::new(alloc, right)?,
-    })
+    TypeExpr::Union { left, right }
 }
 
 /// A name as an annotation.
+#[inline(never)]
 fn name_written(alloc: Global, e: &Expr) -> Result<TypeExpr, AllocError>
     ensures { IfOk result (λ written. type_expr_of written
         ≡ spec.name_or_wrong e.now.at e.now.inside (spec.dotted_names (expr_of e.now))) }
@@ -155,6 +153,7 @@ fn is_bit_or(operator: Operator) -> bool
 }
 
 /// An expression under subscripts, with these arguments in the last of them.
+#[inline(never)]
 fn subscript_written(
     alloc: Global,
     at: Position,
@@ -184,9 +183,9 @@ pub fn type_expr(alloc: Global, e: &Expr) -> Result<TypeExpr, AllocError>
             right,
         } => {
             if is_bit_or(*operator) {
-                let left = type_expr(alloc, left)?;
-                let right = type_expr(alloc, right)?;
-                union_written(alloc, left, right)
+                let left = boxed(alloc, left)?;
+                let right = boxed(alloc, right)?;
+                Ok(union_written(left, right))
             } else {
                 Ok(TypeExpr::Wrong(e.at))
             }
@@ -198,6 +197,16 @@ pub fn type_expr(alloc: Global, e: &Expr) -> Result<TypeExpr, AllocError>
         Form::StringAnnotation(spelled) => type_expr(alloc, spelled),
         _ => Ok(TypeExpr::Wrong(e.at)),
     }
+}
+
+/// An expression as an annotation, in a box. Only here is there room on the stack for an operand of a union.
+#[cycle(writing)]
+#[inline(never)]
+fn boxed(alloc: Global, e: &Expr) -> Result<Box<TypeExpr>, AllocError>
+    ensures { IfOk result (λ written. type_expr_of written.value ≡ spec.type_expr (expr_of e.now)) }
+{
+    let written = type_expr(alloc, e)?;
+    Ok(Box::new(alloc, written)?)
 }
 
 /// An expression as an argument.
@@ -224,6 +233,7 @@ fn shape_of(alloc: Global, e: &Expr) -> Result<ArgumentShape, AllocError>
 
 /// The items of a list as types.
 #[cycle(writing)]
+#[inline(never)]
 fn elements_written(alloc: Global, items: &[Element]) -> Result<Vec<TypeExpr>, AllocError>
     ensures { IfOk result (λ types. map type_expr_of types.items
         ≡ spec.elements_written (elements (map element_of items.now))) }
@@ -331,6 +341,7 @@ fn item_arguments(alloc: Global, e: &Expr) -> Result<Vec<TypeArgument>, AllocErr
 
 /// What stands in brackets, as arguments.
 #[cycle(writing)]
+#[inline(never)]
 fn index_arguments(alloc: Global, index: &Index) -> Result<Vec<TypeArgument>, AllocError>
     ensures { IfOk result (λ arguments. map type_argument_of arguments.items
         ≡ spec.index_arguments (index_of index.now)) }
