@@ -17,7 +17,7 @@ import re
 import sys
 
 from instructions import MILLION, Counter, put, words_given
-from programs import Stop
+from programs import Stop, status_of
 from workspace import edits, files
 
 FILES = 1_021
@@ -52,12 +52,7 @@ def main():
     words = words_given("Measures how many instructions checks take.")
     words.add_argument("--files", type=int, default=FILES, help="how many files there are")
     given = words.parse_args()
-    try:
-        measure(Counter(given.program.resolve(), given.jobs), given.files)
-    except (OSError, Stop) as why:
-        print(f"bench: {why}", file=sys.stderr)
-        return 1
-    return 0
+    return status_of(lambda: measure(Counter(given.program.resolve(), given.jobs), given.files))
 
 
 if __name__ == "__main__":

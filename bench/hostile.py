@@ -15,7 +15,7 @@ import sys
 
 from hostile_sources import FAMILIES
 from instructions import MILLION, Counter, words_given
-from programs import Stop
+from programs import status_of
 
 MOST = 2.3
 
@@ -48,12 +48,7 @@ def main():
     words.add_argument("--times", type=int, default=1, help="how many times as large the sources are")
     given = words.parse_args()
     families = [family for family in FAMILIES if given.only in family.name]
-    try:
-        measure_all(families, Counter(given.program.resolve(), given.jobs), given.times)
-    except (OSError, Stop) as why:
-        print(f"bench: {why}", file=sys.stderr)
-        return 1
-    return 0
+    return status_of(lambda: measure_all(families, Counter(given.program.resolve(), given.jobs), given.times))
 
 
 if __name__ == "__main__":

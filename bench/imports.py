@@ -14,7 +14,8 @@ must.
 import statistics
 import sys
 
-from session import PROGRAM, Session, Stop
+from programs import Stop
+from session import PROGRAM, Session
 
 FILES = 1_000
 IMPORTS = 20

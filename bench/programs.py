@@ -25,3 +25,13 @@ def measured_by(measure, name, given):
             print(f"bench: {why}", file=sys.stderr)
             return 1
     return 0
+
+
+def status_of(measure):
+    """Measures, and gives the status of the bench: 1 where the program does not answer as it must."""
+    try:
+        measure()
+    except (OSError, Stop) as why:
+        print(f"bench: {why}", file=sys.stderr)
+        return 1
+    return 0

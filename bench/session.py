@@ -20,6 +20,8 @@ import sys
 import time
 from pathlib import Path
 
+from programs import Stop, status_of
+
 PROGRAM = Path(__file__).resolve().parent.parent / "crates" / "dmypy" / "out" / "dmypy"
 FILE_COUNTS = (100, 1_000)
 LINES = 200
@@ -29,10 +31,6 @@ CHECKS = 15
 STATUSES = 200
 MOST_READ = 1 << 20
 GOOD_LINES = ("int = 3", "str = 'text'", "bool = True", "float = 2.5", "None = None", "float = 7")
-
-
-class Stop(Exception):
-    """The program does not answer as it must."""
 
 
 def made_file(number):
@@ -114,22 +112,22 @@ def measure(session, count):
     session.ask(b"stop\n", b"ok\n")
 
 
+def measure_all(program):
+    """Measures a session of each number of files."""
+    for count in FILE_COUNTS:
+        session = Session(program)
+        try:
+            measure(session, count)
+        finally:
+            session.close()
+
+
 def main():
     if len(sys.argv) > 2:
         print(__doc__)
         return 2
     program = sys.argv[1] if len(sys.argv) == 2 else PROGRAM
-    try:
-        for count in FILE_COUNTS:
-            session = Session(program)
-            try:
-                measure(session, count)
-            finally:
-                session.close()
-    except (OSError, Stop) as why:
-        print(f"bench: {why}", file=sys.stderr)
-        return 1
-    return 0
+    return status_of(lambda: measure_all(program))
 
 
 if __name__ == "__main__":
