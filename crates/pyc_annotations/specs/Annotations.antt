@@ -16,13 +16,13 @@ use Rattle.pyc_type_exprs.specs.TypeExprs.{TypeArguments, no_argument, another_a
 use Rattle.pyc_ast.specs.declared.position.Position.{Position}
 use Rattle.pyc_class_ids.specs.declared.builtin_class.BuiltinClass.TheVariants as class
 use Rattle.pyc_class_ids.specs.Class.{Id, builtin, user}
+use Rattle.pyc_messages.specs.Annotations as message
 use Rattle.pyc_names.specs.declared.fixed.FixedName.{FixedName}
 use Rattle.pyc_names.specs.declared.fixed.FixedName.TheVariants as special
 use Rattle.pyc_names.specs.Interfaces.{Interface}
 use Rattle.pyc_reading.specs.Traces.{Step}
 use Rattle.pyc_reading.specs.Readings.{Done, Report, and_then}
-use Rattle.pyc_report.specs.declared.message.Code.TheVariants.{ValidType}
-use Rattle.pyc_report.specs.Message.{error_at}
+use Rattle.pyc_report.specs.Message.{Diagnostic}
 use Rattle.pyc_report.specs.NameTexts.{joined_names}
 use Rattle.pyc_type_forms.specs.Instances.{instance_of}
 use Rattle.pyc_type_forms.specs.Types.{Ty, any, none, class_object, list, dict, tuple, tuple_of, callable, dots, listed}
@@ -44,25 +44,16 @@ of_class c = record { ty = instance_of c; class = Some c }
 
 -- ---- what is reported
 
-unfoldable pub not_a_type_text : List ℕ → List ℕ
-not_a_type_text names = codes "\"" ++ (names ++ codes "\" is not valid as a type")
-
-unfoldable pub wrong_count_text : List ℕ → List ℕ
-wrong_count_text form = codes "Wrong number of type arguments for \"" ++ (form ++ codes "\"")
-
-unfoldable pub invalid_text : List ℕ
-invalid_text = codes "Invalid type comment or annotation"
-
 -- an annotation of which this is reported is Any
-abbrev pub report_invalid : Position → List ℕ → Step Annotation
-report_invalid at text = Report (error_at at ValidType text) (Done (annotation_of_type any))
+abbrev pub report_invalid : Diagnostic → Step Annotation
+report_invalid reported = Report reported (Done (annotation_of_type any))
 
 -- a variable, a function or a module
 unfoldable pub not_a_type : DottedName → Step Annotation
-not_a_type name = report_invalid name.at (not_a_type_text (joined_names name.names))
+not_a_type name = report_invalid (message.not_a_type name.at (joined_names name.names))
 
 unfoldable pub invalid : Position → Step Annotation
-invalid at = report_invalid at invalid_text
+invalid at = report_invalid (message.invalid_annotation at)
 
 -- a type form as it is reported of
 abbrev pub form_name : TypeForm → List ℕ
@@ -75,7 +66,7 @@ form_name type_form.Callable = codes "Callable"
 form_name type_form.Type = codes "type"
 
 unfoldable pub wrong_count : Position → TypeForm → Step Annotation
-wrong_count at form = report_invalid at (wrong_count_text (form_name form))
+wrong_count at form = report_invalid (message.wrong_count at (form_name form))
 
 -- ---- names
 

@@ -9,11 +9,10 @@ use Rattle.pyc_ast.specs.declared.expr.ArgumentKind.TheVariants as argument_kind
 use Rattle.pyc_ast.specs.declared.position.Position.{Position}
 use Rattle.pyc_ast.specs.Exprs.{Expr, Argument, argument, at_of, inside_of}
 use Rattle.pyc_class_ids.specs.Class.{Id}
+use Rattle.pyc_messages.specs.Annotations as message
 use Rattle.pyc_names.specs.Interfaces.{Interface}
 use Rattle.pyc_reading.specs.Traces.{Step}
 use Rattle.pyc_reading.specs.Readings.{Done, Report, and_then}
-use Rattle.pyc_report.specs.declared.message.Code.TheVariants.{Misc}
-use Rattle.pyc_report.specs.Message.{error_at}
 use Rattle.pyc_report.specs.NameTexts.{joined_names}
 use Rattle.pyc_type_exprs.specs.TypeExprs.{dotted_names, innermost}
 
@@ -25,11 +24,8 @@ pub data Base : Type 0 where
   -- a thing that no base is
   no_base : Base
 
-unfoldable pub invalid_base_text : List ℕ → List ℕ
-invalid_base_text shown = codes "Invalid base class \"" ++ (shown ++ codes "\"")
-
 unfoldable pub invalid_base : Position → List ℕ → Step Base
-invalid_base at shown = Report (error_at at Misc (invalid_base_text shown)) (Done no_base)
+invalid_base at shown = Report (message.invalid_base at shown) (Done no_base)
 
 -- what is reported of a base that is no name
 abbrev pub unnamed : List ℕ

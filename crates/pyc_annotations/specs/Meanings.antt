@@ -1,7 +1,7 @@
 -- What a name means where a type or a base is written (typing specification, "Type annotations", "Valid type expression
 -- forms"; Python reference 3.13, "Resolution of names"). Names are sought at the top level of the module where they
 -- stand, then among Python's builtins, and what is found nowhere is reported.
-use Rattle.std.specs.Prelude.{ℕ, Bool, true, false, bytes_eq, is_some, codes, if◌then◌else◌, List, ◌++◌, Option, None}
+use Rattle.std.specs.Prelude.{ℕ, Bool, true, false, bytes_eq, is_some, codes, if◌then◌else◌, List, Option, None}
 use Rattle.std.specs.Prelude.{Some}
 use Rattle.pyc_ast.specs.declared.position.Position.{Position}
 use Rattle.pyc_bindings.specs.Redefinitions.{declaration}
@@ -10,17 +10,17 @@ use Rattle.pyc_builtins.specs.declared.names.BuiltinName.TheVariants as builtins
 use Rattle.pyc_builtins.specs.Members.{is_dunder}
 use Rattle.pyc_builtins.specs.Names.{builtin_name}
 use Rattle.pyc_class_ids.specs.Class.{Id, builtin}
+use Rattle.pyc_messages.specs.Definitions as message
 use Rattle.pyc_names.specs.declared.fixed.FixedModule.{FixedModule}
 use Rattle.pyc_names.specs.declared.fixed.FixedName.{FixedName}
 use Rattle.pyc_names.specs.FixedModules.{fixed_module, fixed_name}
 use Rattle.pyc_names.specs.Interfaces.{Interface}
 use Rattle.pyc_reading.specs.Answers.{Answer, NameAnswer, NameKind, name_is}
 use Rattle.pyc_reading.specs.Answers as kind
+use Rattle.pyc_reading.specs.Outside.{ask_outside}
 use Rattle.pyc_reading.specs.Traces.{Step}
 use Rattle.pyc_reading.specs.Keys.{name}
 use Rattle.pyc_reading.specs.Readings.{Done, Ask, Report, and_then}
-use Rattle.pyc_report.specs.declared.message.Code.TheVariants.{NameDefined, AttrDefined}
-use Rattle.pyc_report.specs.Message.{error_at}
 use Rattle.pyc_type_forms.specs.Types.{Ty, any, class_object}
 
 -- what a name means where a type is written
@@ -41,19 +41,13 @@ pub data Meaning : Type 0 where
 
 -- ---- what is reported
 
-unfoldable pub not_defined_text : List ℕ → List ℕ
-not_defined_text x = codes "Name \"" ++ (x ++ codes "\" is not defined")
-
 -- a name that nothing defines
 unfoldable pub report_undefined : Position → List ℕ → Step Meaning
-report_undefined at x = Report (error_at at NameDefined (not_defined_text x)) (Done any_meant)
-
-unfoldable pub no_attribute_text : List ℕ → List ℕ
-no_attribute_text n = codes "Module has no attribute \"" ++ (n ++ codes "\"")
+report_undefined at x = Report (message.not_defined at x) (Done any_meant)
 
 -- an attribute that a module does not have
 unfoldable pub no_attribute : Position → List ℕ → Step Meaning
-no_attribute at n = Report (error_at at AttrDefined (no_attribute_text n)) (Done any_meant)
+no_attribute at n = Report (message.absent_attribute at (message.no_module_attribute_text n)) (Done any_meant)
 
 -- ---- names of modules
 
@@ -135,19 +129,16 @@ module_name_meaning m x = name_in_module m x (fixed_module m)
 unfoldable pub own_name : Interface → Position → List ℕ → Step Meaning
 own_name file at x = and_then (module_name_meaning file.name x) (own_meaning at x (binds file x))
 
--- an attribute of a module, as the answer to its key says it
+-- an attribute of a module, by what other files see there
 abbrev pub attribute_of_kind : Position → List ℕ → NameAnswer → NameKind → Step Meaning
 attribute_of_kind at n found kind.no_name = no_attribute at n
 attribute_of_kind at n found _ = Done (kind_meaning found.kind found.ty)
 
-abbrev pub answered_attribute : Position → List ℕ → Answer → Step Meaning
-answered_attribute at n (name_is found) = attribute_of_kind at n found found.kind
-answered_attribute at n _ = Done any_meant
-
--- an attribute of a module, of a fixed one or by its key
+-- an attribute of a module, of a fixed one or as other files see the name
 abbrev pub attribute_in_module : Position → List (List ℕ) → List ℕ → Option FixedModule → Step Meaning
 attribute_in_module at m n (Some found) = Done (fixed_meaning (fixed_name found n))
-attribute_in_module at m n None = Ask (name (record { module_path = m; name = n })) (answered_attribute at n)
+attribute_in_module at m n None =
+    and_then (ask_outside (record { module_path = m; name = n })) (λ found. attribute_of_kind at n found found.kind)
 
 -- an attribute of a module, of which is reported where its names begin: Any where two underscores stand at both ends
 unfoldable pub module_attribute : Position → List (List ℕ) → List ℕ → Step Meaning

@@ -6,7 +6,7 @@ ghost use Rattle.pyc_annotations.specs.Meanings as spec;
 ghost use Rattle.pyc_annotations.specs.Views.{meaning_of};
 ghost use Rattle.pyc_names.specs.FixedModules as fixed;
 ghost use Rattle.pyc_names.specs.InterfaceView.{interface_in};
-ghost use Rattle.pyc_reading.specs.AnswerView.{answer_in, kind_of, name_answer_of};
+ghost use Rattle.pyc_reading.specs.AnswerView.{kind_of, name_answer_of};
 ghost use Rattle.pyc_reading.specs.Traces.{Performs};
 
 use crate::meaning::{Meaning, Role, answer_meaning, builtin_meaning, fixed_meaning, kind_meaning};
@@ -14,7 +14,7 @@ use crate::messages::{no_attribute, report_undefined};
 use pyc_ast::{Position, Text};
 use pyc_builtins::{BuiltinName, builtin_name, is_dunder};
 use pyc_names::{Interface, ModuleName, QualifiedName, fixed_module, fixed_name};
-use pyc_reading::{Answer, Ask, Key, NameAnswer, NameKind};
+use pyc_reading::{Ask, Key, NameAnswer, NameKind, ask_outside};
 use std::alloc::{AllocError, Global};
 
 /// What a name of a module means.
@@ -195,29 +195,12 @@ fn ask_attribute<N: Ask>(
         result
         (N.trace recorder.new) }
 {
-    let key = Key::Name(QualifiedName {
+    let asked = QualifiedName {
         module_path: module_path.clone()?,
         name: name.clone()?,
-    });
-    let answer = recorder.ask(alloc, key)?;
-    answered_attribute(alloc, recorder, at, name.as_str(), answer)
-}
-
-/// What an attribute of a module means, as the answer to its key says it.
-fn answered_attribute<N: Ask>(
-    alloc: Global,
-    recorder: &mut N,
-    at: Position,
-    name: &str,
-    answer: Answer,
-) -> Result<Meaning, AllocError>
-    ensures { Performs meaning_of (spec.answered_attribute at name.now (answer_in answer)) (N.trace recorder.old) result
-        (N.trace recorder.new) }
-{
-    match answer {
-        Answer::Name(found) => attribute_of_kind(alloc, recorder, at, name, found),
-        Answer::Presence(_) | Answer::Mro(_) | Answer::Member(_) => Ok(Meaning::Any),
-    }
+    };
+    let found = ask_outside(alloc, recorder, &asked)?;
+    attribute_of_kind(alloc, recorder, at, name.as_str(), found)
 }
 
 /// What an attribute of a module means, by what it stands for: where its module does not have it that is reported.

@@ -105,7 +105,9 @@ pub(crate) fn answer_meaning(answer: Answer) -> Result<Meaning, AllocError>
 {
     match answer {
         Answer::Name(found) => kind_meaning(found.kind, &found.ty),
-        Answer::Presence(_) | Answer::Mro(_) | Answer::Member(_) => Ok(Meaning::Any),
+        Answer::Presence(_) | Answer::Mro(_) | Answer::Member(_) | Answer::Export(_) => {
+            Ok(Meaning::Any)
+        }
     }
 }
 

@@ -6,6 +6,8 @@ ghost use Rattle.pyc_annotations.specs.Bases as base_spec;
 ghost use Rattle.pyc_annotations.specs.Meanings as name_spec;
 ghost use Rattle.pyc_annotations.specs.Views.{annotation_in, base_of, meaning_of};
 ghost use Rattle.pyc_reading.specs.Traces.{Performs};
+ghost use Rattle.pyc_report.specs.declared.message.Code.TheVariants as code;
+ghost use Rattle.pyc_report.specs.Message.{error_at};
 ghost use Rattle.pyc_report.specs.NameTexts.{joined_names};
 ghost use Rattle.pyc_type_exprs.specs.TypeExprView.{dotted_name_of};
 
@@ -14,6 +16,10 @@ use crate::meaning::Meaning;
 use crate::reading::{Annotation, annotation_of_type};
 use crate::type_form::TypeForm;
 use pyc_ast::{Position, Text};
+use pyc_messages::{
+    invalid_annotation_text, invalid_base_text, no_module_attribute_text, not_a_type_text,
+    not_defined_text, wrong_count_text,
+};
 use pyc_reading::{Ask, report_error};
 use pyc_report::{Code, push_names};
 use pyc_type_exprs::DottedName;
@@ -26,8 +32,8 @@ fn report_invalid<N: Ask>(
     at: Position,
     text: String,
 ) -> Result<Annotation, AllocError>
-    ensures { Performs annotation_in (spec.report_invalid at (string_bytes text)) (N.trace recorder.old) result
-        (N.trace recorder.new) }
+    ensures { Performs annotation_in (spec.report_invalid (error_at at code.ValidType (string_bytes text)))
+        (N.trace recorder.old) result (N.trace recorder.new) }
 {
     report_error(recorder, at, Code::ValidType, text)?;
     Ok(annotation_of_type(Ty::Any))
@@ -40,30 +46,6 @@ pub(crate) fn names_text(alloc: Global, names: &[Text]) -> Result<String, AllocE
     let mut text = String::new(alloc);
     push_names(&mut text, names)?;
     Ok(text)
-}
-
-/// The text on what is no type.
-#[tactic(auto, unfolding(crate::specs::Annotations::not_a_type_text))]
-fn not_a_type_text(alloc: Global, names: &str) -> Result<String, AllocError>
-    ensures { IfOk result (λ text. string_bytes text ≡ spec.not_a_type_text names.now) }
-{
-    format!(in alloc; "\"{names}\" is not valid as a type")
-}
-
-/// The text on a form with another number of arguments than it takes.
-#[tactic(auto, unfolding(crate::specs::Annotations::wrong_count_text))]
-fn wrong_count_text(alloc: Global, form: &str) -> Result<String, AllocError>
-    ensures { IfOk result (λ text. string_bytes text ≡ spec.wrong_count_text form.now) }
-{
-    format!(in alloc; "Wrong number of type arguments for \"{form}\"")
-}
-
-/// The text on any other wrong annotation.
-#[tactic(auto, unfolding(crate::specs::Annotations::invalid_text))]
-fn invalid_text(alloc: Global) -> Result<String, AllocError>
-    ensures { IfOk result (λ text. string_bytes text ≡ spec.invalid_text) }
-{
-    String::from_str(alloc, "Invalid type comment or annotation")
 }
 
 /// Reports that a variable, a function or a module is no type.
@@ -104,16 +86,8 @@ pub(crate) fn invalid<N: Ask>(
 ) -> Result<Annotation, AllocError>
     ensures { Performs annotation_in (spec.invalid at) (N.trace recorder.old) result (N.trace recorder.new) }
 {
-    let text = invalid_text(alloc)?;
+    let text = invalid_annotation_text(alloc)?;
     report_invalid(recorder, at, text)
-}
-
-/// The text on a base that no class is.
-#[tactic(auto, unfolding(crate::specs::Bases::invalid_base_text))]
-fn invalid_base_text(alloc: Global, shown: &str) -> Result<String, AllocError>
-    ensures { IfOk result (λ text. string_bytes text ≡ base_spec.invalid_base_text shown.now) }
-{
-    format!(in alloc; "Invalid base class \"{shown}\"")
 }
 
 /// Reports that a base is no class.
@@ -132,14 +106,6 @@ pub(crate) fn invalid_base<N: Ask>(
     Ok(Base::Invalid)
 }
 
-/// The text on a name that nothing defines.
-#[tactic(auto, unfolding(crate::specs::Meanings::not_defined_text))]
-fn not_defined_text(alloc: Global, name: &str) -> Result<String, AllocError>
-    ensures { IfOk result (λ text. string_bytes text ≡ name_spec.not_defined_text name.now) }
-{
-    format!(in alloc; "Name \"{name}\" is not defined")
-}
-
 /// Reports that nothing defines a name, which is Any.
 #[tactic(auto, unfolding(crate::specs::Meanings::report_undefined))]
 pub(crate) fn report_undefined<N: Ask>(
@@ -156,14 +122,6 @@ pub(crate) fn report_undefined<N: Ask>(
     Ok(Meaning::Any)
 }
 
-/// The text on an attribute that a module does not have.
-#[tactic(auto, unfolding(crate::specs::Meanings::no_attribute_text))]
-fn no_attribute_text(alloc: Global, name: &str) -> Result<String, AllocError>
-    ensures { IfOk result (λ text. string_bytes text ≡ name_spec.no_attribute_text name.now) }
-{
-    format!(in alloc; "Module has no attribute \"{name}\"")
-}
-
 /// Reports that a module does not have an attribute, which is Any.
 #[tactic(auto, unfolding(crate::specs::Meanings::no_attribute))]
 pub(crate) fn no_attribute<N: Ask>(
@@ -175,7 +133,7 @@ pub(crate) fn no_attribute<N: Ask>(
     ensures { Performs meaning_of (name_spec.no_attribute at name.now) (N.trace recorder.old) result
         (N.trace recorder.new) }
 {
-    let text = no_attribute_text(alloc, name)?;
+    let text = no_module_attribute_text(alloc, name)?;
     report_error(recorder, at, Code::AttrDefined, text)?;
     Ok(Meaning::Any)
 }

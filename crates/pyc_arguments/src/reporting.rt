@@ -7,12 +7,11 @@ ghost use Rattle.pyc_matching.specs.Views.{missing_in};
 ghost use Rattle.pyc_reading.specs.Traces.{Performs, reporting};
 ghost use Rattle.pyc_type_forms.specs.TypeView.{ty_of};
 
-use crate::texts::{
-    missing_argument_text, repeated_text, shown_text, too_many_text, unexpected_text,
-};
+use crate::texts::{callee_text, missing_argument_text, missing_text};
 use pyc_ast::Position;
 use pyc_class_ids::BuiltinClass;
-use pyc_matching::{MissingArgument, missing_text};
+use pyc_matching::MissingArgument;
+use pyc_messages::{repeated_argument_text, too_many_arguments_text, unexpected_argument_text};
 use pyc_obligations::report_error;
 use pyc_reading::Ask;
 use pyc_report::Code;
@@ -63,8 +62,8 @@ pub(crate) fn report_repeated<N: Ask>(
     ensures { Performs (λ u. u) (reporting (spec.repeated_message (call_in call.now) name.now)) (N.trace recorder.old)
         result (N.trace recorder.new) }
 {
-    let shown = shown_text(alloc, call.shown)?;
-    let text = repeated_text(alloc, name, shown.as_str())?;
+    let shown = callee_text(alloc, call.shown)?;
+    let text = repeated_argument_text(alloc, name, shown.as_str())?;
     report_error(recorder, call.at, Code::CallArg, text)
 }
 
@@ -79,8 +78,8 @@ pub(crate) fn report_unexpected<N: Ask>(
     ensures { Performs (λ u. u) (reporting (spec.unexpected_message (call_in call.now) name.now)) (N.trace recorder.old)
         result (N.trace recorder.new) }
 {
-    let shown = shown_text(alloc, call.shown)?;
-    let text = unexpected_text(alloc, name, shown.as_str())?;
+    let shown = callee_text(alloc, call.shown)?;
+    let text = unexpected_argument_text(alloc, name, shown.as_str())?;
     report_error(recorder, call.at, Code::CallArg, text)
 }
 
@@ -94,8 +93,8 @@ pub(crate) fn report_too_many<N: Ask>(
     ensures { Performs (λ u. u) (reporting (spec.too_many_message (call_in call.now))) (N.trace recorder.old) result
         (N.trace recorder.new) }
 {
-    let shown = shown_text(alloc, call.shown)?;
-    let text = too_many_text(alloc, shown.as_str())?;
+    let shown = callee_text(alloc, call.shown)?;
+    let text = too_many_arguments_text(alloc, shown.as_str())?;
     report_error(recorder, call.at, Code::CallArg, text)
 }
 
@@ -110,7 +109,7 @@ pub(crate) fn report_missing<N: Ask>(
     ensures { Performs (λ u. u) (reporting (spec.missing_message (call_in call.now) (missing_in missing.entry)))
         (N.trace recorder.old) result (N.trace recorder.new) }
 {
-    let shown = shown_text(alloc, call.shown)?;
+    let shown = callee_text(alloc, call.shown)?;
     let name = missing_text(alloc, missing)?;
     let text = missing_argument_text(alloc, missing, name.as_str(), shown.as_str())?;
     report_error(recorder, call.at, Code::CallArg, text)

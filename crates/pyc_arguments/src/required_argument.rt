@@ -3,7 +3,7 @@
 ghost use Rattle.pyc_arguments.specs.Views.{required_in};
 
 use crate::reporting::Call;
-use crate::texts::{argument_text, shown_text};
+use crate::texts::{argument_text, callee_text};
 use pyc_ast::Position;
 use pyc_matching::Given;
 use pyc_obligations::{AsObligation, AskTypes};
@@ -40,7 +40,7 @@ impl<N: AskTypes> AsObligation<N> for RequiredArgument<'_> {
 
     #[tactic(auto, unfolding(crate::specs::Reporting::required_argument_text))]
     fn message(&self, alloc: Global, _recorder: &N) -> Result<Message, AllocError> {
-        let shown = shown_text(alloc, self.call.shown)?;
+        let shown = callee_text(alloc, self.call.shown)?;
         let got = show(alloc, self.got)?;
         let want = show(alloc, self.want)?;
         let text = argument_text(

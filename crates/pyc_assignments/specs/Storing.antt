@@ -1,12 +1,13 @@
 -- What is required of a target, and what is known of it after the assignment (Python reference 3.13, "Assignment
 -- statements" and "Naming and binding"; typing specification, "Type system concepts" and "Type narrowing").
-use Rattle.std.specs.Prelude.{ℕ, Bool, true, false, not, ◌&&◌, codes, if◌then◌else◌, List, [], ◌∷◌, ◌++◌, Option}
+use Rattle.std.specs.Prelude.{ℕ, Bool, true, false, not, ◌&&◌, if◌then◌else◌, List, [], ◌∷◌, Option}
 use Rattle.std.specs.Prelude.{None, Some}
 use Rattle.pyc_assignments.specs.Reads.{AssignmentOutcome, target_type_outcome, new_local}
 use Rattle.pyc_ast.specs.declared.position.Position.{Position}
 use Rattle.pyc_ast.specs.Targets.{Target}
 use Rattle.pyc_locals.specs.Locals.{declared}
 use Rattle.pyc_locals.specs.FlowStates.{FlowState, in_state, with_declared}
+use Rattle.pyc_messages.specs.Assignments as message
 use Rattle.pyc_obligations.specs.Judging.{judge_assignable}
 use Rattle.pyc_places.specs.Places.{Place}
 use Rattle.pyc_places.specs.States.{State, with_place, drop_place}
@@ -21,20 +22,10 @@ use Rattle.pyc_type_forms.specs.Types.{Ty, any, none, union}
 
 -- ---- what is reported
 
-unfoldable pub variable_text : (got want : List ℕ) → List ℕ
-variable_text got want =
-    codes "Incompatible types in assignment (expression has type \"" ++ (got ++ (codes "\", variable has type \""
-    ++ (want ++ codes "\")")))
-
-unfoldable pub item_text : (got want : List ℕ) → List ℕ
-item_text got want =
-    codes "Incompatible types in assignment (expression has type \"" ++ (got ++ (codes "\", target has type \""
-    ++ (want ++ codes "\")")))
-
 -- the text on a value of another type than its target takes, by whether that is an item of a subscript
 abbrev pub assignment_text : Bool → (got want : List ℕ) → List ℕ
-assignment_text true got want = item_text got want
-assignment_text false got want = variable_text got want
+assignment_text true got want = message.item_assignment_text got want
+assignment_text false got want = message.variable_assignment_text got want
 
 -- the text on a value of a type, by its type and the type that its target takes
 unfoldable pub required_assignment_text : Bool → (got want : Ty) → List ℕ

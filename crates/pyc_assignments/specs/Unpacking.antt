@@ -1,16 +1,14 @@
 -- What the targets of a tuple or a list of targets get (Python reference 3.13, "Assignment statements"; typing
 -- specification, "Tuples").
-use Rattle.std.specs.Prelude.{ℕ, suc, Bool, true, false, ◌||◌, nat_eq, nat_lt, codes, if◌then◌else◌, List, ◌++◌, Option}
+use Rattle.std.specs.Prelude.{ℕ, suc, Bool, true, false, ◌||◌, nat_eq, nat_lt, if◌then◌else◌, Option}
 use Rattle.std.specs.Prelude.{None, Some}
-use Rattle.std.specs.Fmt.{decimal}
 use Rattle.pyc_ast.specs.declared.position.Position.{Position}
 use Rattle.pyc_ast.specs.Targets.{TargetElement, target_element, TargetElements, no_target, another_target}
 use Rattle.pyc_subscripts.specs.Chosen.{row_length, ty_at}
 use Rattle.pyc_subscripts.specs.Iteration.{infer_iteration}
+use Rattle.pyc_messages.specs.Assignments as message
 use Rattle.pyc_reading.specs.Traces.{Step}
 use Rattle.pyc_reading.specs.Readings.{Done, Report, and_then}
-use Rattle.pyc_report.specs.declared.message.Code.TheVariants.{Misc}
-use Rattle.pyc_report.specs.Message.{error_at}
 use Rattle.pyc_type_forms.specs.Types.{Ty, any, tuple}
 
 -- what targets get
@@ -22,28 +20,13 @@ pub data Shares : Type 0 where
 
 -- ---- what is reported
 
--- how many values, in words
-abbrev pub values_word : ℕ → List ℕ
-values_word count = if nat_eq count 1 then codes "value" else codes "values"
-
-unfoldable pub too_few_text : ℕ → List ℕ → ℕ → List ℕ
-too_few_text provided word expected =
-    codes "Need more than " ++ (decimal provided ++ (codes " " ++ (word ++ (codes " to unpack (" ++ (decimal expected
-    ++ codes " expected)")))))
-
 -- a tuple with fewer places than there are targets: each gets Any
 unfoldable pub too_few : Position → (provided expected : ℕ) → Step Shares
-too_few at provided expected =
-    Report (error_at at Misc (too_few_text provided (values_word provided) expected)) (Done (each_gets any))
-
-unfoldable pub too_many_text : (provided expected : ℕ) → List ℕ
-too_many_text provided expected =
-    codes "Too many values to unpack (" ++ (decimal expected ++ (codes " expected, " ++ (decimal provided
-    ++ codes " provided)")))
+too_few at provided expected = Report (message.too_few_values at provided expected) (Done (each_gets any))
 
 -- a tuple with more places than there are targets
 unfoldable pub too_many : Position → (provided expected : ℕ) → Step Shares
-too_many at provided expected = Report (error_at at Misc (too_many_text provided expected)) (Done (each_gets any))
+too_many at provided expected = Report (message.too_many_values at provided expected) (Done (each_gets any))
 
 -- ---- the targets
 

@@ -9,30 +9,13 @@ ghost use Rattle.pyc_type_forms.specs.TypeView.{ty_of};
 
 use crate::unpacking::Shares;
 use pyc_ast::Position;
+use pyc_messages::{
+    item_assignment_text, too_few_values_text, too_many_values_text, variable_assignment_text,
+};
 use pyc_obligations::{AsObligation, AskTypes, report_error};
 use pyc_report::{Code, Message, ObligationKind};
 use pyc_type_forms::{Ty, show};
 use std::alloc::{AllocError, Global};
-
-/// The text on a value of another type than its variable takes.
-#[tactic(auto, unfolding(crate::specs::Storing::variable_text))]
-fn variable_text(alloc: Global, got: &str, want: &str) -> Result<String, AllocError>
-    ensures { IfOk result (λ text. string_bytes text ≡ spec.variable_text got.now want.now) }
-{
-    format!(in alloc;
-        "Incompatible types in assignment (expression has type \"{got}\", variable has type \"{want}\")"
-    )
-}
-
-/// The text on a value of another type than an item of a subscript takes.
-#[tactic(auto, unfolding(crate::specs::Storing::item_text))]
-fn item_text(alloc: Global, got: &str, want: &str) -> Result<String, AllocError>
-    ensures { IfOk result (λ text. string_bytes text ≡ spec.item_text got.now want.now) }
-{
-    format!(in alloc;
-        "Incompatible types in assignment (expression has type \"{got}\", target has type \"{want}\")"
-    )
-}
 
 /// The text on a value of another type than its target takes.
 fn assignment_text(
@@ -44,9 +27,9 @@ fn assignment_text(
     ensures { IfOk result (λ text. string_bytes text ≡ spec.assignment_text is_item got.now want.now) }
 {
     if is_item {
-        item_text(alloc, got, want)
+        item_assignment_text(alloc, got, want)
     } else {
-        variable_text(alloc, got, want)
+        variable_assignment_text(alloc, got, want)
     }
 }
 
@@ -83,26 +66,6 @@ impl<N: AskTypes> AsObligation<N> for RequiredAssignment<'_> {
     }
 }
 
-/// How many values, in words.
-fn values_word(count: usize) -> &'static str
-    ensures { result.now ≡ unpacking.values_word count }
-{
-    if count == 1 { "value" } else { "values" }
-}
-
-/// The text on a tuple with fewer places than there are targets.
-#[tactic(auto, unfolding(crate::specs::Unpacking::too_few_text))]
-fn too_few_text(
-    alloc: Global,
-    provided: usize,
-    word: &str,
-    expected: usize,
-) -> Result<String, AllocError>
-    ensures { IfOk result (λ text. string_bytes text ≡ unpacking.too_few_text provided word.now expected) }
-{
-    format!(in alloc; "Need more than {provided} {word} to unpack ({expected} expected)")
-}
-
 /// Reports that a tuple has fewer places than there are targets.
 #[tactic(auto, using(pyc_obligations::proofs::Steps::performing), unfolding(crate::specs::Unpacking::too_few))]
 pub(crate) fn too_few<N: AskTypes>(
@@ -115,17 +78,9 @@ pub(crate) fn too_few<N: AskTypes>(
     ensures { Performs shares_in (unpacking.too_few at provided expected) (N.trace recorder.old) result
         (N.trace recorder.new) }
 {
-    let text = too_few_text(alloc, provided, values_word(provided), expected)?;
+    let text = too_few_values_text(alloc, provided, expected)?;
     report_error(recorder, at, Code::Misc, text)?;
     Ok(Shares::Each(Ty::Any))
-}
-
-/// The text on a tuple with more places than there are targets.
-#[tactic(auto, unfolding(crate::specs::Unpacking::too_many_text))]
-fn too_many_text(alloc: Global, provided: usize, expected: usize) -> Result<String, AllocError>
-    ensures { IfOk result (λ text. string_bytes text ≡ unpacking.too_many_text provided expected) }
-{
-    format!(in alloc; "Too many values to unpack ({expected} expected, {provided} provided)")
 }
 
 /// Reports that a tuple has more places than there are targets.
@@ -140,7 +95,7 @@ pub(crate) fn too_many<N: AskTypes>(
     ensures { Performs shares_in (unpacking.too_many at provided expected) (N.trace recorder.old) result
         (N.trace recorder.new) }
 {
-    let text = too_many_text(alloc, provided, expected)?;
+    let text = too_many_values_text(alloc, provided, expected)?;
     report_error(recorder, at, Code::Misc, text)?;
     Ok(Shares::Each(Ty::Any))
 }

@@ -1,12 +1,12 @@
 -- The attribute of a value (Python reference 3.13, "Attribute references"; typing specification, "Union types").
-use Rattle.std.specs.Prelude.{ℕ, codes, List, [], ◌∷◌, ◌++◌}
+use Rattle.std.specs.Prelude.{ℕ, List, [], ◌∷◌, ◌++◌}
 use Rattle.pyc_ast.specs.declared.position.Position.{Position}
 use Rattle.pyc_attributes.specs.FoundAttributes.{Found, absent, known, member_of, name_with, item_attribute}
+use Rattle.pyc_messages.specs.Definitions as message
+use Rattle.pyc_messages.specs.Expressions as expression_message
 use Rattle.pyc_obligations.specs.Values.{Value, plain_value}
 use Rattle.pyc_reading.specs.Traces.{Step}
 use Rattle.pyc_reading.specs.Readings.{Done, Report, and_then}
-use Rattle.pyc_report.specs.declared.message.Code.TheVariants.{AttrDefined, UnionAttr}
-use Rattle.pyc_report.specs.Message.{error_at}
 use Rattle.pyc_scopes.specs.NamedValues.{answered_value}
 use Rattle.pyc_type_forms.specs.Text.{text_of}
 use Rattle.pyc_type_forms.specs.Types.{Ty, any, module_type, union}
@@ -14,27 +14,17 @@ use Rattle.pyc_type_forms.specs.Unions.{row_items, union_of}
 
 -- ---- what is reported
 
-unfoldable pub no_attribute_text : List ℕ → List ℕ → List ℕ
-no_attribute_text shown n = codes "\"" ++ (shown ++ (codes "\" has no attribute \"" ++ (n ++ codes "\"")))
-
-unfoldable pub no_module_attribute_text : List ℕ → List ℕ
-no_module_attribute_text n = codes "Module has no attribute \"" ++ (n ++ codes "\"")
-
 -- what is reported of a type: which module it is is not
 abbrev pub absent_text : Ty → List ℕ → List ℕ
-absent_text (module_type m) n = no_module_attribute_text n
-absent_text ty n = no_attribute_text (text_of ty) n
+absent_text (module_type m) n = message.no_module_attribute_text n
+absent_text ty n = expression_message.no_attribute_text (text_of ty) n
 
 unfoldable pub no_attribute : Position → Ty → List ℕ → Step Ty
-no_attribute at ty n = Report (error_at at AttrDefined (absent_text ty n)) (Done any)
-
-unfoldable pub no_item_attribute_text : List ℕ → List ℕ → List ℕ → List ℕ
-no_item_attribute_text item whole n =
-    codes "Item \"" ++ (item ++ (codes "\" of \"" ++ (whole ++ (codes "\" has no attribute \"" ++ (n ++ codes "\"")))))
+no_attribute at ty n = Report (message.absent_attribute at (absent_text ty n)) (Done any)
 
 unfoldable pub no_item_attribute : Position → Ty → Ty → List ℕ → Step Ty
 no_item_attribute at whole item n =
-    Report (error_at at UnionAttr (no_item_attribute_text (text_of item) (text_of whole) n)) (Done any)
+    Report (expression_message.no_item_attribute at (text_of item) (text_of whole) n) (Done any)
 
 -- ---- a type that is no union
 

@@ -11,9 +11,10 @@ use Rattle.pyc_attributes.specs.Binding.{is_of_builtin, through_instance, throug
 use Rattle.pyc_names.specs.declared.fixed.FixedModule.{FixedModule}
 use Rattle.pyc_names.specs.declared.fixed.FixedName.{FixedName}
 use Rattle.pyc_names.specs.FixedModules.{fixed_module, fixed_name}
-use Rattle.pyc_obligations.specs.Asking.{ask_member, ask_name, is_unknown_class}
+use Rattle.pyc_obligations.specs.Asking.{ask_member, is_unknown_class}
 use Rattle.pyc_reading.specs.Answers.{MemberAnswer, NameAnswer, NameKind, fixed, no_name}
 use Rattle.pyc_reading.specs.declared.answer.MemberKind.{MemberKind}
+use Rattle.pyc_reading.specs.Outside.{ask_outside}
 use Rattle.pyc_reading.specs.Traces.{Step}
 use Rattle.pyc_reading.specs.Readings.{Done, and_then}
 use Rattle.pyc_type_forms.specs.Types.{Ty, any, none, module_type, instance, class_object, list, dict, tuple}
@@ -99,7 +100,7 @@ class_object_attribute c n = and_then (ask_member c n) (class_object_found c n)
 
 -- ---- modules
 
--- a name of a module, as the answer to its key says it
+-- a name of a module, as other files see it
 abbrev pub answered_found : NameAnswer → NameKind → Found
 answered_found found no_name = absent
 answered_found found _ = name_with found
@@ -112,7 +113,7 @@ fixed_found None = known any
 abbrev pub module_name : List (List ℕ) → List ℕ → Option FixedModule → Step Found
 module_name m n (Some found) = Done (fixed_found (fixed_name found n))
 module_name m n None =
-    and_then (ask_name (record { module_path = m; name = n })) (λ found. Done (answered_found found found.kind))
+    and_then (ask_outside (record { module_path = m; name = n })) (λ found. Done (answered_found found found.kind))
 
 -- Any where two underscores stand at both ends
 unfoldable pub module_attribute : List (List ℕ) → List ℕ → Step Found

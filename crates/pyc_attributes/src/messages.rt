@@ -2,31 +2,17 @@
 
 ghost use Rattle.std.specs.Prelude.{◌≡◌, IfOk, string_bytes};
 ghost use Rattle.pyc_attributes.specs.AttributeValues as spec;
+ghost use Rattle.pyc_messages.specs.Expressions.{no_attribute_text};
 ghost use Rattle.pyc_reading.specs.Traces.{Performs};
 ghost use Rattle.pyc_type_forms.specs.Text.{text_of};
 ghost use Rattle.pyc_type_forms.specs.TypeView.{ty_of};
 
 use pyc_ast::Position;
+use pyc_messages::{no_attribute_text, no_item_attribute_text, no_module_attribute_text};
 use pyc_obligations::{AskTypes, report_error};
 use pyc_report::Code;
 use pyc_type_forms::{Ty, show};
 use std::alloc::{AllocError, Global};
-
-/// The text on a type that has no such attribute.
-#[tactic(auto, unfolding(crate::specs::AttributeValues::no_attribute_text))]
-fn no_attribute_text(alloc: Global, shown: &str, name: &str) -> Result<String, AllocError>
-    ensures { IfOk result (λ text. string_bytes text ≡ spec.no_attribute_text shown.now name.now) }
-{
-    format!(in alloc; "\"{shown}\" has no attribute \"{name}\"")
-}
-
-/// The text on a module that has no such attribute.
-#[tactic(auto, unfolding(crate::specs::AttributeValues::no_module_attribute_text))]
-fn no_module_attribute_text(alloc: Global, name: &str) -> Result<String, AllocError>
-    ensures { IfOk result (λ text. string_bytes text ≡ spec.no_module_attribute_text name.now) }
-{
-    format!(in alloc; "Module has no attribute \"{name}\"")
-}
 
 /// The text on what has no such attribute.
 fn absent_text(alloc: Global, ty: &Ty, name: &str) -> Result<String, AllocError>
@@ -41,7 +27,7 @@ fn absent_text(alloc: Global, ty: &Ty, name: &str) -> Result<String, AllocError>
 /// The text on a type that is no module.
 fn no_type_attribute_text(alloc: Global, ty: &Ty, name: &str) -> Result<String, AllocError>
     ensures { IfOk result (λ text. string_bytes text
-        ≡ spec.no_attribute_text (text_of (ty_of ty.now)) name.now) }
+        ≡ no_attribute_text (text_of (ty_of ty.now)) name.now) }
 {
     let shown = show(alloc, ty)?;
     no_attribute_text(alloc, shown.as_str(), name)
@@ -62,20 +48,6 @@ pub fn no_attribute<N: AskTypes>(
     let text = absent_text(alloc, ty, name)?;
     report_error(recorder, at, Code::AttrDefined, text)?;
     Ok(Ty::Any)
-}
-
-/// The text on an item of a union that has no such attribute.
-#[tactic(auto, unfolding(crate::specs::AttributeValues::no_item_attribute_text))]
-fn no_item_attribute_text(
-    alloc: Global,
-    item: &str,
-    whole: &str,
-    name: &str,
-) -> Result<String, AllocError>
-    ensures { IfOk result (λ text. string_bytes text
-        ≡ spec.no_item_attribute_text item.now whole.now name.now) }
-{
-    format!(in alloc; "Item \"{item}\" of \"{whole}\" has no attribute \"{name}\"")
 }
 
 /// Reports that an item of a union has no such attribute, and answers Any. The only error is that memory runs out.

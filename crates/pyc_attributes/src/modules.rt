@@ -12,8 +12,8 @@ use crate::found::FoundAttribute;
 use pyc_ast::Text;
 use pyc_builtins::is_dunder;
 use pyc_names::{FixedName, QualifiedName, fixed_module, fixed_name, module_of_parts};
-use pyc_obligations::{AskTypes, ask_name};
-use pyc_reading::{NameAnswer, NameKind};
+use pyc_obligations::AskTypes;
+use pyc_reading::{NameAnswer, NameKind, ask_outside};
 use pyc_type_forms::Ty;
 use std::alloc::{AllocError, Global};
 
@@ -76,7 +76,7 @@ fn ask_attribute<N: AskTypes>(
         (N.trace recorder.new) }
 {
     let asked = qualified(alloc, module_path, name)?;
-    let found = ask_name(alloc, recorder, asked)?;
+    let found = ask_outside(alloc, recorder, &asked)?;
     Ok(answered_found(found))
 }
 
@@ -90,7 +90,7 @@ fn qualified(alloc: Global, module_path: &[Text], name: &str) -> Result<Qualifie
     })
 }
 
-/// A name of a module, as an answer says it.
+/// A name of a module, as other files see it.
 fn answered_found(found: NameAnswer) -> FoundAttribute
     ensures { found_in result ≡ spec.answered_found (name_answer_of found) (kind_of found.kind) }
 {

@@ -21,4 +21,10 @@ binding_form_of b.Other = other
 
 -- the plain binding that one of the code is
 abbrev pub binding_of : BindingOf → Binding
-binding_of found = record { name = found.name; place = found.place; form = binding_form_of found.form }
+binding_of found =
+    record {
+      name = found.name;
+      place = found.place;
+      is_passed_on = found.is_passed_on;
+      form = binding_form_of found.form;
+    }

@@ -1,5 +1,7 @@
--- The bindings of a scope in text order (Python reference 3.13, "Binding of names").
-use Rattle.std.specs.Prelude.{ℕ, List, [], ◌∷◌, ◌++◌, flat_map, map, false, Option, None, Some}
+-- The bindings of a scope in text order (Python reference 3.13, "Binding of names"), and which imports pass a name on
+-- (typing specification, "Stub files").
+use Rattle.std.specs.Prelude.{ℕ, Bool, true, false, List, [], ◌∷◌, ◌++◌, bytes_eq, flat_map, map, Option, None, Some}
+use Rattle.std.specs.Cmp.Lexicographic.{pointwise}
 use Rattle.pyc_ast.specs.declared.stmt.Alias.{Alias}
 use Rattle.pyc_ast.specs.Exprs.{Expr}
 use Rattle.pyc_ast.specs.Statements.{Stmt, stmt, StmtForm, Stmts, ImportedModule, ImportFrom, FunctionDefinition}
@@ -25,14 +27,27 @@ pub data BindingForm : Type 0 where
   -- an item of a value, or any other thing
   other : BindingForm
 
--- a binding: its name, where it stands, and what it binds the name to
+-- a binding: its name, where it stands, whether a stub passes it on, which an import with one name on both sides of
+-- its `as` says, and what it binds the name to
 pub record Binding : Type 0 where
   pub name : List ℕ
   pub place : BindingSite
+  pub is_passed_on : Bool
   pub form : BindingForm
 
+-- whether a binding is an import
+abbrev pub is_import : BindingForm → Bool
+is_import (import path) = true
+is_import (import_from dots path n) = true
+is_import _ = false
+
 abbrev pub bound : BindingSite → List ℕ → BindingForm → Binding
-bound place n form = record { name = n; place = place; form = form }
+bound place n form = record { name = n; place = place; is_passed_on = false; form = form }
+
+-- the binding of an import, by whether it has one name on both sides of its `as`
+abbrev pub imported : BindingSite → List ℕ → Bool → BindingForm → Binding
+imported place n is_passed_on form =
+    record { name = n; place = place; is_passed_on = is_passed_on; form = form }
 
 -- ---- targets
 
@@ -63,7 +78,8 @@ single_bindings place form to = target_bindings to place
 -- what a module with this name binds: the name after `as` to the module, else the first part of its name to the module
 -- that has that name alone
 abbrev pub path_bindings : BindingSite → List (List ℕ) → Option (List ℕ) → List Binding
-path_bindings place path (Some alias) = bound place alias (import path) ∷ []
+path_bindings place path (Some alias) =
+    imported place alias (pointwise bytes_eq path (alias ∷ [])) (import path) ∷ []
 path_bindings place (first ∷ rest) None = bound place first (import (first ∷ [])) ∷ []
 path_bindings place [] None = []
 
@@ -75,9 +91,15 @@ abbrev pub bound_name : List ℕ → Option (List ℕ) → List ℕ
 bound_name imported (Some alias) = alias
 bound_name imported None = imported
 
+-- whether a from-import has one name on both sides of its `as`
+abbrev pub is_same_alias : List ℕ → Option (List ℕ) → Bool
+is_same_alias n (Some alias) = bytes_eq n alias
+is_same_alias n None = false
+
 abbrev pub imported_binding : BindingSite → ImportFrom → Alias → Binding
 imported_binding place from found =
-    bound place (bound_name found.name found.alias) (import_from from.dots from.path found.name)
+    imported place (bound_name found.name found.alias) (is_same_alias found.name found.alias)
+    (import_from from.dots from.path found.name)
 
 -- ---- statements
 

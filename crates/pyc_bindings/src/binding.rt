@@ -1,5 +1,9 @@
 //! The bindings of a scope.
 
+ghost use Rattle.std.specs.Prelude.{◌≡◌};
+ghost use Rattle.pyc_bindings.specs.Bindings.{is_import};
+ghost use Rattle.pyc_bindings.specs.BindingView.{binding_of};
+
 use crate::place::BindingSite;
 use pyc_ast::{
     AnnotatedAssignment, ClassDefinition, Expr, FunctionDefinition, ImportFrom, ImportedModule,
@@ -7,10 +11,13 @@ use pyc_ast::{
 };
 use std::rc::Rc;
 
-/// A binding: its name, where it stands, and what it binds the name to. Its parts of the tree are shared with it.
+/// A binding: its name, where it stands, whether a stub passes it on, and what it binds the name to. Its parts of the
+/// tree are shared with it.
 pub struct Binding {
     pub name: Text,
     pub place: BindingSite,
+    /// An import that has one name on both sides of its `as`: a stub passes no other import on.
+    pub is_passed_on: bool,
     pub form: BindingForm,
 }
 
@@ -20,10 +27,23 @@ impl Drop for Binding {
         let Binding {
             name,
             place: _,
+            is_passed_on: _,
             form,
         } = self;
         drop(name);
         drop(form);
+    }
+}
+
+impl Binding {
+    /// Whether the binding is an import.
+    pub fn is_import(&self) -> bool
+        ensures { result ≡ is_import (binding_of self.now).form }
+    {
+        matches!(
+            self.form,
+            BindingForm::Import(_) | BindingForm::ImportFirst(_) | BindingForm::ImportFrom(..)
+        )
     }
 }
 

@@ -20,6 +20,7 @@ use pyc_ast::{
 };
 use std::alloc::{AllocError, Global};
 use std::rc::Rc;
+use std::slice;
 
 /// The bindings of a scope that has these statements, in text order. The only error is that memory runs out.
 #[tactic(auto, unfolding(crate::specs::Bindings::bindings_of))]
@@ -57,7 +58,34 @@ fn push_bound(
         ≡ map binding_of found.old.items ++ (spec.bound place name.now (binding_form_of form) ∷ [])) }
 {
     let name = name.clone()?;
-    found.push(Binding { name, place, form })?;
+    found.push(Binding {
+        name,
+        place,
+        is_passed_on: false,
+        form,
+    })?;
+    Ok(())
+}
+
+/// Adds the binding of an import, by whether it has one name on both sides of its `as`.
+fn push_import(
+    place: BindingSite,
+    name: &Text,
+    is_passed_on: bool,
+    form: BindingForm,
+    found: &mut Vec<Binding>,
+) -> Result<(), AllocError>
+    ensures { OnOk result (map binding_of found.new.items
+        ≡ map binding_of found.old.items
+        ++ (spec.imported place name.now is_passed_on (binding_form_of form) ∷ [])) }
+{
+    let name = name.clone()?;
+    found.push(Binding {
+        name,
+        place,
+        is_passed_on,
+        form,
+    })?;
     Ok(())
 }
 
@@ -188,7 +216,9 @@ fn push_module(
         ≡ map binding_of found.old.items ++ spec.module_bindings place (imported_of imported.now)) }
 {
     if let Some(alias) = &imported.alias {
-        return push_bound(place, alias, BindingForm::Import(imported.clone()?), found);
+        let is_passed_on = imported.path.as_slice() == slice::from_ref(alias);
+        let form = BindingForm::Import(imported.clone()?);
+        return push_import(place, alias, is_passed_on, form, found);
     }
     match imported.path.first() {
         Some(first) => push_bound(
@@ -233,5 +263,15 @@ fn push_alias(
         None => &alias.name,
     };
     let form = BindingForm::ImportFrom(from.clone()?, alias.name.clone()?);
-    push_bound(place, bound, form, found)
+    push_import(place, bound, is_same_alias(alias), form, found)
+}
+
+/// Whether a name is imported that has the same name after `as`.
+fn is_same_alias(alias: &Alias) -> bool
+    ensures { result ≡ spec.is_same_alias alias.now.name alias.now.alias }
+{
+    match &alias.alias {
+        Some(name) => alias.name == *name,
+        None => false,
+    }
 }

@@ -10,12 +10,12 @@ use Rattle.pyc_attributes.specs.Binding.{through_instance}
 use Rattle.pyc_calls.specs.Constructors.{constructor}
 use Rattle.pyc_calls.specs.Remembered.{Memory, Progress, fresh, under_way, gave, nothing_met, progress_of, remembering}
 use Rattle.pyc_class_ids.specs.Class.{Id, builtin, user}
+use Rattle.pyc_messages.specs.Calls as message
 use Rattle.pyc_obligations.specs.Asking.{ask_member, is_unknown_class}
 use Rattle.pyc_reading.specs.Answers.{MemberAnswer}
 use Rattle.pyc_reading.specs.Traces.{Step}
 use Rattle.pyc_reading.specs.Readings.{Done, Report, and_then, ◌>>=◌}
-use Rattle.pyc_report.specs.declared.message.Code.TheVariants as code
-use Rattle.pyc_report.specs.Message.{error_at}
+use Rattle.pyc_report.specs.Message.{Diagnostic}
 use Rattle.pyc_type_forms.specs.Instances.{instance_of}
 use Rattle.pyc_type_forms.specs.Text.{text_of}
 use Rattle.pyc_type_forms.specs.Types.{Ty, Tys, Params, any, instance, class_object}
@@ -24,16 +24,13 @@ use Rattle.pyc_type_forms.specs.Unions.{union_of}
 
 -- ---- what cannot be called
 
-unfoldable pub not_callable_text : List ℕ → List ℕ
-not_callable_text got = codes "\"" ++ (got ++ codes "\" not callable")
-
 -- a call of which this is reported is Any
-abbrev pub report_call_error : Position → List ℕ → Step Ty
-report_call_error at text = Report (error_at at code.Operator text) (Done any)
+abbrev pub report_call_error : Diagnostic → Step Ty
+report_call_error reported = Report reported (Done any)
 
 -- it is reported that a value of a type cannot be called
 unfoldable pub not_callable : Call → Ty → Step Ty
-not_callable call ty = report_call_error call.at (not_callable_text (text_of ty))
+not_callable call ty = report_call_error (message.not_callable call.at (text_of ty))
 
 -- ---- what needs no further call
 

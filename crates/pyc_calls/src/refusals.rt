@@ -1,31 +1,26 @@
 //! What is reported of what cannot be called.
 
-ghost use Rattle.std.specs.Prelude.{◌≡◌, IfOk, string_bytes};
+ghost use Rattle.std.specs.Prelude.{string_bytes};
 ghost use Rattle.pyc_arguments.specs.Views.{call_in};
 ghost use Rattle.pyc_calls.specs.Called as spec;
 ghost use Rattle.pyc_reading.specs.Traces.{Performs};
+ghost use Rattle.pyc_report.specs.declared.message.Code.TheVariants as code;
+ghost use Rattle.pyc_report.specs.Message.{error_at};
 ghost use Rattle.pyc_type_forms.specs.TypeView.{ty_of};
 
 use pyc_arguments::Call;
 use pyc_ast::Position;
+use pyc_messages::not_callable_text;
 use pyc_obligations::report_error;
 use pyc_reading::Ask;
 use pyc_report::Code;
 use pyc_type_forms::{Ty, show};
 use std::alloc::{AllocError, Global};
 
-/// The text on a value of a type that cannot be called.
-#[tactic(auto, unfolding(crate::specs::Called::not_callable_text))]
-fn not_callable_text(alloc: Global, got: &str) -> Result<String, AllocError>
-    ensures { IfOk result (λ text. string_bytes text ≡ spec.not_callable_text got.now) }
-{
-    format!(in alloc; "\"{got}\" not callable")
-}
-
 /// Reports an error of a call, which is Any.
 fn report_call_error<N: Ask>(recorder: &mut N, at: Position, text: String) -> Result<Ty, AllocError>
-    ensures { Performs ty_of (spec.report_call_error at (string_bytes text)) (N.trace recorder.old) result
-        (N.trace recorder.new) }
+    ensures { Performs ty_of (spec.report_call_error (error_at at code.Operator (string_bytes text)))
+        (N.trace recorder.old) result (N.trace recorder.new) }
 {
     report_error(recorder, at, Code::Operator, text)?;
     Ok(Ty::Any)

@@ -73,6 +73,8 @@ const OTHERS: &[(&str, &str)] = &[
     ("x: int\n", "x: int int\n"),
     ("import a\n", "import b\n"),
     ("import a as b\n", "import a.c as b\n"),
+    ("import a\n", "import a as a\n"),
+    ("from a import b\n", "from a import b as b\n"),
     ("from a import b\n", "from .a import b\n"),
     ("from a import b\n", "from a import c as b\n"),
     ("def f(): ...\n", "async def f(): ...\n"),
@@ -111,6 +113,8 @@ const PATHS: &[(&str, &str, bool)] = &[
     ("a.py", "b.py", false),
     ("a.py", "a/__init__.py", false),
     ("a/b.py", "b.py", false),
+    ("a.py", "a.pyi", false),
+    ("a.pyi", "a.pyi", true),
 ];
 
 /// What answers never look at is no part of an interface.

@@ -17,8 +17,10 @@ pub(crate) fn keys_of(alloc: Global, path: &str, name: &str) -> Result<Vec<Key>,
     keys.push(Key::Name(name_in(alloc, path, name)?))?;
     keys.push(Key::Class(class_of(alloc, "m", name)?))?;
     let class = class_of(alloc, "m", name)?;
+    let exported = name_in(alloc, path, name)?;
     let name = Text::new(alloc, name)?;
     keys.push(Key::Member(MemberName { class, name }))?;
+    keys.push(Key::Export(exported))?;
     Ok(keys)
 }
 
@@ -59,16 +61,16 @@ fn keys_have_numbers(rt: HostRuntime) -> Result<(), Fail> {
     let mut keys = Keys::new(alloc);
     assert!(rt; keys.bound() == 0);
     let ids = keys.intern_all(alloc, &asked)?;
-    assert!(rt; ids.len() == 5);
-    assert!(rt; known(&keys, &asked, &ids) == 5);
+    assert!(rt; ids.len() == 6);
+    assert!(rt; known(&keys, &asked, &ids) == 6);
     for key in &keys_of(alloc, "p/m.py", "x")? {
         let _ = keys.intern(key)?;
     }
-    assert!(rt; keys.bound() == 5);
+    assert!(rt; keys.bound() == 6);
     assert!(rt; matches!(keys.key(ids[0]), Key::HasModule(_)));
     assert!(rt; matches!(keys.key(ids[2]), Key::Name(_)));
     for id in &ids {
-        assert!(rt; id.number() < 5);
+        assert!(rt; id.number() < 6);
     }
     Ok(())
 }
@@ -83,11 +85,11 @@ fn forgotten_numbers_are_given_anew(rt: HostRuntime) -> Result<(), Fail> {
     keys.forget(ids[1]);
     assert_eq!(rt;
         held(alloc, &keys, &asked)?.as_slice(),
-        [true, false, true, true, true].as_slice()
+        [true, false, true, true, true, true].as_slice()
     );
     let id = keys.intern(&keys_of(alloc, "m.py", "y")?[1])?;
     assert!(rt; id == ids[1]);
-    assert!(rt; keys.bound() == 5);
+    assert!(rt; keys.bound() == 6);
     assert!(rt; keys.find(&asked[1]).is_none());
     Ok(())
 }
@@ -108,18 +110,18 @@ fn what_nobody_reads_is_let_go(rt: HostRuntime) -> Result<(), Fail> {
     keys.keep_only(&sets);
     assert_eq!(rt;
         held(alloc, &keys, &asked)?.as_slice(),
-        [true, true, false, false, true].as_slice()
+        [true, true, false, false, true, true].as_slice()
     );
     keys.keep_only(&sets[1..]);
     assert_eq!(rt;
         held(alloc, &keys, &asked)?.as_slice(),
-        [false, true, false, false, true].as_slice()
+        [false, true, false, false, true, true].as_slice()
     );
     assert!(rt; keys.find(&asked[4]) == Some(ids[4]));
     keys.keep_only::<Vec<KeyId>>(&[]);
     assert_eq!(rt;
         held(alloc, &keys, &asked)?.as_slice(),
-        [false; 5].as_slice()
+        [false; 6].as_slice()
     );
     Ok(())
 }

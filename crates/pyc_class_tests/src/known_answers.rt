@@ -66,11 +66,11 @@ fn answers_are_known(rt: HostRuntime) -> Result<(), Fail> {
     let ids = keys.intern_all(alloc, &keys_of(alloc, "m.py", "C")?)?;
     let mut answers = answers_of(alloc, SOURCE)?;
     let last = known(&mut answers, &keys, ids[4])?;
-    assert!(rt; right(alloc, &mut answers, &keys, &ids)? == 5);
+    assert!(rt; right(alloc, &mut answers, &keys, &ids)? == 6);
     assert!(rt; Rc::ptr_eq(&last, &known(&mut answers, &keys, ids[4])?));
     let more = keys.intern_all(alloc, &keys_of(alloc, "m.py", "D")?)?;
-    assert!(rt; right(alloc, &mut answers, &keys, &more)? == 5);
-    assert!(rt; right(alloc, &mut answers, &keys, &ids)? == 5);
+    assert!(rt; right(alloc, &mut answers, &keys, &more)? == 6);
+    assert!(rt; right(alloc, &mut answers, &keys, &ids)? == 6);
     Ok(())
 }
 
@@ -92,7 +92,7 @@ fn answers_formed_elsewhere_are_kept(rt: HostRuntime) -> Result<(), Fail> {
             .is_some_and(|known| Rc::ptr_eq(known, &formed))
     );
     assert!(rt; Rc::ptr_eq(&formed, &known(&mut answers, &keys, ids[3])?));
-    assert!(rt; right(alloc, &mut answers, &keys, &ids)? == 5);
+    assert!(rt; right(alloc, &mut answers, &keys, &ids)? == 6);
     Ok(())
 }
 
@@ -108,12 +108,12 @@ fn other_worlds_have_other_answers(rt: HostRuntime) -> Result<(), Fail> {
     for _ in 0..2 {
         assert_eq!(rt;
             same(alloc, &mut first, &mut second, &keys, &ids)?.as_slice(),
-            [true, true, true, false, false].as_slice()
+            [true, true, true, false, false, true].as_slice()
         );
     }
     assert!(rt; Rc::ptr_eq(&own, &known(&mut first, &keys, ids[3])?));
-    assert!(rt; right(alloc, &mut first, &keys, &ids)? == 5);
-    assert!(rt; right(alloc, &mut second, &keys, &ids)? == 5);
+    assert!(rt; right(alloc, &mut first, &keys, &ids)? == 6);
+    assert!(rt; right(alloc, &mut second, &keys, &ids)? == 6);
     Ok(())
 }
 
@@ -124,12 +124,12 @@ fn forgotten_answers_are_formed_anew(rt: HostRuntime) -> Result<(), Fail> {
     let mut keys = Keys::new(alloc);
     let ids = keys.intern_all(alloc, &keys_of(alloc, "m.py", "C")?)?;
     let mut answers = answers_of(alloc, SOURCE)?;
-    assert!(rt; right(alloc, &mut answers, &keys, &ids)? == 5);
+    assert!(rt; right(alloc, &mut answers, &keys, &ids)? == 6);
     keys.forget(ids[3]);
     answers.keep_held(&keys);
     let id = keys.intern(&keys_of(alloc, "m.py", "D")?[3])?;
     assert!(rt; id == ids[3]);
-    assert!(rt; right(alloc, &mut answers, &keys, &ids)? == 5);
+    assert!(rt; right(alloc, &mut answers, &keys, &ids)? == 6);
     keys.forget(id);
     answers.keep_held(&keys);
     assert!(rt; answers.find(id).is_none());
@@ -144,7 +144,7 @@ fn answers_go_with_their_numbers(rt: HostRuntime) -> Result<(), Fail> {
     let mut keys = Keys::new(alloc);
     let ids = keys.intern_all(alloc, &keys_of(alloc, "m.py", "C")?)?;
     let mut answers = answers_of(alloc, SOURCE)?;
-    assert!(rt; right(alloc, &mut answers, &keys, &ids)? == 5);
+    assert!(rt; right(alloc, &mut answers, &keys, &ids)? == 6);
     let kept = known(&mut answers, &keys, ids[1])?;
     let mut read = Vec::new(alloc);
     read.push(ids[1])?;
@@ -152,8 +152,8 @@ fn answers_go_with_their_numbers(rt: HostRuntime) -> Result<(), Fail> {
     answers.keep_held(&keys);
     assert!(rt; Rc::ptr_eq(&kept, &known(&mut answers, &keys, ids[1])?));
     let more = keys.intern_all(alloc, &keys_of(alloc, "m.py", "D")?)?;
-    assert!(rt; keys.bound() == 6);
-    assert!(rt; right(alloc, &mut answers, &keys, &more)? == 5);
+    assert!(rt; keys.bound() == 7);
+    assert!(rt; right(alloc, &mut answers, &keys, &more)? == 6);
     assert!(rt; right(alloc, &mut answers, &keys, &ids[1..2])? == 1);
     Ok(())
 }

@@ -68,15 +68,15 @@ fn answers_are_kept_with_keys(rt: HostRuntime) -> Result<(), Fail> {
     let first = answered.answer(&keys[3])?;
     assert!(rt; !Rc::ptr_eq(&first, &answered.answer(&keys[3])?));
     let ids = kept(alloc, &mut answered, &keys)?;
-    assert!(rt; right(alloc, &answered, &keys)? == 5);
+    assert!(rt; right(alloc, &answered, &keys)? == 6);
     let known = answered.answer(&keys[3])?;
     assert!(rt; Rc::ptr_eq(&known, &answered.answer(&keys[3])?));
     assert!(rt; kept(alloc, &mut answered, &keys)?.as_slice() == ids.as_slice());
     assert!(rt; Rc::ptr_eq(&known, &answered.answer(&keys[3])?));
     let more = keys_of(alloc, "m.py", "D")?;
     let _ = kept(alloc, &mut answered, &more)?;
-    assert!(rt; right(alloc, &answered, &more)? == 5);
-    assert!(rt; right(alloc, &answered, &keys)? == 5);
+    assert!(rt; right(alloc, &answered, &more)? == 6);
+    assert!(rt; right(alloc, &answered, &keys)? == 6);
     Ok(())
 }
 
@@ -95,7 +95,7 @@ fn answers_go_with_their_keys(rt: HostRuntime) -> Result<(), Fail> {
     assert!(rt; Rc::ptr_eq(&known, &answered.answer(&keys[1])?));
     let more = keys_of(alloc, "m.py", "D")?;
     let _ = kept(alloc, &mut answered, &more)?;
-    assert!(rt; right(alloc, &answered, &more)? == 5);
+    assert!(rt; right(alloc, &answered, &more)? == 6);
     assert!(rt; right(alloc, &answered, &keys)? == 2);
     Ok(())
 }
@@ -117,9 +117,9 @@ fn answers_are_exchanged(rt: HostRuntime) -> Result<(), Fail> {
     assert!(rt; Rc::ptr_eq(&now, &answered.answer(&keys[4])?));
     assert!(rt; right(alloc, &answered, &keys)? == 1);
     let _ = kept(alloc, &mut answered, &keys)?;
-    assert!(rt; right(alloc, &answered, &keys)? == 5);
+    assert!(rt; right(alloc, &answered, &keys)? == 6);
     let _ = answered.replace_world(before);
     assert!(rt; Rc::ptr_eq(&first, &answered.answer(&keys[4])?));
-    assert!(rt; right(alloc, &answered, &keys)? == 5);
+    assert!(rt; right(alloc, &answered, &keys)? == 6);
     Ok(())
 }

@@ -1,5 +1,5 @@
 -- A run of a session, command by command.
-use Rattle.std.proofs.Common.{◌≡◌, ℕ, Bool, true, false, List, [], ◌∷◌, ◌++◌, length, drop, get_or, ◌+◌, ◌-◌, ◌≤◌, Option, None, Some, IsTrue, ◌<◌, refl, sym, ap, add-one, arith, subst, ◌∙◌, append_assoc}
+use Rattle.std.proofs.Common.{◌≡◌, ℕ, Bool, true, false, List, [], ◌∷◌, ◌++◌, length, drop, get_or, ◌+◌, ◌-◌, ◌≤◌, Option, None, Some, IsTrue, ◌<◌, refl, sym, ap, add-one, arith, subst, ◌∙◌, append_assoc, length-append}
 use Rattle.std.specs.Prelude.{OnErr, IfOk, IfSome, Result, Ok, Err}
 use Rattle.std.specs.Io.KnownBytes.{Appends}
 use Rattle.std.specs.Io.KnownBytes.{IsAtEnd}
@@ -53,12 +53,13 @@ written_on reported reported' reported'' bytes rest rest' part w a e = record {
 }
 
 pub written_part : (reported reported' reported'' : Option (List ℕ)) (bytes rest : List ℕ) → WrittenSoFar reported reported' bytes rest
-    → Appends reported' reported'' [] → WritesPart reported reported'' bytes
-written_part reported reported' reported'' bytes rest w a = record {
+    → Appends reported' reported'' [] → 0 < length rest → WritesPart reported reported'' bytes
+written_part reported reported' reported'' bytes rest w a is_left = record {
   written = w.written;
   later = rest;
   appends = subst (λ zs. Appends reported reported'' zs) (append_nil w.written) (appends_trans reported reported' reported'' w.written [] w.appends a);
   seam = w.seam;
+  is_left = is_left;
 }
 
 pub written_all : (reported reported' : Option (List ℕ)) (bytes rest : List ℕ) → WrittenSoFar reported reported' bytes rest → rest ≡ [] → Appends reported reported' bytes
@@ -72,6 +73,7 @@ part_after reported reported' reported'' xs ys a p = record {
   later = p.later;
   appends = appends_trans reported reported' reported'' xs p.written a p.appends;
   seam = ap (λ zs. xs ++ zs) p.seam ∙ sym (append_assoc xs p.written p.later);
+  is_left = p.is_left;
 }
 
 -- a part of its first half
@@ -81,6 +83,7 @@ part_before reported reported' xs ys p = record {
   later = p.later ++ ys;
   appends = p.appends;
   seam = ap (λ zs. zs ++ ys) p.seam ∙ append_assoc p.written p.later ys;
+  is_left = omega (arith, p.is_left, length-append p.later ys);
 }
 
 -- the first of some texts are written
@@ -113,6 +116,7 @@ joined_part reported reported' reported'' texts count d part w within e p = reco
   later = p.later ++ joined (drop (count + 1) texts);
   appends = appends_trans reported reported' reported'' w.written p.written w.appends p.appends;
   seam = w.seam ∙ ap (λ zs. w.written ++ zs) (joined_at texts count d within ∙ ap (λ zs. zs ++ joined (drop (count + 1) texts)) (sym e ∙ p.seam)) ∙ simp append_assoc;
+  is_left = omega (arith, p.is_left, length-append p.later (joined (drop (count + 1) texts)));
 }
 
 pub joined_all : (reported reported' : Option (List ℕ)) (texts : List (Bor (List ℕ))) (count : ℕ) → JoinedSoFar reported reported' texts count → length texts ≤ count
@@ -294,6 +298,7 @@ module _ {S : Type 0} (step : S → List ℕ → Entry → S → Type 0) (option
           before = record { text = g.written; state = s; rest = bytes ++ (held'' ++ rest) };
           last = turn_of answer s' (held'' ++ rest);
           later = part.later;
+          is_left = part.is_left;
           replied = ap (λ input. progress (start options) input g.events) (input_is rest) ∙ before_next (bytes ++ (held'' ++ rest));
           text = refl;
           turn = last_turned (held'' ++ rest) (last_held ended' held'' rest none last);

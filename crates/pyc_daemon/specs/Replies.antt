@@ -1,5 +1,5 @@
 -- Replies as the program holds them.
-use Rattle.std.specs.Prelude.{◌≡◌, ℕ, Bool, IsTrue, List, [], ◌∷◌, ◌++◌, codes, decimal, Option, None}
+use Rattle.std.specs.Prelude.{◌≡◌, ℕ, ◌<◌, Bool, IsTrue, List, [], ◌∷◌, ◌++◌, length, codes, decimal, Option, None}
 use Rattle.std.specs.Prelude.{Some}
 use Rattle.std.specs.Io.KnownBytes.{Appends}
 use denote.Ref.{Bor}
@@ -52,9 +52,10 @@ Serves old new bytes event ended None = (bytes ≡ []) × IsTrue ended × (new �
 Serves old new bytes event ended (Some answer) =
     (rest : List ℕ) → IsLast ended rest → turn old (bytes ++ rest) event ≡ Some (turn_of answer new rest)
 
--- what was written before a fault: a part of these bytes
+-- what was written before a fault: a part that begins these bytes, and some byte of them is left unwritten
 pub record WritesPart (reported reported' : Option (List ℕ)) (bytes : List ℕ) : Type 0 where
   pub written : List ℕ
   pub later : List ℕ
   pub appends : Appends reported reported' written
   pub seam : bytes ≡ written ++ later
+  pub is_left : 0 < length later

@@ -1,5 +1,6 @@
 -- What a run of a session did: the bytes that it took and wrote, for every input that goes on from those bytes.
-use Rattle.std.specs.Prelude.{◌≡◌, ℕ, Bool, false, IsTrue, List, [], ◌∷◌, ◌++◌, Option, Some, Result, Ok, Err}
+use Rattle.std.specs.Prelude.{◌≡◌, ◌<◌, ℕ, Bool, false, IsTrue, List, [], ◌∷◌, ◌++◌, length, Option, Some}
+use Rattle.std.specs.Prelude.{Result, Ok, Err}
 use Rattle.std.specs.Io.KnownBytes.{Consumes, IsAtEnd, Appends}
 use Rattle.pyc_daemon.specs.Counted.{IsSound, FailsOnce, calls_of, faults_of, one_more}
 use Rattle.pyc_daemon.specs.declared.counted.Counted.{Counted}
@@ -45,7 +46,7 @@ pub record AwaitsCommand (options : Options) (work : Work) : Type 0 where
   pub replied : (rest : List ℕ) → progress (start options) (work.taken ++ rest) work.events
       ≡ Some (record { text = work.written; state = state; rest = part ++ rest })
 
--- a command after others whose reply begins with these bytes
+-- a command after others whose reply begins with these bytes, which are not all of it
 pub record BeginsReply (options : Options) (input : List ℕ) (events : List Event) (event : Event)
     (replies part : List ℕ) : Type 0 where
   pub before : Progress
@@ -55,6 +56,7 @@ pub record BeginsReply (options : Options) (input : List ℕ) (events : List Eve
   pub text : before.text ≡ replies
   pub turn : turn before.state before.rest event ≡ Some last
   pub reply : last.reply ≡ part ++ later
+  pub is_left : 0 < length later
 
 -- A run that could not write on took commands whose replies were written whole, and one whose reply was written in
 -- part.

@@ -86,7 +86,7 @@ fn write_counts<W: Write>(writer: &mut Counted<W>, counts: Status) -> Result<(),
 }
 
 /// Writes texts, one after another. The only error is `Write`: a write failed or took no byte, and what was written
-/// before it begins the texts.
+/// before it begins the texts and leaves some byte of them.
 pub fn write_parts<W: Write>(writer: &mut Counted<W>, parts: &[&str]) -> Result<(), RunFault>
     ensures ok { OnOk result
         (Appends (W.contents (inner_of writer.old)) (W.contents (inner_of writer.new)) (joined parts.now)) }
@@ -104,7 +104,7 @@ pub fn write_parts<W: Write>(writer: &mut Counted<W>, parts: &[&str]) -> Result<
 }
 
 /// Writes all bytes. The only error is `Write`: a write failed or took no byte, and what was written before it begins
-/// the bytes.
+/// the bytes and leaves some of them.
 pub fn write_bytes<W: Write>(writer: &mut Counted<W>, bytes: &[u8]) -> Result<(), RunFault>
     ensures ok { OnOk result (Appends (W.contents (inner_of writer.old)) (W.contents (inner_of writer.new)) bytes.now) }
     ensures part { OnErr result

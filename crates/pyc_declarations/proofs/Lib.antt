@@ -1,1 +1,4 @@
 pub mod ReadLemmas
+pub mod CarriedLemmas
+pub mod CarryLemmas
+pub mod EntryLemmas

@@ -6,12 +6,13 @@ use Rattle.pyc_ast.specs.Exprs.{Expr}
 use Rattle.pyc_ast.specs.Statements.{FunctionDefinition}
 use Rattle.pyc_bindings.specs.Bindings.{BindingForm, function, annotated}
 use Rattle.pyc_class_table.specs.ClassMros.{undeclared}
+use Rattle.pyc_declarations.specs.Exports.{name_export}
 use Rattle.pyc_declarations.specs.Kinds.{Found, declared_in, answered, answer_with, found_name, is_alias}
 use Rattle.pyc_declarations.specs.Kinds.{variable_kind, form_kind, kind_answer}
 use Rattle.pyc_declarations.specs.Presences.{module_presence, name_presence}
 use Rattle.pyc_names.specs.Following.{QualifiedName}
 use Rattle.pyc_names.specs.Interfaces.{Interface}
-use Rattle.pyc_reading.specs.Answers.{Answer, NameAnswer, presence_of, name_is, order_is, member_is}
+use Rattle.pyc_reading.specs.Answers.{Answer, NameAnswer, presence_of, name_is, order_is, member_is, export_is}
 use Rattle.pyc_reading.specs.Answers as kind
 use Rattle.pyc_reading.specs.Keys.{Key, has_module, has_name, name}
 use Rattle.pyc_reading.specs.Keys as key
@@ -56,3 +57,4 @@ declared_answer files (has_name q) = presence_of (name_presence files q)
 declared_answer files (name q) = name_is (name_answer files q)
 declared_answer files (key.class c) = order_is undeclared
 declared_answer files (key.member c) = member_is None
+declared_answer files (key.export q) = export_is (name_export files q)

@@ -1,7 +1,7 @@
 -- What names stand for before annotations are read: each thing has its kind, and of types a class has its own and a
 -- variable without annotation that of the literal that initialises it. Annotations are read by these kinds alone
 -- (typing specification, "Type annotations", "Type aliases").
-use Rattle.std.specs.Prelude.{ℕ, Bool, true, false, is_some, if◌then◌else◌, List, [], ◌∷◌}
+use Rattle.std.specs.Prelude.{ℕ, Bool, true, false, ◌&&◌, is_some, if◌then◌else◌, List, [], ◌∷◌}
 use Rattle.std.specs.Prelude.{Option, None, Some}
 use Rattle.pyc_ast.specs.Exprs.{Expr}
 use Rattle.pyc_bindings.specs.Bindings.{Binding, BindingForm, function, class, annotated, assigned}
@@ -10,15 +10,16 @@ use Rattle.pyc_builtins.specs.Members.{is_dunder}
 use Rattle.pyc_class_ids.specs.Class.{user}
 use Rattle.pyc_class_table.specs.ClassMros.{undeclared}
 use Rattle.pyc_declarations.specs.DeclaredTypes.{initialiser_type}
+use Rattle.pyc_declarations.specs.Exports.{name_export}
 use Rattle.pyc_declarations.specs.Presences.{module_presence, name_presence}
 use Rattle.pyc_names.specs.declared.fixed.FixedModule.{FixedModule}
 use Rattle.pyc_names.specs.declared.fixed.FixedName.{FixedName}
 use Rattle.pyc_names.specs.FixedModules.{fixed_module, fixed_name}
 use Rattle.pyc_names.specs.Following as names
-use Rattle.pyc_names.specs.Following.{QualifiedName, Referent, follow}
+use Rattle.pyc_names.specs.Following.{QualifiedName, Referent, follow, is_hidden_name, unbound_referent}
 use Rattle.pyc_names.specs.Interfaces.{Interface, file_of}
 use Rattle.pyc_reading.specs.Answers.{Answer, NameAnswer, NameKind, presence_of, name_is, order_is}
-use Rattle.pyc_reading.specs.Answers.{member_is}
+use Rattle.pyc_reading.specs.Answers.{member_is, export_is}
 use Rattle.pyc_reading.specs.Answers as kind
 use Rattle.pyc_reading.specs.Keys.{Key, has_module, has_name, name}
 use Rattle.pyc_reading.specs.Keys as key
@@ -67,11 +68,16 @@ abbrev pub absent_name : Option Interface → List ℕ → NameKind
 absent_name (Some file) x = if is_some (declaration file.bindings x) then kind.no_target else kind.no_name
 absent_name None x = kind.no_name
 
+-- a name that leads into a file with a fault, which may be the file of its own module
+abbrev pub faulty_name : Option Interface → NameKind
+faulty_name (Some file) = if file.has_fault then kind.opaque else kind.unknown
+faulty_name None = kind.unknown
+
 -- what following a name came to
 abbrev pub found_referent : List Interface → QualifiedName → Referent → Found
 found_referent files q (names.declared r) = found_declared files r (fixed_module r.module_path)
 found_referent files q (names.module_itself m) = answered (module_answer m)
-found_referent files q names.opaque = answered (of_kind kind.unknown)
+found_referent files q names.opaque = answered (of_kind (faulty_name (file_of files q.module_path)))
 found_referent files q names.fixed_any = answered (of_kind kind.unknown)
 found_referent files q names.no_module = answered (of_kind kind.no_module)
 found_referent files q names.no_name = answered (of_kind (absent_name (file_of files q.module_path) q.name))
@@ -86,10 +92,26 @@ found_name files q = found_referent files q (follow files q)
 abbrev pub is_looked_up : List (List ℕ) → List ℕ → Bool
 is_looked_up m n = if is_dunder n then is_some (fixed_module m) else true
 
+-- whether a name that stands for this may be hidden: not where it is absent
+abbrev pub may_be_hidden : Referent → Bool
+may_be_hidden names.no_module = false
+may_be_hidden names.no_name = false
+may_be_hidden names.cycle = false
+may_be_hidden _ = true
+
+-- what a name that stands for this is to other files: one that its module hides stands for its submodule alone
+abbrev pub seen_referent : List Interface → QualifiedName → Referent → Referent
+seen_referent files q found =
+    if may_be_hidden found && is_hidden_name files q then unbound_referent files q else found
+
+-- what a name of a module is to other files
+abbrev pub outside_referent : List Interface → QualifiedName → Referent
+outside_referent files q = seen_referent files q (follow files q)
+
 -- an attribute of a module
 abbrev pub module_attribute : List Interface → List (List ℕ) → List ℕ → Referent
 module_attribute files m n =
-    if is_looked_up m n then follow files (record { module_path = m; name = n }) else names.no_name
+    if is_looked_up m n then outside_referent files (record { module_path = m; name = n }) else names.no_name
 
 -- an attribute of what a name stands for: a module alone has one
 abbrev pub attribute_referent : List Interface → Referent → List ℕ → Referent
@@ -159,3 +181,4 @@ kind_answer files (has_name q) = presence_of (name_presence files q)
 kind_answer files (name q) = name_is (name_kind files q)
 kind_answer files (key.class c) = order_is undeclared
 kind_answer files (key.member c) = member_is None
+kind_answer files (key.export q) = export_is (name_export files q)

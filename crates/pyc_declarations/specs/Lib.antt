@@ -1,8 +1,11 @@
 pub mod DeclaredTypes
 pub mod Presences
+pub mod Exports
 pub mod Kinds
 pub mod Declarations
 pub mod ClassEntries
 pub mod KindsView
 pub mod RecorderView
 pub mod SameKeys
+pub mod Looks
+pub mod CarryLaws

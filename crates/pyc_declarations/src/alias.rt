@@ -4,7 +4,7 @@ ghost use Rattle.std.specs.Prelude.{◌≡◌, IfOk};
 ghost use Rattle.pyc_ast.specs.ExprView.{expr_of};
 ghost use Rattle.pyc_declarations.specs.Kinds as spec;
 ghost use Rattle.pyc_names.specs.Following.{follow};
-ghost use Rattle.pyc_names.specs.FollowingView.{referent_of};
+ghost use Rattle.pyc_names.specs.FollowingView.{qualified_of, referent_of};
 ghost use Rattle.pyc_names.specs.InterfaceView.{interface_in};
 ghost use Rattle.pyc_reading.specs.AnswerView.{kind_of};
 ghost use Rattle.pyc_type_exprs.specs.TypeExprView.{type_expr_of};
@@ -134,9 +134,26 @@ impl Kinds<'_> {
             ≡ spec.module_attribute (kinds_in self.now) module_path.now name.now) }
     {
         if is_looked_up(module_path, name) {
-            self.follow(alloc, module_path, name)
+            let q = QualifiedName {
+                module_path: module_path.clone()?,
+                name: name.clone()?,
+            };
+            self.outside_referent(alloc, &q)
         } else {
             Ok(Referent::NoName)
+        }
+    }
+
+    /// What a name of a module is to other files.
+    fn outside_referent(&self, alloc: Global, q: &QualifiedName) -> Result<Referent, AllocError>
+        ensures { IfOk result (λ end. referent_of end
+            ≡ spec.outside_referent (kinds_in self.now) (qualified_of q.now)) }
+    {
+        let found = self.table.follow(alloc, q)?;
+        if may_be_hidden(&found) && self.table.hides(q) {
+            self.table.unbound_referent(alloc, q)
+        } else {
+            Ok(found)
         }
     }
 
@@ -166,6 +183,16 @@ fn is_looked_up(module_path: &ModuleName, name: &Text) -> bool
         fixed_module(module_path.parts()).is_some()
     } else {
         true
+    }
+}
+
+/// Whether a name that stands for this may be hidden: not where it is absent.
+fn may_be_hidden(found: &Referent) -> bool
+    ensures { result ≡ spec.may_be_hidden (referent_of found.now) }
+{
+    match found {
+        Referent::NoModule | Referent::NoName | Referent::Cycle => false,
+        _ => true,
     }
 }
 

@@ -46,6 +46,7 @@ impl Answers for Declarations<'_> {
             Key::Name(name) => Ok(Answer::Name(self.name_answer(alloc, name)?)),
             Key::Class(_) => Ok(Answer::Mro(unknown_order(alloc))),
             Key::Member(_) => Ok(Answer::Member(None)),
+            Key::Export(name) => Ok(Answer::Export(self.kinds.name_export(alloc, name)?)),
         }
     }
 }

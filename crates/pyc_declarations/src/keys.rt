@@ -45,6 +45,7 @@ fn is_same(key: &Key, other: &Key) -> bool
         (Key::Name(a), Key::Name(b)) => a.is_same(b),
         (Key::Class(a), Key::Class(b)) => a == b,
         (Key::Member(a), Key::Member(b)) => a.is_same(b),
+        (Key::Export(a), Key::Export(b)) => a.is_same(b),
         _ => false,
     }
 }

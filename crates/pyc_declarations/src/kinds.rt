@@ -55,6 +55,7 @@ impl Answers for Kinds<'_> {
             Key::Name(name) => Ok(Answer::Name(self.name_kind(alloc, name)?)),
             Key::Class(_) => Ok(Answer::Mro(unknown_order(alloc))),
             Key::Member(_) => Ok(Answer::Member(None)),
+            Key::Export(name) => Ok(Answer::Export(self.name_export(alloc, name)?)),
         }
     }
 }
@@ -99,7 +100,11 @@ impl<'a> Kinds<'a> {
         Ok(match found {
             Referent::Declared(q) => self.found_declared(&q),
             Referent::Module(name) => Found::Answered(module_answer(alloc, name)?),
-            Referent::Opaque | Referent::FixedAny => Found::Answered(of_kind(NameKind::Unknown)),
+            Referent::Opaque => {
+                let file = self.table.file(q.module_path.parts());
+                Found::Answered(of_kind(faulty_name(file)))
+            }
+            Referent::FixedAny => Found::Answered(of_kind(NameKind::Unknown)),
             Referent::NoModule => Found::Answered(of_kind(NameKind::NoModule)),
             Referent::NoName => {
                 let file = self.table.file(q.module_path.parts());
@@ -178,6 +183,22 @@ fn absent_name(file: Option<&Interface>, name: &Text) -> NameKind
             }
         }
         None => NameKind::NoName,
+    }
+}
+
+/// The kind of a name that leads into a file with a fault, where the name's own module has this file.
+fn faulty_name(file: Option<&Interface>) -> NameKind
+    ensures { kind_of result ≡ spec.faulty_name (option_map (λ file. interface_in file.now) file.entry) }
+{
+    match file {
+        Some(file) => {
+            if file.has_fault() {
+                NameKind::Opaque
+            } else {
+                NameKind::Unknown
+            }
+        }
+        None => NameKind::Unknown,
     }
 }
 

@@ -7,8 +7,10 @@ mod class_entries;
 mod declaration_recorder;
 mod declarations;
 mod declared_types;
+mod exports;
 mod keys;
 mod kinds;
+pub mod laws;
 mod presence;
 
 pub use answers::Answers;

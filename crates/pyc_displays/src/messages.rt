@@ -1,22 +1,13 @@
 //! What is reported of items of displays.
 
-ghost use Rattle.std.specs.Prelude.{◌≡◌, IfOk, string_bytes};
-ghost use Rattle.pyc_displays.specs.Messages as spec;
 ghost use Rattle.pyc_displays.specs.Views.{item_in, part_in};
 
 use pyc_ast::Position;
+use pyc_messages::{dict_entry_text, list_item_text};
 use pyc_obligations::{AsObligation, AskTypes};
 use pyc_report::{Message, ObligationKind};
 use pyc_type_forms::{DictTypes, Ty, show};
 use std::alloc::{AllocError, Global};
-
-/// The text on an item of a list.
-#[tactic(auto, unfolding(crate::specs::Messages::list_item_text))]
-fn list_item_text(alloc: Global, index: usize, got: &str, want: &str) -> Result<String, AllocError>
-    ensures { IfOk result (λ text. string_bytes text ≡ spec.list_item_text index got.now want.now) }
-{
-    format!(in alloc; "List item {index} has incompatible type \"{got}\"; expected \"{want}\"")
-}
 
 /// An item of a list, its type, and the type that is expected.
 #[derive(Clone, Copy)]
@@ -49,25 +40,6 @@ impl<N: AskTypes> AsObligation<N> for RequiredItem<'_> {
         let text = list_item_text(alloc, self.index, got.as_str(), want.as_str())?;
         Ok(Message::failing_at(self.at, ObligationKind::ListItem, text))
     }
-}
-
-/// The text on an entry of a dictionary.
-#[tactic(auto, unfolding(crate::specs::Messages::dict_entry_text))]
-fn dict_entry_text(
-    alloc: Global,
-    index: usize,
-    got_key: &str,
-    got_value: &str,
-    want_key: &str,
-    want_value: &str,
-) -> Result<String, AllocError>
-    ensures { IfOk result (λ text. string_bytes text
-        ≡ spec.dict_entry_text index got_key.now got_value.now want_key.now want_value.now) }
-{
-    format!(in alloc;
-        "Dict entry {index} has incompatible type \"{got_key}\": \"{got_value}\"; \
-        expected \"{want_key}\": \"{want_value}\""
-    )
 }
 
 /// The key or the value of an entry of a dictionary, its type and the type that is expected of it, with those of the

@@ -1,19 +1,19 @@
 -- Calls: what messages show of what is called, and calls of `reveal_type` and `cast` (Python reference 3.13, "Calls";
 -- the library reference, `typing.reveal_type` and `typing.cast`).
-use Rattle.std.specs.Prelude.{ℕ, codes, ◌&&◌, if◌then◌else◌, List, [], ◌∷◌, ◌++◌, Option, None, Some}
+use Rattle.std.specs.Prelude.{ℕ, ◌&&◌, if◌then◌else◌, List, [], ◌∷◌, Option, None, Some}
 use Rattle.pyc_arguments.specs.Reporting.{CalleeName, shown_name, shown_member, shown_nameless, owner_name}
 use Rattle.pyc_ast.specs.declared.position.Position.{Position}
 use Rattle.pyc_ast.specs.Exprs.{Expr, expr, Form, name, attribute, Argument, argument}
 use Rattle.pyc_calls.specs.Called.{call}
 use Rattle.pyc_expr_forms.specs.Contexts.{Context, InferValue, type_in, infer_freely}
 use Rattle.pyc_expr_forms.specs.Names.{attribute_of}
+use Rattle.pyc_messages.specs.Calls as message
 use Rattle.pyc_names.specs.declared.fixed.FixedName.TheVariants as fixed
 use Rattle.pyc_narrowing.specs.Splitting.{is_positional}
 use Rattle.pyc_obligations.specs.Values.{SpecialForm, Value, reveal_type_special_form, fixed_special_form}
 use Rattle.pyc_places.specs.States.{State}
 use Rattle.pyc_reading.specs.Traces.{Step}
 use Rattle.pyc_reading.specs.Readings.{Done, Report, and_then}
-use Rattle.pyc_report.specs.Message.{note_at}
 use Rattle.pyc_type_forms.specs.Text.{text_of}
 use Rattle.pyc_type_forms.specs.Types.{Ty, module_type}
 
@@ -34,15 +34,9 @@ shown_attribute n ty = shown_of n ty
 
 -- ---- `reveal_type`
 
-unfoldable pub revealed_text : List ℕ → List ℕ
-revealed_text shown = codes "Revealed type is \"" ++ (shown ++ codes "\"")
-
-abbrev pub type_text : Ty → List ℕ
-type_text ty = revealed_text (text_of ty)
-
 -- a type that is reported
 abbrev pub type_reported : Position → Ty → Step Ty
-type_reported at ty = Report (note_at at (type_text ty)) (Done ty)
+type_reported at ty = Report (message.revealed_type at (text_of ty)) (Done ty)
 
 unfoldable pub reveal_part : InferValue → State → Position → Expr → Step Ty
 reveal_part parts s at x = and_then (type_in parts s x None) (type_reported at)

@@ -3,14 +3,17 @@
 ghost use Rattle.std.specs.Prelude.{◌≡◌, IfOk, string_bytes};
 ghost use Rattle.pyc_ast.specs.ExprView.{expr_of};
 ghost use Rattle.pyc_expr_forms.specs.CallValues as spec;
+ghost use Rattle.pyc_messages.specs.Calls.{revealed_type_text};
 ghost use Rattle.pyc_narrowing.specs.Splitting as splitting;
 ghost use Rattle.pyc_places.specs.StateView.{state_of};
 ghost use Rattle.pyc_reading.specs.Traces.{Performs};
+ghost use Rattle.pyc_type_forms.specs.Text.{text_of};
 ghost use Rattle.pyc_type_forms.specs.TypeView.{ty_of};
 
 use crate::context::Context;
 use crate::parts::{InferValue, infer_freely, type_in};
 use pyc_ast::{ArgumentKind, Expr, Position};
+use pyc_messages::revealed_type_text;
 use pyc_obligations::{AskTypes, report_note};
 use pyc_places::State;
 use pyc_type_forms::{Ty, show};
@@ -58,18 +61,10 @@ fn type_reported<N: AskTypes>(
 
 /// The text on a type that is revealed.
 fn type_text(alloc: Global, ty: &Ty) -> Result<String, AllocError>
-    ensures { IfOk result (λ text. string_bytes text ≡ spec.type_text (ty_of ty.now)) }
+    ensures { IfOk result (λ text. string_bytes text ≡ revealed_type_text (text_of (ty_of ty.now))) }
 {
     let shown = show(alloc, ty)?;
-    revealed_text(alloc, shown.as_str())
-}
-
-/// The text on a type that is shown so.
-#[tactic(auto, unfolding(crate::specs::CallValues::revealed_text))]
-fn revealed_text(alloc: Global, shown: &str) -> Result<String, AllocError>
-    ensures { IfOk result (λ text. string_bytes text ≡ spec.revealed_text shown.now) }
-{
-    format!(in alloc; "Revealed type is \"{shown}\"")
+    revealed_type_text(alloc, shown.as_str())
 }
 
 /// A cast to the type that an annotation means, of a value that is read. The only error is that memory runs out.

@@ -9,7 +9,7 @@ use Rattle.pyc_names.specs.declared.fixed.FixedModule.{FixedModule}
 use Rattle.pyc_names.specs.FixedModules.{fixed_module}
 use Rattle.pyc_reading.specs.Answers.{MemberAnswer}
 use Rattle.pyc_expression_laws.proofs.ObligationKeyLemmas.{of-ask_member, of-is_unknown_class}
-use Rattle.pyc_expression_laws.proofs.ScopeLemmas.{of-ask_name}
+use Rattle.pyc_expression_laws.proofs.ScopeLemmas.{of-ask_outside}
 use Rattle.pyc_expression_laws.proofs.StepLemmas.{Files, files_done, files_if, files_report, files_then}
 use Rattle.pyc_type_forms.specs.Types.{Ty, module_type, instance, class_object, union}
 use Rattle.pyc_type_forms.specs.Unions.{row_items}
@@ -44,7 +44,7 @@ of-class_object (user m x) n = files_then _ _ (of-ask_member m x n) (of-class_ob
 
 of-module_name : (m : List (List ℕ)) (n : List ℕ) (found : Option FixedModule) → fixed_module m ≡ found → Files (module_name m n found)
 of-module_name m n (Some found) same = files_done
-of-module_name m n None same = files_then _ _ (of-ask_name m n same) (λ found. files_done)
+of-module_name m n None same = files_then _ _ (of-ask_outside m n same) (λ found. files_done)
 
 of-module_attribute : (m : List (List ℕ)) (n : List ℕ) → Files (module_attribute m n)
 unfolding module_attribute

@@ -3,7 +3,7 @@ use Rattle.std.proofs.Common.{◌≡◌, ℕ, Bool, true, false, ◌||◌, codes
 use Rattle.std.proofs.lemmas.Bool.{false≢true}
 use Rattle.pyc_ast.specs.declared.position.Position.{Position}
 use Rattle.pyc_attributes.specs.AttributeValues.{no_attribute, no_item_attribute, absent_value, found_value, item_type, union_item, item_types, union_attribute, single_attribute}
-use Rattle.pyc_attributes.specs.FoundAttributes.{Found, absent, known, member_of, name_with, module_name, module_attribute, absent_unless, without_member, instance_found, instance_attribute, class_object_found, class_object_attribute, item_attribute}
+use Rattle.pyc_attributes.specs.FoundAttributes.{Found, absent, known, member_of, name_with, answered_found, module_name, module_attribute, absent_unless, without_member, instance_found, instance_attribute, class_object_found, class_object_attribute, item_attribute}
 use Rattle.pyc_builtins.specs.Members.{is_dunder}
 use Rattle.pyc_class_ids.specs.Class.{Id, user}
 use Rattle.pyc_names.specs.declared.fixed.FixedModule.{FixedModule}
@@ -11,10 +11,12 @@ use Rattle.pyc_names.specs.FixedModules.{fixed_module}
 use Rattle.pyc_obligations.specs.Asking.{is_unknown_class}
 use Rattle.pyc_obligations.specs.Values.{plain_value}
 use Rattle.pyc_expression_laws.proofs.AskedLemmas.{asked-and_then, asked-then_nothing}
-use Rattle.pyc_expression_laws.specs.AttributeRows.{module_attribute_keys, item_attribute_keys, ModuleAttributeReads, InstanceAttributeReads, ClassObjectAttributeReads, SingleAttributeReads, UnionAttributeReads, ValueAttributeReads}
+use Rattle.pyc_expression_laws.proofs.OutsideLemmas.{outside-asks}
+use Rattle.pyc_expression_laws.specs.AttributeRows.{outside_keys, module_attribute_keys, item_attribute_keys, ModuleAttributeReads, InstanceAttributeReads, ClassObjectAttributeReads, SingleAttributeReads, UnionAttributeReads, ValueAttributeReads}
 use Rattle.pyc_expression_laws.specs.NameRows.{is_fixed}
-use Rattle.pyc_expression_laws.specs.Rows.{Answers, name_key, class_key, member_key, member_at, has_no_order}
+use Rattle.pyc_expression_laws.specs.Rows.{Answers, class_key, member_key, member_at, has_no_order}
 use Rattle.pyc_reading.specs.Answers.{MemberAnswer}
+use Rattle.pyc_reading.specs.Outside.{ask_outside}
 use Rattle.pyc_reading.specs.Readings.{Done, and_then, result_of, asked}
 use Rattle.pyc_type_forms.specs.Types.{Ty, any, none, module_type, instance, class_object, list, dict, tuple, tuple_of, union, callable}
 use Rattle.pyc_type_forms.specs.Unions.{row_items, union_of}
@@ -22,17 +24,18 @@ use Rattle.pyc_type_forms.specs.Unions.{row_items, union_of}
 -- ---- modules
 
 module_name-asks : (answers : Answers) (m : List (List ℕ)) (n : List ℕ) (found : Option FixedModule)
-    → asked answers (module_name m n found) ≡ (if is_some found then [] else name_key m n ∷ [])
-unfolding and_then
+    → asked answers (module_name m n found) ≡ (if is_some found then [] else outside_keys answers m n)
 module_name-asks answers m n (Some found) = refl
-module_name-asks answers m n None = refl
+module_name-asks answers m n None =
+    asked-then_nothing answers (ask_outside (record { module_path = m; name = n })) (λ found. Done (answered_found found found.kind)) (λ found. refl)
+    ∙ outside-asks answers m n
 
 unless_dunder-asks : (answers : Answers) (m : List (List ℕ)) (n : List ℕ) (b : Bool)
-    → asked answers (if b then Done (known any) else module_name m n (fixed_module m)) ≡ (if b || is_fixed m then [] else name_key m n ∷ [])
+    → asked answers (if b then Done (known any) else module_name m n (fixed_module m)) ≡ (if b || is_fixed m then [] else outside_keys answers m n)
 unless_dunder-asks answers m n true = refl
 unless_dunder-asks answers m n false = module_name-asks answers m n (fixed_module m)
 
-module_attribute-asks : (answers : Answers) (m : List (List ℕ)) (n : List ℕ) → asked answers (module_attribute m n) ≡ module_attribute_keys m n
+module_attribute-asks : (answers : Answers) (m : List (List ℕ)) (n : List ℕ) → asked answers (module_attribute m n) ≡ module_attribute_keys answers m n
 unfolding module_attribute
 module_attribute-asks answers m n = unless_dunder-asks answers m n (is_dunder n)
 

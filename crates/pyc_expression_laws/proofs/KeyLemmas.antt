@@ -6,4 +6,4 @@ pub builtin_keys : BuiltinKeysAskNoFile
 builtin_keys c n = (refl, refl)
 
 pub fixed_keys : FixedKeysAskNoFile
-fixed_keys m x fixed = (ap (λ b. not b) fixed, ap (λ b. not b) fixed, ap (λ b. not b) fixed)
+fixed_keys m x fixed = (ap (λ b. not b) fixed, ap (λ b. not b) fixed, ap (λ b. not b) fixed, ap (λ b. not b) fixed)

@@ -1,5 +1,6 @@
 pub mod AskedLemmas
 pub mod NameLemmas
+pub mod OutsideLemmas
 pub mod AttributeLemmas
 pub mod ObligationLemmas
 pub mod ItemLemmas

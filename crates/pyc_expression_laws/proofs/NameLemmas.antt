@@ -7,7 +7,7 @@ use Rattle.pyc_builtins.specs.Names.{builtin_name}
 use Rattle.pyc_names.specs.declared.fixed.FixedModule.{FixedModule}
 use Rattle.pyc_names.specs.FixedModules.{fixed_module, fixed_name}
 use Rattle.pyc_names.specs.SourceFiles.{SourceFile}
-use Rattle.pyc_obligations.specs.Asking.{name_in}
+use Rattle.pyc_reading.specs.Outside.{name_in}
 use Rattle.pyc_obligations.specs.Values.{Value, plain_value}
 use Rattle.pyc_expression_laws.specs.NameRows.{is_fixed, NameReads}
 use Rattle.pyc_expression_laws.specs.Rows.{Answers, name_key}

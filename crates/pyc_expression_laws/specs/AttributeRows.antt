@@ -7,8 +7,11 @@ use Rattle.pyc_builtins.specs.Members.{is_dunder}
 use Rattle.pyc_class_ids.specs.Class.{Id, user}
 use Rattle.pyc_obligations.specs.Values.{SpecialForm}
 use Rattle.pyc_expression_laws.specs.NameRows.{is_fixed}
-use Rattle.pyc_expression_laws.specs.Rows.{Answers, name_key, class_key, member_key, has_no_order, has_member}
+use Rattle.pyc_expression_laws.specs.Rows.{Answers, name_key, export_key, class_key, member_key, name_at}
+use Rattle.pyc_expression_laws.specs.Rows.{has_no_order, has_member}
+use Rattle.pyc_reading.specs.Answers.{NameAnswer}
 use Rattle.pyc_reading.specs.Keys.{Key}
+use Rattle.pyc_reading.specs.Outside.{export_in, exported, may_be_hidden}
 use Rattle.pyc_reading.specs.Readings.{asked}
 use Rattle.pyc_scopes.specs.NamedValues.{value_with}
 use Rattle.pyc_type_forms.specs.Types.{Ty, Tys, module_type, instance, class_object, union}
@@ -16,10 +19,24 @@ use Rattle.pyc_type_forms.specs.Unions.{row_items}
 
 -- ---- the rows
 
--- of a module: nothing of a fixed one, and of a name with two underscores at both ends; else just what the name stands
--- for in the module
-abbrev pub module_attribute_keys : List (List ℕ) → List ℕ → List Key
-module_attribute_keys m n = if is_dunder n || is_fixed m then [] else name_key m n ∷ []
+-- of a name of a module as other files see it: what the name stands for in the module; and where that may be hidden,
+-- whether the module passes the name on
+abbrev pub outside_keys : Answers → List (List ℕ) → List ℕ → List Key
+outside_keys answers m n =
+    name_key m n ∷ (if may_be_hidden (name_at answers m n).kind then export_key m n ∷ [] else [])
+
+-- what a name of a module is as other files see it
+abbrev pub outside_at : Answers → List (List ℕ) → List ℕ → NameAnswer
+outside_at answers m n =
+    if may_be_hidden (name_at answers m n).kind
+    then exported (record { module_path = m; name = n }) (name_at answers m n)
+    (export_in (answers (export_key m n)))
+    else name_at answers m n
+
+-- of a module: nothing of a fixed one, and of a name with two underscores at both ends; else just the name as other
+-- files see it
+abbrev pub module_attribute_keys : Answers → List (List ℕ) → List ℕ → List Key
+module_attribute_keys answers m n = if is_dunder n || is_fixed m then [] else outside_keys answers m n
 
 -- of an instance of a class of a source: what the class has under the name; where it has nothing, and the name has not
 -- two underscores at both ends, the order of the class; where that is known, its `__getattr__`
@@ -39,7 +56,7 @@ class_attribute_keys answers c n =
 abbrev pub item_attribute_keys : Answers → Ty → List ℕ → List Key
 item_attribute_keys answers (instance (user m x)) n = instance_attribute_keys answers (user m x) n
 item_attribute_keys answers (class_object (user m x)) n = class_attribute_keys answers (user m x) n
-item_attribute_keys answers (module_type m) n = module_attribute_keys m n
+item_attribute_keys answers (module_type m) n = module_attribute_keys answers m n
 item_attribute_keys answers _ n = []
 
 -- ---- the laws
@@ -53,7 +70,7 @@ is_union _ = false
 abbrev pub ModuleAttributeReads : Type 0
 ModuleAttributeReads =
     (answers : Answers) (at : Position) (m : List (List ℕ)) (n : List ℕ)
-    → asked answers (type_attribute at (module_type m) n) ≡ module_attribute_keys m n
+    → asked answers (type_attribute at (module_type m) n) ≡ module_attribute_keys answers m n
 
 -- the law of attributes of instances of classes of sources
 abbrev pub InstanceAttributeReads : Type 0

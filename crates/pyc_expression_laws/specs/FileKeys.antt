@@ -25,6 +25,7 @@ is_of_files (key.has_name q) = not (is_fixed q.module_path)
 is_of_files (key.name q) = not (is_fixed q.module_path)
 is_of_files (key.class c) = is_source c
 is_of_files (key.member n) = is_source n.class
+is_of_files (key.export q) = not (is_fixed q.module_path)
 
 -- no key of a builtin class, nor of a member of one, asks a file
 abbrev pub BuiltinKeysAskNoFile : Type 0
@@ -40,6 +41,7 @@ FixedKeysAskNoFile =
     → (is_of_files (key.has_module m) ≡ false)
     × (is_of_files (key.has_name (record { module_path = m; name = x })) ≡ false)
     × (is_of_files (key.name (record { module_path = m; name = x })) ≡ false)
+    × (is_of_files (key.export (record { module_path = m; name = x })) ≡ false)
 
 -- ---- readings
 

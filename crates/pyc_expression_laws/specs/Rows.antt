@@ -5,9 +5,10 @@ use Rattle.pyc_class_ids.specs.Class.{Id, builtin, user}
 use Rattle.pyc_class_ids.specs.Mro.{Mro, is_unknown}
 use Rattle.pyc_obligations.specs.Asking.{member_in}
 use Rattle.pyc_reading.specs.Owing.{order_in}
-use Rattle.pyc_reading.specs.Answers.{Answer, MemberAnswer}
+use Rattle.pyc_reading.specs.Answers.{Answer, MemberAnswer, NameAnswer}
 use Rattle.pyc_reading.specs.Keys.{Key}
 use Rattle.pyc_reading.specs.Keys as key
+use Rattle.pyc_reading.specs.Outside.{name_in}
 
 -- what is answered to each key
 abbrev pub Answers : Type 0
@@ -18,6 +19,10 @@ Answers = Key → Answer
 -- the key of what a name of a module stands for
 abbrev pub name_key : List (List ℕ) → List ℕ → Key
 name_key module_path x = key.name (record { module_path = module_path; name = x })
+
+-- the key of whether a module passes a name on to other files
+abbrev pub export_key : List (List ℕ) → List ℕ → Key
+export_key module_path x = key.export (record { module_path = module_path; name = x })
 
 -- the key of the order of a class
 abbrev pub class_key : Id → Key
@@ -39,6 +44,10 @@ source_keys (builtin c ∷ classes) = source_keys classes
 source_keys (user m x ∷ classes) = class_key (user m x) ∷ source_keys classes
 
 -- ---- what is answered
+
+-- what a name of a module stands for, as its own file sees it
+abbrev pub name_at : Answers → List (List ℕ) → List ℕ → NameAnswer
+name_at answers module_path x = name_in (answers (name_key module_path x))
 
 -- the order of a class of a source
 abbrev pub order_at : Answers → Id → Mro

@@ -4,8 +4,8 @@ ghost use Rattle.pyc_expression_laws.specs.AttributeRows.{ClassObjectAttributeRe
 ghost use Rattle.pyc_expression_laws.specs.AttributeRows.{ModuleAttributeReads, SingleAttributeReads};
 ghost use Rattle.pyc_expression_laws.specs.AttributeRows.{UnionAttributeReads, ValueAttributeReads};
 
-/// An attribute of a module asks just what the name stands for there; nothing of a fixed module, nor where the name has
-/// two underscores at both ends.
+/// An attribute of a module asks just what the name stands for there, and where that may be hidden whether the module
+/// passes the name on; nothing of a fixed module, nor where the name has two underscores at both ends.
 pub fn module_attribute_asks()
     ensures { ModuleAttributeReads }
 {}

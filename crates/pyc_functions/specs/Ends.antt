@@ -1,18 +1,19 @@
 -- The end of a function (Python reference 3.13, "The return statement").
-use Rattle.std.specs.Prelude.{Bool, true, false, ◌&&◌, codes, if◌then◌else◌, []}
+use Rattle.std.specs.Prelude.{Bool, true, false, ◌&&◌, if◌then◌else◌, []}
 use Rattle.pyc_ast.specs.declared.constant.Constant.TheVariants as constant
 use Rattle.pyc_ast.specs.declared.position.Position.{Position}
 use Rattle.pyc_ast.specs.Exprs.{Expr, expr, Form}
 use Rattle.pyc_ast.specs.Exprs as form
 use Rattle.pyc_ast.specs.Statements.{Stmt, stmt, StmtForm, Stmts, no_stmt, another_stmt}
 use Rattle.pyc_ast.specs.Statements as plain
+use Rattle.pyc_messages.specs.Functions as message
 use Rattle.pyc_reading.specs.Traces.{Step, required}
 use Rattle.pyc_reading.specs.Owing.{Obligation}
 use Rattle.pyc_reading.specs.Readings.{Done}
 use Rattle.pyc_report.specs.declared.message.ObligationKind.TheVariants as obligation_kind
 use Rattle.pyc_type_forms.specs.Types.{Ty, none}
 
--- ---- stubs
+-- ---- bodies that do nothing
 
 -- whether an expression does nothing as a statement: `...`, or a string at the beginning
 abbrev pub is_idle_form : Bool → Form → Bool
@@ -35,8 +36,8 @@ all_idle is_first no_stmt = true
 all_idle is_first (another_stmt (stmt at found) rest) = is_idle is_first found && all_idle false rest
 
 -- whether a body is only a docstring, `pass` or `...`
-abbrev pub is_stub : Stmts → Bool
-is_stub statements = all_idle true statements
+abbrev pub is_idle_body : Stmts → Bool
+is_idle_body statements = all_idle true statements
 
 -- ---- what the end requires
 
@@ -49,7 +50,7 @@ required_end at got want =
       got = got;
       want = want;
       details = [];
-      text = codes "Missing return statement";
+      text = message.missing_return_text;
     }
 
 -- where the end of a function is reached, it gives None

@@ -7,7 +7,7 @@ use Rattle.pyc_ast.specs.Statements.{FunctionDefinition, Parameter, Stmts}
 use Rattle.pyc_bindings.specs.Bindings.{Binding}
 use Rattle.pyc_blocks.specs.Blocks.{statements_read}
 use Rattle.pyc_body_context.specs.Bodies.{Body, class_around, in_function}
-use Rattle.pyc_functions.specs.Ends.{end_read, is_stub}
+use Rattle.pyc_functions.specs.Ends.{end_read, is_idle_body}
 use Rattle.pyc_functions.specs.FunctionNames.{function_bindings, function_locals}
 use Rattle.pyc_functions.specs.Parameters.{ParameterType, parameters_read, receiver_of}
 use Rattle.pyc_functions.specs.Redefined.{redefined_reported}
@@ -27,10 +27,11 @@ use Rattle.pyc_type_forms.specs.Types.{Ty, any}
 abbrev pub is_annotated : FunctionDefinition → Bool
 is_annotated head = is_some head.returns || list_any (λ (p : Parameter). is_some p.annotation) head.parameters
 
--- whether the body of a function is checked: not one that suspends, nor one without annotations unless that is asked
--- for
-abbrev pub is_checked : Bool → FunctionDefinition → Bool
-is_checked check_untyped head = not (head.is_async || head.suspends) && (is_annotated head || check_untyped)
+-- whether the body of a function is checked: not one of a stub, nor one that suspends, nor one without annotations
+-- unless that is asked for
+abbrev pub is_checked : (is_stub check_untyped : Bool) → FunctionDefinition → Bool
+is_checked is_stub check_untyped head =
+    (not is_stub && not (head.is_async || head.suspends)) && (is_annotated head || check_untyped)
 
 -- ---- bodies
 
@@ -66,7 +67,7 @@ module _ (outside : Body) where
   unfoldable pub statements_and_end_read : Position → HeadTypes → List Binding → Stmts → Step (Unit {0})
   statements_and_end_read at types bindings statements = do
     p ← inside_read types bindings statements
-    end_read at types.result (is_reachable p.state && not (is_stub statements))
+    end_read at types.result (is_reachable p.state && not (is_idle_body statements))
 
   -- the body of a function: the names that it defines again, its statements, and its end
   unfoldable pub body_read : Position → HeadTypes → List Binding → Stmts → Step (Unit {0})
@@ -82,4 +83,4 @@ module _ (outside : Body) where
   unfoldable pub function_reading : Position → FunctionDefinition → Stmts → Step (Unit {0})
   function_reading at head statements = do
     types ← head_read head
-    body_if_checked (is_checked outside.options.check_untyped head) at types head statements
+    body_if_checked (is_checked outside.file.is_stub outside.options.check_untyped head) at types head statements

@@ -1,6 +1,6 @@
 -- The parameters of a function: their annotations, their defaults, and the types that they have inside the function
 -- (Python reference 3.13, "Function definitions"; typing specification, "Type annotations" and "Callables").
-use Rattle.std.specs.Prelude.{ℕ, codes, List, [], ◌∷◌, ◌++◌, Option, None, Some}
+use Rattle.std.specs.Prelude.{ℕ, List, [], ◌∷◌, ◌++◌, Option, None, Some}
 use Rattle.pyc_ast.specs.declared.parameter.ParameterKind.{ParameterKind}
 use Rattle.pyc_ast.specs.declared.parameter.ParameterKind.TheVariants as kind
 use Rattle.pyc_ast.specs.declared.position.Position.{Position}
@@ -16,6 +16,7 @@ use Rattle.pyc_locals.specs.Locals.{no_locals}
 use Rattle.pyc_members.specs.declared.method.MethodKind.{MethodKind}
 use Rattle.pyc_members.specs.declared.method.MethodKind.TheVariants as method
 use Rattle.pyc_members.specs.Methods.{method_kind}
+use Rattle.pyc_messages.specs.Functions as message
 use Rattle.pyc_names.specs.Interfaces.{interface_of}
 use Rattle.pyc_places.specs.States.{nothing_narrowed}
 use Rattle.pyc_reading.specs.Traces.{Step, required}
@@ -33,13 +34,8 @@ pub record ParameterType : Type 0 where
 
 -- ---- defaults
 
-unfoldable pub default_text : (name got want : List ℕ) → List ℕ
-default_text name got want =
-    codes "Incompatible default for argument \"" ++ (name ++ (codes "\" (default has type \"" ++ (got
-    ++ (codes "\", argument has type \"" ++ (want ++ codes "\")")))))
-
 unfoldable pub required_default_text : List ℕ → (got want : Ty) → List ℕ
-required_default_text name got want = default_text name (text_of got) (text_of want)
+required_default_text name got want = message.default_text name (text_of got) (text_of want)
 
 -- a default has to be of the type of the parameter of this name, which is reported where the default begins
 abbrev pub required_default : Position → List ℕ → (got want : Ty) → Obligation

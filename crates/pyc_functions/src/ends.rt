@@ -10,14 +10,15 @@ ghost use Rattle.pyc_reading.specs.Traces.{Performs};
 ghost use Rattle.pyc_type_forms.specs.TypeView.{ty_of};
 
 use pyc_ast::{Constant, Expr, Form, Position, Stmt, StmtForm};
+use pyc_messages::missing_return_text;
 use pyc_obligations::{AsObligation, AskTypes, require};
 use pyc_report::{Message, ObligationKind};
 use pyc_type_forms::Ty;
 use std::alloc::{AllocError, Global};
 
 /// Whether a body is only a docstring, `pass` or `...`. It takes no memory.
-pub(crate) fn is_stub(statements: &[Stmt]) -> bool
-    ensures { result ≡ spec.is_stub (stmts (map stmt_of statements.now)) }
+pub(crate) fn is_idle_body(statements: &[Stmt]) -> bool
+    ensures { result ≡ spec.is_idle_body (stmts (map stmt_of statements.now)) }
 {
     match statements.split_first() {
         Some((first, rest)) => is_idle(true, &first.form) && all_idle(rest),
@@ -108,7 +109,7 @@ impl<N: AskTypes> AsObligation<N> for RequiredEnd<'_> {
     }
 
     fn message(&self, alloc: Global, _recorder: &N) -> Result<Message, AllocError> {
-        let text = String::from_str(alloc, "Missing return statement")?;
+        let text = missing_return_text(alloc)?;
         Ok(Message::failing_at(self.at, ObligationKind::MissingReturn, text))
     }
 }

@@ -54,6 +54,7 @@ fn parameter_binding(parameter: &Parameter) -> Result<Binding, AllocError>
             at: parameter.at,
             is_guarded: false,
         },
+        is_passed_on: false,
         form: BindingForm::Other,
     })
 }

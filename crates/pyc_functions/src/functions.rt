@@ -11,7 +11,7 @@ ghost use Rattle.pyc_functions.specs.Views.{head_types_in};
 ghost use Rattle.pyc_locals.specs.Views.{locals_in, flow_state_in};
 ghost use Rattle.pyc_reading.specs.Traces.{Performs};
 
-use crate::ends::{is_stub, read_end};
+use crate::ends::{is_idle_body, read_end};
 use crate::function_names::{function_bindings, function_locals};
 use crate::function_reader::FunctionReader;
 use crate::parameters::{ParameterType, receiver_of};
@@ -94,11 +94,12 @@ impl FunctionReader<'_> {
     ) -> Result<(), AllocError>
         ensures { Performs (λ u. u)
             (spec.body_if_checked (body_in self.now.outside)
-            (spec.is_checked self.now.outside.options.check_untyped (function_of head.now)) at (head_types_in types.now)
-            (function_of head.now) (stmts (map stmt_of statements.now))) (N.trace recorder.old) result
-            (N.trace recorder.new) }
+            (spec.is_checked (body_in self.now.outside).file.is_stub self.now.outside.options.check_untyped
+            (function_of head.now)) at (head_types_in types.now) (function_of head.now)
+            (stmts (map stmt_of statements.now))) (N.trace recorder.old) result (N.trace recorder.new) }
     {
-        if !is_checked(self.outside.options.check_untyped, head) {
+        let is_stub = self.outside.file.interface().is_stub();
+        if !is_checked(is_stub, self.outside.options.check_untyped, head) {
             return Ok(());
         }
         let bindings = function_bindings(self.alloc, &head.parameters, statements)?;
@@ -139,7 +140,7 @@ impl FunctionReader<'_> {
             (N.trace recorder.old) result (N.trace recorder.new) }
     {
         let flow_state = self.read_inside(recorder, types, bindings, statements)?;
-        let is_reached = flow_state.state.is_reachable() && !is_stub(statements);
+        let is_reached = flow_state.state.is_reachable() && !is_idle_body(statements);
         read_end(self.alloc, recorder, at, &types.result, is_reached)
     }
 
@@ -179,12 +180,12 @@ pub(crate) fn begun(alloc: Global, locals: Locals) -> FlowState
     }
 }
 
-/// Whether the body of a function is checked: not one that suspends, nor one without annotations unless that is asked
-/// for. It takes no memory.
-fn is_checked(check_untyped: bool, head: &FunctionDefinition) -> bool
-    ensures { result ≡ spec.is_checked check_untyped (function_of head.now) }
+/// Whether the body of a function is checked: not one of a stub, nor one that suspends, nor one without annotations
+/// unless that is asked for. It takes no memory.
+fn is_checked(is_stub: bool, check_untyped: bool, head: &FunctionDefinition) -> bool
+    ensures { result ≡ spec.is_checked is_stub check_untyped (function_of head.now) }
 {
-    !(head.is_async || head.suspends) && (is_annotated(head) || check_untyped)
+    !is_stub && !(head.is_async || head.suspends) && (is_annotated(head) || check_untyped)
 }
 
 /// Whether a function has an annotation.

@@ -1,6 +1,6 @@
 //! The parameters of a function.
 
-ghost use Rattle.std.specs.Prelude.{◌≡◌, [], map, IfOk, option_map, Some, string_bytes};
+ghost use Rattle.std.specs.Prelude.{◌≡◌, [], map, IfOk, option_map, Some};
 ghost use Rattle.pyc_ast.specs.ExprView.{expr_of};
 ghost use Rattle.pyc_ast.specs.StatementView.{boxed_expr_of, parameter_of};
 ghost use Rattle.pyc_body_context.specs.BodyNames.{body_context};
@@ -27,6 +27,7 @@ use pyc_class_ids::{BuiltinClass, ClassId};
 use pyc_expr::infer_type;
 use pyc_locals::Locals;
 use pyc_members::{MethodKind, method_kind};
+use pyc_messages::default_text;
 use pyc_obligations::{AsObligation, AskTypes, require};
 use pyc_places::State;
 use pyc_report::{Message, ObligationKind};
@@ -270,16 +271,6 @@ fn receiver_type(kind: MethodKind, class: &ClassId) -> Result<Ty, AllocError>
 }
 
 // ---- what is reported
-
-/// The text on a default of another type than its parameter has.
-#[tactic(auto, unfolding(crate::specs::Parameters::default_text))]
-fn default_text(alloc: Global, name: &str, got: &str, want: &str) -> Result<String, AllocError>
-    ensures { IfOk result (λ text. string_bytes text ≡ spec.default_text name.now got.now want.now) }
-{
-    format!(in alloc;
-        "Incompatible default for argument \"{name}\" (default has type \"{got}\", argument has type \"{want}\")"
-    )
-}
 
 /// A default: where it begins, the name of its parameter, and the types of both.
 #[derive(Clone, Copy)]

@@ -1,6 +1,6 @@
 //! What is reported of names that are defined again.
 
-ghost use Rattle.std.specs.Prelude.{◌≡◌, map, IfOk, string_bytes};
+ghost use Rattle.std.specs.Prelude.{map};
 ghost use Rattle.pyc_bindings.specs.BindingView.{binding_of};
 ghost use Rattle.pyc_bindings.specs.RedefinitionView.{redefinition_of};
 ghost use Rattle.pyc_functions.specs.Redefined as spec;
@@ -8,6 +8,7 @@ ghost use Rattle.pyc_reading.specs.Traces.{Performs};
 ghost use Rattle.pyc_reading.specs.Readings.{each};
 
 use pyc_bindings::{Binding, Redefinition, redefinitions};
+use pyc_messages::redefinition_text;
 use pyc_reading::{Ask, report_error};
 use pyc_report::Code;
 use std::alloc::{AllocError, Global};
@@ -53,12 +54,4 @@ fn report_redefinition<N: Ask>(
 {
     let text = redefinition_text(alloc, found.name.as_str(), found.line)?;
     report_error(recorder, found.at, Code::NoRedef, text)
-}
-
-/// The text on a name that is defined again, by the line of its declaration.
-#[tactic(auto, unfolding(crate::specs::Redefined::redefinition_text))]
-fn redefinition_text(alloc: Global, name: &str, line: u32) -> Result<String, AllocError>
-    ensures { IfOk result (λ text. string_bytes text ≡ spec.redefinition_text name.now line) }
-{
-    format!(in alloc; "Name \"{name}\" already defined on line {line}")
 }

@@ -28,11 +28,12 @@ fn assert_keys(rt: &impl Abort, world: &World, header: &Checked, own: &[Key], co
     assert_eq!(rt; held.count(), count);
 }
 
-/// The keys that the header of `a.py` reads: whether the name that it imports is there, and whether its own one is on a
-/// ring.
+/// The keys that the header of `a.py` reads: whether the name that it imports is there and is passed on, and whether
+/// its own one is on a ring.
 fn header_keys(alloc: Global) -> Result<Vec<Key>, AllocError> {
     let mut keys = Vec::new(alloc);
     keys.push(Key::HasName(name_in(alloc, "b.py", "f")?))?;
+    keys.push(Key::Export(name_in(alloc, "b.py", "f")?))?;
     keys.push(Key::HasName(name_in(alloc, "a.py", "f")?))?;
     Ok(keys)
 }
@@ -54,14 +55,14 @@ pub(crate) fn checking(rt: &impl Abort, alloc: Global, spent: usize) -> Result<b
         Ok(body) => body,
         Err(_) => {
             assert_eq!(rt; meter.len(), 1);
-            assert_keys(rt, &world, &header, &own, 2);
+            assert_keys(rt, &world, &header, &own, 3);
             checker.check_unit(&mut meter, &mut world, &units[1])?
         }
     };
     assert_eq!(rt; meter.len(), 2);
     // (the body reads its two names, `int` and `f`)
     assert_eq!(rt; body.reads().len(), 2);
-    assert_keys(rt, &world, &header, &own, 4);
+    assert_keys(rt, &world, &header, &own, 5);
     assert_eq!(rt; body.messages().len(), 1);
     assert_eq!(rt; body.messages()[0].text.as_str(), TEXT);
     Ok(is_refused)

@@ -3,3 +3,6 @@ pub mod Answers
 pub mod DeclaredView
 pub mod PlainWorldView
 pub mod WorldLaws
+pub mod Looks
+pub mod CarryLaws
+pub mod ComparedLaws

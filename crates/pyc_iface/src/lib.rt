@@ -11,7 +11,7 @@ mod world;
 pub use options::{Options, TURNS};
 pub use pyc_declarations::{Answers, DeclarationRecorder, literal_type};
 pub use pyc_reading::{
-    Answer, Ask, Key, MemberAnswer, MemberKind, MemberName, MroAnswer, NameAnswer, NameKind,
-    Presence,
+    Answer, Ask, Export, Key, MemberAnswer, MemberKind, MemberName, MroAnswer, NameAnswer,
+    NameKind, Presence,
 };
 pub use world::{PlainWorld, PlainWorldAnswers};

@@ -14,7 +14,8 @@ use Rattle.pyc_names.specs.FixedModules.{fixed_module}
 use Rattle.pyc_names.specs.Following.{QualifiedName}
 use Rattle.pyc_names.specs.Imports.{named_module}
 use Rattle.pyc_names.specs.Interfaces.{Interface}
-use Rattle.pyc_obligations.specs.Asking.{ask_name}
+use Rattle.pyc_reading.specs.declared.answer.Export.{Export}
+use Rattle.pyc_reading.specs.Outside.{ask_name, exported}
 use Rattle.pyc_reading.specs.Traces.{Step}
 use Rattle.pyc_reading.specs.Readings.{Done, ◌>>=◌}
 use Rattle.pyc_type_forms.specs.Types.{Ty, any, module_type}
@@ -61,23 +62,23 @@ modules_read options at (m ∷ rest) p = do
 
 -- ---- names of modules in the body of a function
 
--- the type of what a name of a module stands for
-abbrev pub ask_type : QualifiedName → Step Ty
-ask_type q = do
+-- the type of what a name of a module stands for, by whether the module passes it on
+abbrev pub ask_type : QualifiedName → Export → Step Ty
+ask_type q passed_on = do
   found ← ask_name q
-  Done found.ty
+  Done (exported q found passed_on).ty
 
 -- the type of a name of some module: Any in a fixed one, and above the root, where there is none
-abbrev pub imported_type : Option (List (List ℕ)) → List ℕ → Step Ty
-imported_type None x = Done any
-imported_type (Some m) x =
-    if is_some (fixed_module m) then Done any else ask_type (record { module_path = m; name = x })
+abbrev pub imported_type : Option (List (List ℕ)) → List ℕ → Export → Step Ty
+imported_type None x passed_on = Done any
+imported_type (Some m) x passed_on =
+    if is_some (fixed_module m) then Done any else ask_type (record { module_path = m; name = x }) passed_on
 
 -- a name of a from-import: the reading reports it where it is not there, and then asks its type
 abbrev pub name_read : Options → Interface → Position → ImportFrom → Alias → FlowState → Step FlowState
 name_read options file at from alias p = do
-  u ← imported_reading options file at from alias
-  ty ← imported_type (named_module file.is_package file.name from.dots from.path) alias.name
+  passed_on ← imported_reading options file at from alias
+  ty ← imported_type (named_module file.is_package file.name from.dots from.path) alias.name passed_on
   Done (name_bound (alias_name alias) (bound ty) p)
 
 -- the names of a from-import, in turn

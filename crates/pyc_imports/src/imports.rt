@@ -3,18 +3,20 @@
 ghost use Rattle.std.specs.Prelude.{◌≡◌, map};
 ghost use Rattle.pyc_ast.specs.StatementView.{imported_of, imported_module_of, import_from_of, stmt_form_of};
 ghost use Rattle.pyc_imports.specs.ImportReadings as spec;
+ghost use Rattle.pyc_names.specs.FollowingView.{qualified_of};
 ghost use Rattle.pyc_names.specs.InterfaceView.{interface_in};
 ghost use Rattle.pyc_reading.specs.Traces.{Performs};
 ghost use Rattle.pyc_reading.specs.Readings.{each};
 
 use crate::asking::ask_presence;
-use crate::texts::{missing_text, no_attribute_text, written_module};
+use crate::texts::written_module;
 use pyc_ast::{Alias, ImportFrom, ImportedModule, Position, StmtForm, Text};
 use pyc_iface::Options;
+use pyc_messages::{missing_module_text, no_imported_name_text};
 use pyc_names::{
     Interface, ModuleName, QualifiedName, fixed_module, module_of_parts, named_module,
 };
-use pyc_reading::{Ask, Key, Presence, report_error};
+use pyc_reading::{Ask, Export, Key, Presence, ask_export, report_error};
 use pyc_report::Code;
 use std::alloc::{AllocError, Global};
 use std::rc::Rc;
@@ -123,7 +125,7 @@ impl ImportReader {
         if self.options.ignore_missing {
             return Ok(());
         }
-        let text = missing_text(self.alloc, shown)?;
+        let text = missing_module_text(self.alloc, shown)?;
         report_error(recorder, self.at, Code::ImportNotFound, text)
     }
 
@@ -135,18 +137,18 @@ impl ImportReader {
         from: &ImportFrom,
     ) -> Result<(), AllocError>
         ensures { Performs (λ u. u)
-            (each (spec.imported_reading self.options (interface_in file.now) self.at (import_from_of from.now))
+            (each (spec.name_checked self.options (interface_in file.now) self.at (import_from_of from.now))
             from.now.names.items) (N.trace recorder.old) result (N.trace recorder.new) }
     {
         for alias in &from.names {
-            self.read_imported(recorder, file, from, alias)?;
+            self.check_name(recorder, file, from, alias)?;
         }
         Ok(())
     }
 
-    /// Reads one name of a from-import, which asks whether it is there; the reader reports a name or a module that is
-    /// not. The only error is that memory runs out.
-    pub fn read_imported<N: Ask>(
+    /// Reads one name of a from-import, where nothing hangs on whether its module passes it on.
+    #[tactic(auto, using(crate::proofs::Steps::performing))]
+    fn check_name<N: Ask>(
         self,
         recorder: &mut N,
         file: &Interface,
@@ -154,6 +156,24 @@ impl ImportReader {
         alias: &Alias,
     ) -> Result<(), AllocError>
         ensures { Performs (λ u. u)
+            (spec.name_checked self.options (interface_in file.now) self.at (import_from_of from.now) alias.now)
+            (N.trace recorder.old) result (N.trace recorder.new) }
+    {
+        let _passed_on = self.read_imported(recorder, file, from, alias)?;
+        Ok(())
+    }
+
+    /// Reads one name of a from-import, which asks whether it is there and whether its module passes it on, and answers
+    /// the latter. The reader reports a name or a module that is not there, and a name that is hidden. The only error
+    /// is that memory runs out.
+    pub fn read_imported<N: Ask>(
+        self,
+        recorder: &mut N,
+        file: &Interface,
+        from: &ImportFrom,
+        alias: &Alias,
+    ) -> Result<Export, AllocError>
+        ensures { Performs (λ found. found)
             (spec.imported_reading self.options (interface_in file.now) self.at (import_from_of from.now) alias.now)
             (N.trace recorder.old) result (N.trace recorder.new) }
     {
@@ -176,45 +196,113 @@ impl ImportReader {
         shown: &str,
         name: &Text,
         module_path: Option<ModuleName>,
-    ) -> Result<(), AllocError>
-        ensures { Performs (λ u. u) (spec.name_reading self.options self.at shown.now name.now module_path)
+    ) -> Result<Export, AllocError>
+        ensures { Performs (λ found. found) (spec.name_reading self.options self.at shown.now name.now module_path)
             (N.trace recorder.old)
             result (N.trace recorder.new) }
     {
         let Some(module_path) = module_path else {
-            return self.report_missing(recorder, shown);
+            self.report_missing(recorder, shown)?;
+            return Ok(Export::Open);
         };
         if fixed_module(module_path.parts()).is_some() {
-            return Ok(());
+            return Ok(Export::Open);
         }
-        let key = Key::HasName(QualifiedName {
-            module_path,
-            name: name.clone()?,
-        });
+        let name = name.clone()?;
+        let asked = QualifiedName { module_path, name };
+        self.read_own_name(recorder, shown, &asked)
+    }
+
+    /// Reads a name of a module that is no fixed one.
+    #[tactic(auto, using(crate::proofs::Steps::performing))]
+    fn read_own_name<N: Ask>(
+        self,
+        recorder: &mut N,
+        shown: &str,
+        name: &QualifiedName,
+    ) -> Result<Export, AllocError>
+        ensures { Performs (λ found. found)
+            (spec.own_name_reading self.options self.at shown.now (qualified_of name.now)) (N.trace recorder.old) result
+            (N.trace recorder.new) }
+    {
+        let key = Key::HasName(name.clone()?);
         let found = ask_presence(self.alloc, recorder, key)?;
         self.report_name(recorder, shown, name, found)
     }
 
-    /// Reports an imported name that is not there, as its presence says.
+    /// Reports an imported name that is not there or is hidden, and answers whether its module passes it on.
+    #[tactic(auto, using(crate::proofs::Steps::performing))]
     fn report_name<N: Ask>(
         self,
         recorder: &mut N,
         shown: &str,
-        name: &Text,
+        name: &QualifiedName,
         found: Option<Presence>,
-    ) -> Result<(), AllocError>
-        ensures { Performs (λ u. u) (spec.name_reported self.options self.at shown.now name.now found)
-            (N.trace recorder.old)
+    ) -> Result<Export, AllocError>
+        ensures { Performs (λ found. found)
+            (spec.name_reported self.options self.at shown.now (qualified_of name.now) found) (N.trace recorder.old)
             result (N.trace recorder.new) }
     {
         match found {
-            Some(Presence::NoModule) => self.report_missing(recorder, shown),
-            Some(Presence::NoName) => {
-                let text = no_attribute_text(self.alloc, shown, name.as_str())?;
-                report_error(recorder, self.at, Code::AttrDefined, text)
+            Some(Presence::There) => self.read_export(recorder, shown, name),
+            Some(Presence::NoModule) => {
+                self.report_missing(recorder, shown)?;
+                Ok(Export::Open)
             }
-            _ => Ok(()),
+            Some(Presence::NoName) => {
+                self.report_no_name(recorder, shown, &name.name)?;
+                Ok(Export::Open)
+            }
+            _ => Ok(Export::Open),
         }
+    }
+
+    /// Reads whether the module of a name that is there passes it on, and reports a name that is hidden.
+    #[tactic(auto, using(crate::proofs::Steps::performing))]
+    fn read_export<N: Ask>(
+        self,
+        recorder: &mut N,
+        shown: &str,
+        name: &QualifiedName,
+    ) -> Result<Export, AllocError>
+        ensures { Performs (λ found. found) (spec.export_reading self.at shown.now (qualified_of name.now))
+            (N.trace recorder.old) result (N.trace recorder.new) }
+    {
+        let asked = name.clone()?;
+        let passed_on = ask_export(self.alloc, recorder, asked)?;
+        self.report_hidden(recorder, shown, &name.name, passed_on)?;
+        Ok(passed_on)
+    }
+
+    /// Reports a name that its module hides.
+    fn report_hidden<N: Ask>(
+        self,
+        recorder: &mut N,
+        shown: &str,
+        name: &Text,
+        passed_on: Export,
+    ) -> Result<(), AllocError>
+        ensures { Performs (λ u. u) (spec.hidden_reported self.at shown.now name.now passed_on) (N.trace recorder.old)
+            result (N.trace recorder.new) }
+    {
+        match passed_on {
+            Export::Hidden => self.report_no_name(recorder, shown, name),
+            Export::Open | Export::Submodule => Ok(()),
+        }
+    }
+
+    /// Reports that a module does not have a name for those who import it.
+    fn report_no_name<N: Ask>(
+        self,
+        recorder: &mut N,
+        shown: &str,
+        name: &Text,
+    ) -> Result<(), AllocError>
+        ensures { Performs (λ u. u) (spec.no_name_reported self.at shown.now name.now) (N.trace recorder.old) result
+            (N.trace recorder.new) }
+    {
+        let text = no_imported_name_text(self.alloc, shown, name.as_str())?;
+        report_error(recorder, self.at, Code::AttrDefined, text)
     }
 }
 

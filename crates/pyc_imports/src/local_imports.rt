@@ -14,8 +14,7 @@ use crate::imports::ImportReader;
 use pyc_ast::{Alias, ImportFrom, ImportedModule, StmtForm, Text};
 use pyc_locals::{FlowState, LocalType};
 use pyc_names::{Interface, ModuleName, QualifiedName, fixed_module, named_module};
-use pyc_obligations::ask_name;
-use pyc_reading::Ask;
+use pyc_reading::{Ask, Export, ask_name, exported};
 use pyc_type_forms::Ty;
 use std::alloc::{AllocError, Global};
 use std::rc::Rc;
@@ -137,7 +136,8 @@ impl LocalImportReader<'_> {
             (import_from_of from.now) alias.now (flow_state_in flow_state.old)) (N.trace recorder.old) result
             (N.trace recorder.new) }
     {
-        self.imports
+        let passed_on = self
+            .imports
             .read_imported(recorder, self.file, from, alias)?;
         let alloc = self.imports.alloc;
         let module_path = named_module(
@@ -147,7 +147,7 @@ impl LocalImportReader<'_> {
             from.dots,
             &from.path,
         )?;
-        let ty = imported_type(alloc, recorder, module_path, &alias.name)?;
+        let ty = imported_type(alloc, recorder, module_path, &alias.name, passed_on)?;
         flow_state.bind(alloc, alias_name(alias), LocalType::Bound(ty))
     }
 }
@@ -159,8 +159,9 @@ fn imported_type<N: Ask>(
     recorder: &mut N,
     module_path: Option<ModuleName>,
     name: &Text,
+    passed_on: Export,
 ) -> Result<Ty, AllocError>
-    ensures { Performs ty_of (spec.imported_type module_path name.now) (N.trace recorder.old) result
+    ensures { Performs ty_of (spec.imported_type module_path name.now passed_on) (N.trace recorder.old) result
         (N.trace recorder.new) }
 {
     let Some(module_path) = module_path else {
@@ -170,16 +171,25 @@ fn imported_type<N: Ask>(
         return Ok(Ty::Any);
     }
     let name = name.clone()?;
-    ask_type(alloc, recorder, QualifiedName { module_path, name })
+    let asked = QualifiedName { module_path, name };
+    ask_type(alloc, recorder, &asked, passed_on)
 }
 
-/// The type of what a name of a module stands for.
+/// The type of what a name of a module stands for, by whether the module passes it on.
 #[tactic(auto, using(crate::proofs::Steps::performing))]
-fn ask_type<N: Ask>(alloc: Global, recorder: &mut N, name: QualifiedName) -> Result<Ty, AllocError>
-    ensures { Performs ty_of (spec.ask_type (qualified_of name)) (N.trace recorder.old) result (N.trace recorder.new) }
+fn ask_type<N: Ask>(
+    alloc: Global,
+    recorder: &mut N,
+    name: &QualifiedName,
+    passed_on: Export,
+) -> Result<Ty, AllocError>
+    ensures { Performs ty_of (spec.ask_type (qualified_of name.now) passed_on) (N.trace recorder.old) result
+        (N.trace recorder.new) }
 {
-    let found = ask_name(alloc, recorder, name)?;
-    Ok(found.ty)
+    let asked = name.clone()?;
+    let found = ask_name(alloc, recorder, asked)?;
+    let seen = exported(alloc, name, found, passed_on)?;
+    Ok(seen.ty)
 }
 
 /// The type of the name that `import` binds for a module: Any where that module is not there.

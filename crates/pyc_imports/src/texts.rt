@@ -1,4 +1,4 @@
-//! The texts on imports.
+//! How messages show modules.
 
 ghost use Rattle.std.specs.Prelude.{◌≡◌, ◌++◌, IfOk, string_bytes};
 ghost use Rattle.pyc_imports.specs.ImportReadings as spec;
@@ -31,24 +31,4 @@ fn dots_text(alloc: Global, dots: usize) -> Result<String, AllocError>
         text.push_str(".")?;
     }
     Ok(text)
-}
-
-/// What is reported of a module that is not there.
-#[tactic(auto, unfolding(crate::specs::ImportReadings::missing_text))]
-pub(crate) fn missing_text(alloc: Global, shown: &str) -> Result<String, AllocError>
-    ensures { IfOk result (λ text. string_bytes text ≡ spec.missing_text shown.now) }
-{
-    format!(in alloc; "Cannot find implementation or library stub for module named \"{shown}\"")
-}
-
-/// What is reported of a name that a module does not have.
-#[tactic(auto, unfolding(crate::specs::ImportReadings::no_attribute_text))]
-pub(crate) fn no_attribute_text(
-    alloc: Global,
-    shown: &str,
-    name: &str,
-) -> Result<String, AllocError>
-    ensures { IfOk result (λ text. string_bytes text ≡ spec.no_attribute_text shown.now name.now) }
-{
-    format!(in alloc; "Module \"{shown}\" has no attribute \"{name}\"")
 }

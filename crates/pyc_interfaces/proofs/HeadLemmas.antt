@@ -21,14 +21,14 @@ use Rattle.pyc_bindings.specs.Redefinitions.{declaration, is_decorated}
 use Rattle.pyc_declarations.specs.DeclaredTypes.{constant_type, literal_type, initialiser, type_or_any, initialiser_type}
 use Rattle.pyc_interfaces.specs.BareExpressions.{nowhere, other_expr, bare, bare_argument, bare_constant, bare_value}
 use Rattle.pyc_interfaces.specs.BareInterfaces.{bare_parameter, bare_function, bare_form, bare_binding}
-use Rattle.pyc_interfaces.proofs.ReadingLemmas.{Same, SameNames, same_then, dotted_meaning-same, read_type-same}
+use Rattle.pyc_interfaces.proofs.ReadingLemmas.{Same, SameNames, came, same_done, same_then, dotted_meaning-same, read_type-same}
 use Rattle.pyc_interfaces.proofs.TypeLemmas.{names-bare, type_expr-bare}
 use Rattle.pyc_members.specs.declared.method.MethodKind.TheVariants as method
 use Rattle.pyc_members.specs.Methods.{is_property, is_static, is_class, has_property, has_static, has_class, method_kind}
 use Rattle.pyc_names.specs.Interfaces.{Interface}
 use Rattle.pyc_reading.specs.Answers.{Answer}
 use Rattle.pyc_reading.specs.Keys.{Key}
-use Rattle.pyc_reading.specs.Readings.{Done, and_then, result_of}
+use Rattle.pyc_reading.specs.Readings.{Done, and_then}
 use Rattle.pyc_report.specs.NameTexts.{joined_names}
 use Rattle.pyc_signatures.specs.Signatures.{kind_of, param_of_type, annotated_or, first_type, parameter_reading, more_params, parameters_reading, function_type_of, function_type}
 use Rattle.pyc_type_exprs.specs.TypeExprs.{type_expr, dotted_names, innermost}
@@ -173,7 +173,7 @@ initialiser_type-bare e = ap (λ o. type_or_any (initialiser o)) (literal_type-b
 
 module _ (f : Key → Answer) (file twin : Interface) (one : SameNames file twin) where
   pub annotation-same : (e : Expr) → Same f (read_type file (type_expr e)) (read_type twin (type_expr (bare e)))
-  annotation-same e = read_type-same f file twin one (type_expr e) ∙ ap (λ t. result_of f (read_type twin t)) (sym (type_expr-bare e))
+  annotation-same e = read_type-same f file twin one (type_expr e) ∙ ap (λ t. came f (read_type twin t)) (sym (type_expr-bare e))
 
   annotated_or-same : (ty : Ty) (o : Option Expr) → Same f (annotated_or file ty o) (annotated_or twin ty (option_map bare o))
   annotated_or-same ty None = refl
@@ -189,7 +189,7 @@ module _ (f : Key → Answer) (file twin : Interface) (one : SameNames file twin
   unfolding parameter_reading
   parameter-same receiver p =
       same_then f (annotated_or file (first_type receiver p.kind) p.annotation) (annotated_or twin (first_type receiver p.kind) (option_map bare p.annotation))
-      (λ ty. Done (param_of_type p ty)) (λ ty. Done (param_of_type (bare_parameter p) ty)) (annotated_or-same (first_type receiver p.kind) p.annotation) (param-bare p)
+      (λ ty. Done (param_of_type p ty)) (λ ty. Done (param_of_type (bare_parameter p) ty)) (annotated_or-same (first_type receiver p.kind) p.annotation) (λ ty. same_done f (param_of_type p ty) (param_of_type (bare_parameter p) ty) (param-bare p ty))
 
   more_params-same : (found : List ParamView) (ps : List Parameter) → Same f (more_params file found ps) (more_params twin found (map bare_parameter ps))
   unfolding more_params
@@ -245,7 +245,7 @@ module _ (f : Key → Answer) (file twin : Interface) (one : SameNames file twin
   unfolding base
   base-same e =
       written_base-same (at_of e) (names_at e) (at_of (bare e)) (names_at (bare e)) (dotted_names (innermost e))
-      ∙ ap (λ n. result_of f (written_base twin (at_of (bare e)) (names_at (bare e)) n)) (sym (names-bare e))
+      ∙ ap (λ n. came f (written_base twin (at_of (bare e)) (names_at (bare e)) n)) (sym (names-bare e))
 
   argument_base-same : (at there : Position) (kind : ArgumentKind) (e : Expr) → Same f (argument_base file at kind e) (argument_base twin there kind (bare e))
   argument_base-same at there argument_kind.Positional e = same_then f (base file e) (base twin (bare e)) (λ found. Done (Some found)) (λ found. Done (Some found)) (base-same e) (λ found. refl)

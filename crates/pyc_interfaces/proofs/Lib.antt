@@ -5,3 +5,4 @@ pub mod NameLemmas
 pub mod WorldLemmas
 pub mod SameRows
 pub mod SameLemmas
+pub mod LookLemmas

@@ -1,11 +1,12 @@
 -- What names stand for does not depend on positions.
-use Rattle.std.proofs.Common.{◌≡◌, ℕ, zero, suc, ◌+◌, Bool, true, false, ◌&&◌, ◌||◌, List, [], ◌∷◌, map, Option, None, Some, is_some, if◌then◌else◌, cond, count_by, refl, sym, ap, ap₂, ◌∙◌}
+use Rattle.std.proofs.Common.{◌≡◌, ℕ, zero, suc, ◌+◌, Bool, true, false, not, ◌&&◌, ◌||◌, List, [], ◌∷◌, map, Option, None, Some, is_some, if◌then◌else◌, cond, count_by, refl, sym, ap, ap₂, ◌∙◌}
 use Rattle.std.proofs.lemmas.List.Sums.{sum_by-cons}
 use Rattle.std.specs.Prelude.{option_map}
 use Rattle.pyc_ast.specs.Exprs.{Expr}
-use Rattle.pyc_bindings.specs.Bindings.{Binding, BindingForm, import, import_from, function, class, annotated, assigned, other}
+use Rattle.pyc_bindings.specs.Bindings.{Binding, BindingForm, is_import, import, import_from, function, class, annotated, assigned, other}
 use Rattle.pyc_bindings.specs.Redefinitions.{declaration, is_decorated}
-use Rattle.pyc_declarations.specs.Kinds.{Found, declared_in, answered, of_kind, found_binding, found_in_file, fixed_found, found_declared, absent_name, found_referent, found_name, is_looked_up, module_attribute, attribute_referent, attributes_referent, own_referent, dotted_referent, is_alias_type, is_alias, variable_kind, form_kind, found_kind, name_kind, kind_answer, answer_with, is_fixed_any}
+use Rattle.pyc_declarations.specs.Exports.{hidden_export, name_export}
+use Rattle.pyc_declarations.specs.Kinds.{faulty_name, may_be_hidden, seen_referent, outside_referent, Found, declared_in, answered, of_kind, found_binding, found_in_file, fixed_found, found_declared, absent_name, found_referent, found_name, is_looked_up, module_attribute, attribute_referent, attributes_referent, own_referent, dotted_referent, is_alias_type, is_alias, variable_kind, form_kind, found_kind, name_kind, kind_answer, answer_with, is_fixed_any}
 use Rattle.pyc_declarations.specs.Presences.{file_presence, unfixed_presence, module_presence, submodule_presence, binding_presence, name_in_source, name_in_file, name_in_module, name_presence}
 use Rattle.pyc_interfaces.specs.BareExpressions.{bare}
 use Rattle.pyc_interfaces.specs.BareInterfaces.{bare_form, bare_binding, bare_interface}
@@ -14,13 +15,15 @@ use Rattle.pyc_interfaces.proofs.TypeLemmas.{drop_type, type_expr-bare}
 use Rattle.pyc_names.specs.declared.fixed.FixedModule.{FixedModule}
 use Rattle.pyc_names.specs.FixedModules.{fixed_module, fixed_name}
 use Rattle.pyc_names.specs.Following as names
-use Rattle.pyc_names.specs.Following.{QualifiedName, Referent, Step, ends, leads, has_module, module_referent, submodule, unbound_referent, step_to, import_step, form_step, binding_step, source_step, file_step, module_step, step, is_import_from, import_count, arrive, walk, follow, comes_to, leads_to, on_ring, same_name}
+use Rattle.pyc_names.specs.Following.{QualifiedName, Referent, Step, ends, leads, has_module, module_referent, submodule, unbound_referent, is_hidden_name, seen_step, step_to, import_step, form_step, binding_step, source_step, file_step, module_step, step, is_import_from, import_count, arrive, walk, follow, comes_to, leads_to, on_ring, same_name}
+use Rattle.pyc_names.specs.Hidden.{hides, hides_from, hides_in, is_hidden}
 use Rattle.pyc_names.specs.Imports.{named_module}
 use Rattle.pyc_names.specs.Interfaces.{Interface, file_of}
 use Rattle.pyc_names.specs.ModuleName.{same_module}
 use Rattle.pyc_names.specs.Presence.{is_there}
-use Rattle.pyc_reading.specs.Answers.{Answer, NameAnswer, presence_of, name_is, order_is, member_is}
+use Rattle.pyc_reading.specs.Answers.{Answer, NameAnswer, presence_of, name_is, order_is, member_is, export_is}
 use Rattle.pyc_reading.specs.Answers as kind
+use Rattle.pyc_reading.specs.declared.answer.Export.TheVariants as passed
 use Rattle.pyc_reading.specs.declared.answer.Presence.TheVariants as presence
 use Rattle.pyc_reading.specs.Keys.{Key, MemberName}
 use Rattle.pyc_reading.specs.Keys as key
@@ -37,6 +40,27 @@ is_import_from-bare (annotated found) = refl
 is_import_from-bare (assigned value) = refl
 is_import_from-bare other = refl
 
+is_import-bare : (form : BindingForm) → is_import (bare_form form) ≡ is_import form
+is_import-bare (import path) = refl
+is_import-bare (import_from dots path n) = refl
+is_import-bare (function head) = refl
+is_import-bare (class head) = refl
+is_import-bare (annotated found) = refl
+is_import-bare (assigned value) = refl
+is_import-bare other = refl
+
+is_hidden-bare : (o : Option Binding) → is_hidden (option_map bare_binding o) ≡ is_hidden o
+is_hidden-bare None = refl
+is_hidden-bare (Some b) = ap (λ i. i && not b.is_passed_on) (is_import-bare b.form)
+
+hides-bare : (file : Interface) (x : List ℕ) → hides (bare_interface file) x ≡ hides file x
+hides-bare file x =
+    ap (λ o. file.is_stub && is_hidden o) (declaration-bare file.bindings x) ∙ ap (λ h. file.is_stub && h) (is_hidden-bare (declaration file.bindings x))
+
+hides_in-bare : (o : Option Interface) (x : List ℕ) → hides_in (option_map bare_interface o) x ≡ hides_in o x
+hides_in-bare None x = refl
+hides_in-bare (Some file) x = hides-bare file x
+
 count-bare : (bindings : List Binding) → count_by (λ (b : Binding). is_import_from b.form) (map bare_binding bindings) ≡ count_by (λ (b : Binding). is_import_from b.form) bindings
 count-bare [] = refl
 count-bare (b ∷ bindings) =
@@ -44,7 +68,7 @@ count-bare (b ∷ bindings) =
     sum_by-cons one (bare_binding b) (map bare_binding bindings) ∙ ap₂ (λ m n. m + n) (ap (λ i. cond i 1 0) (is_import_from-bare b.form)) (count-bare bindings)
     ∙ sym (sum_by-cons one b bindings)
 
-import_count-bare : (files : List Interface) → import_count (map bare_interface files) ≡ import_count files
+pub import_count-bare : (files : List Interface) → import_count (map bare_interface files) ≡ import_count files
 import_count-bare [] = refl
 import_count-bare (file ∷ files) = ap₂ (λ m n. m + n) (count-bare file.bindings) (import_count-bare files)
 
@@ -75,8 +99,19 @@ module _ (files : List Interface) where
   unbound_referent-bare : (q : QualifiedName) → unbound_referent alike q ≡ unbound_referent files q
   unbound_referent-bare q = ap (λ b. if b then names.module_itself (submodule q) else names.no_name) (has_module-bare (submodule q))
 
+  hides_from-bare : (m : List (List ℕ)) (x : List ℕ) (fixed : Option FixedModule) → hides_from alike m x fixed ≡ hides_from files m x fixed
+  hides_from-bare m x (Some fixed) = refl
+  hides_from-bare m x None = ap (λ o. hides_in o x) (file_of-bare files m) ∙ hides_in-bare (file_of files m) x
+
+  pub is_hidden_name-bare : (q : QualifiedName) → is_hidden_name alike q ≡ is_hidden_name files q
+  is_hidden_name-bare q = hides_from-bare q.module_path q.name (fixed_module q.module_path)
+
+  seen_step-bare : (next : QualifiedName) → seen_step alike next ≡ seen_step files next
+  seen_step-bare next = ap₂ (λ b r. if b then ends r else leads next) (is_hidden_name-bare next) (unbound_referent-bare next)
+
   step_to-bare : (q next : QualifiedName) → step_to alike q next ≡ step_to files q next
-  step_to-bare q next = ap (λ b. if same_name next q && b then ends (names.module_itself (submodule q)) else leads next) (has_module-bare (submodule q))
+  step_to-bare q next =
+      ap₂ (λ b s. if same_name next q && b then ends (names.module_itself (submodule q)) else s) (has_module-bare (submodule q)) (seen_step-bare next)
 
   import_step-bare : (q : QualifiedName) (module_path : Option (List (List ℕ))) (n : List ℕ) → import_step alike q module_path n ≡ import_step files q module_path n
   import_step-bare q None n = refl
@@ -107,7 +142,7 @@ module _ (files : List Interface) where
   module_step-bare q (Some fixed) = refl
   module_step-bare q None = ap (file_step alike q) (file_of-bare files q.module_path) ∙ file_step-bare q (file_of files q.module_path)
 
-  step-bare : (q : QualifiedName) → step alike q ≡ step files q
+  pub step-bare : (q : QualifiedName) → step alike q ≡ step files q
   unfolding step
   step-bare q =
       ap (λ b. if b then module_step alike q (fixed_module q.module_path) else ends names.no_module) (has_module-bare q.module_path)
@@ -206,10 +241,15 @@ module _ (files : List Interface) where
   absent_name-bare None x = refl
   absent_name-bare (Some file) x = ap (λ b. if b then kind.no_target else kind.no_name) (is_bound-bare file.bindings x)
 
+  faulty_name-bare : (o : Option Interface) → faulty_name (option_map bare_interface o) ≡ faulty_name o
+  faulty_name-bare None = refl
+  faulty_name-bare (Some file) = refl
+
   found_referent-bare : (q : QualifiedName) (r : Referent) → found_referent alike q r ≡ bare_found (found_referent files q r)
   found_referent-bare q (names.declared r) = found_declared-bare r (fixed_module r.module_path)
   found_referent-bare q (names.module_itself m) = refl
-  found_referent-bare q names.opaque = refl
+  found_referent-bare q names.opaque =
+      ap (λ o. answered (of_kind (faulty_name o))) (file_of-bare files q.module_path) ∙ ap (λ k. answered (of_kind k)) (faulty_name-bare (file_of files q.module_path))
   found_referent-bare q names.fixed_any = refl
   found_referent-bare q names.no_module = refl
   found_referent-bare q names.no_name =
@@ -222,10 +262,16 @@ module _ (files : List Interface) where
 
   -- ---- aliases
 
-  module_attribute-bare : (m : List (List ℕ)) (n : List ℕ) → module_attribute alike m n ≡ module_attribute files m n
-  module_attribute-bare m n = ap (λ r. if is_looked_up m n then r else names.no_name) (follow-bare (record { module_path = m; name = n }))
+  seen_referent-bare : (q : QualifiedName) (r : Referent) → seen_referent alike q r ≡ seen_referent files q r
+  seen_referent-bare q r = ap₂ (λ b s. if may_be_hidden r && b then s else r) (is_hidden_name-bare q) (unbound_referent-bare q)
 
-  attribute_referent-bare : (r : Referent) (n : List ℕ) → attribute_referent alike r n ≡ attribute_referent files r n
+  outside_referent-bare : (q : QualifiedName) → outside_referent alike q ≡ outside_referent files q
+  outside_referent-bare q = ap (seen_referent alike q) (follow-bare q) ∙ seen_referent-bare q (follow files q)
+
+  module_attribute-bare : (m : List (List ℕ)) (n : List ℕ) → module_attribute alike m n ≡ module_attribute files m n
+  module_attribute-bare m n = ap (λ r. if is_looked_up m n then r else names.no_name) (outside_referent-bare (record { module_path = m; name = n }))
+
+  pub attribute_referent-bare : (r : Referent) (n : List ℕ) → attribute_referent alike r n ≡ attribute_referent files r n
   attribute_referent-bare (names.module_itself m) n = module_attribute-bare m n
   attribute_referent-bare (names.declared r) n = refl
   attribute_referent-bare names.opaque n = refl
@@ -238,7 +284,7 @@ module _ (files : List Interface) where
   attributes_referent-bare r [] = refl
   attributes_referent-bare r (n ∷ ns) = ap (λ s. attributes_referent alike s ns) (attribute_referent-bare r n) ∙ attributes_referent-bare (attribute_referent files r n) ns
 
-  own_referent-bare : (file : Interface) (x : List ℕ) → own_referent alike (bare_interface file) x ≡ own_referent files file x
+  pub own_referent-bare : (file : Interface) (x : List ℕ) → own_referent alike (bare_interface file) x ≡ own_referent files file x
   own_referent-bare file x =
       ap (λ b. if b then follow alike (record { module_path = file.name; name = x }) else names.no_name) (is_bound-bare file.bindings x)
       ∙ ap (λ r. if is_some (declaration file.bindings x) then r else names.no_name) (follow-bare (record { module_path = file.name; name = x }))
@@ -282,12 +328,23 @@ module _ (files : List Interface) where
   pub name_presences-bare : (q : QualifiedName) → presence_of (name_presence alike q) ≡ presence_of (name_presence files q)
   name_presences-bare q = ap presence_of (name_presence-bare q)
 
+  hidden_export-bare : (q : QualifiedName) → hidden_export alike q ≡ hidden_export files q
+  hidden_export-bare q = ap (λ b. if b then passed.Submodule else passed.Hidden) (has_module-bare (submodule q))
+
+  name_export-bare : (q : QualifiedName) → name_export alike q ≡ name_export files q
+  unfolding name_export
+  name_export-bare q = ap₂ (λ b found. if b then found else passed.Open) (is_hidden_name-bare q) (hidden_export-bare q)
+
+  pub exports-bare : (q : QualifiedName) → export_is (name_export alike q) ≡ export_is (name_export files q)
+  exports-bare q = ap export_is (name_export-bare q)
+
   kind_answer-bare : (k : Key) → kind_answer alike k ≡ kind_answer files k
   kind_answer-bare (key.has_module m) = presences-bare m
   kind_answer-bare (key.has_name q) = name_presences-bare q
   kind_answer-bare (key.name q) = ap name_is (name_kind-bare q)
   kind_answer-bare (key.class c) = refl
   kind_answer-bare (key.member c) = refl
+  kind_answer-bare (key.export q) = exports-bare q
 
   pub kinds-bare : kind_answer alike ≡ kind_answer files
   kinds-bare = λ t k. kind_answer-bare k t

@@ -1,11 +1,11 @@
--- What annotations come to does not depend on their positions.
-use Rattle.std.proofs.Common.{◌≡◌, ℕ, suc, Bool, true, false, List, [], ◌∷◌, ◌++◌, map, length, Option, None, Some, if◌then◌else◌, bytes_eq, codes, refl, sym, ap, ◌∙◌}
+-- What annotations come to, and which keys they ask, does not depend on their positions.
+use Rattle.std.proofs.Common.{◌≡◌, ℕ, suc, Bool, true, false, List, [], ◌∷◌, ◌++◌, map, length, Option, None, Some, if◌then◌else◌, bytes_eq, codes, refl, sym, ap, ap₂, ◌∙◌}
 use Rattle.pyc_annotations.specs.declared.meaning.Role.{Role}
 use Rattle.pyc_annotations.specs.declared.meaning.Role.TheVariants as role
 use Rattle.pyc_annotations.specs.declared.type_form.TypeForm.{TypeForm}
 use Rattle.pyc_annotations.specs.declared.type_form.TypeForm.TheVariants as type_form
 use Rattle.pyc_annotations.specs.Annotations.{Annotation, annotation_of_type, not_a_type, invalid, wrong_count, attribute_meaning, attributes, dotted_meaning, bare_form, resolve_name, name_rule, Subscripted, form_subscripted, class_subscripted, any_subscripted, value_subscripted, wrong_subscripted, with_arguments, ShapeReading, ellipsis_read, list_read, other_read, ArgumentReading, more_types, argument_types, takes, build_form_type, built_rule, object_of, object_rule, class_object_rule, any_length_rule, pair_rule, tuple_rule, plain_callable, any_callable, listed_callable, callable_of, callable_rule, form_rule, subscripted_rule, subscript_rule, union_rule, read_type, argument_readings, argument_reading, shape_reading, type_readings}
-use Rattle.pyc_annotations.specs.Meanings.{Meaning, class_meant, any_meant, type_meant, fixed_meant, module_meant, variable_meant, function_meant, nothing_meant, report_undefined, no_attribute, found_builtin, unbound, own_meaning, binds, own_name, module_name_meaning, attribute_of_kind, answered_attribute, attribute_in_module, module_attribute}
+use Rattle.pyc_annotations.specs.Meanings.{Meaning, class_meant, any_meant, type_meant, fixed_meant, module_meant, variable_meant, function_meant, nothing_meant, report_undefined, no_attribute, found_builtin, unbound, own_meaning, binds, own_name, module_name_meaning, attribute_of_kind, attribute_in_module, module_attribute}
 use Rattle.pyc_ast.specs.declared.position.Position.{Position}
 use Rattle.pyc_builtins.specs.declared.names.BuiltinName.{BuiltinName}
 use Rattle.pyc_builtins.specs.Members.{is_dunder}
@@ -19,10 +19,11 @@ use Rattle.pyc_names.specs.FixedModules.{fixed_module}
 use Rattle.pyc_names.specs.Interfaces.{Interface}
 use Rattle.pyc_reading.specs.Answers.{Answer, NameAnswer, NameKind, presence_of, name_is, order_is, member_is}
 use Rattle.pyc_reading.specs.Answers as kind
+use Rattle.pyc_reading.specs.Outside.{ask_outside}
 use Rattle.pyc_reading.specs.Traces.{Step}
 use Rattle.pyc_reading.specs.Keys.{Key}
-use Rattle.pyc_reading.specs.Keys as key
-use Rattle.pyc_reading.specs.Readings.{Done, Ask, Report, Require, and_then, result_of}
+use Rattle.pyc_reading.specs.Owing.{row_keys}
+use Rattle.pyc_reading.specs.Readings.{Done, Ask, Report, Require, and_then, result_of, asked}
 use Rattle.pyc_type_exprs.specs.TypeExprs.{DottedName, TypeExpr, none_written, name_written, union_written, subscript_written, wrong_written, TypeArgument, type_argument, ArgumentShape, ellipsis_shape, list_shape, other_shape, TypeExprs, no_type, another_type, TypeArguments, no_argument, another_argument}
 use Rattle.pyc_type_forms.specs.Types.{Ty, tuple_of, callable, dots}
 use Rattle.pyc_type_forms.specs.Unions.{union_of}
@@ -34,19 +35,52 @@ result-and_then f (Ask key go) next = result-and_then f (go (f key)) next
 result-and_then f (Report diagnostic rest) next = result-and_then f rest next
 result-and_then f (Require row rest) next = result-and_then f rest next
 
+keys_append : (xs ys zs : List Key) → (xs ++ ys) ++ zs ≡ xs ++ (ys ++ zs)
+keys_append [] ys zs = refl
+keys_append (x ∷ xs) ys zs = ap (λ l. x ∷ l) (keys_append xs ys zs)
+
+asked-and_then : {A B : Type 0} (f : Key → Answer) (r : Step A) (next : A → Step B) → asked f (and_then r next) ≡ asked f r ++ asked f (next (result_of f r))
+unfolding and_then
+asked-and_then f (Done a) next = refl
+asked-and_then f (Ask key go) next = ap (λ l. key ∷ l) (asked-and_then f (go (f key)) next)
+asked-and_then f (Report diagnostic rest) next = asked-and_then f rest next
+asked-and_then f (Require row rest) next =
+    ap (λ l. row_keys row ++ l) (asked-and_then f rest next) ∙ sym (keys_append (row_keys row) (asked f rest) (asked f (next (result_of f rest))))
+
+-- what a reading comes to, and the keys that it asks
+pub record Came (A : Type 0) : Type 0 where
+  pub result : A
+  pub keys : List Key
+
+abbrev pub came : {A : Type 0} → (Key → Answer) → Step A → Came A
+came f r = record { result = result_of f r; keys = asked f r }
+
+-- and another reading that its result chooses
+abbrev came_on : {A B : Type 0} → (Key → Answer) → Came A → (A → Step B) → Came B
+came_on f c next = record { result = result_of f (next c.result); keys = c.keys ++ asked f (next c.result) }
+
+came-and_then : {A B : Type 0} (f : Key → Answer) (r : Step A) (next : A → Step B) → came f (and_then r next) ≡ came_on f (came f r) next
+came-and_then {A} {B} f r next =
+    let made : B → List Key → Came B = λ b keys. record { result = b; keys = keys } in
+    ap₂ made (result-and_then f r next) (asked-and_then f r next)
+
 -- both are of one module and bind the same names
 pub record SameNames (file other : Interface) : Type 0 where
   pub name : file.name ≡ other.name
   pub binds : (x : List ℕ) → binds file x ≡ binds other x
 
 module _ (f : Key → Answer) where
-  -- both come to the same
+  -- both come to the same, and ask the same keys
   abbrev pub Same : {A : Type 0} → Step A → Step A → Type 0
-  Same r s = result_of f r ≡ result_of f s
+  Same r s = came f r ≡ came f s
+
+  pub same_done : {A : Type 0} (a b : A) → a ≡ b → Same (Done a) (Done b)
+  same_done {A} a b same = let made : A → Came A = λ a. record { result = a; keys = [] } in ap made same
 
   pub same_then : {A B : Type 0} (r s : Step A) (next more : A → Step B) → Same r s → ((a : A) → Same (next a) (more a)) → Same (and_then r next) (and_then s more)
-  same_then r s next more same later =
-      result-and_then f r next ∙ later (result_of f r) ∙ ap (λ a. result_of f (more a)) same ∙ sym (result-and_then f s more)
+  same_then {A} {B} r s next more same later =
+      let joined : Came B → Came B = λ c. record { result = c.result; keys = asked f r ++ c.keys } in
+      came-and_then f r next ∙ ap joined (later (result_of f r)) ∙ ap (λ (c : Came A). came_on f c more) same ∙ sym (came-and_then f s more)
 
   -- ---- names
 
@@ -79,8 +113,8 @@ module _ (f : Key → Answer) where
   unfolding own_name
   own_name-same file other one at there x =
       same_then (module_name_meaning file.name x) (module_name_meaning other.name x) (own_meaning at x (binds file x)) (own_meaning there x (binds other x))
-      (ap (λ m. result_of f (module_name_meaning m x)) one.name)
-      (λ found. own_meaning-same at there x (binds file x) found ∙ ap (λ b. result_of f (own_meaning there x b found)) (one.binds x))
+      (ap (λ m. came f (module_name_meaning m x)) one.name)
+      (λ found. own_meaning-same at there x (binds file x) found ∙ ap (λ b. came f (own_meaning there x b found)) (one.binds x))
 
   no_attribute-same : (at there : Position) (n : List ℕ) → Same (no_attribute at n) (no_attribute there n)
   unfolding no_attribute
@@ -95,20 +129,18 @@ module _ (f : Key → Answer) where
   attribute_of_kind-same at there n found (kind.module_name m) = refl
   attribute_of_kind-same at there n found (kind.fixed x) = refl
   attribute_of_kind-same at there n found kind.unknown = refl
+  attribute_of_kind-same at there n found kind.opaque = refl
   attribute_of_kind-same at there n found kind.no_module = refl
   attribute_of_kind-same at there n found kind.no_name = no_attribute-same at there n
   attribute_of_kind-same at there n found kind.no_target = refl
   attribute_of_kind-same at there n found kind.cycle = refl
 
-  answered_attribute-same : (at there : Position) (n : List ℕ) (a : Answer) → Same (answered_attribute at n a) (answered_attribute there n a)
-  answered_attribute-same at there n (name_is found) = attribute_of_kind-same at there n found found.kind
-  answered_attribute-same at there n (presence_of p) = refl
-  answered_attribute-same at there n (order_is o) = refl
-  answered_attribute-same at there n (member_is m) = refl
-
   attribute_in_module-same : (at there : Position) (m : List (List ℕ)) (n : List ℕ) (fixed : Option FixedModule) → Same (attribute_in_module at m n fixed) (attribute_in_module there m n fixed)
   attribute_in_module-same at there m n (Some found) = refl
-  attribute_in_module-same at there m n None = answered_attribute-same at there n (f (key.name (record { module_path = m; name = n })))
+  attribute_in_module-same at there m n None =
+      let seen = ask_outside (record { module_path = m; name = n }) in
+      same_then seen seen (λ found. attribute_of_kind at n found found.kind) (λ found. attribute_of_kind there n found found.kind) refl
+      (λ found. attribute_of_kind-same at there n found found.kind)
 
   module_attribute-by : (at there : Position) (m : List (List ℕ)) (n : List ℕ) (b : Bool)
       → Same (if b then Done any_meant else attribute_in_module at m n (fixed_module m)) (if b then Done any_meant else attribute_in_module there m n (fixed_module m))
@@ -317,7 +349,7 @@ module _ (f : Key → Answer) where
   unfolding subscripted_rule
   subscripted_rule-same at there name xs ys (form_subscripted form) all =
       form_or_count at there form xs ys (takes form (length xs)) all
-      ∙ ap (λ n. result_of f (if takes form n then form_rule there form ys else wrong_count there form)) (length-alike xs ys all)
+      ∙ ap (λ n. came f (if takes form n then form_rule there form ys else wrong_count there form)) (length-alike xs ys all)
   subscripted_rule-same at there name xs ys (class_subscripted c) all = refl
   subscripted_rule-same at there name xs ys any_subscripted all = refl
   subscripted_rule-same at there name xs ys value_subscripted all = not_a_type-same name

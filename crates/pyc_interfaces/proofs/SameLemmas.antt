@@ -566,9 +566,12 @@ binding_forms_are other other same = refl
 
 bindings_are : (b c : Binding) → same_binding b c ≡ true → bare_binding b ≡ bare_binding c
 bindings_are b c same =
-    let made : List ℕ → BindingForm → Binding = λ name form. record { name = name; place = placed nowhere false; form = form } in
-    let parts = and_parts (bytes_eq b.name c.name) (same_form b.form c.form) same in
-    ap₂ made (texts_are b.name c.name parts.0) (binding_forms_are b.form c.form parts.1)
+    let made : List ℕ → Bool → BindingForm → Binding =
+    λ name is_passed_on form. record { name = name; place = placed nowhere false; is_passed_on = is_passed_on; form = form } in
+    let p = and_parts (bytes_eq b.name c.name && beq b.is_passed_on c.is_passed_on) (same_form b.form c.form) same in
+    let q = and_parts (bytes_eq b.name c.name) (beq b.is_passed_on c.is_passed_on) p.0 in
+    ap₂ (λ n passed_on. made n passed_on (bare_form b.form)) (texts_are b.name c.name q.0) (flags_are b.is_passed_on c.is_passed_on q.1)
+    ∙ ap (made c.name c.is_passed_on) (binding_forms_are b.form c.form p.1)
 
 -- ---- classes
 
@@ -608,12 +611,14 @@ declared_are c d same =
 pub interfaces_are : (i j : Interface) → same_interface i j ≡ true → bare_interface i ≡ bare_interface j
 unfolding same_interface
 interfaces_are i j same =
-    let made : List (List ℕ) → Bool → Bool → List Binding → List DeclaredClass → Interface =
-    λ name is_package has_fault bindings classes. record { name = name; is_package = is_package; has_fault = has_fault; bindings = bindings; classes = classes } in
-    let a = and_parts (((same_module i.name j.name && beq i.is_package j.is_package) && beq i.has_fault j.has_fault) && pointwise same_binding i.bindings j.bindings) (pointwise same_declared i.classes j.classes) same in
-    let b = and_parts ((same_module i.name j.name && beq i.is_package j.is_package) && beq i.has_fault j.has_fault) (pointwise same_binding i.bindings j.bindings) a.0 in
-    let c = and_parts (same_module i.name j.name && beq i.is_package j.is_package) (beq i.has_fault j.has_fault) b.0 in
-    let d = and_parts (same_module i.name j.name) (beq i.is_package j.is_package) c.0 in
-    ap₂ (λ n p. made n p i.has_fault (map bare_binding i.bindings) (map bare_declared i.classes)) (paths_are i.name j.name d.0) (flags_are i.is_package j.is_package d.1)
-    ∙ ap₂ (λ f bs. made j.name j.is_package f bs (map bare_declared i.classes)) (flags_are i.has_fault j.has_fault c.1) (rows_are same_binding bare_binding bindings_are i.bindings j.bindings b.1)
-    ∙ ap (made j.name j.is_package j.has_fault (map bare_binding j.bindings)) (rows_are same_declared bare_declared declared_are i.classes j.classes a.1)
+    let made : List (List ℕ) → Bool → Bool → Bool → List Binding → List DeclaredClass → Interface =
+    λ name is_package is_stub has_fault bindings classes.
+    record { name = name; is_package = is_package; is_stub = is_stub; has_fault = has_fault; bindings = bindings; classes = classes } in
+    let a = and_parts ((((same_module i.name j.name && beq i.is_package j.is_package) && beq i.is_stub j.is_stub) && beq i.has_fault j.has_fault) && pointwise same_binding i.bindings j.bindings) (pointwise same_declared i.classes j.classes) same in
+    let b = and_parts (((same_module i.name j.name && beq i.is_package j.is_package) && beq i.is_stub j.is_stub) && beq i.has_fault j.has_fault) (pointwise same_binding i.bindings j.bindings) a.0 in
+    let c = and_parts ((same_module i.name j.name && beq i.is_package j.is_package) && beq i.is_stub j.is_stub) (beq i.has_fault j.has_fault) b.0 in
+    let d = and_parts (same_module i.name j.name && beq i.is_package j.is_package) (beq i.is_stub j.is_stub) c.0 in
+    let e = and_parts (same_module i.name j.name) (beq i.is_package j.is_package) d.0 in
+    ap₂ (λ n p. made n p i.is_stub i.has_fault (map bare_binding i.bindings) (map bare_declared i.classes)) (paths_are i.name j.name e.0) (flags_are i.is_package j.is_package e.1)
+    ∙ ap₂ (λ s f. made j.name j.is_package s f (map bare_binding i.bindings) (map bare_declared i.classes)) (flags_are i.is_stub j.is_stub d.1) (flags_are i.has_fault j.has_fault c.1)
+    ∙ ap₂ (made j.name j.is_package j.is_stub j.has_fault) (rows_are same_binding bare_binding bindings_are i.bindings j.bindings b.1) (rows_are same_declared bare_declared declared_are i.classes j.classes a.1)

@@ -1,8 +1,8 @@
 -- What interfaces answer does not depend on positions.
 use Rattle.std.proofs.Common.{◌≡◌, ℕ, Bool, not, ◌&&◌, List, [], ◌∷◌, ◌++◌, map, Option, None, Some, is_some, if◌then◌else◌, bytes_eq, codes, refl, sym, ap, ap₂, ◌∙◌}
 use Rattle.std.specs.Prelude.{flat_map, option_map}
-use Rattle.pyc_annotations.specs.Annotations.{read_type}
-use Rattle.pyc_annotations.specs.Bases.{bases}
+use Rattle.pyc_annotations.specs.Annotations.{Annotation, read_type}
+use Rattle.pyc_annotations.specs.Bases.{Base, bases}
 use Rattle.pyc_ast.specs.declared.parameter.ParameterKind.{ParameterKind}
 use Rattle.pyc_ast.specs.declared.parameter.ParameterKind.TheVariants as parameter
 use Rattle.pyc_ast.specs.Exprs.{Expr, expr, Argument}
@@ -26,8 +26,8 @@ use Rattle.pyc_interfaces.specs.BareExpressions.{bare, bare_argument, bare_value
 use Rattle.pyc_interfaces.specs.BareInterfaces.{bare_parameter, bare_function, bare_form, bare_binding, bare_attribute_form, bare_attribute, bare_body, bare_declared, bare_interface}
 use Rattle.pyc_interfaces.specs.InterfaceLaws.{PositionsChangeNoAnswer, AlikeFilesAnswerAlike}
 use Rattle.pyc_interfaces.proofs.HeadLemmas.{find-map, any-map, is_some-map, has_setter-bare, method_kind-bare, is_decorated-bare, declaration-bare, is_bound-bare, initialiser_type-bare, annotation-same, function_type-same, bases-same}
-use Rattle.pyc_interfaces.proofs.NameLemmas.{bare_found, file_of-bare, found_name-bare, is_alias-bare, form_kind-bare, presences-bare, name_presences-bare, kinds-bare}
-use Rattle.pyc_interfaces.proofs.ReadingLemmas.{SameNames}
+use Rattle.pyc_interfaces.proofs.NameLemmas.{bare_found, file_of-bare, found_name-bare, is_alias-bare, form_kind-bare, presences-bare, name_presences-bare, exports-bare, kinds-bare}
+use Rattle.pyc_interfaces.proofs.ReadingLemmas.{SameNames, Came}
 use Rattle.pyc_members.specs.Attributes.{AttributeForm, SelfAttribute}
 use Rattle.pyc_members.specs.Attributes as attribute
 use Rattle.pyc_members.specs.ClassBodies.{ClassBody, OwnMember, is_annotated, first_annotated, annotated_through_self, assigned_through_self, in_body_or_annotated, own_member, is_setter, is_settable}
@@ -39,7 +39,7 @@ use Rattle.pyc_members.specs.Methods.{method_kind}
 use Rattle.pyc_names.specs.Following.{QualifiedName}
 use Rattle.pyc_names.specs.Interfaces.{Interface, file_of, interface_of}
 use Rattle.pyc_names.specs.SourceFiles.{SourceFile}
-use Rattle.pyc_reading.specs.Answers.{Answer, NameAnswer, MemberAnswer, name_is, order_is, member_is}
+use Rattle.pyc_reading.specs.Answers.{Answer, name_is, order_is, member_is}
 use Rattle.pyc_reading.specs.Answers as kind
 use Rattle.pyc_reading.specs.declared.answer.MemberKind.TheVariants as member_kind
 use Rattle.pyc_reading.specs.Keys.{Key, MemberName}
@@ -51,7 +51,7 @@ use Rattle.pyc_type_forms.specs.Types.{Ty, any, class_object, instance}
 
 -- ---- members of one class
 
-abbrev bare_own : OwnMember → OwnMember
+abbrev pub bare_own : OwnMember → OwnMember
 bare_own (own.bound b) = own.bound (bare_binding b)
 bare_own (own.annotated a) = own.annotated (bare_attribute a)
 bare_own (own.assigned a) = own.assigned (bare_attribute a)
@@ -88,10 +88,10 @@ own_or-bare None b = refl
 annotated_through-bare : (body : ClassBody) (n : List ℕ) → annotated_through_self (bare_body body) n ≡ option_map bare_own (annotated_through_self body n)
 annotated_through-bare body n = ap (option_map own.annotated) (first_annotated-bare body.attributes n) ∙ map-annotated (first_annotated body.attributes n)
 
-assigned_through-bare : (body : ClassBody) (n : List ℕ) → assigned_through_self (bare_body body) n ≡ option_map bare_own (assigned_through_self body n)
+pub assigned_through-bare : (body : ClassBody) (n : List ℕ) → assigned_through_self (bare_body body) n ≡ option_map bare_own (assigned_through_self body n)
 assigned_through-bare body n = ap (option_map own.assigned) (first_assigned-bare body.attributes n) ∙ map-assigned (own.first_assigned body.attributes n)
 
-in_body-bare : (body : ClassBody) (n : List ℕ) → in_body_or_annotated (bare_body body) n ≡ option_map bare_own (in_body_or_annotated body n)
+pub in_body-bare : (body : ClassBody) (n : List ℕ) → in_body_or_annotated (bare_body body) n ≡ option_map bare_own (in_body_or_annotated body n)
 in_body-bare body n =
     ap₂ own.or_else (ap (option_map own.bound) (declaration-bare body.bindings n) ∙ map-bound (declaration body.bindings n)) (annotated_through-bare body n)
     ∙ own_or-bare (option_map own.bound (declaration body.bindings n)) (annotated_through_self body n)
@@ -111,10 +111,10 @@ is_setter-bare other = refl
 is_settable-bare : (body : ClassBody) (n : List ℕ) → is_settable (bare_body body) n ≡ is_settable body n
 is_settable-bare body n = any-map (λ (b : Binding). bytes_eq b.name n && is_setter b.form) bare_binding (λ b. ap (λ s. bytes_eq b.name n && s) (is_setter-bare b.form)) body.bindings
 
-same_names : (file : Interface) → SameNames file (bare_interface file)
+pub same_names : (file : Interface) → SameNames file (bare_interface file)
 same_names file = record { name = refl; binds = λ x. sym (is_bound-bare file.bindings x) }
 
-name_written-bare : (e : Expr) → name_written (bare_value e) ≡ name_written e
+pub name_written-bare : (e : Expr) → name_written (bare_value e) ≡ name_written e
 name_written-bare (expr at inside (plain.name x)) = refl
 name_written-bare (expr at inside (plain.constant c)) = refl
 name_written-bare (expr at inside (plain.string_annotation x)) = refl
@@ -136,7 +136,7 @@ name_written-bare (expr at inside (plain.yield x)) = refl
 name_written-bare (expr at inside (plain.yield_from x)) = refl
 
 -- a class where it is declared
-abbrev bare_at : Declared → Declared
+abbrev pub bare_at : Declared → Declared
 bare_at c = record { id = c.id; file = bare_interface c.file; body = bare_body c.body }
 
 option_map-same : {X Y : Type 0} (f g : X → Y) (h : X → X) → ((x : X) → f (h x) ≡ g x) → (o : Option X) → option_map f (option_map h o) ≡ option_map g o
@@ -153,13 +153,13 @@ module _ (files : List Interface) where
   unfolding annotated_type
   annotated_type-bare file e =
       ap (λ (f : Key → Answer). (result_of f (read_type (bare_interface file) (type_expr (bare e)))).ty) (kinds-bare files)
-      ∙ ap (λ a. a.ty) (sym (annotation-same (kind_answer files) file (bare_interface file) (same_names file) e))
+      ∙ ap (λ (c : Came Annotation). c.result.ty) (sym (annotation-same (kind_answer files) file (bare_interface file) (same_names file) e))
 
   declared_function-bare : (file : Interface) (receiver : Ty) (head : FunctionDefinition) → declared_function alike (bare_interface file) receiver (bare_function head) ≡ declared_function files file receiver head
   unfolding declared_function
   declared_function-bare file receiver head =
       ap (λ (f : Key → Answer). result_of f (function_type (bare_interface file) receiver (bare_function head))) (kinds-bare files)
-      ∙ sym (function_type-same (kind_answer files) file (bare_interface file) (same_names file) receiver head)
+      ∙ ap (λ (c : Came Ty). c.result) (sym (function_type-same (kind_answer files) file (bare_interface file) (same_names file) receiver head))
 
   -- ---- names
 
@@ -186,8 +186,9 @@ module _ (files : List Interface) where
   declared_answer-bare (key.name q) = ap name_is (name_answer-bare q)
   declared_answer-bare (key.class c) = refl
   declared_answer-bare (key.member c) = refl
+  declared_answer-bare (key.export q) = exports-bare files q
 
-  declared-bare : declared_answer alike ≡ declared_answer files
+  pub declared-bare : declared_answer alike ≡ declared_answer files
   declared-bare = λ t k. declared_answer-bare k t
 
   -- ---- classes
@@ -196,7 +197,7 @@ module _ (files : List Interface) where
   unfolding written_bases
   written_bases-bare file xs =
       ap (λ (f : Key → Answer). map written_base (result_of f (bases (bare_interface file) (map bare_argument xs)))) declared-bare
-      ∙ ap (map written_base) (sym (bases-same (declared_answer files) file (bare_interface file) (same_names file) xs))
+      ∙ ap (λ (c : Came (List Base)). map written_base c.result) (sym (bases-same (declared_answer files) file (bare_interface file) (same_names file) xs))
 
   class_entry-bare : (file : Interface) (c : DeclaredClass) → class_entry alike (bare_interface file) (bare_declared c) ≡ class_entry files file c
   class_entry-bare file c =
@@ -216,7 +217,7 @@ module _ (files : List Interface) where
   unfolding class_entries
   class_entries-bare = all_entries-bare files
 
-  orders-bare : orders_by alike ≡ orders_by files
+  pub orders-bare : orders_by alike ≡ orders_by files
   unfolding orders_by
   orders-bare = ap orders_of class_entries-bare
 
@@ -232,7 +233,7 @@ module _ (files : List Interface) where
   class_in_file-bare id (Some file) =
       ap (declared_class id (bare_interface file)) (class_named-bare file.classes (name_of id)) ∙ declared_class-bare id file (class_named file.classes (name_of id))
 
-  declared_of-bare : (id : Id) → declared_of alike id ≡ option_map bare_at (declared_of files id)
+  pub declared_of-bare : (id : Id) → declared_of alike id ≡ option_map bare_at (declared_of files id)
   declared_of-bare id = ap (class_in_file id) (file_of-bare files (module_of id)) ∙ class_in_file-bare id (file_of files (module_of id))
 
   -- ---- members
@@ -281,7 +282,7 @@ module _ (files : List Interface) where
   parameter_type-bare file (Some p) = plain_type-bare file p.kind p.annotation
   parameter_type-bare file None = refl
 
-  parameter_named-bare : (ps : List Parameter) (n : List ℕ) → parameter_named (map bare_parameter ps) n ≡ option_map bare_parameter (parameter_named ps n)
+  pub parameter_named-bare : (ps : List Parameter) (n : List ℕ) → parameter_named (map bare_parameter ps) n ≡ option_map bare_parameter (parameter_named ps n)
   parameter_named-bare ps n = find-map (λ (p : Parameter). bytes_eq p.name n) bare_parameter (λ p. refl) ps
 
   value_by_name-bare : (file : Interface) (ps : List Parameter) (e : Expr) (o : Option (List ℕ)) → value_by_name alike (bare_interface file) (map bare_parameter ps) (bare_value e) o ≡ value_by_name files file ps e o
@@ -308,7 +309,7 @@ module _ (files : List Interface) where
       ap (option_map (own_answer alike (bare_at c) x)) (in_body-bare c.body x)
       ∙ option_map-same (own_answer alike (bare_at c) x) (own_answer files c x) bare_own (own_answer-bare c x) (in_body_or_annotated c.body x)
 
-  declared_by_kind-bare : (c : Id) (x : List ℕ) (o : Option BuiltinClass) → declared_by_kind alike c x o ≡ declared_by_kind files c x o
+  pub declared_by_kind-bare : (c : Id) (x : List ℕ) (o : Option BuiltinClass) → declared_by_kind alike c x o ≡ declared_by_kind files c x o
   declared_by_kind-bare c x (Some b) = refl
   declared_by_kind-bare c x None = ap (declared_in_user alike x) (declared_of-bare c) ∙ declared_in_user-bare x (declared_of files c)
 
@@ -318,11 +319,11 @@ module _ (files : List Interface) where
       ap (option_map (own_answer alike (bare_at c) x)) (assigned_through-bare c.body x)
       ∙ option_map-same (own_answer alike (bare_at c) x) (own_answer files c x) bare_own (own_answer-bare c x) (assigned_through_self c.body x)
 
-  assigned_by_kind-bare : (c : Id) (x : List ℕ) (o : Option BuiltinClass) → assigned_by_kind alike c x o ≡ assigned_by_kind files c x o
+  pub assigned_by_kind-bare : (c : Id) (x : List ℕ) (o : Option BuiltinClass) → assigned_by_kind alike c x o ≡ assigned_by_kind files c x o
   assigned_by_kind-bare c x (Some b) = refl
   assigned_by_kind-bare c x None = ap (assigned_in_user alike x) (declared_of-bare c) ∙ assigned_in_user-bare x (declared_of files c)
 
-  first_declared-bare : (cs : List Id) (x : List ℕ) → first_declared alike cs x ≡ first_declared files cs x
+  pub first_declared-bare : (cs : List Id) (x : List ℕ) → first_declared alike cs x ≡ first_declared files cs x
   first_declared-bare [] x = refl
   first_declared-bare (c ∷ cs) x = ap₂ or_else (declared_by_kind-bare c x (builtin_of c)) (first_declared-bare cs x)
 
@@ -341,6 +342,7 @@ module _ (files : List Interface) where
   answer_by-bare (key.name q) = declared_answer-bare (key.name q)
   answer_by-bare (key.class c) = ap (λ (o : MroTable). order_is (o c)) orders-bare
   answer_by-bare (key.member m) = ap member_is (member_answer-bare m)
+  answer_by-bare (key.export q) = declared_answer-bare (key.export q)
 
 -- positions change no answer
 pub positions_change_no_answer : PositionsChangeNoAnswer

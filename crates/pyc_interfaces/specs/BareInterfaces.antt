@@ -63,7 +63,8 @@ bare_form (assigned value) = assigned (bare_value value)
 bare_form other = other
 
 abbrev pub bare_binding : Binding → Binding
-bare_binding b = record { name = b.name; place = placed nowhere false; form = bare_form b.form }
+bare_binding b =
+    record { name = b.name; place = placed nowhere false; is_passed_on = b.is_passed_on; form = bare_form b.form }
 
 -- ---- classes
 
@@ -89,6 +90,7 @@ bare_interface i =
     record {
       name = i.name;
       is_package = i.is_package;
+      is_stub = i.is_stub;
       has_fault = i.has_fault;
       bindings = map bare_binding i.bindings;
       classes = map bare_declared i.classes;

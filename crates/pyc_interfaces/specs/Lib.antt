@@ -3,3 +3,4 @@ pub mod BareInterfaces
 pub mod SameExpressions
 pub mod SameInterfaces
 pub mod InterfaceLaws
+pub mod CarryLaws

@@ -54,7 +54,7 @@ same_form other other = true
 same_form _ _ = false
 
 abbrev pub same_binding : Binding → Binding → Bool
-same_binding b c = bytes_eq b.name c.name && same_form b.form c.form
+same_binding b c = (bytes_eq b.name c.name && beq b.is_passed_on c.is_passed_on) && same_form b.form c.form
 
 -- ---- classes
 
@@ -79,5 +79,6 @@ same_declared c d = (bytes_eq c.name d.name && same_class c.head d.head) && same
 -- whether two interfaces are one without positions
 unfoldable pub same_interface : Interface → Interface → Bool
 same_interface i j =
-    (((same_module i.name j.name && beq i.is_package j.is_package) && beq i.has_fault j.has_fault)
-    && pointwise same_binding i.bindings j.bindings) && pointwise same_declared i.classes j.classes
+    ((((same_module i.name j.name && beq i.is_package j.is_package) && beq i.is_stub j.is_stub)
+    && beq i.has_fault j.has_fault) && pointwise same_binding i.bindings j.bindings)
+    && pointwise same_declared i.classes j.classes

@@ -1,5 +1,6 @@
 //! Laws of interfaces, proved for all files.
 
+ghost use Rattle.pyc_interfaces.specs.CarryLaws.{FilesCarryOver, PositionsChangeNoEntry, PositionsChangeNoLook};
 ghost use Rattle.pyc_interfaces.specs.InterfaceLaws.{AlikeFilesAnswerAlike, PositionsChangeNoAnswer};
 
 /// Interfaces answer each key as they do without positions, and without what else no answer looks at.
@@ -10,4 +11,12 @@ pub fn positions_change_no_answer()
 /// Files whose interfaces are the same but for these give the same answers.
 pub fn alike_files_answer_alike()
     ensures { AlikeFilesAnswerAlike }
+{}
+
+/// Positions change nothing that is looked at. So an answer is the same among other files that are alike without their
+/// positions at all that is looked at for it, and the same is looked at.
+pub fn carry_over()
+    ensures looks { PositionsChangeNoLook }
+    ensures entries { PositionsChangeNoEntry }
+    ensures files { FilesCarryOver }
 {}

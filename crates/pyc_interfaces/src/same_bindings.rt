@@ -51,7 +51,7 @@ fn same_form(a: &BindingForm, b: &BindingForm) -> bool
 fn same_binding(a: &Binding, b: &Binding) -> bool
     ensures { result ≡ spec.same_binding (binding_of a.now) (binding_of b.now) }
 {
-    a.name == b.name && same_form(&a.form, &b.form)
+    a.name == b.name && a.is_passed_on == b.is_passed_on && same_form(&a.form, &b.form)
 }
 
 /// Whether two rows of bindings are one.

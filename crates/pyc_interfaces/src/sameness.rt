@@ -25,6 +25,7 @@ fn is_same(a: &Interface, b: &Interface) -> bool
 {
     a.name() == b.name()
         && a.is_package() == b.is_package()
+        && a.is_stub() == b.is_stub()
         && a.has_fault() == b.has_fault()
         && same_bindings(a.bindings(), b.bindings())
         && same_classes(a.classes(), b.classes())

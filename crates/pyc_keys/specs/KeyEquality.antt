@@ -12,6 +12,7 @@ use Rattle.pyc_class_table.proofs.BuiltinLemmas.{same_class-is}
 use Rattle.pyc_names.specs.Following.{QualifiedName, same_name}
 use Rattle.pyc_names.specs.ModuleName.{same_module}
 use Rattle.pyc_reading.specs.Keys.{Key, MemberName, same_key, same_member, has_module, has_name, name, class, member}
+use Rattle.pyc_reading.specs.Keys.{export}
 
 -- whether two keys are one, as a map of keys asks it: of the one that it holds, with the one that is sought
 abbrev pub is_asked : Key → Key → Bool
@@ -41,26 +42,37 @@ keys_are (has_module m) (has_name r) same = absurd (false≢true same)
 keys_are (has_module m) (name r) same = absurd (false≢true same)
 keys_are (has_module m) (class d) same = absurd (false≢true same)
 keys_are (has_module m) (member b) same = absurd (false≢true same)
+keys_are (has_module m) (export r) same = absurd (false≢true same)
 keys_are (has_name q) (has_module n) same = absurd (false≢true same)
 keys_are (has_name q) (has_name r) same = ap has_name (names_are q r same)
 keys_are (has_name q) (name r) same = absurd (false≢true same)
 keys_are (has_name q) (class d) same = absurd (false≢true same)
 keys_are (has_name q) (member b) same = absurd (false≢true same)
+keys_are (has_name q) (export r) same = absurd (false≢true same)
 keys_are (name q) (has_module n) same = absurd (false≢true same)
 keys_are (name q) (has_name r) same = absurd (false≢true same)
 keys_are (name q) (name r) same = ap name (names_are q r same)
 keys_are (name q) (class d) same = absurd (false≢true same)
 keys_are (name q) (member b) same = absurd (false≢true same)
+keys_are (name q) (export r) same = absurd (false≢true same)
 keys_are (class c) (has_module n) same = absurd (false≢true same)
 keys_are (class c) (has_name r) same = absurd (false≢true same)
 keys_are (class c) (name r) same = absurd (false≢true same)
 keys_are (class c) (class d) same = ap class (same_class-is c d same)
 keys_are (class c) (member b) same = absurd (false≢true same)
+keys_are (class c) (export r) same = absurd (false≢true same)
 keys_are (member a) (has_module n) same = absurd (false≢true same)
 keys_are (member a) (has_name r) same = absurd (false≢true same)
 keys_are (member a) (name r) same = absurd (false≢true same)
 keys_are (member a) (class d) same = absurd (false≢true same)
 keys_are (member a) (member b) same = ap member (members_are a b same)
+keys_are (member a) (export r) same = absurd (false≢true same)
+keys_are (export q) (has_module n) same = absurd (false≢true same)
+keys_are (export q) (has_name r) same = absurd (false≢true same)
+keys_are (export q) (name r) same = absurd (false≢true same)
+keys_are (export q) (class d) same = absurd (false≢true same)
+keys_are (export q) (member b) same = absurd (false≢true same)
+keys_are (export q) (export r) same = ap export (names_are q r same)
 
 both : (p q : Bool) → p ≡ true → q ≡ true → p && q ≡ true
 both true true h k = refl
@@ -81,6 +93,10 @@ same_itself (class c) = same_class_equiv.refl c
 same_itself (member a) =
     both (same_class a.class a.class) (bytes_eq a.name a.name) (same_class_equiv.refl a.class)
     ((bytes_eq-Decides a.name a.name).1 refl)
+same_itself (export q) =
+    both (same_module q.module_path q.module_path) (bytes_eq q.name q.name)
+    ((module_decides q.module_path q.module_path).1 refl)
+    ((bytes_eq-Decides q.name q.name).1 refl)
 
 itself_where : (a b : Key) → a ≡ b → same_key a b ≡ true
 itself_where a b is = ap (λ x. same_key x b) is ∙ same_itself b

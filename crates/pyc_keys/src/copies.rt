@@ -19,5 +19,6 @@ pub(crate) fn copy_of(key: &Key) -> Result<Key, AllocError>
             class: member.class.clone()?,
             name: member.name.clone()?,
         }),
+        Key::Export(name) => Key::Export(name.clone()?),
     })
 }

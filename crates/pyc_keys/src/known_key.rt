@@ -78,6 +78,7 @@ impl PartialEq for KnownKey<'_> {
             (Key::Name(a), Key::Name(b)) => a.is_same(b),
             (Key::Class(a), Key::Class(b)) => a == b,
             (Key::Member(a), Key::Member(b)) => a.is_same(b),
+            (Key::Export(a), Key::Export(b)) => a.is_same(b),
             _ => false,
         }
     }
@@ -99,7 +100,7 @@ impl Hash for KnownKey<'_> {
     fn hash<H: Hasher>(&self, state: &mut H) {
         match self.key() {
             Key::HasModule(module_path) => module_path.parts().hash(state),
-            Key::HasName(name) | Key::Name(name) => {
+            Key::HasName(name) | Key::Name(name) | Key::Export(name) => {
                 name.module_path.parts().hash(state);
                 name.name.hash(state);
             }

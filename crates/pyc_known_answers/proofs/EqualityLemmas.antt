@@ -17,13 +17,15 @@ use Rattle.pyc_class_ids.specs.Mro.{Mro}
 use Rattle.pyc_names.specs.declared.fixed.FixedName.{FixedName}
 use Rattle.pyc_names.specs.declared.fixed.FixedName.TheVariants as name
 use Rattle.pyc_reading.specs.Answers.{Answer, MemberAnswer, NameAnswer, NameKind, presence_of, name_is, order_is}
-use Rattle.pyc_reading.specs.Answers.{member_is, annotated_variable, variable, alias, function_name, class_name}
-use Rattle.pyc_reading.specs.Answers.{module_name, fixed, unknown, no_module, no_name, no_target, cycle}
+use Rattle.pyc_reading.specs.Answers.{member_is, export_is, annotated_variable, variable, alias, function_name, class_name}
+use Rattle.pyc_reading.specs.Answers.{module_name, fixed, unknown, opaque, no_module, no_name, no_target, cycle}
 use Rattle.pyc_reading.specs.declared.answer.MemberKind.{MemberKind}
 use Rattle.pyc_reading.specs.declared.answer.MemberKind.TheVariants as member
+use Rattle.pyc_reading.specs.declared.answer.Export.{Export}
+use Rattle.pyc_reading.specs.declared.answer.Export.TheVariants as passed
 use Rattle.pyc_reading.specs.declared.answer.Presence.{Presence}
 use Rattle.pyc_reading.specs.declared.answer.Presence.TheVariants as there
-use Rattle.pyc_known_answers.specs.SameAnswers.{same_presence, fixed_number, same_kind, same_name, same_classes, same_reason, same_order, same_member_kind, same_found, same_member, same_answer}
+use Rattle.pyc_known_answers.specs.SameAnswers.{same_presence, fixed_number, same_kind, same_name, same_classes, same_reason, same_order, same_member_kind, same_found, same_member, same_export, same_answer}
 use Rattle.pyc_type_forms.specs.Equality.{same_name as same_parameter_name, same_kind as same_parameter_kind, same_slot, same_type, same_types, same_params, same_listed}
 use Rattle.pyc_type_forms.specs.Types.{Kind, plain, star, keyword_only, double_star, Slot}
 use Rattle.pyc_type_forms.specs.Types.{Ty, Tys, Params, Listed, any, none, module_type, instance, class_object}
@@ -407,6 +409,7 @@ kinds_are annotated_variable class_name same = absurd (false≢true same)
 kinds_are annotated_variable (module_name n) same = absurd (false≢true same)
 kinds_are annotated_variable (fixed y) same = absurd (false≢true same)
 kinds_are annotated_variable unknown same = absurd (false≢true same)
+kinds_are annotated_variable opaque same = absurd (false≢true same)
 kinds_are annotated_variable no_module same = absurd (false≢true same)
 kinds_are annotated_variable no_name same = absurd (false≢true same)
 kinds_are annotated_variable no_target same = absurd (false≢true same)
@@ -419,6 +422,7 @@ kinds_are variable class_name same = absurd (false≢true same)
 kinds_are variable (module_name n) same = absurd (false≢true same)
 kinds_are variable (fixed y) same = absurd (false≢true same)
 kinds_are variable unknown same = absurd (false≢true same)
+kinds_are variable opaque same = absurd (false≢true same)
 kinds_are variable no_module same = absurd (false≢true same)
 kinds_are variable no_name same = absurd (false≢true same)
 kinds_are variable no_target same = absurd (false≢true same)
@@ -431,6 +435,7 @@ kinds_are alias class_name same = absurd (false≢true same)
 kinds_are alias (module_name n) same = absurd (false≢true same)
 kinds_are alias (fixed y) same = absurd (false≢true same)
 kinds_are alias unknown same = absurd (false≢true same)
+kinds_are alias opaque same = absurd (false≢true same)
 kinds_are alias no_module same = absurd (false≢true same)
 kinds_are alias no_name same = absurd (false≢true same)
 kinds_are alias no_target same = absurd (false≢true same)
@@ -443,6 +448,7 @@ kinds_are function_name class_name same = absurd (false≢true same)
 kinds_are function_name (module_name n) same = absurd (false≢true same)
 kinds_are function_name (fixed y) same = absurd (false≢true same)
 kinds_are function_name unknown same = absurd (false≢true same)
+kinds_are function_name opaque same = absurd (false≢true same)
 kinds_are function_name no_module same = absurd (false≢true same)
 kinds_are function_name no_name same = absurd (false≢true same)
 kinds_are function_name no_target same = absurd (false≢true same)
@@ -455,6 +461,7 @@ kinds_are class_name class_name same = refl
 kinds_are class_name (module_name n) same = absurd (false≢true same)
 kinds_are class_name (fixed y) same = absurd (false≢true same)
 kinds_are class_name unknown same = absurd (false≢true same)
+kinds_are class_name opaque same = absurd (false≢true same)
 kinds_are class_name no_module same = absurd (false≢true same)
 kinds_are class_name no_name same = absurd (false≢true same)
 kinds_are class_name no_target same = absurd (false≢true same)
@@ -467,6 +474,7 @@ kinds_are (module_name m) class_name same = absurd (false≢true same)
 kinds_are (module_name m) (module_name n) same = ap module_name (paths_are m n same)
 kinds_are (module_name m) (fixed y) same = absurd (false≢true same)
 kinds_are (module_name m) unknown same = absurd (false≢true same)
+kinds_are (module_name m) opaque same = absurd (false≢true same)
 kinds_are (module_name m) no_module same = absurd (false≢true same)
 kinds_are (module_name m) no_name same = absurd (false≢true same)
 kinds_are (module_name m) no_target same = absurd (false≢true same)
@@ -479,6 +487,7 @@ kinds_are (fixed x) class_name same = absurd (false≢true same)
 kinds_are (fixed x) (module_name n) same = absurd (false≢true same)
 kinds_are (fixed x) (fixed y) same = ap fixed (fixed_are x y same)
 kinds_are (fixed x) unknown same = absurd (false≢true same)
+kinds_are (fixed x) opaque same = absurd (false≢true same)
 kinds_are (fixed x) no_module same = absurd (false≢true same)
 kinds_are (fixed x) no_name same = absurd (false≢true same)
 kinds_are (fixed x) no_target same = absurd (false≢true same)
@@ -491,10 +500,24 @@ kinds_are unknown class_name same = absurd (false≢true same)
 kinds_are unknown (module_name n) same = absurd (false≢true same)
 kinds_are unknown (fixed y) same = absurd (false≢true same)
 kinds_are unknown unknown same = refl
+kinds_are unknown opaque same = absurd (false≢true same)
 kinds_are unknown no_module same = absurd (false≢true same)
 kinds_are unknown no_name same = absurd (false≢true same)
 kinds_are unknown no_target same = absurd (false≢true same)
 kinds_are unknown cycle same = absurd (false≢true same)
+kinds_are opaque annotated_variable same = absurd (false≢true same)
+kinds_are opaque variable same = absurd (false≢true same)
+kinds_are opaque alias same = absurd (false≢true same)
+kinds_are opaque function_name same = absurd (false≢true same)
+kinds_are opaque class_name same = absurd (false≢true same)
+kinds_are opaque (module_name n) same = absurd (false≢true same)
+kinds_are opaque (fixed y) same = absurd (false≢true same)
+kinds_are opaque unknown same = absurd (false≢true same)
+kinds_are opaque opaque same = refl
+kinds_are opaque no_module same = absurd (false≢true same)
+kinds_are opaque no_name same = absurd (false≢true same)
+kinds_are opaque no_target same = absurd (false≢true same)
+kinds_are opaque cycle same = absurd (false≢true same)
 kinds_are no_module annotated_variable same = absurd (false≢true same)
 kinds_are no_module variable same = absurd (false≢true same)
 kinds_are no_module alias same = absurd (false≢true same)
@@ -503,6 +526,7 @@ kinds_are no_module class_name same = absurd (false≢true same)
 kinds_are no_module (module_name n) same = absurd (false≢true same)
 kinds_are no_module (fixed y) same = absurd (false≢true same)
 kinds_are no_module unknown same = absurd (false≢true same)
+kinds_are no_module opaque same = absurd (false≢true same)
 kinds_are no_module no_module same = refl
 kinds_are no_module no_name same = absurd (false≢true same)
 kinds_are no_module no_target same = absurd (false≢true same)
@@ -515,6 +539,7 @@ kinds_are no_name class_name same = absurd (false≢true same)
 kinds_are no_name (module_name n) same = absurd (false≢true same)
 kinds_are no_name (fixed y) same = absurd (false≢true same)
 kinds_are no_name unknown same = absurd (false≢true same)
+kinds_are no_name opaque same = absurd (false≢true same)
 kinds_are no_name no_module same = absurd (false≢true same)
 kinds_are no_name no_name same = refl
 kinds_are no_name no_target same = absurd (false≢true same)
@@ -527,6 +552,7 @@ kinds_are no_target class_name same = absurd (false≢true same)
 kinds_are no_target (module_name n) same = absurd (false≢true same)
 kinds_are no_target (fixed y) same = absurd (false≢true same)
 kinds_are no_target unknown same = absurd (false≢true same)
+kinds_are no_target opaque same = absurd (false≢true same)
 kinds_are no_target no_module same = absurd (false≢true same)
 kinds_are no_target no_name same = absurd (false≢true same)
 kinds_are no_target no_target same = refl
@@ -539,6 +565,7 @@ kinds_are cycle class_name same = absurd (false≢true same)
 kinds_are cycle (module_name n) same = absurd (false≢true same)
 kinds_are cycle (fixed y) same = absurd (false≢true same)
 kinds_are cycle unknown same = absurd (false≢true same)
+kinds_are cycle opaque same = absurd (false≢true same)
 kinds_are cycle no_module same = absurd (false≢true same)
 kinds_are cycle no_name same = absurd (false≢true same)
 kinds_are cycle no_target same = absurd (false≢true same)
@@ -553,6 +580,7 @@ kind_itself class_name = refl
 kind_itself (module_name m) = path_itself m
 kind_itself (fixed x) = nat_eq_equiv.refl (fixed_number x)
 kind_itself unknown = refl
+kind_itself opaque = refl
 kind_itself no_module = refl
 kind_itself no_name = refl
 kind_itself no_target = refl
@@ -692,6 +720,24 @@ member_itself : (a : Option MemberAnswer) → same_member a a ≡ true
 member_itself (Some a) = found_itself a
 member_itself None = refl
 
+-- ---- whether a name is passed on
+
+exports_are : (a b : Export) → same_export a b ≡ true → a ≡ b
+exports_are passed.Open passed.Open same = refl
+exports_are passed.Open passed.Submodule same = absurd (false≢true same)
+exports_are passed.Open passed.Hidden same = absurd (false≢true same)
+exports_are passed.Submodule passed.Open same = absurd (false≢true same)
+exports_are passed.Submodule passed.Submodule same = refl
+exports_are passed.Submodule passed.Hidden same = absurd (false≢true same)
+exports_are passed.Hidden passed.Open same = absurd (false≢true same)
+exports_are passed.Hidden passed.Submodule same = absurd (false≢true same)
+exports_are passed.Hidden passed.Hidden same = refl
+
+export_itself : (a : Export) → same_export a a ≡ true
+export_itself passed.Open = refl
+export_itself passed.Submodule = refl
+export_itself passed.Hidden = refl
+
 -- ---- answers
 
 answers_are : (a b : Answer) → same_answer a b ≡ true → a ≡ b
@@ -699,24 +745,34 @@ answers_are (presence_of a) (presence_of b) same = ap presence_of (presences_are
 answers_are (presence_of a) (name_is b) same = absurd (false≢true same)
 answers_are (presence_of a) (order_is b) same = absurd (false≢true same)
 answers_are (presence_of a) (member_is b) same = absurd (false≢true same)
+answers_are (presence_of a) (export_is b) same = absurd (false≢true same)
 answers_are (name_is a) (presence_of b) same = absurd (false≢true same)
 answers_are (name_is a) (name_is b) same = ap name_is (name_answers_are a b same)
 answers_are (name_is a) (order_is b) same = absurd (false≢true same)
 answers_are (name_is a) (member_is b) same = absurd (false≢true same)
+answers_are (name_is a) (export_is b) same = absurd (false≢true same)
 answers_are (order_is a) (presence_of b) same = absurd (false≢true same)
 answers_are (order_is a) (name_is b) same = absurd (false≢true same)
 answers_are (order_is a) (order_is b) same = ap order_is (orders_are a b same)
 answers_are (order_is a) (member_is b) same = absurd (false≢true same)
+answers_are (order_is a) (export_is b) same = absurd (false≢true same)
 answers_are (member_is a) (presence_of b) same = absurd (false≢true same)
 answers_are (member_is a) (name_is b) same = absurd (false≢true same)
 answers_are (member_is a) (order_is b) same = absurd (false≢true same)
 answers_are (member_is a) (member_is b) same = ap member_is (members_are a b same)
+answers_are (member_is a) (export_is b) same = absurd (false≢true same)
+answers_are (export_is a) (presence_of b) same = absurd (false≢true same)
+answers_are (export_is a) (name_is b) same = absurd (false≢true same)
+answers_are (export_is a) (order_is b) same = absurd (false≢true same)
+answers_are (export_is a) (member_is b) same = absurd (false≢true same)
+answers_are (export_is a) (export_is b) same = ap export_is (exports_are a b same)
 
 answer_itself : (a : Answer) → same_answer a a ≡ true
 answer_itself (presence_of a) = presence_itself a
 answer_itself (name_is a) = name_answer_itself a
 answer_itself (order_is a) = order_itself a
 answer_itself (member_is a) = member_itself a
+answer_itself (export_is a) = export_itself a
 
 pub answers_decide : (a b : Answer) → Decides (same_answer a b) (a ≡ b)
 answers_decide a b = (answers_are a b, (λ e. subst (λ z. same_answer a z ≡ true) e (answer_itself a)))

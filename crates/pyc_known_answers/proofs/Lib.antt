@@ -2,3 +2,4 @@ pub mod SlotLemmas
 pub mod KnownLemmas
 pub mod EqualityLemmas
 pub mod KeyChangeLemmas
+pub mod CarryLemmas

@@ -5,3 +5,4 @@ pub mod WorldView
 pub mod SameAnswers
 pub mod Changes
 pub mod ChangedKeysView
+pub mod CarryLaws

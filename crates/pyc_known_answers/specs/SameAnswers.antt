@@ -10,8 +10,11 @@ use Rattle.pyc_class_ids.specs.Mro.{Mro}
 use Rattle.pyc_names.specs.declared.fixed.FixedName.{FixedName}
 use Rattle.pyc_names.specs.declared.fixed.FixedName.TheVariants as name
 use Rattle.pyc_reading.specs.Answers.{Answer, MemberAnswer, NameAnswer, NameKind, presence_of, name_is, order_is}
-use Rattle.pyc_reading.specs.Answers.{member_is, annotated_variable, variable, alias, function_name, class_name}
-use Rattle.pyc_reading.specs.Answers.{module_name, fixed, unknown, no_module, no_name, no_target, cycle}
+use Rattle.pyc_reading.specs.Answers.{member_is, export_is, annotated_variable, variable, alias, function_name}
+use Rattle.pyc_reading.specs.Answers.{class_name, module_name, fixed, unknown, opaque, no_module, no_name, no_target}
+use Rattle.pyc_reading.specs.Answers.{cycle}
+use Rattle.pyc_reading.specs.declared.answer.Export.{Export}
+use Rattle.pyc_reading.specs.declared.answer.Export.TheVariants as passed
 use Rattle.pyc_reading.specs.declared.answer.MemberKind.{MemberKind}
 use Rattle.pyc_reading.specs.declared.answer.MemberKind.TheVariants as member
 use Rattle.pyc_reading.specs.declared.answer.Presence.{Presence}
@@ -53,6 +56,7 @@ same_kind class_name class_name = true
 same_kind (module_name m) (module_name n) = pointwise bytes_eq m n
 same_kind (fixed a) (fixed b) = fixed_number a == fixed_number b
 same_kind unknown unknown = true
+same_kind opaque opaque = true
 same_kind no_module no_module = true
 same_kind no_name no_name = true
 same_kind no_target no_target = true
@@ -100,6 +104,14 @@ same_member (Some a) (Some b) = same_found a b
 same_member None None = true
 same_member _ _ = false
 
+-- ---- whether a name is passed on
+
+abbrev pub same_export : Export → Export → Bool
+same_export passed.Open passed.Open = true
+same_export passed.Submodule passed.Submodule = true
+same_export passed.Hidden passed.Hidden = true
+same_export _ _ = false
+
 -- ---- the whole
 
 abbrev pub same_answer : Answer → Answer → Bool
@@ -107,6 +119,7 @@ same_answer (presence_of a) (presence_of b) = same_presence a b
 same_answer (name_is a) (name_is b) = same_name a b
 same_answer (order_is a) (order_is b) = same_order a b
 same_answer (member_is a) (member_is b) = same_member a b
+same_answer (export_is a) (export_is b) = same_export a b
 same_answer _ _ = false
 
 -- ---- what holds of it

@@ -6,7 +6,9 @@ ghost use Rattle.pyc_known_answers.specs.SameAnswers as spec;
 
 use pyc_class_ids::{ClassId, UnknownMro};
 use pyc_names::FixedName;
-use pyc_reading::{Answer, MemberAnswer, MemberKind, MroAnswer, NameAnswer, NameKind, Presence};
+use pyc_reading::{
+    Answer, Export, MemberAnswer, MemberKind, MroAnswer, NameAnswer, NameKind, Presence,
+};
 use pyc_types::same_type;
 
 /// Whether two answers are one. It takes no memory.
@@ -27,6 +29,7 @@ fn same_answer(answer: &Answer, other: &Answer) -> bool
         Answer::Name(found) => matches!(other, Answer::Name(own) if same_name(found, own)),
         Answer::Mro(found) => matches!(other, Answer::Mro(own) if same_order(found, own)),
         Answer::Member(found) => matches!(other, Answer::Member(own) if same_member(found, own)),
+        Answer::Export(found) => matches!(other, Answer::Export(own) if same_export(*found, *own)),
     }
 }
 
@@ -40,6 +43,17 @@ fn same_presence(found: Presence, other: Presence) -> bool
         Presence::NoName => matches!(other, Presence::NoName),
         Presence::Cycle => matches!(other, Presence::Cycle),
         Presence::There => matches!(other, Presence::There),
+    }
+}
+
+/// Whether a module passes names on alike.
+fn same_export(found: Export, other: Export) -> bool
+    ensures { result ≡ spec.same_export found other }
+{
+    match found {
+        Export::Open => matches!(other, Export::Open),
+        Export::Submodule => matches!(other, Export::Submodule),
+        Export::Hidden => matches!(other, Export::Hidden),
     }
 }
 
@@ -64,6 +78,7 @@ fn same_kind(kind: &NameKind, other: &NameKind) -> bool
         NameKind::Fixed(name) =>
             matches!(other, NameKind::Fixed(own) if fixed_number(*name) == fixed_number(*own)),
         NameKind::Unknown => matches!(other, NameKind::Unknown),
+        NameKind::Opaque => matches!(other, NameKind::Opaque),
         NameKind::NoModule => matches!(other, NameKind::NoModule),
         NameKind::NoName => matches!(other, NameKind::NoName),
         NameKind::NoTarget => matches!(other, NameKind::NoTarget),

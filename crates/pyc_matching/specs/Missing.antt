@@ -1,7 +1,6 @@
 -- The parameters that a call must fill and does not (Python reference 3.13, "Calls").
 use Rattle.std.specs.Prelude.{ℕ, ◌+◌, List, [], ◌∷◌, ◌++◌, Bool, true, not, ◌||◌, if◌then◌else◌}
-use Rattle.std.specs.Prelude.{Option, None, Some}
-use Rattle.std.specs.Fmt.{decimal}
+use Rattle.std.specs.Prelude.{Option}
 use Rattle.pyc_matching.specs.Matching.{Fill, is_filled, is_plain}
 use Rattle.pyc_type_forms.specs.Types.{Kind, plain, keyword_only, Slot, Listed, no_param, param}
 
@@ -46,13 +45,3 @@ missing_names fill i (param slot ty rest) =
 -- the parameters that are missing after all arguments: the plain ones in order, and then the keyword-only ones
 abbrev pub missing : Fill → Listed → List MissingArgument
 missing fill params = missing_places fill 0 1 params ++ missing_names fill 0 params
-
--- how a missing plain parameter is named in a message: by its name, else by its number
-abbrev pub place_text : Option (List ℕ) → ℕ → List ℕ
-place_text (Some name) number = name
-place_text None number = decimal number
-
--- how a missing parameter is named in a message
-abbrev pub missing_text : MissingArgument → List ℕ
-missing_text (missing_place name number) = place_text name number
-missing_text (missing_name name) = name

@@ -9,4 +9,4 @@ mod unfilled;
 
 pub use filling::{Fill, Given, Match};
 pub use matching::matched;
-pub use unfilled::{MissingArgument, missing, missing_text};
+pub use unfilled::{MissingArgument, missing};

@@ -1,7 +1,6 @@
 //! The parameters that a call must fill and does not.
 
-ghost use Rattle.std.specs.Prelude.{◌≡◌, ◌++◌, IfOk, OnOk, map, option_map, string_bytes};
-ghost use Rattle.std.specs.Fmt.{decimal};
+ghost use Rattle.std.specs.Prelude.{◌≡◌, ◌++◌, IfOk, OnOk, map};
 ghost use Rattle.pyc_matching.specs.Missing as spec;
 ghost use Rattle.pyc_matching.specs.Views.{fill_of, missing_in};
 ghost use Rattle.pyc_type_forms.specs.TypeView.{kind_of, param_of, param_row};
@@ -113,33 +112,4 @@ fn is_unfilled(fill: &Fill, index: usize, param: &Param) -> bool
     ensures { result ≡ spec.is_unfilled (fill_of fill.now) index (param_of param.now).slot }
 {
     !(param.is_optional || fill.is_filled(index))
-}
-
-/// How a missing parameter is named in a message: by its name, else by its number. The only error is that memory runs
-/// out.
-pub fn missing_text(alloc: Global, missing: MissingArgument<'_>) -> Result<String, AllocError>
-    ensures { IfOk result (λ text. string_bytes text ≡ spec.missing_text (missing_in missing.entry)) }
-{
-    match missing {
-        MissingArgument::Place(name, number) => place_text(alloc, name, number),
-        MissingArgument::Name(name) => Ok(String::from_str(alloc, name.as_str())?),
-    }
-}
-
-/// How a missing plain parameter is named in a message.
-fn place_text(alloc: Global, name: Option<&Text>, number: usize) -> Result<String, AllocError>
-    ensures { IfOk result (λ text. string_bytes text
-        ≡ spec.place_text (option_map (λ n. n.now) name.entry) number) }
-{
-    match name {
-        Some(name) => Ok(String::from_str(alloc, name.as_str())?),
-        None => number_text(alloc, number),
-    }
-}
-
-/// A number in decimal digits.
-fn number_text(alloc: Global, number: usize) -> Result<String, AllocError>
-    ensures { IfOk result (λ text. string_bytes text ≡ decimal number) }
-{
-    format!(in alloc; "{number}")
 }

@@ -1,5 +1,6 @@
 //! Tests of modules: how paths and imports name them, their scopes and names, their annotations as they are written,
-//! what they answer to keys, the messages and the reads of their units, and reports; in a crate of their own.
+//! what they answer to keys, the messages and the reads of their units, the texts of messages, and reports; in a crate
+//! of their own.
 #![tactic(auto)]
 
 #[cfg(test)]
@@ -8,6 +9,8 @@ mod bindings;
 mod found;
 #[cfg(test)]
 mod imports;
+#[cfg(test)]
+mod messages;
 #[cfg(test)]
 mod module_names;
 #[cfg(test)]

@@ -22,6 +22,10 @@ const PATHS: &[(&str, &str)] = &[
     ("a/b.py", "a b "),
     ("__init__.py/a.py", "__init__.py a "),
     ("\u{fb01}.py", "fi "),
+    ("a.pyi", "a "),
+    ("a/__init__.pyi", "a "),
+    ("a/b.pyi", "a b "),
+    ("a.py.pyi", "a.py "),
 ];
 
 #[test]
@@ -36,8 +40,10 @@ fn names_modules(rt: HostRuntime) -> Result<(), Fail> {
 fn tells_modules_apart(rt: HostRuntime) -> Result<(), Fail> {
     let file = ModuleName::of_path(rt.alloc(), "a/b.py")?;
     let folder = ModuleName::of_path(rt.alloc(), "a/b/__init__.py")?;
+    let stub = ModuleName::of_path(rt.alloc(), "a/b.pyi")?;
     let other = ModuleName::of_path(rt.alloc(), "b.py")?;
     assert!(rt; file == folder);
+    assert!(rt; file == stub);
     assert!(rt; file != other);
     Ok(())
 }

@@ -104,6 +104,21 @@ const FIXED: &[(&str, &str)] = &[
     ),
 ];
 
+/// A stub that is a package, with imports that it hides and imports that it passes on; files that import its names, and
+/// a stub that imports a submodule of its own that is not there.
+const STUBS: &[(&str, &str)] = &[
+    (
+        "s/__init__.pyi",
+        "from c import u, v as v, w as x, m\nimport c\nimport d as d\nk: int\n",
+    ),
+    ("s/m.py", ""),
+    ("c.py", "u: int = 1\nv: int = 2\nw: int = 3\nm: int = 4\n"),
+    ("d.py", ""),
+    ("b.py", "from s import u, v, x, m, c, d, k\n"),
+    ("p/__init__.pyi", "from . import n\n"),
+    ("typing.pyi", "import c\n"),
+];
+
 /// Names of the modules of these files, with words for what they stand for, and which of them are on a ring.
 const FOLLOWED: &[(&[(&str, &str)], &str, &str, &str)] = &[
     (RING, "a", "x", "cycle on a ring"),
@@ -134,6 +149,17 @@ const FOLLOWED: &[(&[(&str, &str)], &str, &str, &str)] = &[
     (PACKAGES, "a", "m", "module"),
     (PACKAGES, "a", "n", "declared"),
     (PACKAGES, "a", "o", "module"),
+    (STUBS, "s", "u", "declared"),
+    (STUBS, "s", "m", "declared"),
+    (STUBS, "b", "u", "no name"),
+    (STUBS, "b", "v", "declared"),
+    (STUBS, "b", "x", "no name"),
+    (STUBS, "b", "m", "module"),
+    (STUBS, "b", "c", "no name"),
+    (STUBS, "b", "d", "module"),
+    (STUBS, "b", "k", "declared"),
+    (STUBS, "p", "n", "no name"),
+    (STUBS, "typing", "c", "fixed Any"),
     (FIXED, "typing", "own", "fixed Any"),
     (FIXED, "a", "own", "fixed Any"),
     (FIXED, "a", "Any", "declared"),
@@ -194,11 +220,12 @@ fn modules_and_their_files(rt: HostRuntime) -> Result<(), Fail> {
     Ok(())
 }
 
-/// Whether a file is that of a package, whether it has a tree, and how many bindings it has.
-fn marks(file: &SourceFile) -> (bool, bool, usize) {
+/// Whether a file is that of a package, whether it is a stub, whether it has a tree, and how many bindings it has.
+fn marks(file: &SourceFile) -> (bool, bool, bool, usize) {
     let has_tree = matches!(file.outcome(), Outcome::Tree(_));
     (
         file.interface().is_package(),
+        file.interface().is_stub(),
         has_tree,
         file.bindings().len(),
     )
@@ -209,7 +236,7 @@ struct Reported {
     path: &'static str,
     source: &'static str,
     name: &'static str,
-    marks: (bool, bool, usize),
+    marks: (bool, bool, bool, usize),
 }
 
 /// Whether a file gives its path, the name of its module, and its marks.
@@ -225,19 +252,31 @@ const TOLD: &[Reported] = &[
         path: "p/q/__init__.py",
         source: "x: int = 1\nimport m\n",
         name: "p.q",
-        marks: (true, true, 2),
+        marks: (true, false, true, 2),
     },
     Reported {
         path: "p/q.py",
         source: "x: int = 1\ndef (\n",
         name: "p.q",
-        marks: (false, false, 0),
+        marks: (false, false, false, 0),
+    },
+    Reported {
+        path: "p/q/__init__.pyi",
+        source: "x: int\n",
+        name: "p.q",
+        marks: (true, true, true, 1),
+    },
+    Reported {
+        path: "p/q.pyi",
+        source: "",
+        name: "p.q",
+        marks: (false, true, true, 0),
     },
     Reported {
         path: "p/my__init__.py",
         source: "",
         name: "p.my__init__",
-        marks: (false, true, 0),
+        marks: (false, false, true, 0),
     },
 ];
 

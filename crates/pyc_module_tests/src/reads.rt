@@ -28,6 +28,23 @@ const READS: &[(&[u8], usize, &str)] = &[
     (b"def f(): ...\nf\nf\n", 1, "name a f; "),
     (b"class A: ...\n", 2, "class A; "),
     (
+        b"def f(): ...\nfrom a import f\n",
+        0,
+        "has a f; export a f; ",
+    ),
+    (b"import a\na.a\n", 1, "name a a; export a a; "),
+    (b"import a\na.x\n", 1, "name a a; name a x; "),
+    (
+        b"def f() -> None:\n    from a import f\n",
+        2,
+        "has a f; export a f; name a f; ",
+    ),
+    (
+        b"def f() -> None:\n    from a import x\n",
+        2,
+        "has a x; name a x; ",
+    ),
+    (
         b"class A: ...\nclass B(A):\n    x = 1\n    __init__ = 1\n",
         3,
         "name a A; class A; class B; member B x; member B __init__; member A x; ",
@@ -72,6 +89,10 @@ fn push_key(key: &Key, shown: &mut String) -> Result<(), AllocError> {
             shown.push_str("member ")?;
             shown.push_str(member.class.name())?;
             push_names(slice::from_ref(&member.name), shown)
+        }
+        Key::Export(name) => {
+            shown.push_str("export")?;
+            push_qualified(name, shown)
         }
     }
 }

@@ -2,7 +2,7 @@
 
 use crate::sources::{file_of, interfaces_of, module_of, name_of};
 use pyc_ast::{Outcome, Stmt, StmtForm};
-use pyc_iface::{Answer, Key, NameAnswer, NameKind, PlainWorld, Presence, literal_type};
+use pyc_iface::{Answer, Export, Key, NameAnswer, NameKind, PlainWorld, Presence, literal_type};
 use pyc_types::{Builtin, show};
 use std::alloc::{AllocError, Global};
 use std::test::Fail;
@@ -92,6 +92,51 @@ fn modules_and_names_are_asked_for(rt: HostRuntime) -> Result<(), Fail> {
     Ok(())
 }
 
+/// A stub that is a package, with imports that it hides and imports that it passes on, and its submodule.
+const STUBS: &[(&str, &str)] = &[
+    (
+        "s/__init__.pyi",
+        "from c import u, v as v, w as x, m\nimport c\nimport c as c\nimport d as d\nimport d.e as e\nk: int\n",
+    ),
+    ("s/m.py", ""),
+    ("c.py", "from d import f\nu: int = 1\nv: int = 2\n"),
+    ("d/e.py", ""),
+    ("broken.pyi", "import c\ndef (\n"),
+];
+
+/// A stub in the place of a fixed module, which hides nothing.
+const STUB_OF_TYPING: &[(&str, &str)] = &[("typing.pyi", "import c\n")];
+
+/// Names of modules, with whether their modules pass them on.
+const EXPORTS: &[(&[(&str, &str)], &str, &str, Export)] = &[
+    (STUBS, "s", "u", Export::Hidden),
+    (STUBS, "s", "v", Export::Open),
+    (STUBS, "s", "x", Export::Hidden),
+    (STUBS, "s", "m", Export::Submodule),
+    (STUBS, "s", "c", Export::Hidden),
+    (STUBS, "s", "d", Export::Open),
+    (STUBS, "s", "e", Export::Hidden),
+    (STUBS, "s", "k", Export::Open),
+    (STUBS, "s", "gone", Export::Open),
+    (STUBS, "c", "f", Export::Open),
+    (STUBS, "d", "e", Export::Open),
+    (STUBS, "gone", "k", Export::Open),
+    (STUBS, "", "s", Export::Open),
+    (STUBS, "broken", "c", Export::Open),
+    (STUB_OF_TYPING, "typing", "c", Export::Open),
+];
+
+#[test]
+fn modules_pass_names_on(rt: HostRuntime) -> Result<(), Fail> {
+    for (sources, module_path, name, want) in EXPORTS {
+        let key = Key::Export(name_of(rt.alloc(), module_path, name)?);
+        let found = answer(rt.alloc(), sources, &key)?;
+        let is_answered = matches!(found, Answer::Export(found) if found == *want);
+        assert!(rt; is_answered, "{module_path}:{name}");
+    }
+    Ok(())
+}
+
 /// A word for the kind of thing that a name stands for.
 fn word(kind: &NameKind) -> &str {
     match kind {
@@ -103,6 +148,7 @@ fn word(kind: &NameKind) -> &str {
         NameKind::Function => "function",
         NameKind::Class => "class",
         NameKind::Unknown => "unknown",
+        NameKind::Opaque => "opaque",
         NameKind::NoModule => "no module",
         NameKind::NoName => "no name",
         NameKind::NoTarget => "no target",
@@ -191,6 +237,7 @@ const DECLARED_NAMES: &[(&[(&str, &str)], &str, &str, &str)] = &[
     (IMPORTS, "c", "x", "no module: Any"),
     (IMPORTS, "c", "y", "cycle: Any"),
     (IMPORTS, "c", "z", "unknown: Any"),
+    (IMPORTS, "broken", "z", "opaque: Any"),
     (OF_TYPING, "typing", "Union", "fixed: Any"),
 ];
 

@@ -16,6 +16,7 @@ file_with path interface outcome again =
       path = path;
       name = interface.name;
       is_package = interface.is_package;
+      is_stub = interface.is_stub;
       outcome = outcome;
       bindings = map binding_of interface.bindings.items;
       again = again;
@@ -39,6 +40,7 @@ module _ (path : List ℕ) (outcome : Outcome) (interface : InterfaceOf) (made :
         path = spelled_is i;
         name = (alike i).name;
         is_package = (alike i).is_package;
+        is_stub = (alike i).is_stub;
         outcome = outcome;
         bindings = (alike i).bindings;
         again = defined i;

@@ -5,3 +5,10 @@ pub mod ReturnLemmas
 pub mod PlaceLemmas
 pub mod OuterLemmas
 pub mod FileLemmas
+pub mod FuelLemmas
+pub mod LookLemmas
+pub mod CarryLemmas
+pub mod HiddenLemmas
+pub mod StepLemmas
+pub mod ViewLemmas
+pub mod ReachLemmas

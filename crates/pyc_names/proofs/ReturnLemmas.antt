@@ -41,7 +41,7 @@ module _ {X : Type 0} (f g : X → ℕ) (le : (x : X) → f x ≤ g x) where
   ] found
 
 -- what is found passes the test
-find_passes : {X : Type 0} (test : X → Bool) (xs : List X) (x : X) → find test xs ≡ Some x → IsTrue (test x)
+pub find_passes : {X : Type 0} (test : X → Bool) (xs : List X) (x : X) → find test xs ≡ Some x → IsTrue (test x)
 find_passes test [] x found = absurd (none-some x found)
 find_passes test (y ∷ xs) x found = elim (cases_Bool (test y)) [
   | inl passes ↦ let is : y ≡ x = same_Some y x (sym (cond-true (test y) (Some y) (find test xs) passes) ∙ found) in subst (λ z. IsTrue (test z)) is passes
@@ -234,6 +234,10 @@ module _ (files : List Interface) where
           | suc m ↦ λ more. or_right (same_name next to) (leads_to k files to next) (short k (without may q) m to next (omega arith) more)
         ] later
       ] ahead.1
+
+  -- what is reached by some steps, at least one, is reached by as many as there are from-imports
+  pub reached-soon : (m : ℕ) (to q : QualifiedName) → reached (suc m) files q ≡ Some to → IsTrue (leads_to (import_count files) files to q)
+  reached-soon m to q is = short (import_count files) (λ r. true) m to q (let e = open_count-all files in omega arith) (way-reached (suc m) to q is)
 
 -- a name on a ring is reported to be on one
 pub rings_are_reported : RingsAreReported

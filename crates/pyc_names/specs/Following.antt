@@ -1,5 +1,5 @@
 -- What a name of a module stands for: from-imports are followed from module to module (Python reference 3.13, "The
--- import statement", "Submodules").
+-- import statement", "Submodules"; typing specification, "Stub files").
 use Rattle.std.specs.Prelude.{ℕ, zero, suc, ◌+◌, Bool, true, false, ◌&&◌, ◌||◌, if◌then◌else◌, List, [], ◌∷◌, ◌++◌}
 use Rattle.std.specs.Prelude.{map, count_by, Option, None, Some, bytes_eq}
 use Rattle.pyc_bindings.specs.Bindings.{Binding, BindingForm, import, import_from}
@@ -7,6 +7,7 @@ use Rattle.pyc_bindings.specs.Redefinitions.{declaration}
 use Rattle.pyc_names.specs.declared.fixed.FixedModule.{FixedModule}
 use Rattle.pyc_names.specs.declared.fixed.FixedName.{FixedName}
 use Rattle.pyc_names.specs.FixedModules.{fixed_module, fixed_name}
+use Rattle.pyc_names.specs.Hidden.{module_hides}
 use Rattle.pyc_names.specs.Imports.{named_module}
 use Rattle.pyc_names.specs.ModuleName.{same_module}
 use Rattle.pyc_names.specs.Presence.{is_there}
@@ -58,10 +59,19 @@ submodule q = q.module_path ++ (q.name ∷ [])
 abbrev pub unbound_referent : List Interface → QualifiedName → Referent
 unbound_referent files q = if has_module files (submodule q) then module_itself (submodule q) else no_name
 
+-- whether the module of a name hides it
+abbrev pub is_hidden_name : List Interface → QualifiedName → Bool
+is_hidden_name files q = module_hides files q.module_path q.name
+
+-- the step to a name that another file sees: one that its module hides stands for its submodule alone
+abbrev pub seen_step : List Interface → QualifiedName → Step
+seen_step files next = if is_hidden_name files next then ends (unbound_referent files next) else leads next
+
 -- a from-import that leads to a name: where that is the name that it binds, the submodule stands first
 abbrev pub step_to : List Interface → QualifiedName → QualifiedName → Step
 step_to files q next =
-    if same_name next q && has_module files (submodule q) then ends (module_itself (submodule q)) else leads next
+    if same_name next q && has_module files (submodule q) then ends (module_itself (submodule q))
+    else seen_step files next
 
 -- a from-import of a name from a module, or from above the root
 abbrev pub import_step : List Interface → QualifiedName → Option (List (List ℕ)) → List ℕ → Step

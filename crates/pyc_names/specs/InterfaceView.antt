@@ -13,6 +13,7 @@ interface_in file =
     record {
       name = file.name;
       is_package = file.is_package;
+      is_stub = file.is_stub;
       has_fault = file.has_fault;
       bindings = map binding_of file.bindings.items;
       classes = map declared_class_in file.classes.items;

@@ -7,11 +7,13 @@ use Rattle.pyc_members.specs.DeclaredClasses.{DeclaredClass}
 use Rattle.pyc_names.specs.ModuleName.{same_module}
 use Rattle.pyc_names.specs.SourceFiles.{SourceFile}
 
--- the interface of a file: the module that it is, whether it is the `__init__.py` of a package, whether its source has
--- a fault, the bindings of its top level in text order, and the classes that it declares
+-- the interface of a file: the module that it is, whether it is the `__init__.py` or `__init__.pyi` of a package,
+-- whether it is a stub, whether its source has a fault, the bindings of its top level in text order, and the classes
+-- that it declares
 pub record Interface : Type 0 where
   pub name : List (List ℕ)
   pub is_package : Bool
+  pub is_stub : Bool
   pub has_fault : Bool
   pub bindings : List Binding
   pub classes : List DeclaredClass
@@ -27,6 +29,7 @@ interface_of file =
     record {
       name = file.name;
       is_package = file.is_package;
+      is_stub = file.is_stub;
       has_fault = is_fault file.outcome;
       bindings = file.bindings;
       classes = file.classes;

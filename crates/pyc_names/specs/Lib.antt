@@ -7,7 +7,11 @@ pub mod SourceFiles
 pub mod SourceFileView
 pub mod Interfaces
 pub mod InterfaceView
+pub mod Hidden
 pub mod Following
 pub mod Rings
 pub mod FollowingView
 pub mod TableView
+pub mod Looks
+pub mod LookNumbers
+pub mod CarryLaws

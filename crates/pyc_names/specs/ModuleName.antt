@@ -1,4 +1,4 @@
--- The module that a path names (Python reference 3.13, "Packages").
+-- The module that a path names (Python reference 3.13, "Packages"; typing specification, "Stub files").
 use Rattle.std.specs.Prelude.{ℕ, Bool, ◌-◌, ◌==◌, if◌then◌else◌, nat_eq, bytes_eq, List, [], ◌∷◌, length, take, map}
 use Rattle.std.specs.Prelude.{codes}
 use Rattle.std.specs.Cmp.Lexicographic.{pointwise}
@@ -23,9 +23,18 @@ spelled_parts [] = []
 spelled_parts (name ∷ []) = file_part name
 spelled_parts (folder ∷ next ∷ names) = folder ∷ spelled_parts (next ∷ names)
 
--- the module that a path names, as the list of its parts; each is a name, so it stands in Normalization Form KC
+-- whether a path is that of a stub
+abbrev pub is_stub_path : List ℕ → Bool
+is_stub_path path = ends_with nat_eq path (codes ".pyi")
+
+-- the path that a stub stands beside, which is its own without the last `i`; any other path itself
+abbrev pub beside : List ℕ → List ℕ
+beside path = if is_stub_path path then take (length path - 1) path else path
+
+-- the module that a path names, as the list of its parts; each is a name, so it stands in Normalization Form KC. A stub
+-- names the module of the path that it stands beside
 unfoldable pub module_of : List ℕ → List (List ℕ)
-module_of path = map nfkc_text (spelled_parts (slice_split is_slash path))
+module_of path = map nfkc_text (spelled_parts (slice_split is_slash (beside path)))
 
 -- whether two modules have the same parts
 abbrev pub same_module : List (List ℕ) → List (List ℕ) → Bool

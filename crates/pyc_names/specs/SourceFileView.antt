@@ -14,6 +14,7 @@ source_in file =
       path = string_bytes file.path;
       name = file.interface.value.name;
       is_package = file.interface.value.is_package;
+      is_stub = file.interface.value.is_stub;
       outcome = outcome_of file.outcome;
       bindings = map binding_of file.interface.value.bindings.items;
       again = map redefinition_of file.again.items;

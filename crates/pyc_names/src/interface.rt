@@ -13,7 +13,7 @@ ghost use Rattle.pyc_names.specs.ModuleName.{module_of};
 ghost use Rattle.pyc_names.specs.SourceFiles as spec;
 
 use crate::fixed::fixed_module;
-use crate::module_name::ModuleName;
+use crate::module_name::{ModuleName, beside, is_stub_path};
 use indexmap::IndexMap;
 use pyc_ast::{Outcome, Text};
 use pyc_bindings::{
@@ -24,12 +24,13 @@ use pyc_members::{DeclaredClass, declared_classes};
 use std::alloc::{AllocError, Global};
 use std::rc::Rc;
 
-/// The interface of a file: the module that it is, whether it makes a package of its folder, whether its source has a
-/// fault, the bindings of its top level and the classes that it declares, which are made once, with the file. Answers
-/// look at nothing else of a file.
+/// The interface of a file: the module that it is, whether it makes a package of its folder, whether it is a stub,
+/// whether its source has a fault, the bindings of its top level and the classes that it declares, which are made once,
+/// with the file. Answers look at nothing else of a file.
 pub struct Interface {
     name: ModuleName,
     is_package: bool,
+    is_stub: bool,
     has_fault: bool,
     bindings: Vec<Binding>,
     /// The place of the first binding of each name.
@@ -45,6 +46,7 @@ impl Drop for Interface {
         let Interface {
             name,
             is_package: _,
+            is_stub: _,
             has_fault: _,
             bindings,
             places,
@@ -78,7 +80,8 @@ impl Interface {
         let classes = classes_in(alloc, &name, &bindings, outcome)?;
         Ok(Interface {
             name,
-            is_package: path.as_bytes().ends_with(b"/__init__.py"),
+            is_package: beside(path).as_bytes().ends_with(b"/__init__.py"),
+            is_stub: is_stub_path(path),
             has_fault: matches!(outcome, Outcome::Fault(_)),
             bindings,
             places,
@@ -101,11 +104,18 @@ impl Interface {
         &self.name
     }
 
-    /// Whether the file is the `__init__.py` of a package.
+    /// Whether the file is the `__init__.py` or `__init__.pyi` of a package.
     pub fn is_package(&self) -> bool
         ensures { result ≡ (interface_in self.now).is_package }
     {
         self.is_package
+    }
+
+    /// Whether the file is a stub.
+    pub fn is_stub(&self) -> bool
+        ensures { result ≡ (interface_in self.now).is_stub }
+    {
+        self.is_stub
     }
 
     /// Whether the file's source has a fault.

@@ -2,6 +2,7 @@
 #![tactic(auto)]
 
 mod fixed;
+mod hidden;
 mod imports;
 mod interface;
 pub mod laws;
@@ -14,7 +15,7 @@ mod table;
 pub use fixed::{FixedModule, FixedName, fixed_module, fixed_name};
 pub use imports::{module_of_parts, named_module};
 pub use interface::Interface;
-pub use module_name::ModuleName;
+pub use module_name::{ModuleName, beside, is_stub_path};
 pub use qualified_name::{QualifiedName, Referent};
 pub use source_file::SourceFile;
 pub use table::Table;

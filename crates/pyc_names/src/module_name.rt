@@ -3,6 +3,7 @@
 ghost use Rattle.std.specs.Prelude.{◌≡◌, map, IfOk};
 ghost use Rattle.std.specs.List.{slice_split};
 ghost use Rattle.pyc_names.specs.ModuleName.{is_slash, stem, spelled_parts, module_of};
+ghost use Rattle.pyc_names.specs.ModuleName as spec;
 
 use pyc_ast::Text;
 use std::alloc::{AllocError, Global};
@@ -25,12 +26,13 @@ impl Model for ModuleName {
 
 impl ModuleName {
     /// The module that a path names. The path's parts are separated by `/`, the last stands without `.py`, and
-    /// `__init__.py` names its folder. The only error is that memory runs out.
+    /// `__init__.py` names its folder; a stub names the module of the path that it stands beside. The only error is
+    /// that memory runs out.
     #[tactic(auto, unfolding(crate::specs::ModuleName::module_of))]
     pub fn of_path(alloc: Global, path: &str) -> Result<ModuleName, AllocError>
         ensures { IfOk result (λ name. name ≡ module_of path.now) }
     {
-        let spelled = spelled_parts(alloc, path)?;
+        let spelled = spelled_parts(alloc, beside(path))?;
         let mut parts = Vec::with_capacity(alloc, spelled.len())?;
         for part in &spelled {
             parts.push(Text::normalized(alloc, part)?)?;
@@ -88,6 +90,24 @@ impl Hash for ModuleName {
 
     fn hash<H: Hasher>(&self, state: &mut H) {
         self.parts.as_slice().hash(state);
+    }
+}
+
+/// Whether a path is that of a stub.
+pub fn is_stub_path(path: &str) -> bool
+    ensures { result ≡ spec.is_stub_path path.now }
+{
+    path.as_bytes().ends_with(b".pyi")
+}
+
+/// The path that a stub stands beside, which is its own without the last `i`; any other path itself.
+pub fn beside(path: &str) -> &str
+    ensures { result.now ≡ spec.beside path.now }
+{
+    if is_stub_path(path) {
+        path.strip_suffix('i').unwrap_or(path)
+    } else {
+        path
     }
 }
 

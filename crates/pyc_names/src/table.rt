@@ -258,17 +258,29 @@ impl Table {
         ensures { IfOk result (λ found. step_of found
             ≡ spec.step_to (table_in self.now) (qualified_of q.now) (qualified_of next)) }
     {
-        if next.is_same(q) {
-            let under = module_of_parts(alloc, q.module_path.parts(), slice::from_ref(&q.name))?;
-            if self.has_module(under.parts()) {
-                return Ok(Step::Ends(Referent::Module(under)));
-            }
+        if !next.is_same(q) {
+            return self.seen_step(alloc, next);
+        }
+        let under = module_of_parts(alloc, q.module_path.parts(), slice::from_ref(&q.name))?;
+        if self.has_module(under.parts()) {
+            return Ok(Step::Ends(Referent::Module(under)));
+        }
+        self.seen_step(alloc, next)
+    }
+
+    /// The step to a name that another file sees: one that its module hides stands for its submodule alone.
+    fn seen_step(&self, alloc: Global, next: QualifiedName) -> Result<Step, AllocError>
+        ensures { IfOk result (λ found. step_of found
+            ≡ spec.seen_step (table_in self.now) (qualified_of next)) }
+    {
+        if self.hides(&next) {
+            return Ok(Step::Ends(self.unbound_referent(alloc, &next)?));
         }
         Ok(Step::Leads(next))
     }
 
-    /// What a name that its module does not bind stands for.
-    fn unbound_referent(&self, alloc: Global, q: &QualifiedName) -> Result<Referent, AllocError>
+    /// What a name that its module does not bind stands for. The only error is that memory runs out.
+    pub fn unbound_referent(&self, alloc: Global, q: &QualifiedName) -> Result<Referent, AllocError>
         ensures { IfOk result (λ found. referent_of found
             ≡ spec.unbound_referent (table_in self.now) (qualified_of q.now)) }
     {

@@ -1,16 +1,14 @@
--- What readings of expressions ask: the order of a class, what it has under a name, and what a name of a module stands
--- for. A builtin class has the order that the language gives it, which is asked of no file.
+-- What readings of expressions ask of classes: the order of a class, and what it has under a name. A builtin class has
+-- the order that the language gives it, which is asked of no file.
 use Rattle.std.specs.Prelude.{ℕ, Bool, List, Option, None, take}
 use Rattle.pyc_builtins.specs.MroTable.{builtin_orders}
 use Rattle.pyc_class_ids.specs.Class.{Id, builtin, user}
 use Rattle.pyc_class_ids.specs.Mro.{Mro, MroTable, is_unknown}
-use Rattle.pyc_names.specs.Following.{QualifiedName}
-use Rattle.pyc_reading.specs.Answers.{Answer, MemberAnswer, NameAnswer, name_is, member_is, unknown}
+use Rattle.pyc_reading.specs.Answers.{Answer, MemberAnswer, member_is}
 use Rattle.pyc_reading.specs.Traces.{Step, Trace}
 use Rattle.pyc_reading.specs.Keys as key
 use Rattle.pyc_reading.specs.Owing.{order_in, orders_by}
 use Rattle.pyc_reading.specs.Readings.{Done, Ask}
-use Rattle.pyc_type_forms.specs.Types.{any}
 
 -- the orders of classes at a trace
 abbrev pub orders_at : Trace → MroTable
@@ -34,15 +32,6 @@ member_in _ = None
 -- what a class has under a name
 abbrev pub ask_member : Id → List ℕ → Step (Option MemberAnswer)
 ask_member c n = Ask (key.member (record { class = c; name = n })) (λ answer. Done (member_in answer))
-
--- what a name stands for, as an answer says it
-abbrev pub name_in : Answer → NameAnswer
-name_in (name_is found) = found
-name_in _ = record { kind = unknown; ty = any }
-
--- what a name of a module stands for
-abbrev pub ask_name : QualifiedName → Step NameAnswer
-ask_name q = Ask (key.name q) (λ answer. Done (name_in answer))
 
 -- a trace at which all messages but the first `count` were taken back
 abbrev pub first_messages : ℕ → Trace → Trace

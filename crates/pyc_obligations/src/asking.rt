@@ -2,18 +2,15 @@
 
 ghost use Rattle.std.specs.Prelude.{◌≡◌, option_map};
 ghost use Rattle.pyc_class_ids.specs.Mro.{is_unknown};
-ghost use Rattle.pyc_names.specs.FollowingView.{qualified_of};
 ghost use Rattle.pyc_obligations.specs.Asking as spec;
-ghost use Rattle.pyc_reading.specs.AnswerView.{answer_in, member_answer_of, name_answer_of};
+ghost use Rattle.pyc_reading.specs.AnswerView.{answer_in, member_answer_of};
 ghost use Rattle.pyc_reading.specs.Traces.{Performs};
 ghost use Rattle.pyc_reading.specs.Owing.{order_in};
 
 use crate::judging::AskTypes;
 use pyc_ast::Text;
 use pyc_class_ids::ClassId;
-use pyc_names::QualifiedName;
-use pyc_reading::{Answer, Ask, Key, MemberAnswer, MemberName, NameAnswer, NameKind};
-use pyc_type_forms::Ty;
+use pyc_reading::{Answer, Ask, Key, MemberAnswer, MemberName};
 use std::alloc::{AllocError, Global};
 
 /// Whether the order of a class is not known, which is asked. The only error is that memory runs out.
@@ -67,31 +64,5 @@ fn member_in(answer: Answer) -> Option<MemberAnswer>
     match answer {
         Answer::Member(found) => found,
         _ => None,
-    }
-}
-
-/// What a name of a module stands for, which is asked. The only error is that memory runs out.
-pub fn ask_name<N: Ask>(
-    alloc: Global,
-    recorder: &mut N,
-    name: QualifiedName,
-) -> Result<NameAnswer, AllocError>
-    ensures { Performs name_answer_of (spec.ask_name (qualified_of name)) (N.trace recorder.old) result
-        (N.trace recorder.new) }
-{
-    let answer = recorder.ask(alloc, Key::Name(name))?;
-    Ok(name_in(answer))
-}
-
-/// What a name stands for, as an answer says it.
-fn name_in(answer: Answer) -> NameAnswer
-    ensures { name_answer_of result ≡ spec.name_in (answer_in answer) }
-{
-    match answer {
-        Answer::Name(found) => found,
-        _ => NameAnswer {
-            kind: NameKind::Unknown,
-            ty: Ty::Any,
-        },
     }
 }

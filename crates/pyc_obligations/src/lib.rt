@@ -10,13 +10,13 @@ mod quiet;
 mod reader;
 mod value;
 
-pub use asking::{ask_member, ask_name, is_unknown_class};
+pub use asking::{ask_member, is_unknown_class};
 pub use judging::{
     AskTypes, KnownMros, ask_class, ask_types, ask_written, is_assignable, judge_assignable,
     known_orders,
 };
 pub use owing::{AsObligation, require, require_row};
-pub use pyc_reading::{report_error, report_note};
+pub use pyc_reading::{ask_name, report_error, report_note};
 pub use quiet::quieten;
 pub use reader::InferType;
 pub use value::{SpecialForm, Value};

@@ -1,7 +1,7 @@
 -- What is reported of a name that overrides another (typing specification, "Class type assignability"; mypy's
 -- documentation, "Class basics", "Overriding statically typed methods", and "Error codes enabled by default").
-use Rattle.std.specs.Prelude.{ℕ, Bool, List, ◌++◌, codes}
-use Rattle.std.specs.Fmt.{decimal}
+use Rattle.std.specs.Prelude.{ℕ, Bool, List}
+use Rattle.pyc_messages.specs.Overrides as message
 use Rattle.pyc_type_forms.specs.Text.{text_of}
 use Rattle.pyc_type_forms.specs.Types.{Ty}
 
@@ -12,41 +12,21 @@ pub record Override : Type 0 where
   pub got_is_method : Bool
   pub want_is_method : Bool
 
--- ---- texts
-
-unfoldable pub argument_text : ℕ → (name base want : List ℕ) → List ℕ
-argument_text number name base want =
-    codes "Argument " ++ (decimal number ++ (codes " of \"" ++ (name
-    ++ (codes "\" is incompatible with supertype \"" ++ (base ++ (codes "\"; supertype defines the argument type as \"" ++ (want ++ codes "\"")))))))
-
-unfoldable pub result_text : (name base got want : List ℕ) → List ℕ
-result_text name base got want =
-    codes "Return type \"" ++ (got ++ (codes "\" of \"" ++ (name
-    ++ (codes "\" incompatible with return type \"" ++ (want ++ (codes "\" in supertype \"" ++ (base ++ codes "\"")))))))
-
-unfoldable pub signature_text : (name base : List ℕ) → List ℕ
-signature_text name base =
-    codes "Signature of \"" ++ (name ++ (codes "\" incompatible with supertype \"" ++ (base ++ codes "\"")))
-
-unfoldable pub variable_text : (base got want : List ℕ) → List ℕ
-variable_text base got want =
-    codes "Incompatible types in assignment (expression has type \"" ++ (got ++ (codes "\", base class \"" ++ (base
-    ++ (codes "\" defined the type as \"" ++ (want ++ codes "\")")))))
-
--- ---- by types
-
 -- a parameter of this number, of which the ancestor wants a type
 unfoldable pub required_argument_text : Override → ℕ → Ty → List ℕ
-required_argument_text reported number want = argument_text number reported.name reported.base (text_of want)
+required_argument_text reported number want =
+    message.argument_override_text number reported.name reported.base (text_of want)
 
 -- a method that gives a type, where the ancestor's gives another
 unfoldable pub required_result_text : Override → (got want : Ty) → List ℕ
-required_result_text reported got want = result_text reported.name reported.base (text_of got) (text_of want)
+required_result_text reported got want =
+    message.result_override_text reported.name reported.base (text_of got) (text_of want)
 
 -- a method whose signature is another in any other way, and a method that stands against something else
 unfoldable pub required_signature_text : Override → List ℕ
-required_signature_text reported = signature_text reported.name reported.base
+required_signature_text reported = message.signature_override_text reported.name reported.base
 
 -- what is no method, and of another type
 unfoldable pub required_variable_text : Override → (got want : Ty) → List ℕ
-required_variable_text reported got want = variable_text reported.base (text_of got) (text_of want)
+required_variable_text reported got want =
+    message.variable_override_text reported.base (text_of got) (text_of want)

@@ -5,6 +5,9 @@ ghost use Rattle.pyc_overrides.specs.Messages as spec;
 ghost use Rattle.pyc_overrides.specs.Views.{override_of};
 ghost use Rattle.pyc_type_forms.specs.TypeView.{ty_of};
 
+use pyc_messages::{
+    argument_override_text, result_override_text, signature_override_text, variable_override_text,
+};
 use pyc_type_forms::{Ty, show};
 use std::alloc::{AllocError, Global};
 
@@ -15,58 +18,6 @@ pub(crate) struct Override<'a> {
     pub(crate) base: &'a str,
     pub(crate) got_is_method: bool,
     pub(crate) want_is_method: bool,
-}
-
-/// The text on a parameter of which an ancestor wants another type.
-#[tactic(auto, unfolding(crate::specs::Messages::argument_text))]
-fn argument_text(
-    alloc: Global,
-    number: usize,
-    name: &str,
-    base: &str,
-    want: &str,
-) -> Result<String, AllocError>
-    ensures { IfOk result (λ text. string_bytes text ≡ spec.argument_text number name.now base.now want.now) }
-{
-    format!(in alloc;
-        "Argument {number} of \"{name}\" is incompatible with supertype \"{base}\"; \
-         supertype defines the argument type as \"{want}\""
-    )
-}
-
-/// The text on a method that gives another type than an ancestor's.
-#[tactic(auto, unfolding(crate::specs::Messages::result_text))]
-fn result_text(
-    alloc: Global,
-    name: &str,
-    base: &str,
-    got: &str,
-    want: &str,
-) -> Result<String, AllocError>
-    ensures { IfOk result (λ text. string_bytes text ≡ spec.result_text name.now base.now got.now want.now) }
-{
-    format!(in alloc;
-        "Return type \"{got}\" of \"{name}\" incompatible with return type \"{want}\" in supertype \"{base}\""
-    )
-}
-
-/// The text on a method whose signature is another than an ancestor's.
-#[tactic(auto, unfolding(crate::specs::Messages::signature_text))]
-fn signature_text(alloc: Global, name: &str, base: &str) -> Result<String, AllocError>
-    ensures { IfOk result (λ text. string_bytes text ≡ spec.signature_text name.now base.now) }
-{
-    format!(in alloc; "Signature of \"{name}\" incompatible with supertype \"{base}\"")
-}
-
-/// The text on what is no method, and of another type than an ancestor's.
-#[tactic(auto, unfolding(crate::specs::Messages::variable_text))]
-fn variable_text(alloc: Global, base: &str, got: &str, want: &str) -> Result<String, AllocError>
-    ensures { IfOk result (λ text. string_bytes text ≡ spec.variable_text base.now got.now want.now) }
-{
-    format!(in alloc;
-        "Incompatible types in assignment (expression has type \"{got}\", \
-         base class \"{base}\" defined the type as \"{want}\")"
-    )
 }
 
 /// The text on the parameter of a number, of which the ancestor wants a type.
@@ -81,7 +32,7 @@ pub(crate) fn required_argument_text(
         ≡ spec.required_argument_text (override_of reported.now) number (ty_of want.now)) }
 {
     let want = show(alloc, want)?;
-    argument_text(alloc, number, reported.name, reported.base, want.as_str())
+    argument_override_text(alloc, number, reported.name, reported.base, want.as_str())
 }
 
 /// The text on a method that gives a type, where the ancestor's gives another.
@@ -97,7 +48,7 @@ pub(crate) fn required_result_text(
 {
     let got = show(alloc, got)?;
     let want = show(alloc, want)?;
-    result_text(
+    result_override_text(
         alloc,
         reported.name,
         reported.base,
@@ -114,7 +65,7 @@ pub(crate) fn required_signature_text(
 ) -> Result<String, AllocError>
     ensures { IfOk result (λ text. string_bytes text ≡ spec.required_signature_text (override_of reported.now)) }
 {
-    signature_text(alloc, reported.name, reported.base)
+    signature_override_text(alloc, reported.name, reported.base)
 }
 
 /// The text on what is no method, and of another type than the ancestor's.
@@ -130,5 +81,5 @@ pub(crate) fn required_variable_text(
 {
     let got = show(alloc, got)?;
     let want = show(alloc, want)?;
-    variable_text(alloc, reported.base, got.as_str(), want.as_str())
+    variable_override_text(alloc, reported.base, got.as_str(), want.as_str())
 }

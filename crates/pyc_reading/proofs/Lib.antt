@@ -1,4 +1,5 @@
 pub mod OwingLemmas
 pub mod ReadingLemmas
 pub mod RunLemmas
+pub mod Steps
 pub mod ListingLemmas

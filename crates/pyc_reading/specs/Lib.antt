@@ -3,6 +3,7 @@ pub mod Answers
 pub mod Owing
 pub mod Readings
 pub mod Traces
+pub mod Outside
 pub mod Frames
 pub mod Listings
 pub mod KeyView

@@ -61,6 +61,7 @@ impl PartialEq for AskedKey {
             (Key::Name(a), Key::Name(b)) => a.is_same(b),
             (Key::Class(a), Key::Class(b)) => a == b,
             (Key::Member(a), Key::Member(b)) => a.is_same(b),
+            (Key::Export(a), Key::Export(b)) => a.is_same(b),
             _ => false,
         }
     }
@@ -82,7 +83,7 @@ impl Hash for AskedKey {
     fn hash<H: Hasher>(&self, state: &mut H) {
         match &self.key {
             Key::HasModule(module_path) => module_path.parts().hash(state),
-            Key::HasName(name) | Key::Name(name) => {
+            Key::HasName(name) | Key::Name(name) | Key::Export(name) => {
                 name.module_path.parts().hash(state);
                 name.name.hash(state);
             }

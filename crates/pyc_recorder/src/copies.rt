@@ -16,6 +16,7 @@ pub(crate) fn copy_of(answer: &Answer) -> Result<Answer, AllocError>
         Answer::Mro(order) => Answer::Mro(order_once_more(order)?),
         Answer::Member(Some(found)) => Answer::Member(Some(member_once_more(found)?)),
         Answer::Member(None) => Answer::Member(None),
+        Answer::Export(found) => Answer::Export(*found),
     })
 }
 
@@ -42,6 +43,7 @@ fn kind_once_more(kind: &NameKind) -> Result<NameKind, AllocError>
         NameKind::Module(name) => NameKind::Module(name.clone()?),
         NameKind::Fixed(name) => NameKind::Fixed(*name),
         NameKind::Unknown => NameKind::Unknown,
+        NameKind::Opaque => NameKind::Opaque,
         NameKind::NoModule => NameKind::NoModule,
         NameKind::NoName => NameKind::NoName,
         NameKind::NoTarget => NameKind::NoTarget,

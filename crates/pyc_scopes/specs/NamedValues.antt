@@ -1,6 +1,6 @@
 -- What a name in an expression is (Python reference 3.13, "Resolution of names"; the library reference, "Built-in
 -- Functions").
-use Rattle.std.specs.Prelude.{ℕ, Bool, bytes_eq, codes, if◌then◌else◌, is_some, List, ◌++◌, Option, None, Some}
+use Rattle.std.specs.Prelude.{ℕ, Bool, bytes_eq, codes, if◌then◌else◌, is_some, List, Option, None, Some}
 use Rattle.pyc_ast.specs.declared.position.Position.{Position}
 use Rattle.pyc_bindings.specs.Redefinitions.{declaration}
 use Rattle.pyc_builtins.specs.declared.names.BuiltinName.{BuiltinName}
@@ -11,11 +11,12 @@ use Rattle.pyc_builtins.specs.Members.{is_dunder}
 use Rattle.pyc_builtins.specs.Names.{builtin_name}
 use Rattle.pyc_class_ids.specs.declared.builtin_class.BuiltinClass.TheVariants as class
 use Rattle.pyc_class_ids.specs.Class.{builtin}
+use Rattle.pyc_messages.specs.Definitions as message
 use Rattle.pyc_names.specs.declared.fixed.FixedModule.{FixedModule}
 use Rattle.pyc_names.specs.declared.fixed.FixedName.{FixedName}
 use Rattle.pyc_names.specs.FixedModules.{fixed_module, fixed_name}
 use Rattle.pyc_names.specs.SourceFiles.{SourceFile}
-use Rattle.pyc_obligations.specs.Asking.{ask_name}
+use Rattle.pyc_reading.specs.Outside.{ask_name}
 use Rattle.pyc_obligations.specs.Values.{
   SpecialForm,
   Value,
@@ -29,8 +30,6 @@ use Rattle.pyc_reading.specs.Answers.{NameAnswer, NameKind}
 use Rattle.pyc_reading.specs.Answers as kind
 use Rattle.pyc_reading.specs.Traces.{Step}
 use Rattle.pyc_reading.specs.Readings.{Done, Report, and_then}
-use Rattle.pyc_report.specs.declared.message.Code.TheVariants.{NameDefined}
-use Rattle.pyc_report.specs.Message.{error_at}
 use Rattle.pyc_scopes.specs.Scopes.{Local, Scope, local_of}
 use Rattle.pyc_type_forms.specs.Types.{Ty, any, none, instance, class_object, list, callable, dots}
 
@@ -74,12 +73,9 @@ builtin_value x (builtins.Function result) = value_with (callable dots (result_t
 builtin_value x builtins.RevealType = value_with any reveal_type_special_form
 builtin_value x builtins.Any = plain_value any
 
-unfoldable pub not_defined_text : List ℕ → List ℕ
-not_defined_text x = codes "Name \"" ++ (x ++ codes "\" is not defined")
-
 -- a name that nothing defines
 unfoldable pub report_undefined : Position → List ℕ → Step Value
-report_undefined at x = Report (error_at at NameDefined (not_defined_text x)) (Done (plain_value any))
+report_undefined at x = Report (message.not_defined at x) (Done (plain_value any))
 
 -- a name that is no builtin: Any where two underscores stand at both ends
 abbrev pub no_builtin : Position → List ℕ → Step Value

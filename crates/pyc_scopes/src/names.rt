@@ -1,6 +1,6 @@
 //! What names in expressions are.
 
-ghost use Rattle.std.specs.Prelude.{◌≡◌, IfOk, None, string_bytes};
+ghost use Rattle.std.specs.Prelude.{◌≡◌, IfOk, None};
 ghost use Rattle.pyc_names.specs.SourceFileView.{source_in};
 ghost use Rattle.pyc_obligations.specs.ValueView.{special_form_of, value_of};
 ghost use Rattle.pyc_reading.specs.AnswerView.{kind_of, name_answer_of};
@@ -13,6 +13,7 @@ use crate::builtin_values::builtin_value;
 use crate::scope::{Local, Scope, local_named};
 use pyc_ast::{Position, Text};
 use pyc_builtins::{builtin_name, is_dunder};
+use pyc_messages::not_defined_text;
 use pyc_names::{FixedName, QualifiedName, SourceFile, fixed_module, fixed_name};
 use pyc_obligations::{AskTypes, SpecialForm, Value, ask_name, report_error};
 use pyc_reading::{NameAnswer, NameKind};
@@ -171,14 +172,6 @@ fn report_undefined<N: AskTypes>(
     let text = not_defined_text(alloc, name.as_str())?;
     report_error(recorder, at, Code::NameDefined, text)?;
     Ok(Value::plain(Ty::Any))
-}
-
-/// The text on a name that nothing defines.
-#[tactic(auto, unfolding(crate::specs::NamedValues::not_defined_text))]
-fn not_defined_text(alloc: Global, name: &str) -> Result<String, AllocError>
-    ensures { IfOk result (λ text. string_bytes text ≡ spec.not_defined_text name.now) }
-{
-    format!(in alloc; "Name \"{name}\" is not defined")
 }
 
 /// A name of a fixed module: Any, but that it may be a special one. It takes no memory.

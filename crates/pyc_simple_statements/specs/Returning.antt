@@ -1,9 +1,10 @@
 -- What a `return` gives (Python reference 3.13, "The return statement"; typing specification, "Type system concepts").
-use Rattle.std.specs.Prelude.{ℕ, Bool, true, false, codes, List, [], ◌++◌, Option, None, Some}
+use Rattle.std.specs.Prelude.{ℕ, Bool, true, false, List, [], Option, None, Some}
 use Rattle.pyc_ast.specs.declared.position.Position.{Position}
 use Rattle.pyc_ast.specs.Exprs.{Expr}
 use Rattle.pyc_body_context.specs.Bodies.{Body, result_of}
 use Rattle.pyc_locals.specs.FlowStates.{FlowState, in_state}
+use Rattle.pyc_messages.specs.Functions as message
 use Rattle.pyc_places.specs.States.{unreachable}
 use Rattle.pyc_reading.specs.Traces.{Step, required}
 use Rattle.pyc_reading.specs.Owing.{Obligation}
@@ -15,18 +16,14 @@ use Rattle.pyc_type_forms.specs.Types.{Ty, none}
 
 -- ---- what is reported
 
-unfoldable pub wrong_type_text : (got want : List ℕ) → List ℕ
-wrong_type_text got want =
-    codes "Incompatible return value type (got \"" ++ (got ++ (codes "\", expected \"" ++ (want ++ codes "\")")))
-
 -- the text on a value of another type than its function gives: nothing is to be returned where that is None
 abbrev pub value_text : (got want : Ty) → List ℕ
-value_text got none = codes "No return value expected"
-value_text got want = wrong_type_text (text_of got) (text_of want)
+value_text got none = message.no_return_value_text
+value_text got want = message.wrong_return_text (text_of got) (text_of want)
 
 -- the text on a `return`, by whether it is bare
 abbrev pub return_text : Bool → (got want : Ty) → List ℕ
-return_text true got want = codes "Return value expected"
+return_text true got want = message.return_value_text
 return_text false got want = value_text got want
 
 -- ---- obligations

@@ -14,6 +14,7 @@ ghost use Rattle.pyc_type_forms.specs.TypeView.{ty_of};
 use crate::reader::StatementReader;
 use pyc_ast::{Expr, Position};
 use pyc_locals::FlowState;
+use pyc_messages::{no_return_value_text, return_value_text, wrong_return_text};
 use pyc_obligations::{AsObligation, AskTypes, require};
 use pyc_places::State;
 use pyc_report::{Message, ObligationKind};
@@ -55,7 +56,7 @@ fn return_text(alloc: Global, is_bare: bool, got: &Ty, want: &Ty) -> Result<Stri
     ensures { IfOk result (λ text. string_bytes text ≡ spec.return_text is_bare (ty_of got.now) (ty_of want.now)) }
 {
     if is_bare {
-        format!(in alloc; "Return value expected")
+        return_value_text(alloc)
     } else {
         value_text(alloc, got, want)
     }
@@ -66,21 +67,13 @@ fn value_text(alloc: Global, got: &Ty, want: &Ty) -> Result<String, AllocError>
     ensures { IfOk result (λ text. string_bytes text ≡ spec.value_text (ty_of got.now) (ty_of want.now)) }
 {
     match want {
-        Ty::None => format!(in alloc; "No return value expected"),
+        Ty::None => no_return_value_text(alloc),
         _ => {
             let got = show(alloc, got)?;
             let want = show(alloc, want)?;
-            wrong_type_text(alloc, got.as_str(), want.as_str())
+            wrong_return_text(alloc, got.as_str(), want.as_str())
         }
     }
-}
-
-/// The text on a value of another type than its function gives, which is not None.
-#[tactic(auto, unfolding(crate::specs::Returning::wrong_type_text))]
-fn wrong_type_text(alloc: Global, got: &str, want: &str) -> Result<String, AllocError>
-    ensures { IfOk result (λ text. string_bytes text ≡ spec.wrong_type_text got.now want.now) }
-{
-    format!(in alloc; "Incompatible return value type (got \"{got}\", expected \"{want}\")")
 }
 
 impl StatementReader<'_> {

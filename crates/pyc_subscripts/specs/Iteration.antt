@@ -1,33 +1,24 @@
 -- Iteration (Python reference 3.13, "The for statement"; the library reference, "Iterator Types").
-use Rattle.std.specs.Prelude.{ℕ, codes, List, [], ◌∷◌, ◌++◌}
+use Rattle.std.specs.Prelude.{List, [], ◌∷◌, ◌++◌}
 use Rattle.pyc_ast.specs.declared.position.Position.{Position}
 use Rattle.pyc_class_ids.specs.declared.builtin_class.BuiltinClass.TheVariants as class
 use Rattle.pyc_class_ids.specs.Class.{Id, builtin}
+use Rattle.pyc_messages.specs.Expressions as message
 use Rattle.pyc_subscripts.specs.Owners.{Owner, unknown_owner, method_owner, builtin_owner, no_owner, iterable, int_type}
 use Rattle.pyc_subscripts.specs.Owners.{str_type}
 use Rattle.pyc_reading.specs.Traces.{Step}
 use Rattle.pyc_reading.specs.Readings.{Done, Report, and_then}
-use Rattle.pyc_report.specs.declared.message.Code.TheVariants as code
-use Rattle.pyc_report.specs.Message.{error_at}
 use Rattle.pyc_type_forms.specs.Text.{text_of}
 use Rattle.pyc_type_forms.specs.Types.{Ty, Tys, any, instance, list, dict, tuple, tuple_of, union, nil, cons}
 use Rattle.pyc_type_forms.specs.Unions.{row_items, union_of}
 
 -- ---- what is reported
 
-unfoldable pub not_iterable_text : List ℕ → List ℕ
-not_iterable_text shown = codes "\"" ++ (shown ++ codes "\" has no attribute \"__iter__\" (not iterable)")
-
 unfoldable pub not_iterable : Position → Ty → Step Ty
-not_iterable at ty = Report (error_at at code.AttrDefined (not_iterable_text (text_of ty))) (Done any)
-
-unfoldable pub item_not_iterable_text : List ℕ → List ℕ → List ℕ
-item_not_iterable_text item whole =
-    codes "Item \"" ++ (item ++ (codes "\" of \"" ++ (whole ++ codes "\" has no attribute \"__iter__\" (not iterable)")))
+not_iterable at ty = Report (message.not_iterable at (text_of ty)) (Done any)
 
 unfoldable pub item_not_iterable : Position → Ty → Ty → Step Ty
-item_not_iterable at whole item =
-    Report (error_at at code.UnionAttr (item_not_iterable_text (text_of item) (text_of whole))) (Done any)
+item_not_iterable at whole item = Report (message.item_not_iterable at (text_of item) (text_of whole)) (Done any)
 
 -- ---- items
 

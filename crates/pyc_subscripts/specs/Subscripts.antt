@@ -1,9 +1,10 @@
 -- Subscripts (Python reference 3.13, "Subscriptions" and "Slicings"; the library reference, "Sequence Types").
-use Rattle.std.specs.Prelude.{ℕ, Bool, true, false, codes, if◌then◌else◌, List, [], ◌∷◌, ◌++◌, Option, None, Some}
+use Rattle.std.specs.Prelude.{ℕ, Bool, true, false, if◌then◌else◌, List, [], ◌∷◌, ◌++◌, Option, None, Some}
 use Rattle.pyc_ast.specs.declared.position.Position.{Position}
 use Rattle.pyc_ast.specs.Exprs.{Index}
 use Rattle.pyc_class_ids.specs.declared.builtin_class.BuiltinClass.TheVariants as class
 use Rattle.pyc_class_ids.specs.Class.{Id, builtin}
+use Rattle.pyc_messages.specs.Expressions as message
 use Rattle.pyc_subscripts.specs.declared.chosen.Chosen.{Chosen}
 use Rattle.pyc_subscripts.specs.Chosen.{at_of, is_slice, chosen_by, chosen_type}
 use Rattle.pyc_subscripts.specs.Owners.{Owner, unknown_owner, method_owner, builtin_owner, no_owner, int_type}
@@ -11,23 +12,16 @@ use Rattle.pyc_subscripts.specs.Owners.{str_type, bytes_type, subscript_owner}
 use Rattle.pyc_reading.specs.Traces.{Step, required}
 use Rattle.pyc_reading.specs.Owing.{Obligation}
 use Rattle.pyc_reading.specs.Readings.{Done, Report, and_then, ◌>>=◌}
-use Rattle.pyc_report.specs.declared.message.Code.TheVariants as code
 use Rattle.pyc_report.specs.declared.message.ObligationKind.TheVariants as obligation_kind
-use Rattle.pyc_report.specs.Message.{error_at}
 use Rattle.pyc_type_forms.specs.Text.{text_of}
 use Rattle.pyc_type_forms.specs.Types.{Ty, Tys, any, instance, list, dict, tuple, tuple_of}
 use Rattle.pyc_type_forms.specs.Unions.{items_of, union_of}
 
 -- ---- what is reported
 
-unfoldable pub index_text : List ℕ → List ℕ → List ℕ → List ℕ
-index_text got whole want =
-    codes "Invalid index type \"" ++ (got ++ (codes "\" for \"" ++ (whole ++ (codes "\"; expected type \"" ++ (want
-    ++ codes "\"")))))
-
 -- the text on an index of a type, by its type, that of what it is an index of, and the type that this takes
 unfoldable pub required_index_text : (got whole want : Ty) → List ℕ
-required_index_text got whole want = index_text (text_of got) (text_of whole) (text_of want)
+required_index_text got whole want = message.index_text (text_of got) (text_of whole) (text_of want)
 
 -- an index has to be of the type that is taken, which is reported at the index
 abbrev pub required_index : Position → (got whole want : Ty) → Obligation
@@ -41,17 +35,11 @@ required_index at got whole want =
       text = required_index_text got whole want;
     }
 
-unfoldable pub range_text : List ℕ
-range_text = codes "Tuple index out of range"
-
 unfoldable pub report_out_of_range : Position → Step (Option Ty)
-report_out_of_range at = Report (error_at at code.Misc range_text) (Done (Some any))
-
-unfoldable pub not_indexable_text : List ℕ → List ℕ
-not_indexable_text shown = codes "Value of type \"" ++ (shown ++ codes "\" is not indexable")
+report_out_of_range at = Report (message.out_of_range at) (Done (Some any))
 
 unfoldable pub not_indexable : Position → Ty → Step Ty
-not_indexable at ty = Report (error_at at code.Index (not_indexable_text (text_of ty))) (Done any)
+not_indexable at ty = Report (message.not_indexable at (text_of ty)) (Done any)
 
 -- ---- builtins
 

@@ -1,6 +1,6 @@
 //! What is reported of subscripts and iterations.
 
-ghost use Rattle.std.specs.Prelude.{◌≡◌, IfOk, Some, option_map, string_bytes};
+ghost use Rattle.std.specs.Prelude.{Some, option_map};
 ghost use Rattle.pyc_subscripts.specs.Iteration as iteration;
 ghost use Rattle.pyc_subscripts.specs.Subscripts as spec;
 ghost use Rattle.pyc_subscripts.specs.RequiredView.{required_in};
@@ -8,18 +8,13 @@ ghost use Rattle.pyc_reading.specs.Traces.{Performs};
 ghost use Rattle.pyc_type_forms.specs.TypeView.{ty_of};
 
 use pyc_ast::Position;
+use pyc_messages::{
+    index_text, item_not_iterable_text, not_indexable_text, not_iterable_text, range_text,
+};
 use pyc_obligations::{AsObligation, AskTypes, report_error};
 use pyc_report::{Code, Message, ObligationKind};
 use pyc_type_forms::{Ty, show};
 use std::alloc::{AllocError, Global};
-
-/// The text on an index of another type than is wanted.
-#[tactic(auto, unfolding(crate::specs::Subscripts::index_text))]
-fn index_text(alloc: Global, got: &str, whole: &str, want: &str) -> Result<String, AllocError>
-    ensures { IfOk result (λ text. string_bytes text ≡ spec.index_text got.now whole.now want.now) }
-{
-    format!(in alloc; "Invalid index type \"{got}\" for \"{whole}\"; expected type \"{want}\"")
-}
 
 /// An index, its type, that of what it is an index of, and the type that this takes.
 #[derive(Clone, Copy)]
@@ -55,14 +50,6 @@ impl<N: AskTypes> AsObligation<N> for RequiredIndex<'_> {
     }
 }
 
-/// The text on a place that a tuple does not have.
-#[tactic(auto, unfolding(crate::specs::Subscripts::range_text))]
-fn range_text(alloc: Global) -> Result<String, AllocError>
-    ensures { IfOk result (λ text. string_bytes text ≡ spec.range_text) }
-{
-    String::from_str(alloc, "Tuple index out of range")
-}
-
 /// Reports that a tuple does not have a place.
 #[tactic(auto, using(crate::proofs::Steps::performing), unfolding(crate::specs::Subscripts::report_out_of_range))]
 pub(crate) fn report_out_of_range<N: AskTypes>(
@@ -76,14 +63,6 @@ pub(crate) fn report_out_of_range<N: AskTypes>(
     let text = range_text(alloc)?;
     report_error(recorder, at, Code::Misc, text)?;
     Ok(Some(Ty::Any))
-}
-
-/// The text on a type that has no subscripts.
-#[tactic(auto, unfolding(crate::specs::Subscripts::not_indexable_text))]
-fn not_indexable_text(alloc: Global, shown: &str) -> Result<String, AllocError>
-    ensures { IfOk result (λ text. string_bytes text ≡ spec.not_indexable_text shown.now) }
-{
-    format!(in alloc; "Value of type \"{shown}\" is not indexable")
 }
 
 /// Reports that a type has no subscripts.
@@ -103,14 +82,6 @@ pub(crate) fn not_indexable<N: AskTypes>(
     Ok(Ty::Any)
 }
 
-/// The text on a type that is not iterable.
-#[tactic(auto, unfolding(crate::specs::Iteration::not_iterable_text))]
-fn not_iterable_text(alloc: Global, shown: &str) -> Result<String, AllocError>
-    ensures { IfOk result (λ text. string_bytes text ≡ iteration.not_iterable_text shown.now) }
-{
-    format!(in alloc; "\"{shown}\" has no attribute \"__iter__\" (not iterable)")
-}
-
 /// Reports that a type is not iterable.
 #[tactic(auto, using(crate::proofs::Steps::performing), unfolding(crate::specs::Iteration::not_iterable))]
 pub(crate) fn not_iterable<N: AskTypes>(
@@ -126,14 +97,6 @@ pub(crate) fn not_iterable<N: AskTypes>(
     let text = not_iterable_text(alloc, shown.as_str())?;
     report_error(recorder, at, Code::AttrDefined, text)?;
     Ok(Ty::Any)
-}
-
-/// The text on an item of a union that is not iterable.
-#[tactic(auto, unfolding(crate::specs::Iteration::item_not_iterable_text))]
-fn item_not_iterable_text(alloc: Global, item: &str, whole: &str) -> Result<String, AllocError>
-    ensures { IfOk result (λ text. string_bytes text ≡ iteration.item_not_iterable_text item.now whole.now) }
-{
-    format!(in alloc; "Item \"{item}\" of \"{whole}\" has no attribute \"__iter__\" (not iterable)")
 }
 
 /// Reports that an item of a union is not iterable.

@@ -1,6 +1,6 @@
 -- What an attribute takes when it is assigned to (Python reference 3.13, "Assignment statements" and "Attribute
 -- references"; the library reference, `property`): methods, functions, classes and modules take whatever is assigned.
-use Rattle.std.specs.Prelude.{ℕ, Bool, true, false, not, ◌&&◌, codes, if◌then◌else◌}
+use Rattle.std.specs.Prelude.{ℕ, Bool, true, false, not, ◌&&◌, if◌then◌else◌}
 use Rattle.std.specs.Prelude.{List, [], ◌∷◌, ◌++◌, Option, None, Some}
 use Rattle.pyc_ast.specs.declared.position.Position.{Position}
 use Rattle.pyc_attributes.specs.AttributeValues.{no_attribute, no_item_attribute}
@@ -12,25 +12,21 @@ use Rattle.pyc_builtins.specs.Members.{builtin_member, is_dunder}
 use Rattle.pyc_class_ids.specs.declared.builtin_class.BuiltinClass.{BuiltinClass}
 use Rattle.pyc_class_ids.specs.declared.builtin_class.BuiltinClass.TheVariants as class
 use Rattle.pyc_class_ids.specs.Class.{Id, builtin_of, name_of}
+use Rattle.pyc_messages.specs.Assignments as message
 use Rattle.pyc_obligations.specs.Values.{Value}
 use Rattle.pyc_reading.specs.Answers.{NameKind, function_name, class_name, module_name}
 use Rattle.pyc_reading.specs.declared.answer.MemberKind.{MemberKind}
 use Rattle.pyc_reading.specs.declared.answer.MemberKind.TheVariants as kind
 use Rattle.pyc_reading.specs.Traces.{Step}
 use Rattle.pyc_reading.specs.Readings.{Done, Report, and_then}
-use Rattle.pyc_report.specs.declared.message.Code.TheVariants.{Misc}
-use Rattle.pyc_report.specs.Message.{error_at}
 use Rattle.pyc_type_forms.specs.Types.{Ty, instance, class_object, list, dict, tuple, tuple_of, union}
 use Rattle.pyc_type_forms.specs.Unions.{items_of, union_of}
 
 -- ---- what is reported
 
-unfoldable pub read_only_text : List ℕ → List ℕ → List ℕ
-read_only_text n shown = codes "Property \"" ++ (n ++ (codes "\" defined in \"" ++ (shown ++ codes "\" is read-only")))
-
 -- a property of a class that cannot be set
 unfoldable pub read_only : Position → List ℕ → Id → Step (Option Ty)
-read_only at n c = Report (error_at at Misc (read_only_text n (name_of c))) (Done None)
+read_only at n c = Report (message.read_only at n (name_of c)) (Done None)
 
 -- ---- builtins
 

@@ -1,16 +1,15 @@
 -- What an item of a subscript takes when it is assigned to (Python reference 3.13, "Assignment statements"; "Emulating
 -- container types", `__setitem__`): what a `__setitem__` takes is not looked at.
-use Rattle.std.specs.Prelude.{ℕ, Bool, true, false, codes, if◌then◌else◌, List, [], ◌∷◌, ◌++◌, Option, None, Some}
+use Rattle.std.specs.Prelude.{Bool, true, false, codes, if◌then◌else◌, List, [], ◌∷◌, ◌++◌, Option, None, Some}
 use Rattle.pyc_ast.specs.declared.position.Position.{Position}
 use Rattle.pyc_ast.specs.Exprs.{Index}
 use Rattle.pyc_class_ids.specs.Class.{Id, builtin, user}
 use Rattle.pyc_subscripts.specs.Subscripts.{item_of}
+use Rattle.pyc_messages.specs.Assignments as message
 use Rattle.pyc_obligations.specs.Asking.{ask_member, is_unknown_class}
 use Rattle.pyc_reading.specs.Answers.{MemberAnswer}
 use Rattle.pyc_reading.specs.Traces.{Step}
 use Rattle.pyc_reading.specs.Readings.{Done, Report, and_then}
-use Rattle.pyc_report.specs.declared.message.Code.TheVariants as code
-use Rattle.pyc_report.specs.Message.{error_at}
 use Rattle.pyc_targets.specs.TargetTypes.{TargetType, plain_target_type, item_target_type}
 use Rattle.pyc_type_forms.specs.Text.{text_of}
 use Rattle.pyc_type_forms.specs.Types.{Ty, any, instance, class_object, list, dict}
@@ -27,13 +26,10 @@ pub data ItemTarget : Type 0 where
 
 -- ---- what is reported
 
-unfoldable pub unsupported_text : List ℕ → List ℕ
-unsupported_text shown = codes "Unsupported target for indexed assignment (\"" ++ (shown ++ codes "\")")
-
 -- a value whose items cannot be assigned to: Any is assigned
 unfoldable pub unsupported_reported : Position → Ty → Step TargetType
-unsupported_reported at ty = Report (error_at at code.Index (unsupported_text (text_of ty)))
-    (Done (plain_target_type (Some any)))
+unsupported_reported at ty =
+    Report (message.unsupported_target at (text_of ty)) (Done (plain_target_type (Some any)))
 
 -- ---- one type
 

@@ -7,7 +7,7 @@ use Rattle.pyc_bindings.specs.Redefinitions.{declaration}
 use Rattle.pyc_names.specs.declared.fixed.FixedModule.{FixedModule}
 use Rattle.pyc_names.specs.FixedModules.{fixed_module}
 use Rattle.pyc_names.specs.SourceFiles.{SourceFile}
-use Rattle.pyc_obligations.specs.Asking.{ask_name}
+use Rattle.pyc_reading.specs.Outside.{ask_name}
 use Rattle.pyc_reading.specs.Answers.{NameAnswer}
 use Rattle.pyc_reading.specs.Traces.{Step}
 use Rattle.pyc_reading.specs.Readings.{Done, and_then}

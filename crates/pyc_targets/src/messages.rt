@@ -1,6 +1,6 @@
 //! What is reported of targets.
 
-ghost use Rattle.std.specs.Prelude.{◌≡◌, IfOk, option_map, string_bytes};
+ghost use Rattle.std.specs.Prelude.{option_map};
 ghost use Rattle.pyc_reading.specs.Traces.{Performs};
 ghost use Rattle.pyc_targets.specs.AttributeTargets as spec;
 ghost use Rattle.pyc_targets.specs.ItemTargets as items;
@@ -10,18 +10,11 @@ ghost use Rattle.pyc_type_forms.specs.TypeView.{ty_of};
 use crate::target_type::TargetType;
 use pyc_ast::Position;
 use pyc_class_ids::ClassId;
+use pyc_messages::{read_only_text, unsupported_target_text};
 use pyc_obligations::{AskTypes, report_error};
 use pyc_report::Code;
 use pyc_type_forms::{Ty, show};
 use std::alloc::{AllocError, Global};
-
-/// The text on a property that cannot be set.
-#[tactic(auto, unfolding(crate::specs::AttributeTargets::read_only_text))]
-fn read_only_text(alloc: Global, name: &str, shown: &str) -> Result<String, AllocError>
-    ensures { IfOk result (λ text. string_bytes text ≡ spec.read_only_text name.now shown.now) }
-{
-    format!(in alloc; "Property \"{name}\" defined in \"{shown}\" is read-only")
-}
 
 /// Reports that a property of a class cannot be set.
 #[tactic(auto, using(pyc_obligations::proofs::Steps::performing), unfolding(crate::specs::AttributeTargets::read_only))]
@@ -40,14 +33,6 @@ pub(crate) fn read_only<N: AskTypes>(
     Ok(None)
 }
 
-/// The text on a value whose items cannot be assigned to.
-#[tactic(auto, unfolding(crate::specs::ItemTargets::unsupported_text))]
-fn unsupported_text(alloc: Global, shown: &str) -> Result<String, AllocError>
-    ensures { IfOk result (λ text. string_bytes text ≡ items.unsupported_text shown.now) }
-{
-    format!(in alloc; "Unsupported target for indexed assignment (\"{shown}\")")
-}
-
 /// Reports that the items of a value cannot be assigned to.
 #[tactic(auto, using(pyc_obligations::proofs::Steps::performing), unfolding(crate::specs::ItemTargets::unsupported_reported))]
 pub(crate) fn report_unsupported<N: AskTypes>(
@@ -60,7 +45,7 @@ pub(crate) fn report_unsupported<N: AskTypes>(
         (N.trace recorder.new) }
 {
     let shown = show(alloc, ty)?;
-    let text = unsupported_text(alloc, shown.as_str())?;
+    let text = unsupported_target_text(alloc, shown.as_str())?;
     report_error(recorder, at, Code::Index, text)?;
     Ok(TargetType::plain(Some(Ty::Any)))
 }

@@ -1,5 +1,5 @@
 -- Which keys imports and names in bodies ask, and heads of functions.
-use Rattle.std.proofs.Common.{◌≡◌, ℕ, Bool, true, false, not, if◌then◌else◌, List, [], ◌∷◌, Option, None, Some, refl, sym, subst}
+use Rattle.std.proofs.Common.{◌≡◌, ℕ, Bool, true, false, not, if◌then◌else◌, List, [], ◌∷◌, Option, None, Some, refl, sym, ap, subst}
 use Rattle.pyc_ast.specs.declared.position.Position.{Position}
 use Rattle.pyc_ast.specs.declared.stmt.Alias.{Alias}
 use Rattle.pyc_ast.specs.Exprs.{Expr}
@@ -9,7 +9,7 @@ use Rattle.pyc_bindings.specs.Bindings.{Binding}
 use Rattle.pyc_bindings.specs.Redefinitions.{declaration}
 use Rattle.pyc_body_context.specs.Bodies.{Body, class_around, own_binding, top_scope}
 use Rattle.pyc_body_context.specs.BodyNames.{body_context}
-use Rattle.pyc_unit_laws.proofs.FileLemmas.{annotation_of_files, of-each, of-else, of-head, of-import, of-unless, of-unless_either}
+use Rattle.pyc_unit_laws.proofs.FileLemmas.{annotation_of_files, of-each, of-else, of-found, of-head, of-import, of-unless, of-unless_either, of-where}
 use Rattle.pyc_unit_laws.proofs.FunctionLemmas.{head_asks}
 use Rattle.pyc_unit_laws.proofs.TargetLemmas.{body_name_asks, body_target_asks}
 use Rattle.pyc_unit_laws.specs.FileKeys.{BodyNameAsksFiles, BodyTargetAsksFiles, ClassImportAsksFiles, HeadAsksFiles, ImportAsksFiles, LocalImportAsksFiles, is_source_around}
@@ -17,9 +17,10 @@ use Rattle.pyc_unit_laws.specs.TargetRows.{is_defined, own_member_keys, owned_na
 use Rattle.pyc_class_ids.specs.Class.{Id}
 use Rattle.pyc_expr_forms.specs.Contexts.{scope_context}
 use Rattle.pyc_expression_laws.proofs.ExpressionLemmas.{of-infer_type}
-use Rattle.pyc_expression_laws.proofs.StepLemmas.{Files, files_done, files_then}
-use Rattle.pyc_expression_laws.specs.FileKeys.{OfFiles, is_of_files}
+use Rattle.pyc_expression_laws.proofs.StepLemmas.{Files, files_done, files_then, of-append}
+use Rattle.pyc_expression_laws.specs.FileKeys.{OfFiles}
 use Rattle.pyc_locals.specs.Locals.{LocalType, Locals, local_of, no_locals}
+use Rattle.pyc_names.specs.Following.{QualifiedName}
 use Rattle.pyc_names.specs.Interfaces.{Interface, interface_of}
 use Rattle.pyc_places.specs.States.{nothing_narrowed}
 use Rattle.pyc_expression_laws.specs.NameRows.{is_fixed, is_local}
@@ -27,32 +28,31 @@ use Rattle.pyc_expression_laws.specs.Rows.{name_key}
 use Rattle.pyc_reading.specs.Keys.{Key}
 use Rattle.pyc_reading.specs.Keys as key
 use Rattle.pyc_unit_laws.proofs.ImportLemmas.{class_import_asks, import_asks, local_import_asks}
-use Rattle.pyc_unit_laws.specs.ImportRows.{module_path_of, local_import_keys, local_name_keys}
+use Rattle.pyc_unit_laws.specs.ImportRows.{found_keys, module_path_of, local_import_keys, local_name_keys}
 use Rattle.pyc_type_exprs.specs.TypeExprs.{type_expr}
 
 -- ---- imports
 
-of-two : (b : Bool) (k l : Key) → is_of_files k ≡ not b → is_of_files l ≡ not b → OfFiles (if b then [] else k ∷ l ∷ [])
-of-two true k l one two = tt
-of-two false k l one two = (one, (two, tt))
+of-local_name : (answers : Answers) (module_path : Option (List (List ℕ))) (x : List ℕ) → OfFiles (local_name_keys answers module_path x)
+of-local_name answers (Some m) x =
+    let q : QualifiedName = record { module_path = m; name = x } in
+    of-where (is_fixed m) _ (λ free. of-append (found_keys answers q) (name_key m x ∷ []) (of-found answers q free) (ap not free, tt))
+of-local_name answers None x = tt
 
-of-local_name : (module_path : Option (List (List ℕ))) (x : List ℕ) → OfFiles (local_name_keys module_path x)
-of-local_name (Some m) x = of-two (is_fixed m) (key.has_name (record { module_path = m; name = x })) (name_key m x) refl refl
-of-local_name None x = tt
-
-of-local_import : (file : Interface) (form : StmtForm) → OfFiles (local_import_keys file form)
-of-local_import file (plain.import modules) = of-each _ modules (λ m. of-unless (is_fixed m.path) (key.has_module m.path) refl)
-of-local_import file (plain.import_from from) = of-each (λ (a : Alias). local_name_keys (module_path_of file from) a.name) from.names (λ (a : Alias). of-local_name (module_path_of file from) a.name)
-of-local_import file _ = tt
+of-local_import : (answers : Answers) (file : Interface) (form : StmtForm) → OfFiles (local_import_keys answers file form)
+of-local_import answers file (plain.import modules) = of-each _ modules (λ m. of-unless (is_fixed m.path) (key.has_module m.path) refl)
+of-local_import answers file (plain.import_from from) =
+    of-each (λ (a : Alias). local_name_keys answers (module_path_of file from) a.name) from.names (λ (a : Alias). of-local_name answers (module_path_of file from) a.name)
+of-local_import answers file _ = tt
 
 pub import_of_files : ImportAsksFiles
-import_of_files options file at form answers = subst OfFiles (sym (import_asks answers options file at form)) (of-import file form)
+import_of_files options file at form answers = subst OfFiles (sym (import_asks answers options file at form)) (of-import answers file form)
 
 pub class_import_of_files : ClassImportAsksFiles
-class_import_of_files options file at form p answers = subst OfFiles (sym (class_import_asks answers options file at form p)) (of-import file form)
+class_import_of_files options file at form p answers = subst OfFiles (sym (class_import_asks answers options file at form p)) (of-import answers file form)
 
 pub local_import_of_files : LocalImportAsksFiles
-local_import_of_files options file at form p answers = subst OfFiles (sym (local_import_asks answers options file at form p)) (of-local_import file form)
+local_import_of_files options file at form p answers = subst OfFiles (sym (local_import_asks answers options file at form p)) (of-local_import answers file form)
 
 -- ---- names in bodies
 

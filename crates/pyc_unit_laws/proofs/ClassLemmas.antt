@@ -23,7 +23,7 @@ use Rattle.pyc_overrides.specs.Places.{own_place}
 use Rattle.pyc_expression_laws.proofs.ObligationLemmas.{obligation_asks}
 use Rattle.pyc_expression_laws.specs.ObligationRows.{obligation_keys}
 use Rattle.pyc_expression_laws.specs.Rows.{Answers, class_key, member_at, member_key, source_keys}
-use Rattle.pyc_reading.specs.Answers.{Answer, MemberAnswer, order_is, member_is, name_is, presence_of}
+use Rattle.pyc_reading.specs.Answers.{Answer, MemberAnswer, order_is, member_is, export_is, name_is, presence_of}
 use Rattle.pyc_reading.specs.Traces.{Step, asking, owing}
 use Rattle.pyc_reading.specs.Keys.{Key}
 use Rattle.pyc_reading.specs.Owing.{Detail, Obligation, keys_of, row_keys}
@@ -48,6 +48,7 @@ order-comes answers at name (order_is order) = result-and_then answers (unknown_
 order-comes answers at name (presence_of found) = refl
 order-comes answers at name (name_is found) = refl
 order-comes answers at name (member_is found) = refl
+order-comes answers at name (export_is found) = refl
 
 bases-asks : (answers : Answers) (found : List Base) → asked answers (each base_reading found) ≡ source_keys (base_classes found)
 unfolding and_then

@@ -1,5 +1,5 @@
 -- Which keys heads, annotations and targets ask.
-use Rattle.std.proofs.Common.{◌≡◌, ℕ, Bool, true, false, not, ◌&&◌, ◌||◌, is_none, if◌then◌else◌, length, List, [], ◌∷◌, ◌++◌, flat_map, Option, None, Some, refl, sym, subst}
+use Rattle.std.proofs.Common.{◌≡◌, ℕ, Bool, true, false, not, ◌&&◌, ◌||◌, is_none, if◌then◌else◌, length, List, [], ◌∷◌, ◌++◌, flat_map, Option, None, Some, refl, sym, ap, subst}
 use Rattle.pyc_annotations.specs.Annotations.{Subscripted, form_subscripted, class_subscripted, any_subscripted, value_subscripted, wrong_subscripted, takes}
 use Rattle.pyc_annotations.specs.declared.type_form.TypeForm.{TypeForm}
 use Rattle.pyc_annotations.specs.declared.type_form.TypeForm.TheVariants as type_form
@@ -35,7 +35,8 @@ use Rattle.pyc_subscripts.specs.Chosen.{is_slice}
 use Rattle.pyc_subscripts.specs.Owners.{int_type}
 use Rattle.pyc_locals.specs.Locals.{no_locals}
 use Rattle.pyc_members.specs.ClassBodies.{OwnMember, class_body, own_member}
-use Rattle.pyc_names.specs.Following.{is_import_from}
+use Rattle.pyc_imports.specs.ImportReadings.{presence_in}
+use Rattle.pyc_names.specs.Following.{QualifiedName, is_import_from}
 use Rattle.pyc_names.specs.Interfaces.{Interface, interface_of}
 use Rattle.pyc_names.specs.SourceFiles.{SourceFile}
 use Rattle.pyc_overrides.specs.Ancestors.{own_declaration, bind_to_instance}
@@ -43,18 +44,19 @@ use Rattle.pyc_overrides.specs.Names.{bound_names, is_exempt}
 use Rattle.pyc_overrides.specs.Obligations.{override_by, override_details}
 use Rattle.pyc_overrides.specs.Overrides.{Subclass}
 use Rattle.pyc_places.specs.States.{nothing_narrowed}
-use Rattle.pyc_expression_laws.specs.AttributeRows.{item_attribute_keys, module_attribute_keys}
+use Rattle.pyc_expression_laws.specs.AttributeRows.{item_attribute_keys, module_attribute_keys, outside_keys}
 use Rattle.pyc_expression_laws.specs.ItemRows.{builtin_index_keys, sequence_index_keys}
 use Rattle.pyc_expression_laws.specs.NameRows.{is_fixed}
 use Rattle.pyc_expression_laws.specs.ObligationRows.{obligation_keys}
-use Rattle.pyc_expression_laws.specs.Rows.{Answers, class_key, has_member, has_no_order, member_at, member_key, name_key, source_keys}
+use Rattle.pyc_expression_laws.specs.Rows.{Answers, class_key, export_key, has_member, has_no_order, member_at, member_key, name_at, name_key, source_keys}
 use Rattle.pyc_reading.specs.Answers.{MemberAnswer}
 use Rattle.pyc_reading.specs.Keys.{Key}
 use Rattle.pyc_reading.specs.Keys as key
+use Rattle.pyc_reading.specs.Outside.{may_be_hidden}
 use Rattle.pyc_reading.specs.Owing.{Detail, written}
 use Rattle.pyc_reading.specs.Readings.{asked, result_of}
 use Rattle.pyc_unit_laws.proofs.HeaderLemmas.{header_asks}
-use Rattle.pyc_unit_laws.specs.ImportRows.{all_ring_keys, binding_keys, header_keys, module_path_of, import_keys, part_keys, presence_keys}
+use Rattle.pyc_unit_laws.specs.ImportRows.{all_ring_keys, binding_keys, found_keys, header_keys, is_found, module_path_of, import_keys, part_keys, presence_keys}
 use Rattle.pyc_type_exprs.specs.TypeExprs.{TypeExpr, none_written, name_written, union_written, subscript_written, wrong_written, type_argument, ArgumentShape, ellipsis_shape, list_shape, other_shape, TypeExprs, no_type, another_type, TypeArguments, no_argument, another_argument, type_expr}
 use Rattle.pyc_type_forms.specs.Types.{Ty, any, module_type, instance, class_object, list, dict}
 use Rattle.pyc_type_forms.specs.Unions.{items_of}
@@ -73,6 +75,15 @@ of-unless false k same = (same, tt)
 pub of-unless_either : (a b : Bool) (k : Key) → is_of_files k ≡ not b → OfFiles (if a || b then [] else k ∷ [])
 of-unless_either true b k same = tt
 of-unless_either false b k same = of-unless b k same
+
+-- keys that ask files where a module is no fixed one
+pub of-where : (b : Bool) (ks : List Key) → (b ≡ false → OfFiles ks) → OfFiles (if b then [] else ks)
+of-where true ks all = tt
+of-where false ks all = all refl
+
+of-where_either : (a b : Bool) (ks : List Key) → (b ≡ false → OfFiles ks) → OfFiles (if a || b then [] else ks)
+of-where_either true b ks all = tt
+of-where_either false b ks all = of-where b ks all
 
 -- some keys or none
 pub of-else : (b : Bool) (ks : List Key) → OfFiles ks → OfFiles (if b then [] else ks)
@@ -93,19 +104,22 @@ of-details details = of-each (λ (d : Detail). obligation_keys d.got d.want) det
 
 -- ---- headers
 
-of-presence : (module_path : Option (List (List ℕ))) (x : List ℕ) → OfFiles (presence_keys module_path x)
-of-presence (Some m) x = of-unless (is_fixed m) (key.has_name (record { module_path = m; name = x })) refl
-of-presence None x = tt
+pub of-found : (answers : Answers) (q : QualifiedName) → is_fixed q.module_path ≡ false → OfFiles (found_keys answers q)
+of-found answers q free = (ap not free, of-if (is_found (presence_in (answers (key.has_name q)))) (key.export q ∷ []) (ap not free, tt))
 
-pub of-import : (file : Interface) (form : StmtForm) → OfFiles (import_keys file form)
-of-import file (plain.import modules) = of-each _ modules (λ m. of-unless (is_fixed m.path) (key.has_module m.path) refl)
-of-import file (plain.import_from from) = of-each (λ (a : Alias). presence_keys (module_path_of file from) a.name) from.names (λ (a : Alias). of-presence (module_path_of file from) a.name)
-of-import file _ = tt
+of-presence : (answers : Answers) (module_path : Option (List (List ℕ))) (x : List ℕ) → OfFiles (presence_keys answers module_path x)
+of-presence answers (Some m) x = of-where (is_fixed m) _ (of-found answers (record { module_path = m; name = x }))
+of-presence answers None x = tt
 
-of-part : (file : Interface) (form : PartForm) → OfFiles (part_keys file form)
-of-part file (statement found) = of-import file (form_of found)
-of-part file (target to) = tt
-of-part file (caught n) = tt
+pub of-import : (answers : Answers) (file : Interface) (form : StmtForm) → OfFiles (import_keys answers file form)
+of-import answers file (plain.import modules) = of-each _ modules (λ m. of-unless (is_fixed m.path) (key.has_module m.path) refl)
+of-import answers file (plain.import_from from) = of-each (λ (a : Alias). presence_keys answers (module_path_of file from) a.name) from.names (λ (a : Alias). of-presence answers (module_path_of file from) a.name)
+of-import answers file _ = tt
+
+of-part : (answers : Answers) (file : Interface) (form : PartForm) → OfFiles (part_keys answers file form)
+of-part answers file (statement found) = of-import answers file (form_of found)
+of-part answers file (target to) = tt
+of-part answers file (caught n) = tt
 
 of-rings : (file : SourceFile) (earlier later : List Binding) → OfFiles (all_ring_keys file earlier later)
 of-rings file earlier [] = tt
@@ -114,26 +128,29 @@ of-rings file earlier (b ∷ later) =
     (of-if (is_import_from b.form && is_none (declaration earlier b.name)) _ (of-unless (is_fixed file.name) (key.has_name (record { module_path = file.name; name = b.name })) refl))
     (of-rings file (earlier ++ (b ∷ [])) later)
 
-of-header : (file : SourceFile) (outcome : Outcome) → OfFiles (header_keys file outcome)
-of-header file (tree m) =
-    of-append (flat_map (λ (part : Part). part_keys (interface_of file) part.form) (parts_of m.statements false)) (all_ring_keys file [] file.bindings)
-    (of-each (λ (part : Part). part_keys (interface_of file) part.form) (parts_of m.statements false) (λ (part : Part). of-part (interface_of file) part.form))
+of-header : (answers : Answers) (file : SourceFile) (outcome : Outcome) → OfFiles (header_keys answers file outcome)
+of-header answers file (tree m) =
+    of-append (flat_map (λ (part : Part). part_keys answers (interface_of file) part.form) (parts_of m.statements false)) (all_ring_keys file [] file.bindings)
+    (of-each (λ (part : Part). part_keys answers (interface_of file) part.form) (parts_of m.statements false) (λ (part : Part). of-part answers (interface_of file) part.form))
     (of-rings file [] file.bindings)
-of-header file (fault line text) = tt
+of-header answers file (fault line text) = tt
 
 pub header_of_files : HeaderAsksFiles
-header_of_files options file answers = subst OfFiles (sym (header_asks answers options file)) (of-header file file.outcome)
+header_of_files options file answers = subst OfFiles (sym (header_asks answers options file)) (of-header answers file file.outcome)
 
 -- ---- names, and annotations
 
-of-module_attribute : (m : List (List ℕ)) (n : List ℕ) → OfFiles (module_attribute_keys m n)
-of-module_attribute m n = of-unless_either (is_dunder n) (is_fixed m) (name_key m n) refl
+of-outside : (answers : Answers) (m : List (List ℕ)) (n : List ℕ) → is_fixed m ≡ false → OfFiles (outside_keys answers m n)
+of-outside answers m n free = (ap not free, of-if (may_be_hidden (name_at answers m n).kind) (export_key m n ∷ []) (ap not free, tt))
+
+of-module_attribute : (answers : Answers) (m : List (List ℕ)) (n : List ℕ) → OfFiles (module_attribute_keys answers m n)
+of-module_attribute answers m n = of-where_either (is_dunder n) (is_fixed m) _ (of-outside answers m n)
 
 of-attributes : (answers : Answers) (names : List (List ℕ)) (found : Option (List (List ℕ))) → OfFiles (attributes_keys answers names found)
 of-attributes answers [] found = tt
 of-attributes answers (n ∷ names) (Some m) =
-    of-append (module_attribute_keys m n) (attributes_keys answers names (attribute_module answers m n))
-    (of-module_attribute m n) (of-attributes answers names (attribute_module answers m n))
+    of-append (module_attribute_keys answers m n) (attributes_keys answers names (attribute_module answers m n))
+    (of-module_attribute answers m n) (of-attributes answers names (attribute_module answers m n))
 of-attributes answers (n ∷ names) None = tt
 
 of-dotted : (answers : Answers) (file : Interface) (names : List (List ℕ)) → OfFiles (dotted_keys answers file names)
@@ -205,7 +222,7 @@ of-item_attribute : (answers : Answers) (n : List ℕ) (ty : Ty) → OfFiles (it
 of-item_attribute answers n (instance (user m x)) =
     (refl, of-else (has_member answers (user m x) n || is_dunder n) _ (refl, of-else (has_no_order answers (user m x)) _ (refl, tt)))
 of-item_attribute answers n (class_object (user m x)) = (refl, of-else (has_member answers (user m x) n || is_dunder n) _ (refl, tt))
-of-item_attribute answers n (module_type m) = of-module_attribute m n
+of-item_attribute answers n (module_type m) = of-module_attribute answers m n
 of-item_attribute answers n _ = tt
 
 of-sequence : (brackets : Index) (got : Ty) → OfFiles (sequence_index_keys brackets got)

@@ -14,7 +14,7 @@ use Rattle.pyc_unit_laws.proofs.AskedLemmas.{asked-after}
 use Rattle.pyc_unit_laws.specs.AnnotationRows.{annotation_keys}
 use Rattle.pyc_unit_laws.specs.FunctionRows.{EndReads, FunctionReads, HeadReads, ParameterReads, ReturnReads, default_keys, end_keys, given_keys, head_keys, inside_keys, optional_annotation_keys, parameter_keys, parameters_keys}
 use Rattle.pyc_expr.specs.Values.{infer_type}
-use Rattle.pyc_functions.specs.Ends.{end_read, is_stub, required_end}
+use Rattle.pyc_functions.specs.Ends.{end_read, is_idle_body, required_end}
 use Rattle.pyc_functions.specs.FunctionNames.{function_bindings}
 use Rattle.pyc_functions.specs.Functions.{HeadTypes, body_read, function_reading, head_read, inside_read, is_checked, statements_and_end_read}
 use Rattle.pyc_functions.specs.Parameters.{ParameterType, default_read, optional_default, required_default, parameter_read, parameter_type, parameters_read, receiver_of}
@@ -126,16 +126,16 @@ again-asks answers (found ∷ rest) = again-asks answers rest
 body-asks : (answers : Answers) (outside : Body) (at : Position) (types : HeadTypes) (bindings : List Binding) (statements : Stmts)
     → asked answers (body_read outside at types bindings statements)
     ≡ asked answers (inside_read outside types bindings statements)
-    ++ end_keys types.result (is_reachable (result_of answers (inside_read outside types bindings statements)).state && not (is_stub statements))
+    ++ end_keys types.result (is_reachable (result_of answers (inside_read outside types bindings statements)).state && not (is_idle_body statements))
 unfolding body_read statements_and_end_read
 body-asks answers outside at types bindings statements =
     let inside = inside_read outside types bindings statements in
     let p : FlowState = result_of answers inside in
-    let rest = and_then inside (λ (q : FlowState). end_read at types.result (is_reachable q.state && not (is_stub statements))) in
+    let rest = and_then inside (λ (q : FlowState). end_read at types.result (is_reachable q.state && not (is_idle_body statements))) in
     asked-both answers (each redefinition_reading (redefinitions bindings)) (λ u. rest) [] (asked answers rest) (again-asks answers (redefinitions bindings)) (λ u. refl)
-    ∙ asked-after answers inside (λ (q : FlowState). end_read at types.result (is_reachable q.state && not (is_stub statements)))
-    (asked answers inside) (end_keys types.result (is_reachable p.state && not (is_stub statements)))
-    refl (end_asks answers at types.result (is_reachable p.state && not (is_stub statements)))
+    ∙ asked-after answers inside (λ (q : FlowState). end_read at types.result (is_reachable q.state && not (is_idle_body statements)))
+    (asked answers inside) (end_keys types.result (is_reachable p.state && not (is_idle_body statements)))
+    refl (end_asks answers at types.result (is_reachable p.state && not (is_idle_body statements)))
 
 if_checked-asks : (answers : Answers) (b : Bool) (r : Step (Unit {0})) (keys : List Key) → asked answers r ≡ keys → asked answers (if b then r else Done tt) ≡ (if b then keys else [])
 if_checked-asks answers true r keys same = same
@@ -144,7 +144,7 @@ if_checked-asks answers false r keys same = refl
 pub function_asks : FunctionReads
 unfolding function_reading
 function_asks answers outside at head statements =
-    let checked = is_checked outside.options.check_untyped head in
+    let checked = is_checked outside.file.is_stub outside.options.check_untyped head in
     let bindings = function_bindings head.parameters statements in
     let types : HeadTypes = result_of answers (head_read outside head) in
     asked-after answers (head_read outside head) (λ types. if checked then body_read outside at types bindings statements else Done tt)

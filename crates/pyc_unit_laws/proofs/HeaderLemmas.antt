@@ -26,7 +26,7 @@ use Rattle.pyc_units.specs.Header.{binding_reading, cycle_reading, cycle_reporte
 
 -- ---- parts
 
-part-asks : (answers : Answers) (options : Options) (file : SourceFile) (place : BindingSite) (form : PartForm) → asked answers (form_reading options file place form) ≡ part_keys (interface_of file) form
+part-asks : (answers : Answers) (options : Options) (file : SourceFile) (place : BindingSite) (form : PartForm) → asked answers (form_reading options file place form) ≡ part_keys answers (interface_of file) form
 part-asks answers options file place (statement found) = import_asks answers options (interface_of file) place.at (form_of found)
 part-asks answers options file place (target to) = refl
 part-asks answers options file place (caught n) = refl
@@ -70,12 +70,12 @@ unfolding and_then
 again-asks answers [] = refl
 again-asks answers (found ∷ rest) = again-asks answers rest
 
-outcome-asks : (answers : Answers) (options : Options) (file : SourceFile) (outcome : Outcome) → asked answers (outcome_reading options file outcome) ≡ header_keys file outcome
+outcome-asks : (answers : Answers) (options : Options) (file : SourceFile) (outcome : Outcome) → asked answers (outcome_reading options file outcome) ≡ header_keys answers file outcome
 outcome-asks answers options file (tree m) =
     let parts = parts_of m.statements false in
     asked-both answers (each (part_reading options file) parts) (λ u. and_then (cycles_after file [] file.bindings) (λ v. each redefinition_reading file.again))
-    (flat_map (λ (part : Part). part_keys (interface_of file) part.form) parts) (all_ring_keys file [] file.bindings)
-    (asked-each answers (part_reading options file) (λ (part : Part). part_keys (interface_of file) part.form) parts (λ part. part-asks answers options file part.place part.form))
+    (flat_map (λ (part : Part). part_keys answers (interface_of file) part.form) parts) (all_ring_keys file [] file.bindings)
+    (asked-each answers (part_reading options file) (λ (part : Part). part_keys answers (interface_of file) part.form) parts (λ part. part-asks answers options file part.place part.form))
     (λ u. asked-alone answers (cycles_after file [] file.bindings) (λ v. each redefinition_reading file.again) (all_ring_keys file [] file.bindings) (cycles-asks answers file [] file.bindings) (λ v. again-asks answers file.again))
 outcome-asks answers options file (fault line text) = refl
 

@@ -3,9 +3,9 @@ use Rattle.std.proofs.Common.{◌≡◌, ℕ, Bool, true, false, not, ◌||◌, 
 use Rattle.pyc_annotations.specs.declared.meaning.Role.{Role}
 use Rattle.pyc_annotations.specs.Annotations.{attribute_of_value, attributes, dotted_meaning, is_base}
 use Rattle.pyc_annotations.specs.Meanings.{Meaning, class_meant, any_meant, type_meant, fixed_meant, module_meant, variable_meant, function_meant, nothing_meant}
-use Rattle.pyc_annotations.specs.Meanings.{answer_meaning, answered_attribute, attribute_in_module, attribute_of_kind, binds, builtin_meaning, class_in, fixed_meaning, found_builtin, is_any, kind_meaning, module_attribute, module_name_meaning, name_in_module, no_attribute, report_undefined, own_meaning, own_name, unannotated, unbound}
+use Rattle.pyc_annotations.specs.Meanings.{answer_meaning, attribute_in_module, attribute_of_kind, binds, builtin_meaning, class_in, fixed_meaning, found_builtin, is_any, kind_meaning, module_attribute, module_name_meaning, name_in_module, no_attribute, report_undefined, own_meaning, own_name, unannotated, unbound}
 use Rattle.pyc_ast.specs.declared.position.Position.{Position}
-use Rattle.pyc_unit_laws.proofs.AskedLemmas.{asked-after}
+use Rattle.pyc_unit_laws.proofs.AskedLemmas.{asked-after, result-and_then}
 use Rattle.pyc_unit_laws.specs.AnnotationRows.{attribute_module, attributes_keys, dotted_keys, module_in, module_of, own_module, own_name_keys}
 use Rattle.pyc_builtins.specs.declared.names.BuiltinName.{BuiltinName}
 use Rattle.pyc_builtins.specs.declared.names.BuiltinName.TheVariants as builtins
@@ -15,11 +15,14 @@ use Rattle.pyc_names.specs.declared.fixed.FixedModule.{FixedModule}
 use Rattle.pyc_names.specs.declared.fixed.FixedName.{FixedName}
 use Rattle.pyc_names.specs.FixedModules.{fixed_module, fixed_name}
 use Rattle.pyc_names.specs.Interfaces.{Interface}
-use Rattle.pyc_expression_laws.specs.AttributeRows.{module_attribute_keys}
+use Rattle.pyc_expression_laws.proofs.AskedLemmas.{asked-then_nothing}
+use Rattle.pyc_expression_laws.proofs.OutsideLemmas.{outside-asks, outside-comes}
+use Rattle.pyc_expression_laws.specs.AttributeRows.{module_attribute_keys, outside_at, outside_keys}
 use Rattle.pyc_expression_laws.specs.NameRows.{is_fixed}
 use Rattle.pyc_expression_laws.specs.Rows.{Answers, name_key}
-use Rattle.pyc_reading.specs.Answers.{Answer, NameAnswer, NameKind, name_is, order_is, member_is, presence_of}
+use Rattle.pyc_reading.specs.Answers.{Answer, NameAnswer, NameKind, name_is, order_is, member_is, presence_of, export_is}
 use Rattle.pyc_reading.specs.Answers as kind
+use Rattle.pyc_reading.specs.Outside.{ask_outside}
 use Rattle.pyc_reading.specs.Readings.{Done, and_then, asked, result_of}
 use Rattle.pyc_type_forms.specs.Types.{Ty, class_object}
 
@@ -47,6 +50,7 @@ kind_is_module kind.class_name ty = class_is_no_module ty
 kind_is_module (kind.module_name m) ty = refl
 kind_is_module (kind.fixed found) ty = refl
 kind_is_module kind.unknown ty = refl
+kind_is_module kind.opaque ty = refl
 kind_is_module kind.no_module ty = refl
 kind_is_module kind.no_name ty = refl
 kind_is_module kind.no_target ty = refl
@@ -57,6 +61,7 @@ answer_is_module (name_is found) = kind_is_module found.kind found.ty
 answer_is_module (presence_of found) = refl
 answer_is_module (order_is found) = refl
 answer_is_module (member_is found) = refl
+answer_is_module (export_is found) = refl
 
 fixed_is_no_module : (found : Option FixedName) → meant_module (fixed_meaning found) ≡ None
 fixed_is_no_module (Some found) = refl
@@ -143,10 +148,6 @@ unfolding no_attribute
 attribute_of_kind-asks answers at n found kind.no_name = refl
 attribute_of_kind-asks answers at n found _ = refl
 
-answered_attribute-asks : (answers : Answers) (at : Position) (n : List ℕ) (a : Answer) → asked answers (answered_attribute at n a) ≡ []
-answered_attribute-asks answers at n (name_is found) = attribute_of_kind-asks answers at n found found.kind
-answered_attribute-asks answers at n _ = refl
-
 attribute_of_kind-module : (answers : Answers) (at : Position) (n : List ℕ) (ty : Ty) (k : NameKind)
     → meant_module (result_of answers (attribute_of_kind at n (record { kind = k; ty = ty }) k)) ≡ module_of k
 unfolding no_attribute
@@ -158,39 +159,40 @@ attribute_of_kind-module answers at n ty kind.class_name = class_is_no_module ty
 attribute_of_kind-module answers at n ty (kind.module_name m) = refl
 attribute_of_kind-module answers at n ty (kind.fixed found) = refl
 attribute_of_kind-module answers at n ty kind.unknown = refl
+attribute_of_kind-module answers at n ty kind.opaque = refl
 attribute_of_kind-module answers at n ty kind.no_module = refl
 attribute_of_kind-module answers at n ty kind.no_name = refl
 attribute_of_kind-module answers at n ty kind.no_target = refl
 attribute_of_kind-module answers at n ty kind.cycle = refl
 
-answered_attribute-module : (answers : Answers) (at : Position) (n : List ℕ) (a : Answer) → meant_module (result_of answers (answered_attribute at n a)) ≡ module_in a
-answered_attribute-module answers at n (name_is found) = attribute_of_kind-module answers at n found.ty found.kind
-answered_attribute-module answers at n (presence_of found) = refl
-answered_attribute-module answers at n (order_is found) = refl
-answered_attribute-module answers at n (member_is found) = refl
-
 in_module-asks : (answers : Answers) (at : Position) (m : List (List ℕ)) (n : List ℕ) (found : Option FixedModule)
-    → asked answers (attribute_in_module at m n found) ≡ (if is_some found then [] else name_key m n ∷ [])
+    → asked answers (attribute_in_module at m n found) ≡ (if is_some found then [] else outside_keys answers m n)
 in_module-asks answers at m n (Some found) = refl
-in_module-asks answers at m n None = ap (λ l. name_key m n ∷ l) (answered_attribute-asks answers at n (answers (name_key m n)))
+in_module-asks answers at m n None =
+    asked-then_nothing answers (ask_outside (record { module_path = m; name = n })) (λ found. attribute_of_kind at n found found.kind) (λ found. attribute_of_kind-asks answers at n found found.kind)
+    ∙ outside-asks answers m n
 
 in_module-module : (answers : Answers) (at : Position) (m : List (List ℕ)) (n : List ℕ) (found : Option FixedModule)
-    → meant_module (result_of answers (attribute_in_module at m n found)) ≡ (if is_some found then None else module_in (answers (name_key m n)))
+    → meant_module (result_of answers (attribute_in_module at m n found)) ≡ (if is_some found then None else module_of (outside_at answers m n).kind)
 in_module-module answers at m n (Some found) = fixed_is_no_module (fixed_name found n)
-in_module-module answers at m n None = answered_attribute-module answers at n (answers (name_key m n))
+in_module-module answers at m n None =
+    let seen = outside_at answers m n in
+    ap meant_module (result-and_then answers (ask_outside (record { module_path = m; name = n })) (λ found. attribute_of_kind at n found found.kind))
+    ∙ ap (λ found. meant_module (result_of answers (attribute_of_kind at n found found.kind))) (outside-comes answers m n)
+    ∙ attribute_of_kind-module answers at n seen.ty seen.kind
 
 unless_dunder-asks : (answers : Answers) (at : Position) (m : List (List ℕ)) (n : List ℕ) (b : Bool)
-    → asked answers (if b then Done any_meant else attribute_in_module at m n (fixed_module m)) ≡ (if b || is_fixed m then [] else name_key m n ∷ [])
+    → asked answers (if b then Done any_meant else attribute_in_module at m n (fixed_module m)) ≡ (if b || is_fixed m then [] else outside_keys answers m n)
 unless_dunder-asks answers at m n true = refl
 unless_dunder-asks answers at m n false = in_module-asks answers at m n (fixed_module m)
 
 unless_dunder-module : (answers : Answers) (at : Position) (m : List (List ℕ)) (n : List ℕ) (b : Bool)
     → meant_module (result_of answers (if b then Done any_meant else attribute_in_module at m n (fixed_module m)))
-    ≡ (if b || is_fixed m then None else module_in (answers (name_key m n)))
+    ≡ (if b || is_fixed m then None else module_of (outside_at answers m n).kind)
 unless_dunder-module answers at m n true = refl
 unless_dunder-module answers at m n false = in_module-module answers at m n (fixed_module m)
 
-module_attribute-asks : (answers : Answers) (at : Position) (m : List (List ℕ)) (n : List ℕ) → asked answers (module_attribute at m n) ≡ module_attribute_keys m n
+module_attribute-asks : (answers : Answers) (at : Position) (m : List (List ℕ)) (n : List ℕ) → asked answers (module_attribute at m n) ≡ module_attribute_keys answers m n
 unfolding module_attribute
 module_attribute-asks answers at m n = unless_dunder-asks answers at m n (is_dunder n)
 
@@ -213,7 +215,7 @@ unfolding attributes and_then
 attributes-asks answers r at [] found = refl
 attributes-asks answers r at (n ∷ names) (module_meant m) =
     let attribute = module_attribute at m n in
-    asked-after answers attribute (attributes r at names) (module_attribute_keys m n) (attributes_keys answers names (attribute_module answers m n))
+    asked-after answers attribute (attributes r at names) (module_attribute_keys answers m n) (attributes_keys answers names (attribute_module answers m n))
     (module_attribute-asks answers at m n)
     (attributes-asks answers r at names (result_of answers attribute) ∙ ap (attributes_keys answers names) (module_attribute-module answers at m n))
 attributes-asks answers r at (n ∷ names) (class_meant c) = attributes-asks answers r at names nothing_meant ∙ no_module-asks answers names

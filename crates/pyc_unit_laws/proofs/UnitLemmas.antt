@@ -18,7 +18,7 @@ use Rattle.pyc_class_ids.specs.Class.{user}
 use Rattle.pyc_expression_laws.proofs.ObligationKeyLemmas.{of-required}
 use Rattle.pyc_expression_laws.proofs.StepLemmas.{Files, files_done, files_each, files_if, files_report, files_then}
 use Rattle.pyc_functions.specs.Bodies.{class_body_reading, class_statements_read, plain_body_read, statements_unless}
-use Rattle.pyc_functions.specs.Ends.{end_read, is_stub, required_end}
+use Rattle.pyc_functions.specs.Ends.{end_read, is_idle_body, required_end}
 use Rattle.pyc_functions.specs.FunctionNames.{function_bindings, function_locals}
 use Rattle.pyc_functions.specs.Functions.{HeadTypes, begun, body_read, function_reading, inside_of, is_checked, statements_and_end_read}
 use Rattle.pyc_functions.specs.Redefined.{redefined_reported, redefinition_reading}
@@ -32,7 +32,7 @@ use Rattle.pyc_places.specs.States.{is_reachable}
 use Rattle.pyc_reading.specs.Keys.{Key}
 use Rattle.pyc_simple_statements.specs.BodyParts.{body_parts}
 use Rattle.pyc_unit_laws.proofs.ImportLemmas.{class_import_asks, import_asks, local_import_asks}
-use Rattle.pyc_unit_laws.specs.ImportRows.{module_path_of, local_name_keys, presence_keys}
+use Rattle.pyc_unit_laws.specs.ImportRows.{Answers, module_path_of, local_name_keys, presence_keys}
 use Rattle.pyc_type_forms.specs.Types.{Ty, none}
 use Rattle.pyc_unit_laws.proofs.BlockLemmas.{of-statements_read}
 use Rattle.pyc_unit_laws.proofs.SimpleLemmas.{of-body_parts}
@@ -73,14 +73,14 @@ of-statements_and_end : (outside : Body) (at : Position) (types : HeadTypes) (bi
 unfolding statements_and_end_read
 of-statements_and_end outside at types bindings statements =
     files_then _ _ (of-block (inside_of outside types.result) refl statements (begun (function_locals types.parameters bindings)))
-    (λ p. of-end_read at types.result (is_reachable p.state && not (is_stub statements)))
+    (λ p. of-end_read at types.result (is_reachable p.state && not (is_idle_body statements)))
 
 of-function : (outside : Body) → is_source_around (class_around outside.kind) ≡ true → (at : Position) (head : FunctionDefinition) (statements : Stmts)
     → Files (function_reading outside at head statements)
 unfolding function_reading body_read
 of-function outside source at head statements =
     files_then _ _ (record { all = head_of_files outside head source }) (λ types.
-    files_if (is_checked outside.options.check_untyped head) _ _
+    files_if (is_checked outside.file.is_stub outside.options.check_untyped head) _ _
     (files_then _ _ (of-again (function_bindings head.parameters statements))
     (λ u. of-statements_and_end outside at types (function_bindings head.parameters statements) statements))
     files_done)
@@ -181,17 +181,19 @@ none_asked : (keys : Alias → List Key) (names : List Alias) → ((a : Alias) �
 none_asked keys [] each = refl
 none_asked keys (a ∷ names) each = ap (λ l. l ++ flat_map keys names) (each a) ∙ none_asked keys names each
 
-module _ (file : Interface) (from : ImportFrom) (above : module_path_of file from ≡ None) where
-  presence_of_none : flat_map (λ (a : Alias). presence_keys (module_path_of file from) a.name) from.names ≡ []
-  presence_of_none = none_asked (λ (a : Alias). presence_keys (module_path_of file from) a.name) from.names (λ (a : Alias). ap (λ module_path. presence_keys module_path a.name) above)
+module _ (answers : Answers) (file : Interface) (from : ImportFrom) (above : module_path_of file from ≡ None) where
+  presence_of_none : flat_map (λ (a : Alias). presence_keys answers (module_path_of file from) a.name) from.names ≡ []
+  presence_of_none =
+      none_asked (λ (a : Alias). presence_keys answers (module_path_of file from) a.name) from.names (λ (a : Alias). ap (λ module_path. presence_keys answers module_path a.name) above)
 
-  names_of_none : flat_map (λ (a : Alias). local_name_keys (module_path_of file from) a.name) from.names ≡ []
-  names_of_none = none_asked (λ (a : Alias). local_name_keys (module_path_of file from) a.name) from.names (λ (a : Alias). ap (λ module_path. local_name_keys module_path a.name) above)
+  names_of_none : flat_map (λ (a : Alias). local_name_keys answers (module_path_of file from) a.name) from.names ≡ []
+  names_of_none =
+      none_asked (λ (a : Alias). local_name_keys answers (module_path_of file from) a.name) from.names (λ (a : Alias). ap (λ module_path. local_name_keys answers module_path a.name) above)
 
 pub climbing_import : ClimbingImportAsksNothing
 climbing_import options file at from p climbs =
     let above : module_path_of file from ≡ None = climbs-none file.is_package file.name from.path from.dots climbs in (
-      λ answers. import_asks answers options file at (plain.import_from from) ∙ presence_of_none file from above,
-      λ answers. class_import_asks answers options file at (plain.import_from from) p ∙ presence_of_none file from above,
-      λ answers. local_import_asks answers options file at (plain.import_from from) p ∙ names_of_none file from above,
+      λ answers. import_asks answers options file at (plain.import_from from) ∙ presence_of_none answers file from above,
+      λ answers. class_import_asks answers options file at (plain.import_from from) p ∙ presence_of_none answers file from above,
+      λ answers. local_import_asks answers options file at (plain.import_from from) p ∙ names_of_none answers file from above,
     )

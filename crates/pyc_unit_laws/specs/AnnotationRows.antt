@@ -14,7 +14,7 @@ use Rattle.pyc_ast.specs.declared.expr.ArgumentKind.TheVariants as argument_kind
 use Rattle.pyc_ast.specs.Exprs.{Argument, argument}
 use Rattle.pyc_builtins.specs.Members.{is_dunder}
 use Rattle.pyc_names.specs.Interfaces.{Interface}
-use Rattle.pyc_expression_laws.specs.AttributeRows.{module_attribute_keys}
+use Rattle.pyc_expression_laws.specs.AttributeRows.{module_attribute_keys, outside_at}
 use Rattle.pyc_expression_laws.specs.NameRows.{is_fixed}
 use Rattle.pyc_expression_laws.specs.Rows.{Answers, name_key}
 use Rattle.pyc_reading.specs.Answers.{Answer, NameKind, module_name, name_is}
@@ -47,15 +47,15 @@ abbrev pub own_module : Answers → Interface → List ℕ → Option (List (Lis
 own_module answers file x =
     if is_fixed file.name || not (binds file x) then None else module_in (answers (name_key file.name x))
 
--- the module that an attribute of a module stands for
+-- the module that an attribute of a module stands for, as other files see it
 abbrev pub attribute_module : Answers → List (List ℕ) → List ℕ → Option (List (List ℕ))
-attribute_module answers m n = if is_dunder n || is_fixed m then None else module_in (answers (name_key m n))
+attribute_module answers m n = if is_dunder n || is_fixed m then None else module_of (outside_at answers m n).kind
 
 -- attributes one behind another: each asks what it stands for in its module; one of what is no module asks nothing
 abbrev pub attributes_keys : Answers → List (List ℕ) → Option (List (List ℕ)) → List Key
 attributes_keys answers [] found = []
 attributes_keys answers (n ∷ names) (Some m) =
-    module_attribute_keys m n ++ attributes_keys answers names (attribute_module answers m n)
+    module_attribute_keys answers m n ++ attributes_keys answers names (attribute_module answers m n)
 attributes_keys answers (n ∷ names) None = []
 
 -- names joined by dots

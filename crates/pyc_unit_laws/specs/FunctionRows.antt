@@ -9,7 +9,7 @@ use Rattle.pyc_body_context.specs.Bodies as bodies
 use Rattle.pyc_body_context.specs.BodyNames.{body_context}
 use Rattle.pyc_unit_laws.specs.AnnotationRows.{annotation_keys}
 use Rattle.pyc_expr.specs.Values.{infer_type}
-use Rattle.pyc_functions.specs.Ends.{end_read, is_stub}
+use Rattle.pyc_functions.specs.Ends.{end_read, is_idle_body}
 use Rattle.pyc_functions.specs.FunctionNames.{function_bindings}
 use Rattle.pyc_functions.specs.Functions.{function_reading, head_read, inside_read, is_checked}
 use Rattle.pyc_functions.specs.Parameters.{parameter_read, receiver_of}
@@ -126,7 +126,8 @@ abbrev pub inside_keys : Answers → Body → FunctionDefinition → Stmts → L
 inside_keys answers outside head statements =
     asked answers (inside_of answers outside head statements)
     ++ end_keys (result_of answers (head_read outside head)).result
-    (is_reachable (result_of answers (inside_of answers outside head statements)).state && not (is_stub statements))
+    (is_reachable (result_of answers (inside_of answers outside head statements)).state
+    && not (is_idle_body statements))
 
 -- the law of functions: the head, and then the body, where that is checked
 abbrev pub FunctionReads : Type 0
@@ -134,4 +135,5 @@ FunctionReads =
     (answers : Answers) (outside : Body) (at : Position) (head : FunctionDefinition) (statements : Stmts)
     → asked answers (function_reading outside at head statements)
     ≡ head_keys answers outside head
-    ++ (if is_checked outside.options.check_untyped head then inside_keys answers outside head statements else [])
+    ++ (if is_checked outside.file.is_stub outside.options.check_untyped head
+    then inside_keys answers outside head statements else [])

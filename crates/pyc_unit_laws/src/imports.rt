@@ -3,8 +3,8 @@
 ghost use Rattle.pyc_unit_laws.specs.ImportRows.{ClassImportReads, HeaderReads, ImportReads};
 ghost use Rattle.pyc_unit_laws.specs.ImportRows.{LocalImportReads};
 
-/// An import at the top level of a module asks whether each of its modules, or each of its names, is there. It asks
-/// nothing of a fixed module, nor above the root.
+/// An import at the top level of a module asks whether each of its modules, or each of its names, is there, and of a
+/// name that is there whether its module passes it on. It asks nothing of a fixed module, nor above the root.
 pub fn import_asks()
     ensures { ImportReads }
 {}

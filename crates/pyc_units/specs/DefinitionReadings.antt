@@ -1,6 +1,6 @@
 -- What is reported of a class, of a function and of a method, as a reading (Python reference 3.13, "Function
 -- definitions", "Class definitions"; "The Python 2.3 method resolution order").
-use Rattle.std.specs.Prelude.{ℕ, if◌then◌else◌, List, ◌++◌, codes, Option, None, Some}
+use Rattle.std.specs.Prelude.{ℕ, if◌then◌else◌, List, Option, None, Some}
 use Rattle.pyc_annotations.specs.Bases.{Base, class_base, bases}
 use Rattle.pyc_ast.specs.declared.position.Position.{Position}
 use Rattle.pyc_ast.specs.Statements.{ClassDefinition, FunctionDefinition, Stmt, StmtForm, Stmts, stmt}
@@ -13,6 +13,7 @@ use Rattle.pyc_class_ids.specs.Class.{Id, user}
 use Rattle.pyc_functions.specs.Bodies.{class_body_reading}
 use Rattle.pyc_functions.specs.Functions.{function_reading}
 use Rattle.pyc_iface.specs.declared.options.Options.{Options}
+use Rattle.pyc_messages.specs.Annotations as message
 use Rattle.pyc_names.specs.Interfaces.{interface_of}
 use Rattle.pyc_names.specs.SourceFiles.{SourceFile}
 use Rattle.pyc_overrides.specs.Overrides.{overrides_read}
@@ -20,23 +21,14 @@ use Rattle.pyc_reading.specs.Answers.{Answer, order_is}
 use Rattle.pyc_reading.specs.Traces.{Step, asking}
 use Rattle.pyc_reading.specs.Keys.{class}
 use Rattle.pyc_reading.specs.Readings.{Done, Ask, Report, each, ◌>>=◌}
-use Rattle.pyc_report.specs.declared.message.Code.TheVariants.{Misc}
-use Rattle.pyc_report.specs.Message.{error_at}
 
 -- ---- the order of a class
-
-unfoldable pub base_cycle_text : List ℕ → List ℕ
-base_cycle_text name = codes "Cycle in the bases of \"" ++ (name ++ codes "\"")
-
-unfoldable pub no_order_text : List ℕ → List ℕ
-no_order_text name =
-    codes "Cannot determine consistent method resolution order (MRO) for \"" ++ (name ++ codes "\"")
 
 -- a class whose order is not known: a cycle, and a merge that fails, are reported; a base of which nothing is known is
 -- not
 abbrev pub unknown_reported : Position → List ℕ → Option UnknownMro → Step (Unit {0})
-unknown_reported at name (Some unknown.Cycle) = Report (error_at at Misc (base_cycle_text name)) (Done tt)
-unknown_reported at name (Some unknown.Merge) = Report (error_at at Misc (no_order_text name)) (Done tt)
+unknown_reported at name (Some unknown.Cycle) = Report (message.base_cycle at name) (Done tt)
+unknown_reported at name (Some unknown.Merge) = Report (message.no_order at name) (Done tt)
 unknown_reported at name _ = Done tt
 
 -- the order that an answer gives, the class itself first: why it is not known is reported

@@ -2,7 +2,7 @@
 -- defined again. It is a reading: it asks keys, and knows no other file (Python reference 3.13, "The import statement";
 -- mypy's documentation, "Missing imports", "Check that each name is defined once").
 use Rattle.std.specs.Prelude.{ℕ, ◌&&◌, is_none, is_some, if◌then◌else◌, List, [], ◌∷◌, ◌++◌}
-use Rattle.std.specs.Prelude.{codes, false, Option, Some}
+use Rattle.std.specs.Prelude.{false, Option, Some}
 use Rattle.pyc_ast.specs.declared.position.Position.{Position}
 use Rattle.pyc_ast.specs.Modules.{Outcome, tree, fault}
 use Rattle.pyc_bindings.specs.declared.place.BindingSite.{BindingSite}
@@ -12,6 +12,7 @@ use Rattle.pyc_bindings.specs.Scopes.{Part, PartForm, statement, parts_of}
 use Rattle.pyc_functions.specs.Redefined.{redefinition_reading}
 use Rattle.pyc_iface.specs.declared.options.Options.{Options}
 use Rattle.pyc_imports.specs.ImportReadings.{import_reading, ask_presence}
+use Rattle.pyc_messages.specs.Definitions as message
 use Rattle.pyc_names.specs.FixedModules.{fixed_module}
 use Rattle.pyc_names.specs.Following.{is_import_from}
 use Rattle.pyc_names.specs.Interfaces.{interface_of}
@@ -22,12 +23,6 @@ use Rattle.pyc_reading.specs.Traces.{Step, line_reported, reporting}
 use Rattle.pyc_reading.specs.Keys.{has_name}
 use Rattle.pyc_reading.specs.Readings.{Done, and_then, each}
 use Rattle.pyc_report.specs.declared.message.Code.TheVariants as code
-use Rattle.pyc_report.specs.Message.{error_at}
-
--- ---- texts
-
-unfoldable pub cycle_text : List ℕ → List ℕ
-cycle_text name = codes "Cannot resolve name \"" ++ (name ++ codes "\" (possible cyclic definition)")
 
 -- ---- imports
 
@@ -43,7 +38,7 @@ part_reading options file part = form_reading options file part.place part.form
 
 -- a name, by what its module says of it
 abbrev pub cycle_reported : Position → List ℕ → Option Presence → Step (Unit {0})
-cycle_reported at name (Some presence.Cycle) = reporting (error_at at code.Misc (cycle_text name))
+cycle_reported at name (Some presence.Cycle) = reporting (message.import_cycle at name)
 cycle_reported at name _ = Done tt
 
 -- a name of the file that a from-import declares: whether it is on a ring

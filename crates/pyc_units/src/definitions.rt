@@ -1,6 +1,6 @@
 //! The bases and orders of classes, and what their ancestors declare as well.
 
-ghost use Rattle.std.specs.Prelude.{◌≡◌, map, IfOk, option_map, string_bytes};
+ghost use Rattle.std.specs.Prelude.{map, option_map};
 ghost use Rattle.pyc_annotations.specs.Bases.{class_base};
 ghost use Rattle.pyc_annotations.specs.Views.{base_of};
 ghost use Rattle.pyc_ast.specs.StatementView.{block_of, class_of};
@@ -16,6 +16,7 @@ use pyc_body_context::declares_class;
 use pyc_class_ids::{ClassId, UnknownMro};
 use pyc_declarations::own_class;
 use pyc_iface::{Answer, Ask, Key};
+use pyc_messages::{base_cycle_text, no_order_text};
 use pyc_names::SourceFile;
 use pyc_obligations::AskTypes;
 use pyc_overrides::read_overrides;
@@ -162,29 +163,13 @@ fn report_unknown<N: Ask>(
 {
     match unknown {
         Some(UnknownMro::Cycle) => {
-            let text = base_cycle_text(alloc, name)?;
+            let text = base_cycle_text(alloc, name.as_str())?;
             report_error(recorder, at, Code::Misc, text)
         }
         Some(UnknownMro::Merge) => {
-            let text = no_order_text(alloc, name)?;
+            let text = no_order_text(alloc, name.as_str())?;
             report_error(recorder, at, Code::Misc, text)
         }
         _ => Ok(()),
     }
-}
-
-#[tactic(auto, unfolding(crate::specs::DefinitionReadings::base_cycle_text))]
-fn base_cycle_text(alloc: Global, name: &Text) -> Result<String, AllocError>
-    ensures { IfOk result (λ text. string_bytes text ≡ spec.base_cycle_text name.now) }
-{
-    let name = name.as_str();
-    format!(in alloc; "Cycle in the bases of \"{name}\"")
-}
-
-#[tactic(auto, unfolding(crate::specs::DefinitionReadings::no_order_text))]
-fn no_order_text(alloc: Global, name: &Text) -> Result<String, AllocError>
-    ensures { IfOk result (λ text. string_bytes text ≡ spec.no_order_text name.now) }
-{
-    let name = name.as_str();
-    format!(in alloc; "Cannot determine consistent method resolution order (MRO) for \"{name}\"")
 }

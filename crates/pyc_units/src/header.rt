@@ -11,12 +11,12 @@ ghost use Rattle.pyc_reading.specs.Traces.{Performs, line_reported};
 ghost use Rattle.pyc_reading.specs.Readings.{each};
 ghost use Rattle.pyc_report.specs.declared.message.Code.TheVariants as code;
 
-use crate::header_texts::cycle_text;
 use pyc_ast::{Fault, Module, Outcome, Position, Text};
 use pyc_bindings::{Binding, BindingForm, BindingSite, Part, PartForm, scope_parts};
 use pyc_functions::report_redefinitions;
 use pyc_iface::{Ask, Key, Options, Presence};
 use pyc_imports::{ImportReader, ask_presence};
+use pyc_messages::import_cycle_text;
 use pyc_names::{QualifiedName, SourceFile, fixed_module};
 use pyc_reading::{report_error, report_line};
 use pyc_report::Code;
@@ -176,7 +176,7 @@ fn report_cycle<N: Ask>(
 {
     match found {
         Some(Presence::Cycle) => {
-            let text = cycle_text(alloc, name.as_str())?;
+            let text = import_cycle_text(alloc, name.as_str())?;
             report_error(recorder, at, Code::Misc, text)
         }
         _ => Ok(()),

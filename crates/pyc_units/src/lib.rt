@@ -3,7 +3,6 @@
 
 mod definitions;
 mod header;
-mod header_texts;
 mod unit;
 mod unit_reader;
 mod units;

@@ -1,7 +1,7 @@
-use Rattle.std.proofs.Common.{◌∙◌, ◌++◌, ap, refl, sym, take}
+use Rattle.std.proofs.Common.{◌∙◌, ◌++◌, ap, refl, sym, take, arith}
 use Rattle.std.proofs.lemmas.List.{take-append-drop}
 use Rattle.std.proofs.lemmas.Result.{err_from_is_err_and}
-use Rattle.pyc_daemon.proofs.Going.{written_none, written_on}
+use Rattle.pyc_daemon.proofs.Going.{written_none, written_on, written_part}
 use Rattle.pyc_daemon.proofs.Moving.{sound_none, sound_trans, write_fault}
 use Rattle.pyc_session.proofs.CommandWords.{take_rest}
 use Rattle.pyc_daemon.proofs.writing.write_bytes.Goals as goal
@@ -19,6 +19,11 @@ loop-rest-preserved g c =
       written = written_on _ _ _ _ _ _ (take count rest) c.loop-rest.invariant.written c.in_ok-count.ensures.ok
           (sym (take-append-drop count rest) ∙ ap (λ zs. take count rest ++ zs) (sym (take_rest count rest)));
     }
+
+pub returns-in_err-count-clause-part : goal.returns-in_err-count-clause-part
+returns-in_err-count-clause-part g c =
+    let p = err_from_is_err_and c.from_residual.result c.from_residual.ensures.1 in
+    rw p.1 (written_part _ _ _ _ _ c.loop-rest.invariant.written c.in_err-count.ensures.none (omega arith))
 
 pub returns-in_err-count-clause-cause : goal.returns-in_err-count-clause-cause
 returns-in_err-count-clause-cause g c =

@@ -1,0 +1,27 @@
+-- Where what files answer is the same among other files, whatever their positions.
+use Rattle.std.specs.Prelude.{◌≡◌, Bool, List, map}
+use Rattle.pyc_declarations.specs.Looks.{entries_looks}
+use Rattle.pyc_iface.specs.CarryLaws.{AnswersStay, AreAllAlike}
+use Rattle.pyc_iface.specs.Looks.{answer_looks}
+use Rattle.pyc_interfaces.specs.BareInterfaces.{bare_interface}
+use Rattle.pyc_names.specs.Interfaces.{Interface}
+use Rattle.pyc_names.specs.Looks.{Look}
+use Rattle.pyc_reading.specs.Keys.{Key}
+
+-- positions change nothing that is looked at
+abbrev pub PositionsChangeNoLook : Type 0
+PositionsChangeNoLook =
+    (interfaces : List Interface) (key : Key)
+    → answer_looks (map bare_interface interfaces) key ≡ answer_looks interfaces key
+
+-- nor what is looked at for the classes that files declare
+abbrev pub PositionsChangeNoEntry : Type 0
+PositionsChangeNoEntry =
+    (interfaces : List Interface) → entries_looks (map bare_interface interfaces) ≡ entries_looks interfaces
+
+-- answers for which nothing is looked at that differs are the same among other files, where these are alike without
+-- positions
+abbrev pub FilesCarryOver : Type 0
+FilesCarryOver =
+    (differs : Look → Bool) (files others : List Interface)
+    → AreAllAlike differs (map bare_interface files) (map bare_interface others) → AnswersStay differs files others
