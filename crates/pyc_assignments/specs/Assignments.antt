@@ -19,34 +19,41 @@ use Rattle.pyc_type_forms.specs.Types.{Ty}
 
 -- ---- one target
 
--- a target that is no tuple or list of targets
-unfoldable pub assign_single : Reads → Position → Target → Ty → FlowState → Step FlowState
-assign_single read at to ty p = and_then (outcome read p to) (λ found. store_in_target at to found ty p)
+module _ (read : Reads) (at : Position) where
+  -- a target that is no tuple or list of targets
+  unfoldable pub assign_single : Target → Ty → FlowState → Step FlowState
+  assign_single to ty p = do
+    found ← outcome read p to
+    store_in_target at to found ty p
 
-abbrev mutual
-  -- the point after a value of a type, which begins at a position, is assigned to a target
-  pub assign_target : Reads → Position → Target → Ty → FlowState → Step FlowState
-  assign_target read at (target out inside form) ty p = form_assigned read at (target out inside form) form ty p
+  abbrev mutual
+    -- the point after a value of a type, which begins at a position, is assigned to a target
+    pub assign_target : Target → Ty → FlowState → Step FlowState
+    assign_target (target out inside form) ty p = form_assigned (target out inside form) form ty p
 
-  -- the point after a value is assigned to `whole`, by its form: to a tuple or a list of targets it is unpacked
-  pub form_assigned : Reads → Position → Target → TargetForm → Ty → FlowState → Step FlowState
-  form_assigned read at whole (unpacking elements) ty p =
-      and_then (shares_of at (has_starred elements) (target_count elements) ty)
-      (λ found. assign_each read at found 0 elements p)
-  form_assigned read at whole form ty p = assign_single read at whole ty p
+    -- the point after a value is assigned to `whole`, by its form: to a tuple or a list of targets it is unpacked
+    pub form_assigned : Target → TargetForm → Ty → FlowState → Step FlowState
+    form_assigned whole (unpacking elements) ty p = do
+      found ← shares_of at (has_starred elements) (target_count elements) ty
+      assign_each found 0 elements p
+    form_assigned whole form ty p = assign_single whole ty p
 
-  -- targets get their shares, in turn: the first has this number
-  pub assign_each : Reads → Position → Shares → ℕ → TargetElements → FlowState → Step FlowState
-  assign_each read at found index no_target p = Done p
-  assign_each read at found index (another_target (target_element starred to) rest) p =
-      and_then (assign_target read at to (share_at found index) p)
-      (λ q. assign_each read at found (index + 1) rest q)
+    -- targets get their shares, in turn: the first has this number
+    pub assign_each : Shares → ℕ → TargetElements → FlowState → Step FlowState
+    assign_each found index no_target p = Done p
+    assign_each found index (another_target (target_element starred to) rest) p = do
+      q ← assign_target to (share_at found index) p
+      assign_each found (index + 1) rest q
 
--- the point after a value is unpacked to targets
-abbrev pub unpack_value : Reads → Position → TargetElements → Ty → FlowState → Step FlowState
-unpack_value read at elements ty p =
-    and_then (shares_of at (has_starred elements) (target_count elements) ty)
-    (λ found. assign_each read at found 0 elements p)
+  -- the point after a value is unpacked to targets
+  abbrev pub unpack_value : TargetElements → Ty → FlowState → Step FlowState
+  unpack_value elements ty p = do
+    found ← shares_of at (has_starred elements) (target_count elements) ty
+    assign_each found 0 elements p
+
+  -- a target, by whether what it meets was read before
+  abbrev pub assign_one : AssignmentOutcome → Bool → Ty → Target → FlowState → Step FlowState
+  assign_one found is_first ty to p = if is_first then store_in_target at to found ty p else assign_target to ty p
 
 -- ---- assignments
 
@@ -60,30 +67,25 @@ abbrev pub first_outcome : Reads → FlowState → Option Target → Step Assign
 first_outcome read p (Some to) = outcome read p to
 first_outcome read p None = Done free_outcome
 
--- a target, by whether what it meets was read before
-abbrev pub assign_one : Reads → Position → AssignmentOutcome → Bool → Ty → Target → FlowState → Step FlowState
-assign_one read at found is_first ty to p =
-    if is_first then store_in_target at to found ty p else assign_target read at to ty p
+-- a value that begins at a position is assigned to targets, where this is what the one of a number meets
+module _ (read : Reads) (at : Position) (found : AssignmentOutcome) (first : ℕ) where
+  -- targets in turn: the first of these has this number
+  unfoldable pub assign_targets : Ty → ℕ → List Target → FlowState → Step FlowState
+  assign_targets ty index [] p = Done p
+  assign_targets ty index (to ∷ rest) p = do
+    q ← assign_one read at found (nat_eq index first) ty to p
+    assign_targets ty (index + 1) rest q
 
--- targets in turn, of which what the one of a number meets was read before: the first of these has this number
-unfoldable pub assign_targets : Reads → Position → AssignmentOutcome → (first : ℕ) → Ty → ℕ → List Target → FlowState
-    → Step FlowState
-assign_targets read at found first ty index [] p = Done p
-assign_targets read at found first ty index (to ∷ rest) p =
-    and_then (assign_one read at found (nat_eq index first) ty to p)
-    (λ q. assign_targets read at found first ty (index + 1) rest q)
-
--- a value is assigned to targets, where this is what the one of a number meets
-unfoldable pub assignment_by : Reads → (first : ℕ) → List Target → Expr → FlowState → AssignmentOutcome → Step FlowState
-assignment_by read first targets value p found =
-    and_then (infer_type_at read p value (want_of found))
-    (λ ty. assign_targets read (at_of value) found first ty 0 targets p)
+  unfoldable pub assignment_by : List Target → Expr → FlowState → Step FlowState
+  assignment_by targets value p = do
+    ty ← infer_type_at read p value (want_of found)
+    assign_targets ty 0 targets p
 
 -- an assignment to targets from left to right: the value is read with what the first single target takes
 unfoldable pub assignment : Reads → List Target → Expr → FlowState → Step FlowState
-assignment read targets value p =
-    and_then (first_outcome read p (slice_get targets (first_single targets)))
-    (assignment_by read (first_single targets) targets value p)
+assignment read targets value p = do
+  found ← first_outcome read p (slice_get targets (first_single targets))
+  assignment_by read (at_of value) found (first_single targets) targets value p
 
 -- ---- annotated assignments
 

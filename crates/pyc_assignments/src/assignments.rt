@@ -9,15 +9,16 @@ ghost use Rattle.pyc_locals.specs.Views.{flow_state_in};
 ghost use Rattle.pyc_reading.specs.Traces.{Performs};
 ghost use Rattle.pyc_type_forms.specs.TypeView.{ty_of};
 
-use crate::assigning::assign_target;
+use crate::assigning::Assigner;
 use crate::reading::{AssignmentOutcome, InferAssignment, infer_type_at};
 use crate::singles::{is_unpacking, outcome};
 use crate::storing::store_in_target;
-use pyc_ast::{Expr, Position, Target};
+use pyc_ast::{Expr, Target};
 use pyc_locals::FlowState;
 use pyc_obligations::AskTypes;
 use pyc_type_forms::Ty;
 use std::alloc::{AllocError, Global};
+use std::marker::PhantomData;
 
 /// Checks an assignment to targets from left to right, and leaves `flow_state` as it is after it. The type that the
 /// first target takes which is no tuple or list of targets is expected of the value. Reports each obligation that does
@@ -39,9 +40,18 @@ pub fn assignment<N: AskTypes, R: InferAssignment<N>>(
 {
     let first = first_single(targets);
     let found = first_outcome(alloc, recorder, reader, flow_state, targets.get(first))?;
-    assignment_by(
-        alloc, recorder, reader, targets, first, value, flow_state, &found,
-    )?;
+    let assigner = Assigner {
+        alloc,
+        reader,
+        at: value.at,
+        of: PhantomData,
+    };
+    let in_turn = TargetsInTurn {
+        assigner,
+        first,
+        found: &found,
+    };
+    in_turn.assignment_by(recorder, targets, value, flow_state)?;
     Ok(())
 }
 
@@ -77,86 +87,88 @@ fn first_outcome<N: AskTypes, R: InferAssignment<N>>(
     }
 }
 
-/// Infers the value and assigns it to targets, of which the one of the number `first` meets `found`.
-#[tactic(auto, using(pyc_obligations::proofs::Steps::performing), unfolding(crate::specs::Assignments::assignment_by))]
-fn assignment_by<N: AskTypes, R: InferAssignment<N>>(
-    alloc: Global,
-    recorder: &mut N,
-    reader: &R,
-    targets: &[Target],
+/// Assigns a value to targets from left to right, once it is known what the first single target meets.
+#[derive(Clone, Copy)]
+struct TargetsInTurn<'a, N, R> {
+    assigner: Assigner<'a, N, R>,
+    /// The number of the first single target, or how many targets there are.
     first: usize,
-    value: &Expr,
-    flow_state: &mut FlowState,
-    found: &AssignmentOutcome,
-) -> Result<(), AllocError>
-    requires { R.ready reader.now }
-    ensures { Performs (λ u. flow_state_in flow_state.new)
-        (spec.assignment_by (R.reads reader.now) first (map target_of targets.now) (expr_of value.now)
-        (flow_state_in flow_state.old) (outcome_in found.now)) (N.trace recorder.old) result (N.trace recorder.new) }
-{
-    let ty = infer_type_at(alloc, recorder, reader, flow_state, value, found.want())?;
-    assign_targets(
-        alloc, recorder, reader, value.at, found, first, &ty, targets, flow_state,
-    )?;
-    Ok(())
+    /// What an assignment to this target meets.
+    found: &'a AssignmentOutcome,
 }
 
-/// Assigns a value of type `ty` to targets in turn, of which the one of the number `first` meets `found`.
-#[tactic(auto, using(pyc_obligations::proofs::Steps::performing), unfolding(crate::specs::Assignments::assign_targets))]
-fn assign_targets<N: AskTypes, R: InferAssignment<N>>(
-    alloc: Global,
-    recorder: &mut N,
-    reader: &R,
-    at: Position,
-    found: &AssignmentOutcome,
-    first: usize,
-    ty: &Ty,
-    targets: &[Target],
-    flow_state: &mut FlowState,
-) -> Result<(), AllocError>
-    requires { R.ready reader.now }
-    ensures { Performs (λ u. flow_state_in flow_state.new)
-        (spec.assign_targets (R.reads reader.now) at (outcome_in found.now) first (ty_of ty.now) 0
-        (map target_of targets.now) (flow_state_in flow_state.old)) (N.trace recorder.old) result
-        (N.trace recorder.new) }
-{
-    for index in 0..targets.len() {
-        let is_first = index == first;
-        assign_one(
+impl<N: AskTypes, R: InferAssignment<N>> TargetsInTurn<'_, N, R> {
+    /// Infers the value and assigns it to targets.
+    #[tactic(auto, using(pyc_obligations::proofs::Steps::performing), unfolding(crate::specs::Assignments::assignment_by))]
+    fn assignment_by(
+        &self,
+        recorder: &mut N,
+        targets: &[Target],
+        value: &Expr,
+        flow_state: &mut FlowState,
+    ) -> Result<(), AllocError>
+        requires { R.ready self.now.assigner.reader.now }
+        ensures { Performs (λ u. flow_state_in flow_state.new)
+            (spec.assignment_by (R.reads self.now.assigner.reader.now) self.now.assigner.at
+            (outcome_in self.now.found.now) self.now.first (map target_of targets.now) (expr_of value.now)
+            (flow_state_in flow_state.old)) (N.trace recorder.old) result (N.trace recorder.new) }
+    {
+        let Assigner { alloc, reader, .. } = self.assigner;
+        let ty = infer_type_at(
             alloc,
             recorder,
             reader,
-            at,
-            found,
-            is_first,
-            ty,
-            &targets[index],
             flow_state,
+            value,
+            self.found.want(),
         )?;
+        self.assign_targets(recorder, &ty, targets, flow_state)?;
+        Ok(())
     }
-    Ok(())
-}
 
-/// Assigns a value of type `ty` to a target, by whether `found`, which was read before, is what it meets.
-fn assign_one<N: AskTypes, R: InferAssignment<N>>(
-    alloc: Global,
-    recorder: &mut N,
-    reader: &R,
-    at: Position,
-    found: &AssignmentOutcome,
-    is_first: bool,
-    ty: &Ty,
-    target: &Target,
-    flow_state: &mut FlowState,
-) -> Result<(), AllocError>
-    requires { R.ready reader.now }
-    ensures { Performs (λ u. flow_state_in flow_state.new)
-        (spec.assign_one (R.reads reader.now) at (outcome_in found.now) is_first (ty_of ty.now)
-        (target_of target.now) (flow_state_in flow_state.old)) (N.trace recorder.old) result (N.trace recorder.new) }
-{
-    if is_first {
-        store_in_target(alloc, recorder, at, target, found, ty, flow_state)
-    } else {
-        assign_target(alloc, recorder, reader, at, target, ty, flow_state)
+    /// Assigns a value of type `ty` to targets in turn.
+    #[tactic(auto, using(pyc_obligations::proofs::Steps::performing), unfolding(crate::specs::Assignments::assign_targets))]
+    fn assign_targets(
+        &self,
+        recorder: &mut N,
+        ty: &Ty,
+        targets: &[Target],
+        flow_state: &mut FlowState,
+    ) -> Result<(), AllocError>
+        requires { R.ready self.now.assigner.reader.now }
+        ensures { Performs (λ u. flow_state_in flow_state.new)
+            (spec.assign_targets (R.reads self.now.assigner.reader.now) self.now.assigner.at
+            (outcome_in self.now.found.now) self.now.first (ty_of ty.now) 0 (map target_of targets.now)
+            (flow_state_in flow_state.old)) (N.trace recorder.old) result (N.trace recorder.new) }
+    {
+        for index in 0..targets.len() {
+            let is_first = index == self.first;
+            self.assign_one(recorder, is_first, ty, &targets[index], flow_state)?;
+        }
+        Ok(())
+    }
+
+    /// Assigns a value of type `ty` to a target, by whether what was read before is what it meets.
+    fn assign_one(
+        &self,
+        recorder: &mut N,
+        is_first: bool,
+        ty: &Ty,
+        target: &Target,
+        flow_state: &mut FlowState,
+    ) -> Result<(), AllocError>
+        requires { R.ready self.now.assigner.reader.now }
+        ensures { Performs (λ u. flow_state_in flow_state.new)
+            (spec.assign_one (R.reads self.now.assigner.reader.now) self.now.assigner.at
+            (outcome_in self.now.found.now) is_first (ty_of ty.now) (target_of target.now)
+            (flow_state_in flow_state.old)) (N.trace recorder.old) result (N.trace recorder.new) }
+    {
+        if is_first {
+            let Assigner { alloc, at, .. } = self.assigner;
+            store_in_target(alloc, recorder, at, target, self.found, ty, flow_state)
+        } else {
+            self.assigner
+                .assign_target(recorder, target, ty, flow_state)
+        }
     }
 }

@@ -11,7 +11,7 @@ mod storing;
 mod unpacking;
 
 pub use annotated::annotated_assignment;
-pub use assigning::assign_target;
+pub use assigning::Assigner;
 pub use assignments::assignment;
 pub use reading::{AssignmentOutcome, InferAssignment};
 pub use singles::outcome;

@@ -10,7 +10,6 @@ ghost use Rattle.pyc_simple_statements.specs.Views.{operands_in};
 ghost use Rattle.pyc_type_forms.specs.TypeView.{ty_of};
 
 use crate::reader::StatementReader;
-use pyc_assignments::assign_target;
 use pyc_ast::{AugmentedAssignment, Operator};
 use pyc_class_ids::ClassId;
 use pyc_expr_forms::MethodCaller;
@@ -97,15 +96,7 @@ impl StatementReader<'_> {
             (flow_state_in flow_state.old)) (N.trace recorder.old) result (N.trace recorder.new) }
     {
         let ty = self.operation_type(recorder, found, operands)?;
-        assign_target(
-            self.alloc,
-            recorder,
-            self.body,
-            found.value.at,
-            &found.target,
-            &ty,
-            flow_state,
-        )
+        self.assign_target(recorder, found.value.at, &found.target, &ty, flow_state)
     }
 
     /// The type of the operation.

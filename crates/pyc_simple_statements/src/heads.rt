@@ -10,7 +10,6 @@ ghost use Rattle.pyc_simple_statements.specs.Heads as spec;
 ghost use Rattle.pyc_type_forms.specs.TypeView.{ty_of};
 
 use crate::reader::StatementReader;
-use pyc_assignments::assign_target;
 use pyc_ast::{For, Position, Target, WithItem};
 use pyc_locals::{FlowState, drop_places};
 use pyc_obligations::AskTypes;
@@ -37,15 +36,7 @@ impl StatementReader<'_> {
         let item = self.turn_item(recorder, head, flow_state)?;
         let state = drop_places(self.alloc, places, &flow_state.state)?;
         flow_state.set_state(state);
-        assign_target(
-            self.alloc,
-            recorder,
-            self.body,
-            head.iterable.at,
-            &head.target,
-            &item,
-            flow_state,
-        )
+        self.assign_target(recorder, head.iterable.at, &head.target, &item, flow_state)
     }
 
     /// The type of what each turn of a `for` assigns.
@@ -112,15 +103,7 @@ impl StatementReader<'_> {
             (flow_state_in flow_state.old)) (N.trace recorder.old) result (N.trace recorder.new) }
     {
         match target {
-            Some(target) => assign_target(
-                self.alloc,
-                recorder,
-                self.body,
-                at,
-                target,
-                &Ty::Any,
-                flow_state,
-            ),
+            Some(target) => self.assign_target(recorder, at, target, &Ty::Any, flow_state),
             None => Ok(()),
         }
     }

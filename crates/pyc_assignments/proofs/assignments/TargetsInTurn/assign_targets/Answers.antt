@@ -7,12 +7,12 @@ use Rattle.pyc_assignments.specs.Views.{outcome_in}
 use Rattle.pyc_locals.specs.Views.{flow_state_in}
 use Rattle.pyc_reading.proofs.RunLemmas.{grown_trans}
 use Rattle.pyc_type_forms.specs.TypeView.{ty_of}
-use Rattle.pyc_assignments.proofs.assignments.assign_targets.Goals as goal
+use Rattle.pyc_assignments.proofs.assignments.TargetsInTurn.assign_targets.Goals as goal
 
 pub loop-index-preserved : goal.loop-index-preserved
 loop-index-preserved g c = record {
   same =
-      target_turn (g.R.InferAssignment.reads c.args.reader.now) c.args.at (outcome_in c.args.found.now) c.args.first (ty_of c.args.ty.now) c.args.targets.now c.loop-index.index c.index-targets-index.result (flow_state_in c.loop-index.flow_state) _ _ _ c.loop-index-test.true c.index-targets-index.is c.in_ok-assign_one.ensures.done
+      target_turn (g.R.InferAssignment.reads c.args.self.now.assigner.reader.now) c.args.self.now.assigner.at (outcome_in c.args.self.now.found.now) c.args.self.now.first (ty_of c.args.ty.now) c.args.targets.now c.loop-index.index c.index-targets-index.result (flow_state_in c.loop-index.flow_state) _ _ _ c.loop-index-test.true c.index-targets-index.is c.in_ok-assign_one.ensures.done
       ∙ c.loop-index.invariant.same;
   grown = grown_trans c.loop-index.invariant.grown c.assign_one.ensures.grown;
 }

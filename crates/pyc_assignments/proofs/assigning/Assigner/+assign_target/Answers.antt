@@ -10,12 +10,12 @@ use Rattle.pyc_locals.specs.Views.{flow_state_in}
 use Rattle.pyc_reading.proofs.RunLemmas.{grown_trans}
 use Rattle.pyc_reading.specs.Traces.{run}
 use Rattle.pyc_type_forms.specs.TypeView.{ty_of}
-use Rattle.pyc_assignments.proofs.assigning.+assign_target.Goals as goal
+use Rattle.pyc_assignments.proofs.assigning.Assigner.+assign_target.Goals as goal
 
 pub assign_each-loop-index-preserved : goal.assign_each-loop-index-preserved
 assign_each-loop-index-preserved g t c =
-    let read = g.R.InferAssignment.reads c.args.reader.now in
-    let at = c.args.at in
+    let read = g.R.InferAssignment.reads c.args.self.now.reader.now in
+    let at = c.args.self.now.at in
     let ty = ty_of c.in_ok-ty.ty in
     let p = flow_state_in c.loop-index.flow_state in
     let trace = g.N.Ask.trace c.loop-index.recorder in

@@ -1,7 +1,7 @@
 use Rattle.pyc_assignments.specs.Assignments.{assign_single}
 use Rattle.pyc_obligations.proofs.Steps.{performing}
 use Rattle.std.proofs.Common.{arith, rules}
-use Rattle.pyc_assignments.proofs.assigning.assign_single.Goals as goal
+use Rattle.pyc_assignments.proofs.assigning.Assigner.assign_single.Goals as goal
 
 pub returns-in_err-found : goal.returns-in_err-found
 unfolding assign_single

@@ -1,10 +1,8 @@
 use Rattle.pyc_obligations.proofs.Steps.{performing}
 use Rattle.std.proofs.Common.{◌∙◌, Option, map, ap, sym, arith, rules}
-use Rattle.pyc_assignments.proofs.Targets.{begins_at}
 use Rattle.pyc_assignments.specs.Assignments.{assignment_by, assign_targets}
 use Rattle.pyc_assignments.specs.Reads.{infer_type_at, want_of}
 use Rattle.pyc_assignments.specs.Views.{outcome_in}
-use Rattle.pyc_ast.specs.Exprs.{at_of}
 use Rattle.pyc_ast.specs.ExprView.{expr_of}
 use Rattle.pyc_ast.specs.TargetView.{target_of}
 use Rattle.pyc_locals.specs.Views.{flow_state_in}
@@ -12,22 +10,21 @@ use Rattle.pyc_reading.proofs.RunLemmas.{after, grown_trans}
 use Rattle.pyc_reading.specs.Traces.{run}
 use Rattle.pyc_type_forms.specs.Types.{Ty}
 use Rattle.pyc_type_forms.specs.TypeView.{ty_of}
-use Rattle.pyc_assignments.proofs.assignments.assignment_by.Goals as goal
+use Rattle.pyc_assignments.proofs.assignments.TargetsInTurn.assignment_by.Goals as goal
 
 pub returns : goal.returns
 unfolding assignment_by
 returns g c =
-    let read = g.R.InferAssignment.reads c.args.reader.now in
+    let read = g.R.InferAssignment.reads c.args.self.now.assigner.reader.now in
     let p = flow_state_in c.args.flow_state.now in
     let targets = map target_of c.args.targets.now in
     let value = expr_of c.args.value.now in
-    let found = outcome_in c.args.found.now in
-    let first = c.args.first in
+    let found = outcome_in c.args.self.now.found.now in
     record {
       done =
-          after (infer_type_at read p value (want_of found)) (λ ty. assign_targets read (at_of value) found first ty 0 targets p) (g.N.Ask.trace c.args.recorder.now) _ _ _ _
+          after (infer_type_at read p value (want_of found)) (λ ty. assign_targets read c.args.self.now.assigner.at found c.args.self.now.first ty 0 targets p) (g.N.Ask.trace c.args.recorder.now) _ _ _ _
           (ap (λ (w : Option Ty). run (infer_type_at read p value w) (g.N.Ask.trace c.args.recorder.now)) (sym c.want.ensures) ∙ c.in_ok-ty.ensures.done)
-          (ap (λ at. run (assign_targets read at found first (ty_of c.in_ok-ty.ty) 0 targets p) (g.N.Ask.trace c.infer_type_at.new.recorder)) (begins_at c.args.value.now) ∙ c.in_ok-assign_targets.ensures.done);
+          c.in_ok-assign_targets.ensures.done;
       grown = grown_trans c.infer_type_at.ensures.grown c.assign_targets.ensures.grown;
     }
 
