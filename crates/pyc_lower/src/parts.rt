@@ -75,7 +75,7 @@ fn add_part<Q: Quotes>(
     names: &mut Names,
 ) -> Result<Option<ParseFault>, AllocError>
     ensures { IfOk result (λ fault. AddsPart
-        (part_in (Q.spelled lowering.now.quotes.now) (origin_of lowering.now.origin) (map line_in part.items))
+        (part_in Q.spelled (origin_of lowering.now.origin) (map line_in part.items))
         (lowered_of found.old) fault (lowered_of found.new)) }
 {
     let scan = Scan {
@@ -117,7 +117,7 @@ pub fn lower_whole<Q: Quotes>(
     names: &mut Names,
 ) -> Result<Parts, AllocError>
     ensures { IfOk result (λ parts. AnswersWhole
-        (part_in (Q.spelled lowering.now.quotes.now) (origin_of lowering.now.origin) (map line_in lines.items)) parts) }
+        (part_in Q.spelled (origin_of lowering.now.origin) (map line_in lines.items)) parts) }
 {
     let mut found = nothing(lowering.alloc);
     match add_part(lowering, lines, &mut found, names)? {
@@ -143,7 +143,7 @@ pub fn lower_parts<Q: Quotes>(
     names: &mut Names,
 ) -> Result<Parts, AllocError>
     ensures { IfOk result (λ parts. AnswersParts
-        (part_in (Q.spelled lowering.now.quotes.now) (origin_of lowering.now.origin) (map line_in lines.items)) parts) }
+        (part_in Q.spelled (origin_of lowering.now.origin) (map line_in lines.items)) parts) }
 {
     let mut found = nothing(lowering.alloc);
     let mut part = Vec::with_capacity(lowering.alloc, PART_LINES)?;

@@ -18,7 +18,7 @@ pub struct Inside<Q> {
 impl<Q: Quotes> Quotes for Inside<Q> {
     ghost use Rattle.pyc_lower.specs.Strings.{spelled_in};
 
-    ghost spelled = { λ reader text at. spelled_in (Q.spelled reader.inner) text at };
+    ghost spelled = { spelled_in Q.spelled };
 
     /// The expression that a string without prefix spells: none where it is passed over, or where its content is
     /// no expression on one logical line. The only error is that memory runs out.

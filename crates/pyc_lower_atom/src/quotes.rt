@@ -11,7 +11,7 @@ use std::alloc::{AllocError, Global};
 
 /// A reader of strings: the expression that a string's token spells, each part of it at the string's position.
 pub trait Quotes {
-    ghost spelled: { Self → List ℕ → PositionOf → Option Plain };
+    ghost spelled: { List ℕ → PositionOf → Option Plain };
 
     /// The expression that the token of this text spells.
     fn read(
@@ -21,7 +21,7 @@ pub trait Quotes {
         text: &str,
         at: Position,
     ) -> Result<Option<Expr>, AllocError>
-        ensures { IfOk result (λ found. option_map expr_of found ≡ spelled self.now text.now at) };
+        ensures { IfOk result (λ found. option_map expr_of found ≡ spelled text.now at) };
 }
 
 /// A reader to whom no string spells an expression.
@@ -31,7 +31,7 @@ pub struct Unread;
 impl Quotes for Unread {
     ghost use Rattle.std.specs.Prelude.{None};
 
-    ghost spelled = { λ _ text at. None };
+    ghost spelled = { λ text at. None };
 
     fn read(
         &self,

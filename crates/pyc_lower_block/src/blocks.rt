@@ -30,7 +30,7 @@ fn push_line<Q: Quotes>(
     names: &mut Names,
 ) -> Result<(), AllocError>
     ensures { IfOk result (λ _. map made_of found.new.items ≡ map made_of found.old.items
-        ++ separated_in (statement_in (Q.spelled lowering.now.quotes.now) (origin_of lowering.now.origin))
+        ++ separated_in (statement_in Q.spelled (origin_of lowering.now.origin))
         (separated_of statement_of line.now)) }
 {
     for item in &line.each {
@@ -49,7 +49,7 @@ fn decorators<Q: Quotes>(
     names: &mut Names,
 ) -> Result<Vec<Expr>, AllocError>
     ensures { IfOk result (λ found. map expr_of found.items
-        ≡ spec.decorators_in (Q.spelled lowering.now.quotes.now) (origin_of lowering.now.origin)
+        ≡ spec.decorators_in Q.spelled (origin_of lowering.now.origin)
         (map decorator_of marks.now)) }
 {
     let mut found = Vec::new(lowering.alloc);
@@ -67,7 +67,7 @@ fn statements<Q: Quotes>(
     names: &mut Names,
 ) -> Result<Vec<Stmt>, AllocError>
     ensures { IfOk result (λ found. map made_of found.items
-        ≡ spec.stmts_in (Q.spelled lowering.now.quotes.now) (origin_of lowering.now.origin)
+        ≡ spec.stmts_in Q.spelled (origin_of lowering.now.origin)
         (stmts_before trees.now tree.no_statement)) }
 {
     let mut found = Vec::with_capacity(lowering.alloc, trees.len())?;
@@ -85,7 +85,7 @@ pub fn into_statements<Q: Quotes>(
     names: &mut Names,
 ) -> Result<Vec<Stmt>, AllocError>
     ensures { IfOk result (λ found. map made_of found.items
-        ≡ spec.stmts_in (Q.spelled lowering.now.quotes.now) (origin_of lowering.now.origin)
+        ≡ spec.stmts_in Q.spelled (origin_of lowering.now.origin)
         (stmts_before trees.items tree.no_statement)) }
 {
     let mut found = Vec::with_capacity(lowering.alloc, trees.len())?;
@@ -104,7 +104,7 @@ fn push_statement<Q: Quotes>(
     names: &mut Names,
 ) -> Result<(), AllocError>
     ensures { IfOk result (λ _. map made_of found.new.items ≡ map made_of found.old.items
-        ++ spec.stmt_in (Q.spelled lowering.now.quotes.now) (origin_of lowering.now.origin) (stmt_of statement.now)) }
+        ++ spec.stmt_in Q.spelled (origin_of lowering.now.origin) (stmt_of statement.now)) }
 {
     match statement {
         Tree::Simple(line) => push_line(lowering, line, found, names),
@@ -130,7 +130,7 @@ fn parts<Q: Quotes>(
     names: &mut Names,
 ) -> Result<Parts, AllocError>
     ensures { IfOk result (λ found. parts_of found
-        ≡ spec.parts_in (Q.spelled lowering.now.quotes.now) (origin_of lowering.now.origin)
+        ≡ spec.parts_in Q.spelled (origin_of lowering.now.origin)
         (map expr_of decorators.items) (block_of body) (clauses_before clauses.now tree.no_clause)) }
 {
     Ok(Parts {
@@ -151,7 +151,7 @@ fn suite<Q: Quotes>(
     names: &mut Names,
 ) -> Result<Vec<Stmt>, AllocError>
     ensures { IfOk result (λ found. map made_of found.items
-        ≡ spec.suite_in (Q.spelled lowering.now.quotes.now) (origin_of lowering.now.origin) (suite_of suite.now)) }
+        ≡ spec.suite_in Q.spelled (origin_of lowering.now.origin) (suite_of suite.now)) }
 {
     match suite {
         Suite::Inline(line) => {
@@ -172,7 +172,7 @@ fn push_branch<Q: Quotes>(
     names: &mut Names,
 ) -> Result<(), AllocError>
     ensures { IfOk result (λ _. map branch_of found.new.items ≡ map branch_of found.old.items
-        ++ spec.branches_in (Q.spelled lowering.now.quotes.now) (origin_of lowering.now.origin)
+        ++ spec.branches_in Q.spelled (origin_of lowering.now.origin)
         (clauses_before (clause.now ∷ []) tree.no_clause)) }
 {
     match &*clause.header {
@@ -193,7 +193,7 @@ fn branches<Q: Quotes>(
     names: &mut Names,
 ) -> Result<Vec<Branch>, AllocError>
     ensures { IfOk result (λ found. map branch_of found.items
-        ≡ spec.branches_in (Q.spelled lowering.now.quotes.now) (origin_of lowering.now.origin)
+        ≡ spec.branches_in Q.spelled (origin_of lowering.now.origin)
         (clauses_before clauses.now tree.no_clause)) }
 {
     let mut found = Vec::new(lowering.alloc);
@@ -212,7 +212,7 @@ fn push_handler<Q: Quotes>(
     names: &mut Names,
 ) -> Result<(), AllocError>
     ensures { IfOk result (λ _. map handler_of found.new.items ≡ map handler_of found.old.items
-        ++ spec.handlers_in (Q.spelled lowering.now.quotes.now) (origin_of lowering.now.origin)
+        ++ spec.handlers_in Q.spelled (origin_of lowering.now.origin)
         (clauses_before (clause.now ∷ []) tree.no_clause)) }
 {
     match &*clause.header {
@@ -238,7 +238,7 @@ fn handlers<Q: Quotes>(
     names: &mut Names,
 ) -> Result<Vec<Handler>, AllocError>
     ensures { IfOk result (λ found. map handler_of found.items
-        ≡ spec.handlers_in (Q.spelled lowering.now.quotes.now) (origin_of lowering.now.origin)
+        ≡ spec.handlers_in Q.spelled (origin_of lowering.now.origin)
         (clauses_before clauses.now tree.no_clause)) }
 {
     let mut found = Vec::new(lowering.alloc);
@@ -257,7 +257,7 @@ fn ending_block<Q: Quotes>(
     names: &mut Names,
 ) -> Result<Vec<Stmt>, AllocError>
     ensures { IfOk result (λ found. map made_of found.items
-        ≡ spec.ending_block_in (Q.spelled lowering.now.quotes.now) (origin_of lowering.now.origin) ending
+        ≡ spec.ending_block_in Q.spelled (origin_of lowering.now.origin) ending
         (clauses_before clauses.now tree.no_clause)) }
 {
     for clause in clauses {

@@ -75,7 +75,7 @@ pub fn branch<Q: Quotes>(
     names: &mut Names,
 ) -> Result<Branch, AllocError>
     ensures { IfOk result (λ found. (let o = origin_of lowering.now.origin in branch_of found
-        ≡ plain.branch (position_at o word) (expr_in (Q.spelled lowering.now.quotes.now) o Value (tree_of test.now))
+        ≡ plain.branch (position_at o word) (expr_in Q.spelled o Value (tree_of test.now))
         (block_of body))) }
 {
     Ok(Branch {
@@ -109,7 +109,7 @@ pub fn handler<Q: Quotes>(
 ) -> Result<Handler, AllocError>
     ensures { IfOk result (λ found. (let o = origin_of lowering.now.origin in handler_of found
         ≡ plain.handler (position_at o word)
-        (Some (expr_in (Q.spelled lowering.now.quotes.now) o Value (tree_of caught.now)))
+        (Some (expr_in Q.spelled o Value (tree_of caught.now)))
         (alias_in o (option_map alias_of name.now)) (block_of body))) }
 {
     Ok(Handler {
@@ -129,7 +129,7 @@ fn condition<Q: Quotes>(
     names: &mut Names,
 ) -> Result<StmtForm, AllocError>
     ensures { IfOk result (λ found. stmt_form_of found
-        ≡ spec.condition_in (Q.spelled lowering.now.quotes.now) (origin_of lowering.now.origin) word
+        ≡ spec.condition_in Q.spelled (origin_of lowering.now.origin) word
         (tree_of test.now) (parts_of parts)) }
 {
     let test = lowering.expr(test, Role::Value, names)?;
@@ -163,7 +163,7 @@ fn with_form<Q: Quotes>(
 ) -> Result<StmtForm, AllocError>
     ensures { IfOk result (λ found. stmt_form_of found
         ≡ plain.with (is_some word_async)
-        (with_items_in (Q.spelled lowering.now.quotes.now) (origin_of lowering.now.origin) (pieces_of items.now))
+        (with_items_in Q.spelled (origin_of lowering.now.origin) (pieces_of items.now))
         (block_of body)) }
 {
     Ok(StmtForm::With {
@@ -181,7 +181,7 @@ pub fn form<Q: Quotes>(
     names: &mut Names,
 ) -> Result<StmtForm, AllocError>
     ensures { IfOk result (λ found. stmt_form_of found
-        ≡ spec.form_in (Q.spelled lowering.now.quotes.now) (origin_of lowering.now.origin)
+        ≡ spec.form_in Q.spelled (origin_of lowering.now.origin)
         (header_of first.now.header.value) (suite_suspends (suite_of first.now.suite)) (parts_of parts)) }
 {
     match &*first.header {

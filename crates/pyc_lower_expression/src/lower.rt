@@ -59,7 +59,7 @@ impl<Q: Quotes> Lowering<'_, Q> {
     /// A string that may be an annotation.
     fn string_annotation(&self, token: Token, names: &mut Names) -> Result<Expr, AllocError>
         ensures { IfOk result (λ e. expr_of e ≡ (let o = origin_of self.now.origin in
-            spec.with_position (position_at o token) (spec.string_annotation_form (Q.spelled self.now.quotes.now) o
+            spec.with_position (position_at o token) (spec.string_annotation_form Q.spelled o
             token))) }
     {
         let at = self.origin.position(token);
@@ -86,7 +86,7 @@ impl<Q: Quotes> Lowering<'_, Q> {
     ) -> Result<Expr, AllocError>
         ensures { IfOk result (λ e. expr_of e ≡ (let o = origin_of self.now.origin in
             spec.with_position (position_at o first)
-            (spec.strings_form (Q.spelled self.now.quotes.now) o role first more.now))) }
+            (spec.strings_form Q.spelled o role first more.now))) }
     {
         if role.is_annotation() && more.is_empty() {
             return self.string_annotation(first, names);
@@ -109,7 +109,7 @@ impl<Q: Quotes> Lowering<'_, Q> {
     #[cycle(lower)]
     pub fn expr(&self, expr: &Tree, role: Role, names: &mut Names) -> Result<Expr, AllocError>
         ensures { IfOk result (λ e. expr_of e
-            ≡ spec.expr_in (Q.spelled self.now.quotes.now) (origin_of self.now.origin) role (tree_of expr.now)) }
+            ≡ spec.expr_in Q.spelled (origin_of self.now.origin) role (tree_of expr.now)) }
     {
         match expr {
             Tree::Name(token) => self.name(*token, names),
@@ -152,7 +152,7 @@ impl<Q: Quotes> Lowering<'_, Q> {
         names: &mut Names,
     ) -> Result<Expr, AllocError>
         ensures { IfOk result (λ e. expr_of e
-            ≡ (let s = Q.spelled self.now.quotes.now in
+            ≡ (let s = Q.spelled in
             let o = origin_of self.now.origin in
             let p = pieces_of items.now in
             spec.with_position (position_at o opening)
@@ -184,7 +184,7 @@ impl<Q: Quotes> Lowering<'_, Q> {
     fn operation(&self, expr: &Tree, role: Role, names: &mut Names) -> Result<Expr, AllocError>
         requires { is_atom (tree_of expr.now) ≡ false }
         ensures { IfOk result (λ e. expr_of e
-            ≡ spec.expr_in (Q.spelled self.now.quotes.now) (origin_of self.now.origin) role (tree_of expr.now)) }
+            ≡ spec.expr_in Q.spelled (origin_of self.now.origin) role (tree_of expr.now)) }
     {
         match expr {
             Tree::Attribute(value, _, name) => {
@@ -248,7 +248,7 @@ impl<Q: Quotes> Lowering<'_, Q> {
             let p = pieces_of items.now in
             spec.following (expr_of callee) (plain.call (expr_of callee) (plain.arguments
             (spec.arguments_or_generator (position_at o opening) p
-            (spec.arguments_in (Q.spelled self.now.quotes.now) o (spec.first_role role p) role p)))))) }
+            (spec.arguments_in Q.spelled o (spec.first_role role p) role p)))))) }
     {
         let found = self.arguments(items, role, names)?;
         build::call_with_items(
@@ -272,7 +272,7 @@ impl<Q: Quotes> Lowering<'_, Q> {
         ensures { IfOk result (λ e. expr_of e
             ≡ (let p = pieces_of items.now in
             spec.following (expr_of value) (plain.subscript (expr_of value) (spec.subscript_of p
-            (spec.indices_in (Q.spelled self.now.quotes.now) (origin_of self.now.origin) role p))))) }
+            (spec.indices_in Q.spelled (origin_of self.now.origin) role p))))) }
     {
         let index = self.subscript(items, role, names)?;
         build::subscript(self.alloc, value, index)
@@ -290,7 +290,7 @@ impl<Q: Quotes> Lowering<'_, Q> {
     ) -> Result<Expr, AllocError>
         ensures { IfOk result (λ e. expr_of e
             ≡ spec.following (expr_of left) (operators.operation sign (expr_of left)
-            (spec.expr_in (Q.spelled self.now.quotes.now) (origin_of self.now.origin) role (tree_of right.now)))) }
+            (spec.expr_in Q.spelled (origin_of self.now.origin) role (tree_of right.now)))) }
     {
         let right = self.expr(right, role, names)?;
         build::binary(self.alloc, left, sign, right)
@@ -307,7 +307,7 @@ impl<Q: Quotes> Lowering<'_, Q> {
     ) -> Result<Expr, AllocError>
         ensures { IfOk result (λ e. expr_of e
             ≡ spec.following (expr_of left) (plain.compare (expr_of left) (plain.comparisons
-            (spec.comparisons_in (Q.spelled self.now.quotes.now) (origin_of self.now.origin) role
+            (spec.comparisons_in Q.spelled (origin_of self.now.origin) role
             (links_before links.now tree.unlinked))))) }
     {
         let rest = self.comparisons(links, role, names)?;
@@ -326,7 +326,7 @@ impl<Q: Quotes> Lowering<'_, Q> {
     ) -> Result<Expr, AllocError>
         ensures { IfOk result (λ e. expr_of e
             ≡ spec.following (expr_of body) (plain.conditional (expr_of test) (expr_of body)
-            (spec.expr_in (Q.spelled self.now.quotes.now) (origin_of self.now.origin) role (tree_of orelse.now)))) }
+            (spec.expr_in Q.spelled (origin_of self.now.origin) role (tree_of orelse.now)))) }
     {
         let orelse = self.expr(orelse, role, names)?;
         build::conditional(self.alloc, test, body, orelse)
@@ -338,7 +338,7 @@ impl<Q: Quotes> Lowering<'_, Q> {
         requires no_atom { is_atom (tree_of expr.now) ≡ false }
         requires no_operation { is_operation (tree_of expr.now) ≡ false }
         ensures { IfOk result (λ e. expr_of e
-            ≡ spec.expr_in (Q.spelled self.now.quotes.now) (origin_of self.now.origin) role (tree_of expr.now)) }
+            ≡ spec.expr_in Q.spelled (origin_of self.now.origin) role (tree_of expr.now)) }
     {
         match expr {
             Tree::Starred(_, value) => self.expr(value, role, names),
@@ -361,7 +361,7 @@ impl<Q: Quotes> Lowering<'_, Q> {
         names: &mut Names,
     ) -> Result<OptionalExpr, AllocError>
         ensures { IfOk result (λ e. optional_of e
-            ≡ spec.optional_in (Q.spelled self.now.quotes.now) (origin_of self.now.origin) role (perhaps_of expr.now)) }
+            ≡ spec.optional_in Q.spelled (origin_of self.now.origin) role (perhaps_of expr.now)) }
     {
         match expr {
             Some(expr) => build::present(self.alloc, self.expr(expr, role, names)?),
@@ -378,7 +378,7 @@ impl<Q: Quotes> Lowering<'_, Q> {
         names: &mut Names,
     ) -> Result<Vec<Element>, AllocError>
         ensures { IfOk result (λ found. map element_of found.items
-            ≡ spec.elements_in (Q.spelled self.now.quotes.now) (origin_of self.now.origin) role (pieces_of items.now)) }
+            ≡ spec.elements_in Q.spelled (origin_of self.now.origin) role (pieces_of items.now)) }
     {
         let mut found = Vec::with_capacity(self.alloc, build::count(items))?;
         for piece in &items.each {
@@ -400,8 +400,8 @@ impl<Q: Quotes> Lowering<'_, Q> {
     fn dict_item(&self, item: &Tree, role: Role, names: &mut Names) -> Result<DictItem, AllocError>
         ensures { IfOk result (λ found. dict_item_of found
             ≡ (let o = origin_of self.now.origin in let t = tree_of item.now in
-            spec.dict_item_in (Q.spelled self.now.quotes.now) o role t
-            (spec.expr_in (Q.spelled self.now.quotes.now) o role t))) }
+            spec.dict_item_in Q.spelled o role t
+            (spec.expr_in Q.spelled o role t))) }
     {
         let value = self.expr(item, role, names)?;
         match item {
@@ -422,7 +422,7 @@ impl<Q: Quotes> Lowering<'_, Q> {
         names: &mut Names,
     ) -> Result<Vec<DictItem>, AllocError>
         ensures { IfOk result (λ found. map dict_item_of found.items
-            ≡ spec.dict_items_in (Q.spelled self.now.quotes.now) (origin_of self.now.origin) role
+            ≡ spec.dict_items_in Q.spelled (origin_of self.now.origin) role
             (pieces_of items.now)) }
     {
         let mut found = Vec::with_capacity(self.alloc, build::count(items))?;
@@ -447,7 +447,7 @@ impl<Q: Quotes> Lowering<'_, Q> {
         names: &mut Names,
     ) -> Result<Vec<Argument>, AllocError>
         ensures { IfOk result (λ found. map argument_of found.items ≡ (let p = pieces_of items.now in
-            spec.arguments_in (Q.spelled self.now.quotes.now) (origin_of self.now.origin)
+            spec.arguments_in Q.spelled (origin_of self.now.origin)
             (spec.first_role role p) role p)) }
     {
         let mut found = Vec::with_capacity(self.alloc, build::count(items))?;
@@ -476,7 +476,7 @@ impl<Q: Quotes> Lowering<'_, Q> {
         names: &mut Names,
     ) -> Result<Vec<Comparison>, AllocError>
         ensures { IfOk result (λ found. map comparison_of found.items
-            ≡ spec.comparisons_in (Q.spelled self.now.quotes.now) (origin_of self.now.origin) role
+            ≡ spec.comparisons_in Q.spelled (origin_of self.now.origin) role
             (links_before links.now tree.unlinked)) }
     {
         let mut found = Vec::with_capacity(self.alloc, links.len())?;
@@ -493,8 +493,8 @@ impl<Q: Quotes> Lowering<'_, Q> {
     fn index(&self, item: &Tree, role: Role, names: &mut Names) -> Result<Index, AllocError>
         ensures { IfOk result (λ found. index_of found
             ≡ (let o = origin_of self.now.origin in let t = tree_of item.now in
-            spec.index_in (Q.spelled self.now.quotes.now) o role t
-            (spec.expr_in (Q.spelled self.now.quotes.now) o role t))) }
+            spec.index_in Q.spelled o role t
+            (spec.expr_in Q.spelled o role t))) }
     {
         match item {
             Tree::Slice(lower, colon, upper) => {
@@ -526,7 +526,7 @@ impl<Q: Quotes> Lowering<'_, Q> {
         names: &mut Names,
     ) -> Result<Vec<Index>, AllocError>
         ensures { IfOk result (λ found. map index_of found.items
-            ≡ spec.indices_in (Q.spelled self.now.quotes.now) (origin_of self.now.origin) role (pieces_of items.now)) }
+            ≡ spec.indices_in Q.spelled (origin_of self.now.origin) role (pieces_of items.now)) }
     {
         let mut found = Vec::with_capacity(self.alloc, build::count(items))?;
         for piece in &items.each {
@@ -550,7 +550,7 @@ impl<Q: Quotes> Lowering<'_, Q> {
         names: &mut Names,
     ) -> Result<Index, AllocError>
         ensures { IfOk result (λ found. index_of found ≡ spec.many_indices
-            (spec.indices_in (Q.spelled self.now.quotes.now) (origin_of self.now.origin) role (pieces_of items.now))) }
+            (spec.indices_in Q.spelled (origin_of self.now.origin) role (pieces_of items.now))) }
     {
         Ok(build::many_indices(self.indices(items, role, names)?))
     }
@@ -564,7 +564,7 @@ impl<Q: Quotes> Lowering<'_, Q> {
         names: &mut Names,
     ) -> Result<Index, AllocError>
         ensures { IfOk result (λ found. index_of found ≡ (let p = pieces_of items.now in
-            spec.subscript_of p (spec.indices_in (Q.spelled self.now.quotes.now) (origin_of self.now.origin) role p))) }
+            spec.subscript_of p (spec.indices_in Q.spelled (origin_of self.now.origin) role p))) }
     {
         if !items.each.is_empty() {
             return self.many_indices(items, role, names);

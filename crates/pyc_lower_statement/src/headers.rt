@@ -59,7 +59,7 @@ pub fn for_head<Q: Quotes>(
     names: &mut Names,
 ) -> Result<For, AllocError>
     ensures { IfOk result (λ found. for_of found
-        ≡ spec.for_in (Q.spelled lowering.now.quotes.now) (origin_of lowering.now.origin) word_async
+        ≡ spec.for_in Q.spelled (origin_of lowering.now.origin) word_async
         (tree_of targets.now) (tree_of iterable.now)) }
 {
     Ok(For {
@@ -76,7 +76,7 @@ fn optional_target<Q: Quotes>(
     names: &mut Names,
 ) -> Result<Option<Target>, AllocError>
     ensures { IfOk result (λ found. option_map target_of found
-        ≡ spec.optional_target_in (Q.spelled lowering.now.quotes.now) (origin_of lowering.now.origin)
+        ≡ spec.optional_target_in Q.spelled (origin_of lowering.now.origin)
         (tail_of tail.now)) }
 {
     match tail {
@@ -92,7 +92,7 @@ fn with_target<Q: Quotes>(
     names: &mut Names,
 ) -> Result<Option<Target>, AllocError>
     ensures { IfOk result (λ found. option_map target_of found
-        ≡ spec.with_target_in (Q.spelled lowering.now.quotes.now) (origin_of lowering.now.origin) (tree_of item.now)) }
+        ≡ spec.with_target_in Q.spelled (origin_of lowering.now.origin) (tree_of item.now)) }
 {
     match item {
         Tree::WithItem(_, tail) => optional_target(lowering, tail, names),
@@ -107,7 +107,7 @@ fn with_item<Q: Quotes>(
     names: &mut Names,
 ) -> Result<WithItem, AllocError>
     ensures { IfOk result (λ found. with_item_of found
-        ≡ spec.with_item_in (Q.spelled lowering.now.quotes.now) (origin_of lowering.now.origin) (tree_of item.now)) }
+        ≡ spec.with_item_in Q.spelled (origin_of lowering.now.origin) (tree_of item.now)) }
 {
     Ok(WithItem {
         context: lowering.expr(item, Role::Value, names)?,
@@ -122,7 +122,7 @@ pub fn with_items<Q: Quotes>(
     names: &mut Names,
 ) -> Result<Vec<WithItem>, AllocError>
     ensures { IfOk result (λ found. map with_item_of found.items
-        ≡ spec.with_items_in (Q.spelled lowering.now.quotes.now) (origin_of lowering.now.origin)
+        ≡ spec.with_items_in Q.spelled (origin_of lowering.now.origin)
         (pieces_of items.now)) }
 {
     let mut found = Vec::new(lowering.alloc);
@@ -146,7 +146,7 @@ pub fn definition<Q: Quotes>(
     names: &mut Names,
 ) -> Result<StmtForm, AllocError>
     ensures { IfOk result (λ found. stmt_form_of found
-        ≡ spec.definition_in (Q.spelled lowering.now.quotes.now) (origin_of lowering.now.origin)
+        ≡ spec.definition_in Q.spelled (origin_of lowering.now.origin)
         (map expr_of decorators.items) suspends (header_of header.now) (block_of body)) }
 {
     let alloc = lowering.alloc;

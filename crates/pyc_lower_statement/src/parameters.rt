@@ -22,7 +22,7 @@ pub fn optional_expression<Q: Quotes>(
     names: &mut Names,
 ) -> Result<Option<Box<Expr>>, AllocError>
     ensures { IfOk result (λ found. boxed_expr_of found
-        ≡ spec.perhaps_in (Q.spelled lowering.now.quotes.now) (origin_of lowering.now.origin) role
+        ≡ spec.perhaps_in Q.spelled (origin_of lowering.now.origin) role
         (perhaps_of tree.now)) }
 {
     match tree {
@@ -42,7 +42,7 @@ pub fn tail<Q: Quotes>(
     names: &mut Names,
 ) -> Result<Option<Expr>, AllocError>
     ensures { IfOk result (λ found. option_map expr_of found
-        ≡ spec.tail_in (Q.spelled lowering.now.quotes.now) (origin_of lowering.now.origin) role (tail_of tail.now)) }
+        ≡ spec.tail_in Q.spelled (origin_of lowering.now.origin) role (tail_of tail.now)) }
 {
     match tail {
         Tail::Nothing => Ok(None),
@@ -58,7 +58,7 @@ pub fn boxed_tail<Q: Quotes>(
     names: &mut Names,
 ) -> Result<Option<Box<Expr>>, AllocError>
     ensures { IfOk result (λ found. boxed_expr_of found
-        ≡ spec.tail_in (Q.spelled lowering.now.quotes.now) (origin_of lowering.now.origin) role (tail_of tail.now)) }
+        ≡ spec.tail_in Q.spelled (origin_of lowering.now.origin) role (tail_of tail.now)) }
 {
     match tail {
         Tail::Nothing => Ok(None),
@@ -106,7 +106,7 @@ fn parameter<Q: Quotes>(
     names: &mut Names,
 ) -> Result<Option<Parameter>, AllocError>
     ensures { IfOk result (λ found. option_map parameter_of found
-        ≡ spec.parameter_in (Q.spelled lowering.now.quotes.now) (origin_of lowering.now.origin) after_star
+        ≡ spec.parameter_in Q.spelled (origin_of lowering.now.origin) after_star
         (tree_of tree.now)) }
 {
     match tree {
@@ -145,7 +145,7 @@ fn push_parameter<Q: Quotes>(
 ) -> Result<(), AllocError>
     ensures { IfOk result (λ _. map parameter_of found.new.items ≡ map parameter_of found.old.items
         ++ cons_option
-        (spec.parameter_in (Q.spelled lowering.now.quotes.now) (origin_of lowering.now.origin) after_star
+        (spec.parameter_in Q.spelled (origin_of lowering.now.origin) after_star
         (tree_of tree.now)) []) }
 {
     match parameter(lowering, tree, after_star, names)? {
@@ -161,7 +161,7 @@ pub fn parameters<Q: Quotes>(
     names: &mut Names,
 ) -> Result<Vec<Parameter>, AllocError>
     ensures { IfOk result (λ found. map parameter_of found.items
-        ≡ spec.parameters_in (Q.spelled lowering.now.quotes.now) (origin_of lowering.now.origin) false
+        ≡ spec.parameters_in Q.spelled (origin_of lowering.now.origin) false
         (pieces_of items.now)) }
 {
     let mut found = Vec::new(lowering.alloc);

@@ -37,7 +37,7 @@ fn assigned<Q: Quotes>(
     names: &mut Names,
 ) -> Result<Vec<Target>, AllocError>
     ensures { IfOk result (λ found. map target_of found.items
-        ≡ spec.assigned_in (Q.spelled lowering.now.quotes.now) (origin_of lowering.now.origin)
+        ≡ spec.assigned_in Q.spelled (origin_of lowering.now.origin)
         (map assigned_of trees.now)) }
 {
     let mut found = Vec::with_capacity(lowering.alloc, trees.len())?;
@@ -65,7 +65,7 @@ fn assign<Q: Quotes>(
     names: &mut Names,
 ) -> Result<Stmt, AllocError>
     ensures { IfOk result (λ found. stmt_of found
-        ≡ spec.statement_in (Q.spelled lowering.now.quotes.now) (origin_of lowering.now.origin)
+        ≡ spec.statement_in Q.spelled (origin_of lowering.now.origin)
         (tree.assign (map assigned_of trees.now) (tree_of value.now))) }
 {
     let targets = assigned(lowering, trees, names)?;
@@ -88,7 +88,7 @@ fn annotate<Q: Quotes>(
     names: &mut Names,
 ) -> Result<Stmt, AllocError>
     ensures { IfOk result (λ found. stmt_of found
-        ≡ spec.annotated_in (Q.spelled lowering.now.quotes.now) (origin_of lowering.now.origin) (tree_of to.now)
+        ≡ spec.annotated_in Q.spelled (origin_of lowering.now.origin) (tree_of to.now)
         (tree_of annotation.now) (tail_of value.now)) }
 {
     let made = AnnotatedAssignment {
@@ -111,7 +111,7 @@ fn augment<Q: Quotes>(
     names: &mut Names,
 ) -> Result<Stmt, AllocError>
     ensures { IfOk result (λ found. stmt_of found
-        ≡ spec.statement_in (Q.spelled lowering.now.quotes.now) (origin_of lowering.now.origin)
+        ≡ spec.statement_in Q.spelled (origin_of lowering.now.origin)
         (tree.augment (tree_of to.now) sign (tree_of value.now))) }
 {
     let made = AugmentedAssignment {
@@ -163,7 +163,7 @@ fn expression<Q: Quotes>(
     names: &mut Names,
 ) -> Result<Stmt, AllocError>
     ensures { IfOk result (λ found. stmt_of found
-        ≡ spec.statement_in (Q.spelled lowering.now.quotes.now) (origin_of lowering.now.origin)
+        ≡ spec.statement_in Q.spelled (origin_of lowering.now.origin)
         (tree.expression (tree_of value.now))) }
 {
     let value = lowering.expr(value, Role::Value, names)?;
@@ -181,7 +181,7 @@ fn lower_return<Q: Quotes>(
     names: &mut Names,
 ) -> Result<Stmt, AllocError>
     ensures { IfOk result (λ found. stmt_of found
-        ≡ spec.statement_in (Q.spelled lowering.now.quotes.now) (origin_of lowering.now.origin)
+        ≡ spec.statement_in Q.spelled (origin_of lowering.now.origin)
         (tree.return word (perhaps_of value.now))) }
 {
     let value = optional_expression(lowering, value, Role::Value, names)?;
@@ -197,7 +197,7 @@ fn raise<Q: Quotes>(
     names: &mut Names,
 ) -> Result<Stmt, AllocError>
     ensures { IfOk result (λ found. stmt_of found
-        ≡ spec.statement_in (Q.spelled lowering.now.quotes.now) (origin_of lowering.now.origin)
+        ≡ spec.statement_in Q.spelled (origin_of lowering.now.origin)
         (tree.raise word (perhaps_of exception.now) (tail_of cause.now))) }
 {
     let exception = optional_expression(lowering, exception, Role::Value, names)?;
@@ -214,7 +214,7 @@ fn assertion<Q: Quotes>(
     names: &mut Names,
 ) -> Result<Stmt, AllocError>
     ensures { IfOk result (λ found. stmt_of found
-        ≡ spec.statement_in (Q.spelled lowering.now.quotes.now) (origin_of lowering.now.origin)
+        ≡ spec.statement_in Q.spelled (origin_of lowering.now.origin)
         (tree.assert word (tree_of test.now) (tail_of message.now))) }
 {
     let test = lowering.expr(test, Role::Value, names)?;
@@ -231,7 +231,7 @@ fn delete<Q: Quotes>(
     names: &mut Names,
 ) -> Result<Stmt, AllocError>
     ensures { IfOk result (λ found. stmt_of found
-        ≡ spec.statement_in (Q.spelled lowering.now.quotes.now) (origin_of lowering.now.origin)
+        ≡ spec.statement_in Q.spelled (origin_of lowering.now.origin)
         (tree.delete word (tree_of to.now))) }
 {
     let to = target(lowering, to, names)?;
@@ -247,7 +247,7 @@ fn declare<Q: Quotes>(
     names: &mut Names,
 ) -> Result<Stmt, AllocError>
     ensures { IfOk result (λ found. stmt_of found
-        ≡ spec.statement_in (Q.spelled lowering.now.quotes.now) (origin_of lowering.now.origin)
+        ≡ spec.statement_in Q.spelled (origin_of lowering.now.origin)
         (tree.declare word (separated_of token_of tokens.now))) }
 {
     let found = declared_names(lowering, tokens, names)?;
@@ -262,7 +262,7 @@ fn import<Q: Quotes>(
     names: &mut Names,
 ) -> Result<Stmt, AllocError>
     ensures { IfOk result (λ found. stmt_of found
-        ≡ spec.statement_in (Q.spelled lowering.now.quotes.now) (origin_of lowering.now.origin)
+        ≡ spec.statement_in Q.spelled (origin_of lowering.now.origin)
         (tree.import word (separated_of module_of trees.now))) }
 {
     let found = modules(lowering, trees, names)?;
@@ -276,7 +276,7 @@ fn lower_import_from<Q: Quotes>(
     names: &mut Names,
 ) -> Result<Stmt, AllocError>
     ensures { IfOk result (λ found. stmt_of found
-        ≡ spec.statement_in (Q.spelled lowering.now.quotes.now) (origin_of lowering.now.origin)
+        ≡ spec.statement_in Q.spelled (origin_of lowering.now.origin)
         (import_from_of imported.now)) }
 {
     let found = import_from(lowering, imported, names)?;
@@ -291,7 +291,7 @@ pub fn statement<Q: Quotes>(
     names: &mut Names,
 ) -> Result<Stmt, AllocError>
     ensures { IfOk result (λ found. stmt_of found
-        ≡ spec.statement_in (Q.spelled lowering.now.quotes.now) (origin_of lowering.now.origin)
+        ≡ spec.statement_in Q.spelled (origin_of lowering.now.origin)
         (statement_of statement.now)) }
 {
     match statement {

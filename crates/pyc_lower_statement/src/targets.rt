@@ -131,7 +131,7 @@ pub fn target<Q: Quotes>(
     names: &mut Names,
 ) -> Result<Target, AllocError>
     ensures { IfOk result (λ found. target_of found
-        ≡ spec.target_in (Q.spelled lowering.now.quotes.now) (origin_of lowering.now.origin) (tree_of tree.now)) }
+        ≡ spec.target_in Q.spelled (origin_of lowering.now.origin) (tree_of tree.now)) }
 {
     match tree {
         Tree::Name(token) => {
@@ -175,7 +175,7 @@ fn elements<Q: Quotes>(
     names: &mut Names,
 ) -> Result<Vec<TargetElement>, AllocError>
     ensures { IfOk result (λ found. map target_element_of found.items
-        ≡ spec.elements_in (Q.spelled lowering.now.quotes.now) (origin_of lowering.now.origin) (pieces_of items.now)) }
+        ≡ spec.elements_in Q.spelled (origin_of lowering.now.origin) (pieces_of items.now)) }
 {
     let mut found = Vec::new(lowering.alloc);
     for piece in &items.each {

@@ -13,7 +13,7 @@ use Rattle.pyc_lower.proofs.parts.lower_parts.Goals as goal
 
 pub loop-line-init : goal.loop-line-init
 loop-line-init g c =
-    let s = g.Q.Quotes.spelled c.args.lowering.now.quotes.now in
+    let s = g.Q.Quotes.spelled in
     let o = origin_of c.args.lowering.now.origin in
     let all = map line_in c.args.lines.items in
     let gives = c.into_iter-line-iterator.ensures.into_iter_gives in
@@ -24,7 +24,7 @@ loop-line-init g c =
 
 pub returns-in-Some-2 : goal.returns-in-Some-2
 returns-in-Some-2 g c =
-    let s = g.Q.Quotes.spelled c.args.lowering.now.quotes.now in
+    let s = g.Q.Quotes.spelled in
     let o = origin_of c.args.lowering.now.origin in
     let all = map line_in c.args.lines.items in
     let part = map line_in c.loop-line.part.items in
@@ -36,7 +36,7 @@ returns-in-Some-2 g c =
 
 pub loop-line-preserved : goal.loop-line-preserved
 loop-line-preserved g c =
-    let s = g.Q.Quotes.spelled c.args.lowering.now.quotes.now in
+    let s = g.Q.Quotes.spelled in
     let o = origin_of c.args.lowering.now.origin in
     let all = map line_in c.args.lines.items in
     let part = map line_in c.loop-line.part.items in
@@ -64,7 +64,7 @@ loop-line-preserved g c =
 
 pub returns-in-Some-3 : goal.returns-in-Some-3
 returns-in-Some-3 g c =
-    let s = g.Q.Quotes.spelled c.args.lowering.now.quotes.now in
+    let s = g.Q.Quotes.spelled in
     let o = origin_of c.args.lowering.now.origin in
     let all = map line_in c.args.lines.items in
     let part = map line_in c.loop-line.part.items in
@@ -75,7 +75,7 @@ returns-in-Some-3 g c =
 
 pub returns-in-None-2 : goal.returns-in-None-2
 returns-in-None-2 g c =
-    let s = g.Q.Quotes.spelled c.args.lowering.now.quotes.now in
+    let s = g.Q.Quotes.spelled in
     let o = origin_of c.args.lowering.now.origin in
     let all = map line_in c.args.lines.items in
     let part = map line_in c.loop-line.part.items in

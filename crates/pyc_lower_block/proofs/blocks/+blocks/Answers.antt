@@ -27,7 +27,7 @@ use Rattle.pyc_lower_block.proofs.blocks.+blocks.Goals as goal
 
 pub statements-loop-statement-preserved : goal.statements-loop-statement-preserved
 statements-loop-statement-preserved g t c =
-    let s = g.Q.Quotes.spelled c.args.lowering.now.quotes.now in
+    let s = g.Q.Quotes.spelled in
     let o = origin_of c.args.lowering.now.origin in
     joined_at (λ (xs : List Stmt). spec.stmts_in s o (stmts_before xs tree.no_statement)) (λ (x : Stmt). spec.stmt_in s o (stmt_of x)) (lowered_stmts s o)
     c.args.trees.now c.loop-statement.statement-index c.statement-item.result (map made_of c.loop-statement.found.items) c.loop-statement-test.true c.statement-item.is c.loop-statement.invariant
@@ -35,7 +35,7 @@ statements-loop-statement-preserved g t c =
 
 pub statements-returns : goal.statements-returns
 statements-returns g t c =
-    let s = g.Q.Quotes.spelled c.args.lowering.now.quotes.now in
+    let s = g.Q.Quotes.spelled in
     let o = origin_of c.args.lowering.now.origin in
     ended_at (λ (xs : List Stmt). spec.stmts_in s o (stmts_before xs tree.no_statement))
     c.args.trees.now c.loop-statement.statement-index (map made_of c.loop-statement.found.items) c.loop-statement-test.false c.loop-statement.invariant (lowered_no_stmt s o)
@@ -44,7 +44,7 @@ statements-returns g t c =
 
 pub branches-loop-clause-preserved : goal.branches-loop-clause-preserved
 branches-loop-clause-preserved g t c =
-    let s = g.Q.Quotes.spelled c.args.lowering.now.quotes.now in
+    let s = g.Q.Quotes.spelled in
     let o = origin_of c.args.lowering.now.origin in
     joined_at (λ (xs : List CompoundClause). spec.branches_in s o (clauses_before xs tree.no_clause)) (branches_of s o) (lowered_branches s o)
     c.args.clauses.now c.loop-clause.clause-index c.clause-item.result (map branch_of c.loop-clause.found.items) c.loop-clause-test.true c.clause-item.is c.loop-clause.invariant
@@ -52,7 +52,7 @@ branches-loop-clause-preserved g t c =
 
 pub branches-returns : goal.branches-returns
 branches-returns g t c =
-    let s = g.Q.Quotes.spelled c.args.lowering.now.quotes.now in
+    let s = g.Q.Quotes.spelled in
     let o = origin_of c.args.lowering.now.origin in
     ended_at (λ (xs : List CompoundClause). spec.branches_in s o (clauses_before xs tree.no_clause))
     c.args.clauses.now c.loop-clause.clause-index (map branch_of c.loop-clause.found.items) c.loop-clause-test.false c.loop-clause.invariant (lowered_no_branch s o)
@@ -61,7 +61,7 @@ branches-returns g t c =
 
 pub handlers-loop-clause-preserved : goal.handlers-loop-clause-preserved
 handlers-loop-clause-preserved g t c =
-    let s = g.Q.Quotes.spelled c.args.lowering.now.quotes.now in
+    let s = g.Q.Quotes.spelled in
     let o = origin_of c.args.lowering.now.origin in
     joined_at (λ (xs : List CompoundClause). spec.handlers_in s o (clauses_before xs tree.no_clause)) (handlers_of s o) (lowered_handlers s o)
     c.args.clauses.now c.loop-clause.clause-index c.clause-item.result (map handler_of c.loop-clause.found.items) c.loop-clause-test.true c.clause-item.is c.loop-clause.invariant
@@ -69,21 +69,21 @@ handlers-loop-clause-preserved g t c =
 
 pub handlers-returns : goal.handlers-returns
 handlers-returns g t c =
-    let s = g.Q.Quotes.spelled c.args.lowering.now.quotes.now in
+    let s = g.Q.Quotes.spelled in
     let o = origin_of c.args.lowering.now.origin in
     ended_at (λ (xs : List CompoundClause). spec.handlers_in s o (clauses_before xs tree.no_clause))
     c.args.clauses.now c.loop-clause.clause-index (map handler_of c.loop-clause.found.items) c.loop-clause-test.false c.loop-clause.invariant (lowered_no_handler s o)
 
 pub push_branch-returns-in_default : goal.push_branch-returns-in_default
 push_branch-returns-in_default g t c =
-    let s = g.Q.Quotes.spelled c.args.lowering.now.quotes.now in
+    let s = g.Q.Quotes.spelled in
     let o = origin_of c.args.lowering.now.origin in
     let found = map branch_of c.args.found.now.items in
     sym (append-nil found) ∙ ap (λ (rest : List plain.Branch). found ++ rest) (sym (branch_other s o c.args.clause.now (λ t e is. c.in_default.not-Condition t e (c.deref.ensures ∙ is))))
 
 pub push_branch-returns-in_ok-push-in-Condition : goal.push_branch-returns-in_ok-push-in-Condition
 push_branch-returns-in_ok-push-in-Condition g t c =
-    let s = g.Q.Quotes.spelled c.args.lowering.now.quotes.now in
+    let s = g.Q.Quotes.spelled in
     let o = origin_of c.args.lowering.now.origin in
     let made = c.in_ok-branch-in-Condition.branch in
     let body = c.in_ok-suite-in-Condition.field-0 in
@@ -93,7 +93,7 @@ push_branch-returns-in_ok-push-in-Condition g t c =
 
 pub push_handler-returns-in_default : goal.push_handler-returns-in_default
 push_handler-returns-in_default g t c =
-    let s = g.Q.Quotes.spelled c.args.lowering.now.quotes.now in
+    let s = g.Q.Quotes.spelled in
     let o = origin_of c.args.lowering.now.origin in
     let found = map handler_of c.args.found.now.items in
     sym (append-nil found) ∙ ap (λ (rest : List plain.Handler). found ++ rest) (sym (handler_other s o c.args.clause.now
@@ -101,7 +101,7 @@ push_handler-returns-in_default g t c =
 
 pub push_handler-returns-in_ok-push-in-Except : goal.push_handler-returns-in_ok-push-in-Except
 push_handler-returns-in_ok-push-in-Except g t c =
-    let s = g.Q.Quotes.spelled c.args.lowering.now.quotes.now in
+    let s = g.Q.Quotes.spelled in
     let o = origin_of c.args.lowering.now.origin in
     let made = c.bare_handler-handler.result in
     let body = c.in_ok-suite-in-Except.field-0 in
@@ -111,7 +111,7 @@ push_handler-returns-in_ok-push-in-Except g t c =
 
 pub push_handler-returns-in_ok-push-in-ExceptOf : goal.push_handler-returns-in_ok-push-in-ExceptOf
 push_handler-returns-in_ok-push-in-ExceptOf g t c =
-    let s = g.Q.Quotes.spelled c.args.lowering.now.quotes.now in
+    let s = g.Q.Quotes.spelled in
     let o = origin_of c.args.lowering.now.origin in
     let made = c.in_ok-handler-in-ExceptOf.handler in
     let body = c.in_ok-suite-in-ExceptOf.field-0 in
@@ -123,7 +123,7 @@ push_handler-returns-in_ok-push-in-ExceptOf g t c =
 
 pub ending_block-returns-then-is_ending : goal.ending_block-returns-then-is_ending
 ending_block-returns-then-is_ending g t c =
-    let s = g.Q.Quotes.spelled c.args.lowering.now.quotes.now in
+    let s = g.Q.Quotes.spelled in
     let o = origin_of c.args.lowering.now.origin in
     let all = spec.ending_block_in s o c.args.ending (clauses_before c.args.clauses.now tree.no_clause) in
     let is : spec.suite_in s o (suite_of c.clause-item.result.suite) ≡ all =
@@ -134,7 +134,7 @@ ending_block-returns-then-is_ending g t c =
 
 pub ending_block-loop-clause-preserved : goal.ending_block-loop-clause-preserved
 ending_block-loop-clause-preserved g t c =
-    let s = g.Q.Quotes.spelled c.args.lowering.now.quotes.now in
+    let s = g.Q.Quotes.spelled in
     let o = origin_of c.args.lowering.now.origin in
     skipped_at (λ (xs : List CompoundClause). spec.ending_block_in s o c.args.ending (clauses_before xs tree.no_clause)) (λ (x : CompoundClause). spec.is_ending c.args.ending (header_of x.header.value))
     (λ (x : CompoundClause). spec.suite_in s o (suite_of x.suite)) (lowered_ended s o c.args.ending) c.args.clauses.now c.loop-clause.clause-index c.clause-item.result c.loop-clause-test.true c.clause-item.is
@@ -142,7 +142,7 @@ ending_block-loop-clause-preserved g t c =
 
 pub ending_block-returns : goal.ending_block-returns
 ending_block-returns g t c =
-    let s = g.Q.Quotes.spelled c.args.lowering.now.quotes.now in
+    let s = g.Q.Quotes.spelled in
     let o = origin_of c.args.lowering.now.origin in
     ap (map made_of) c.new.ensures.items ∙ sym (lowered_not_ended s o c.args.ending)
     ∙ no_more (λ (xs : List CompoundClause). spec.ending_block_in s o c.args.ending (clauses_before xs tree.no_clause)) c.args.clauses.now c.loop-clause.clause-index c.loop-clause-test.false c.loop-clause.invariant
@@ -151,7 +151,7 @@ ending_block-returns g t c =
 
 pub push_statement-returns-in_ok-push-in-Compound : goal.push_statement-returns-in_ok-push-in-Compound
 push_statement-returns-in_ok-push-in-Compound g t c =
-    let s = g.Q.Quotes.spelled c.args.lowering.now.quotes.now in
+    let s = g.Q.Quotes.spelled in
     let o = origin_of c.args.lowering.now.origin in
     let first = c.in-Compound.first in
     let body = c.in_ok-suite-in-Compound.field-0 in

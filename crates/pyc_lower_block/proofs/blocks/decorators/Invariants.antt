@@ -8,5 +8,5 @@ use Rattle.pyc_lower_block.proofs.blocks.decorators.Given as goal
 -- the expressions made so far, and those of the decorators that are left, are those of all
 abbrev pub invariant-loop-mark : goal.invariant-loop-mark
 invariant-loop-mark g l =
-    map expr_of l.found.items ++ decorators_in (g.Q.Quotes.spelled l.lowering.quotes.now) (origin_of l.lowering.origin) (map decorator_of (drop l.mark-index l.marks))
-    ≡ decorators_in (g.Q.Quotes.spelled l.lowering.quotes.now) (origin_of l.lowering.origin) (map decorator_of l.marks)
+    map expr_of l.found.items ++ decorators_in g.Q.Quotes.spelled (origin_of l.lowering.origin) (map decorator_of (drop l.mark-index l.marks))
+    ≡ decorators_in g.Q.Quotes.spelled (origin_of l.lowering.origin) (map decorator_of l.marks)

@@ -12,7 +12,7 @@ use Rattle.pyc_lower_block.proofs.blocks.into_statements.Goals as goal
 
 pub loop-tree-preserved : goal.loop-tree-preserved
 loop-tree-preserved g c =
-    let s = g.Q.Quotes.spelled c.args.lowering.now.quotes.now in
+    let s = g.Q.Quotes.spelled in
     let o = origin_of c.args.lowering.now.origin in
     let next : into_iter_items c.loop-tree.tree-iterator ≡ c.in-Some.tree ∷ into_iter_items c.next.new.self = c.in-Some.ensures.steps.0 in (
       joined_next (λ (xs : List Stmt). spec.stmts_in s o (stmts_before xs tree.no_statement)) (λ (x : Stmt). spec.stmt_in s o (stmt_of x)) (lowered_stmts s o)
@@ -25,7 +25,7 @@ loop-tree-preserved g c =
 
 pub returns : goal.returns
 returns g c =
-    let s = g.Q.Quotes.spelled c.args.lowering.now.quotes.now in
+    let s = g.Q.Quotes.spelled in
     let o = origin_of c.args.lowering.now.origin in
     joined_end (λ (xs : List Stmt). spec.stmts_in s o (stmts_before xs tree.no_statement))
     (into_iter_items c.loop-tree.tree-iterator) (map made_of c.loop-tree.found.items) (sym c.loop-tree.invariant.1 ∙ c.in-None.ensures.steps.0) (lowered_no_stmt s o) c.loop-tree.invariant.0

@@ -12,6 +12,6 @@ use Rattle.pyc_lower_block.proofs.blocks.into_statements.Given as goal
 abbrev pub invariant-loop-tree : goal.invariant-loop-tree
 invariant-loop-tree g l =
     (map made_of l.found.items
-    ++ stmts_in (g.Q.Quotes.spelled l.lowering.quotes.now) (origin_of l.lowering.origin) (stmts_before (into_iter_items l.tree-iterator) tree.no_statement)
-    ≡ stmts_in (g.Q.Quotes.spelled l.lowering.quotes.now) (origin_of l.lowering.origin) (stmts_before l.fn.trees.items tree.no_statement))
+    ++ stmts_in g.Q.Quotes.spelled (origin_of l.lowering.origin) (stmts_before (into_iter_items l.tree-iterator) tree.no_statement)
+    ≡ stmts_in g.Q.Quotes.spelled (origin_of l.lowering.origin) (stmts_before l.fn.trees.items tree.no_statement))
     × (into_iter_len l.tree-iterator ≡ length (into_iter_items l.tree-iterator))

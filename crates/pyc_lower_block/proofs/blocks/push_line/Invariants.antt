@@ -9,6 +9,6 @@ use Rattle.pyc_lower_block.proofs.blocks.push_line.Given as goal
 abbrev pub invariant-loop-item : goal.invariant-loop-item
 invariant-loop-item g l =
     map made_of l.found.items
-    ++ separated_in (statement_in (g.Q.Quotes.spelled l.lowering.quotes.now) (origin_of l.lowering.origin)) (separated_before statement_of (drop l.item-index l.item-items) (last_item_of statement_of l.line.last))
+    ++ separated_in (statement_in g.Q.Quotes.spelled (origin_of l.lowering.origin)) (separated_before statement_of (drop l.item-index l.item-items) (last_item_of statement_of l.line.last))
     ≡ map made_of l.initial.found.items
-    ++ separated_in (statement_in (g.Q.Quotes.spelled l.lowering.quotes.now) (origin_of l.lowering.origin)) (separated_of statement_of l.line)
+    ++ separated_in (statement_in g.Q.Quotes.spelled (origin_of l.lowering.origin)) (separated_of statement_of l.line)

@@ -11,7 +11,7 @@ use Rattle.pyc_lower_statement.proofs.headers.definition.Goals as goal
 pub returns-in_default : goal.returns-in_default
 returns-in_default g c =
     let view : stmt_form_of s.Pass ≡ pass = search (rules, the_lemmas) in
-    view ∙ sym (definition_other (g.Q.Quotes.spelled c.args.lowering.now.quotes.now) (origin_of c.args.lowering.now.origin) (map expr_of c.args.decorators.items) c.args.suspends
+    view ∙ sym (definition_other g.Q.Quotes.spelled (origin_of c.args.lowering.now.origin) (map expr_of c.args.decorators.items) c.args.suspends
     c.args.header.now (block_of c.args.body) c.in_default.not-Def c.in_default.not-Class c.in_default.not-ClassOf)
 
 pub returns-in_err-arguments-in-ClassOf : goal.returns-in_err-arguments-in-ClassOf

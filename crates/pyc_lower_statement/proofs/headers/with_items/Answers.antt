@@ -16,7 +16,7 @@ use Rattle.pyc_lower_statement.proofs.headers.with_items.Goals as goal
 
 pub loop-piece-init : goal.loop-piece-init
 loop-piece-init g c =
-    let spelled = g.Q.Quotes.spelled c.args.lowering.now.quotes.now in
+    let spelled = g.Q.Quotes.spelled in
     let o = origin_of c.args.lowering.now.origin in
     let end = last_of (out-Pieces c.args.items.now).last in
     ap (λ (found : List WithItemOf). map with_item_of found ++ with_items_in spelled o (pieces_before c.deref-piece-items.result.now end)) c.new-found.ensures.items
@@ -24,7 +24,7 @@ loop-piece-init g c =
 
 pub loop-piece-preserved : goal.loop-piece-preserved
 loop-piece-preserved g c =
-    let spelled = g.Q.Quotes.spelled c.args.lowering.now.quotes.now in
+    let spelled = g.Q.Quotes.spelled in
     let o = origin_of c.args.lowering.now.origin in
     let end = last_of (out-Pieces c.args.items.now).last in
     pushed_at (λ (xs : List Piece). with_items_in spelled o (pieces_before xs end)) (λ (p : Piece). with_item_in spelled o (tree_of p.value.value))
@@ -33,7 +33,7 @@ loop-piece-preserved g c =
 
 pub returns-in_default : goal.returns-in_default
 returns-in_default g c =
-    let spelled = g.Q.Quotes.spelled c.args.lowering.now.quotes.now in
+    let spelled = g.Q.Quotes.spelled in
     let o = origin_of c.args.lowering.now.origin in
     let end = last_of (out-Pieces c.args.items.now).last in
     ended_at (λ (xs : List Piece). with_items_in spelled o (pieces_before xs end)) c.deref-piece-items.result.now c.loop-piece.piece-index (map with_item_of c.loop-piece.found.items) c.loop-piece-test.false c.loop-piece.invariant
@@ -41,7 +41,7 @@ returns-in_default g c =
 
 pub returns : goal.returns
 returns g c =
-    let spelled = g.Q.Quotes.spelled c.args.lowering.now.quotes.now in
+    let spelled = g.Q.Quotes.spelled in
     let o = origin_of c.args.lowering.now.origin in
     let end = last_of (out-Pieces c.args.items.now).last in
     last_at (λ (xs : List Piece). with_items_in spelled o (pieces_before xs end)) c.deref-piece-items.result.now c.loop-piece.piece-index (map with_item_of c.loop-piece.found.items) c.loop-piece-test.false c.loop-piece.invariant

@@ -5,7 +5,7 @@ use Rattle.pyc_lower_statement.proofs.parameters.parameter.Goals as goal
 
 pub returns-in_default : goal.returns-in_default
 returns-in_default g c =
-    sym (parameter_other (g.Q.Quotes.spelled c.args.lowering.now.quotes.now) (origin_of c.args.lowering.now.origin) c.args.after_star c.args.tree.now
+    sym (parameter_other g.Q.Quotes.spelled (origin_of c.args.lowering.now.origin) c.args.after_star c.args.tree.now
     c.in_default.not-Parameter c.in_default.not-StarParameter c.in_default.not-DoubleParameter)
 
 pub returns-in_err-boxed_tail-in-DoubleParameter : goal.returns-in_err-boxed_tail-in-DoubleParameter

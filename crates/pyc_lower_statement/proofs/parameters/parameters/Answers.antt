@@ -17,7 +17,7 @@ use Rattle.pyc_lower_statement.proofs.parameters.parameters.Goals as goal
 
 pub loop-piece-init : goal.loop-piece-init
 loop-piece-init g c =
-    let spelled = g.Q.Quotes.spelled c.args.lowering.now.quotes.now in
+    let spelled = g.Q.Quotes.spelled in
     let o = origin_of c.args.lowering.now.origin in
     let end = last_of (out-Pieces c.args.items.now).last in
     ap (λ (found : List ParameterOf). map parameter_of found ++ parameters_in spelled o false (pieces_before c.deref-piece-items.result.now end)) c.new-found.ensures.items
@@ -25,7 +25,7 @@ loop-piece-init g c =
 
 pub loop-piece-preserved : goal.loop-piece-preserved
 loop-piece-preserved g c =
-    let spelled = g.Q.Quotes.spelled c.args.lowering.now.quotes.now in
+    let spelled = g.Q.Quotes.spelled in
     let o = origin_of c.args.lowering.now.origin in
     let end = last_of (out-Pieces c.args.items.now).last in
     put_at (λ (late : Bool) (xs : List Piece). parameters_in spelled o late (pieces_before xs end)) (λ (late : Bool) (p : Piece). parameter_in spelled o late (tree_of p.value.value))
@@ -36,7 +36,7 @@ loop-piece-preserved g c =
 
 pub returns-in_default : goal.returns-in_default
 returns-in_default g c =
-    let spelled = g.Q.Quotes.spelled c.args.lowering.now.quotes.now in
+    let spelled = g.Q.Quotes.spelled in
     let o = origin_of c.args.lowering.now.origin in
     let end = last_of (out-Pieces c.args.items.now).last in
     let late = c.loop-piece.after_star in
@@ -45,7 +45,7 @@ returns-in_default g c =
 
 pub returns : goal.returns
 returns g c =
-    let spelled = g.Q.Quotes.spelled c.args.lowering.now.quotes.now in
+    let spelled = g.Q.Quotes.spelled in
     let o = origin_of c.args.lowering.now.origin in
     let end = last_of (out-Pieces c.args.items.now).last in
     let late = c.loop-piece.after_star in

@@ -8,5 +8,5 @@ use Rattle.pyc_lower_statement.proofs.statements.assigned.Given as goal
 -- the targets made so far, and those that are left, are all of them
 abbrev pub invariant-loop-tree : goal.invariant-loop-tree
 invariant-loop-tree g l =
-    map target_of l.found.items ++ assigned_in (g.Q.Quotes.spelled l.lowering.quotes.now) (origin_of l.lowering.origin) (map assigned_of (drop l.tree-index l.trees))
-    ≡ assigned_in (g.Q.Quotes.spelled l.lowering.quotes.now) (origin_of l.lowering.origin) (map assigned_of l.trees)
+    map target_of l.found.items ++ assigned_in g.Q.Quotes.spelled (origin_of l.lowering.origin) (map assigned_of (drop l.tree-index l.trees))
+    ≡ assigned_in g.Q.Quotes.spelled (origin_of l.lowering.origin) (map assigned_of l.trees)

@@ -18,12 +18,12 @@ use Rattle.pyc_lower_statement.proofs.targets.+targets.Goals as goal
 pub target-returns-in_default : goal.target-returns-in_default
 target-returns-in_default g t c =
     let d = c.in_default in
-    c.placeholder.ensures ∙ sym (target_other (g.Q.Quotes.spelled c.args.lowering.now.quotes.now) (origin_of c.args.lowering.now.origin) c.args.tree.now
+    c.placeholder.ensures ∙ sym (target_other g.Q.Quotes.spelled (origin_of c.args.lowering.now.origin) c.args.tree.now
     d.not-Name d.not-Attribute d.not-Subscript d.not-Parenthesized d.not-Display d.not-Bare d.not-Starred)
 
 pub elements-loop-piece-init : goal.elements-loop-piece-init
 elements-loop-piece-init g t c =
-    let spelled = g.Q.Quotes.spelled c.args.lowering.now.quotes.now in
+    let spelled = g.Q.Quotes.spelled in
     let o = origin_of c.args.lowering.now.origin in
     let end = last_of (out-Pieces c.args.items.now).last in
     ap (λ (found : List TargetElementOf). map target_element_of found ++ elements_in spelled o (pieces_before c.deref-piece-items.result.now end)) c.new-found.ensures.items
@@ -31,7 +31,7 @@ elements-loop-piece-init g t c =
 
 pub elements-loop-piece-preserved : goal.elements-loop-piece-preserved
 elements-loop-piece-preserved g t c =
-    let spelled = g.Q.Quotes.spelled c.args.lowering.now.quotes.now in
+    let spelled = g.Q.Quotes.spelled in
     let o = origin_of c.args.lowering.now.origin in
     let end = last_of (out-Pieces c.args.items.now).last in
     pushed_at (λ (xs : List Piece). elements_in spelled o (pieces_before xs end)) (λ (p : Piece). element_of (tree_of p.value.value) (target_in spelled o (tree_of p.value.value)))
@@ -41,7 +41,7 @@ elements-loop-piece-preserved g t c =
 
 pub elements-returns-in_default : goal.elements-returns-in_default
 elements-returns-in_default g t c =
-    let spelled = g.Q.Quotes.spelled c.args.lowering.now.quotes.now in
+    let spelled = g.Q.Quotes.spelled in
     let o = origin_of c.args.lowering.now.origin in
     let end = last_of (out-Pieces c.args.items.now).last in
     ended_at (λ (xs : List Piece). elements_in spelled o (pieces_before xs end)) c.deref-piece-items.result.now c.loop-piece.piece-index (map target_element_of c.loop-piece.found.items) c.loop-piece-test.false c.loop-piece.invariant
@@ -49,7 +49,7 @@ elements-returns-in_default g t c =
 
 pub elements-returns : goal.elements-returns
 elements-returns g t c =
-    let spelled = g.Q.Quotes.spelled c.args.lowering.now.quotes.now in
+    let spelled = g.Q.Quotes.spelled in
     let o = origin_of c.args.lowering.now.origin in
     let end = last_of (out-Pieces c.args.items.now).last in
     last_at (λ (xs : List Piece). elements_in spelled o (pieces_before xs end)) c.deref-piece-items.result.now c.loop-piece.piece-index (map target_element_of c.loop-piece.found.items) c.loop-piece-test.false c.loop-piece.invariant

@@ -23,7 +23,7 @@ use Rattle.pyc_lower_expression.proofs.lower.Lowering.+lower.Goals as goal
 
 pub elements-loop-piece-init : goal.elements-loop-piece-init
 elements-loop-piece-init g t c =
-    let s = g.Q.Quotes.spelled c.args.self.now.quotes.now in
+    let s = g.Q.Quotes.spelled in
     let o = origin_of c.args.self.now.origin in
     let end = last_of (out-Pieces c.args.items.now).last in
     started_at element_of (λ (xs : List Piece). spec.elements_in s o c.args.role (pieces_before xs end)) c.in_ok-found.found.items c.deref-piece-items.result.now (out-Pieces c.args.items.now).each.items c.in_ok-found.ensures.items c.deref-piece-items.ensures.value
@@ -31,7 +31,7 @@ elements-loop-piece-init g t c =
 
 pub elements-loop-piece-preserved : goal.elements-loop-piece-preserved
 elements-loop-piece-preserved g t c =
-    let s = g.Q.Quotes.spelled c.args.self.now.quotes.now in
+    let s = g.Q.Quotes.spelled in
     let o = origin_of c.args.self.now.origin in
     let end = last_of (out-Pieces c.args.items.now).last in
     pushed_at (λ (xs : List Piece). spec.elements_in s o c.args.role (pieces_before xs end)) (λ (p : Piece). spec.element_of (tree_of p.value.value) (spec.expr_in s o c.args.role (tree_of p.value.value)))
@@ -43,7 +43,7 @@ elements-loop-piece-preserved g t c =
 
 pub elements-returns-in-None : goal.elements-returns-in-None
 elements-returns-in-None g t c =
-    let s = g.Q.Quotes.spelled c.args.self.now.quotes.now in
+    let s = g.Q.Quotes.spelled in
     let o = origin_of c.args.self.now.origin in
     let end = last_of (out-Pieces c.args.items.now).last in
     ended_at (λ (xs : List Piece). spec.elements_in s o c.args.role (pieces_before xs end)) c.deref-piece-items.result.now c.loop-piece.piece-index (map element_of c.loop-piece.found.items) c.loop-piece-test.false c.loop-piece.invariant
@@ -51,7 +51,7 @@ elements-returns-in-None g t c =
 
 pub dict_items-loop-piece-init : goal.dict_items-loop-piece-init
 dict_items-loop-piece-init g t c =
-    let s = g.Q.Quotes.spelled c.args.self.now.quotes.now in
+    let s = g.Q.Quotes.spelled in
     let o = origin_of c.args.self.now.origin in
     let end = last_of (out-Pieces c.args.items.now).last in
     started_at dict_item_of (λ (xs : List Piece). spec.dict_items_in s o c.args.role (pieces_before xs end)) c.in_ok-found.found.items c.deref-piece-items.result.now (out-Pieces c.args.items.now).each.items c.in_ok-found.ensures.items c.deref-piece-items.ensures.value
@@ -59,7 +59,7 @@ dict_items-loop-piece-init g t c =
 
 pub dict_items-loop-piece-preserved : goal.dict_items-loop-piece-preserved
 dict_items-loop-piece-preserved g t c =
-    let s = g.Q.Quotes.spelled c.args.self.now.quotes.now in
+    let s = g.Q.Quotes.spelled in
     let o = origin_of c.args.self.now.origin in
     let end = last_of (out-Pieces c.args.items.now).last in
     pushed_at (λ (xs : List Piece). spec.dict_items_in s o c.args.role (pieces_before xs end)) (λ (p : Piece). spec.dict_item_in s o c.args.role (tree_of p.value.value) (spec.expr_in s o c.args.role (tree_of p.value.value)))
@@ -68,7 +68,7 @@ dict_items-loop-piece-preserved g t c =
 
 pub dict_items-returns-in-None : goal.dict_items-returns-in-None
 dict_items-returns-in-None g t c =
-    let s = g.Q.Quotes.spelled c.args.self.now.quotes.now in
+    let s = g.Q.Quotes.spelled in
     let o = origin_of c.args.self.now.origin in
     let end = last_of (out-Pieces c.args.items.now).last in
     ended_at (λ (xs : List Piece). spec.dict_items_in s o c.args.role (pieces_before xs end)) c.deref-piece-items.result.now c.loop-piece.piece-index (map dict_item_of c.loop-piece.found.items) c.loop-piece-test.false c.loop-piece.invariant
@@ -76,7 +76,7 @@ dict_items-returns-in-None g t c =
 
 pub indices-loop-piece-init : goal.indices-loop-piece-init
 indices-loop-piece-init g t c =
-    let s = g.Q.Quotes.spelled c.args.self.now.quotes.now in
+    let s = g.Q.Quotes.spelled in
     let o = origin_of c.args.self.now.origin in
     let end = last_of (out-Pieces c.args.items.now).last in
     started_at index_of (λ (xs : List Piece). spec.indices_in s o c.args.role (pieces_before xs end)) c.in_ok-found.found.items c.deref-piece-items.result.now (out-Pieces c.args.items.now).each.items c.in_ok-found.ensures.items c.deref-piece-items.ensures.value
@@ -84,7 +84,7 @@ indices-loop-piece-init g t c =
 
 pub indices-loop-piece-preserved : goal.indices-loop-piece-preserved
 indices-loop-piece-preserved g t c =
-    let s = g.Q.Quotes.spelled c.args.self.now.quotes.now in
+    let s = g.Q.Quotes.spelled in
     let o = origin_of c.args.self.now.origin in
     let end = last_of (out-Pieces c.args.items.now).last in
     pushed_at (λ (xs : List Piece). spec.indices_in s o c.args.role (pieces_before xs end)) (λ (p : Piece). spec.index_in s o c.args.role (tree_of p.value.value) (spec.expr_in s o c.args.role (tree_of p.value.value)))
@@ -93,7 +93,7 @@ indices-loop-piece-preserved g t c =
 
 pub indices-returns-in-None : goal.indices-returns-in-None
 indices-returns-in-None g t c =
-    let s = g.Q.Quotes.spelled c.args.self.now.quotes.now in
+    let s = g.Q.Quotes.spelled in
     let o = origin_of c.args.self.now.origin in
     let end = last_of (out-Pieces c.args.items.now).last in
     ended_at (λ (xs : List Piece). spec.indices_in s o c.args.role (pieces_before xs end)) c.deref-piece-items.result.now c.loop-piece.piece-index (map index_of c.loop-piece.found.items) c.loop-piece-test.false c.loop-piece.invariant
@@ -101,7 +101,7 @@ indices-returns-in-None g t c =
 
 pub elements-returns-in_ok-push-in-Some : goal.elements-returns-in_ok-push-in-Some
 elements-returns-in_ok-push-in-Some g t c =
-    let s = g.Q.Quotes.spelled c.args.self.now.quotes.now in
+    let s = g.Q.Quotes.spelled in
     let o = origin_of c.args.self.now.origin in
     let end = last_of (out-Pieces c.args.items.now).last in
     last_at (λ (xs : List Piece). spec.elements_in s o c.args.role (pieces_before xs end)) c.deref-piece-items.result.now c.loop-piece.piece-index (map element_of c.loop-piece.found.items) c.loop-piece-test.false c.loop-piece.invariant
@@ -113,7 +113,7 @@ elements-returns-in_ok-push-in-Some g t c =
 
 pub dict_items-returns-in_ok-push-in-Some : goal.dict_items-returns-in_ok-push-in-Some
 dict_items-returns-in_ok-push-in-Some g t c =
-    let s = g.Q.Quotes.spelled c.args.self.now.quotes.now in
+    let s = g.Q.Quotes.spelled in
     let o = origin_of c.args.self.now.origin in
     let end = last_of (out-Pieces c.args.items.now).last in
     last_at (λ (xs : List Piece). spec.dict_items_in s o c.args.role (pieces_before xs end)) c.deref-piece-items.result.now c.loop-piece.piece-index (map dict_item_of c.loop-piece.found.items) c.loop-piece-test.false c.loop-piece.invariant
@@ -122,7 +122,7 @@ dict_items-returns-in_ok-push-in-Some g t c =
 
 pub indices-returns-in_ok-push-in-Some : goal.indices-returns-in_ok-push-in-Some
 indices-returns-in_ok-push-in-Some g t c =
-    let s = g.Q.Quotes.spelled c.args.self.now.quotes.now in
+    let s = g.Q.Quotes.spelled in
     let o = origin_of c.args.self.now.origin in
     let end = last_of (out-Pieces c.args.items.now).last in
     last_at (λ (xs : List Piece). spec.indices_in s o c.args.role (pieces_before xs end)) c.deref-piece-items.result.now c.loop-piece.piece-index (map index_of c.loop-piece.found.items) c.loop-piece-test.false c.loop-piece.invariant
@@ -131,7 +131,7 @@ indices-returns-in_ok-push-in-Some g t c =
 
 pub arguments-loop-piece-init : goal.arguments-loop-piece-init
 arguments-loop-piece-init g t c =
-    let s = g.Q.Quotes.spelled c.args.self.now.quotes.now in
+    let s = g.Q.Quotes.spelled in
     let o = origin_of c.args.self.now.origin in
     let end = last_of (out-Pieces c.args.items.now).last in
     started_at argument_of (λ (xs : List Piece). spec.arguments_in s o c.first_role-next.result c.args.role (pieces_before xs end)) c.in_ok-found.found.items c.deref-piece-items.result.now (out-Pieces c.args.items.now).each.items c.in_ok-found.ensures.items c.deref-piece-items.ensures.value
@@ -140,7 +140,7 @@ arguments-loop-piece-init g t c =
 
 pub arguments-loop-piece-preserved : goal.arguments-loop-piece-preserved
 arguments-loop-piece-preserved g t c =
-    let s = g.Q.Quotes.spelled c.args.self.now.quotes.now in
+    let s = g.Q.Quotes.spelled in
     let o = origin_of c.args.self.now.origin in
     let end = last_of (out-Pieces c.args.items.now).last in
     turned_at (λ (xs : List Piece). spec.arguments_in s o c.loop-piece.next c.args.role (pieces_before xs end)) (λ (xs : List Piece). spec.arguments_in s o c.args.role c.args.role (pieces_before xs end)) (λ (p : Piece). spec.argument_of o (tree_of p.value.value) (spec.expr_in s o c.loop-piece.next (tree_of p.value.value)))
@@ -154,7 +154,7 @@ arguments-loop-piece-preserved g t c =
 
 pub arguments-returns-in-None : goal.arguments-returns-in-None
 arguments-returns-in-None g t c =
-    let s = g.Q.Quotes.spelled c.args.self.now.quotes.now in
+    let s = g.Q.Quotes.spelled in
     let o = origin_of c.args.self.now.origin in
     let end = last_of (out-Pieces c.args.items.now).last in
     ended_at (λ (xs : List Piece). spec.arguments_in s o c.loop-piece.next c.args.role (pieces_before xs end)) c.deref-piece-items.result.now c.loop-piece.piece-index (map argument_of c.loop-piece.found.items) c.loop-piece-test.false c.loop-piece.invariant
@@ -162,7 +162,7 @@ arguments-returns-in-None g t c =
 
 pub arguments-returns-in_ok-push-in-Some : goal.arguments-returns-in_ok-push-in-Some
 arguments-returns-in_ok-push-in-Some g t c =
-    let s = g.Q.Quotes.spelled c.args.self.now.quotes.now in
+    let s = g.Q.Quotes.spelled in
     let o = origin_of c.args.self.now.origin in
     let end = last_of (out-Pieces c.args.items.now).last in
     last_at (λ (xs : List Piece). spec.arguments_in s o c.loop-piece.next c.args.role (pieces_before xs end)) c.deref-piece-items.result.now c.loop-piece.piece-index (map argument_of c.loop-piece.found.items) c.loop-piece-test.false c.loop-piece.invariant
@@ -175,7 +175,7 @@ arguments-returns-in_ok-push-in-Some g t c =
 
 pub comparisons-loop-link-preserved : goal.comparisons-loop-link-preserved
 comparisons-loop-link-preserved g t c =
-    let s = g.Q.Quotes.spelled c.args.self.now.quotes.now in
+    let s = g.Q.Quotes.spelled in
     let o = origin_of c.args.self.now.origin in
     pushed_at (λ (xs : List Link). spec.comparisons_in s o c.args.role (links_before xs tree.unlinked))
     (λ (l : Link). plain.comparison (comparison_operator l.first.kind (is_some l.second)) (spec.expr_in s o c.args.role (tree_of l.right.value)))
@@ -189,14 +189,14 @@ comparisons-loop-link-preserved g t c =
 
 pub comparisons-returns : goal.comparisons-returns
 comparisons-returns g t c =
-    let s = g.Q.Quotes.spelled c.args.self.now.quotes.now in
+    let s = g.Q.Quotes.spelled in
     let o = origin_of c.args.self.now.origin in
     ended_at (λ (xs : List Link). spec.comparisons_in s o c.args.role (links_before xs tree.unlinked)) c.args.links.now c.loop-link.link-index
     (map comparison_of c.loop-link.found.items) c.loop-link-test.false c.loop-link.invariant (link_none s o c.args.role)
 
 pub dict_item-returns-in_default : goal.dict_item-returns-in_default
 dict_item-returns-in_default g t c =
-    let s = g.Q.Quotes.spelled c.args.self.now.quotes.now in
+    let s = g.Q.Quotes.spelled in
     let o = origin_of c.args.self.now.origin in
     view_Unpacking c.in_ok-value.value
     ∙ (ap plain.unpacking c.in_ok-value.ensures
@@ -204,7 +204,7 @@ dict_item-returns-in_default g t c =
 
 pub item-returns-in_default : goal.item-returns-in_default
 item-returns-in_default g t c =
-    let s = g.Q.Quotes.spelled c.args.self.now.quotes.now in
+    let s = g.Q.Quotes.spelled in
     let o = origin_of c.args.self.now.origin in
     let d = c.in_default in
     c.placeholder.ensures
@@ -238,7 +238,7 @@ operation-item-requires g t c κs within =
 
 pub index-returns-in_ok-step-in-Stride : goal.index-returns-in_ok-step-in-Stride
 index-returns-in_ok-step-in-Stride g t c =
-    let s = g.Q.Quotes.spelled c.args.self.now.quotes.now in
+    let s = g.Q.Quotes.spelled in
     let o = origin_of c.args.self.now.origin in
     let r = c.args.role in
     let i = c.in-Stride in
@@ -250,7 +250,7 @@ index-returns-in_ok-step-in-Stride g t c =
 
 pub index-returns-in_ok-expr-in_default : goal.index-returns-in_ok-expr-in_default
 index-returns-in_ok-expr-in_default g t c =
-    let s = g.Q.Quotes.spelled c.args.self.now.quotes.now in
+    let s = g.Q.Quotes.spelled in
     let o = origin_of c.args.self.now.origin in
     let value = spec.expr_in s o c.args.role (tree_of c.args.item.now) in
     c.single_index.ensures
@@ -259,7 +259,7 @@ index-returns-in_ok-expr-in_default g t c =
 
 pub subscript-returns-then-not-is_empty : goal.subscript-returns-then-not-is_empty
 subscript-returns-then-not-is_empty g t c =
-    let s = g.Q.Quotes.spelled c.args.self.now.quotes.now in
+    let s = g.Q.Quotes.spelled in
     let o = origin_of c.args.self.now.origin in
     let p = pieces_of c.args.items.now in
     let each = (out-Pieces c.args.items.now).each in
@@ -269,7 +269,7 @@ subscript-returns-then-not-is_empty g t c =
 
 pub subscript-returns-in-Some : goal.subscript-returns-in-Some
 subscript-returns-in-Some g t c =
-    let s = g.Q.Quotes.spelled c.args.self.now.quotes.now in
+    let s = g.Q.Quotes.spelled in
     let o = origin_of c.args.self.now.origin in
     let r = c.args.role in
     let each = (out-Pieces c.args.items.now).each in
@@ -281,7 +281,7 @@ subscript-returns-in-Some g t c =
 
 pub subscript-returns-in-None : goal.subscript-returns-in-None
 subscript-returns-in-None g t c =
-    let s = g.Q.Quotes.spelled c.args.self.now.quotes.now in
+    let s = g.Q.Quotes.spelled in
     let o = origin_of c.args.self.now.origin in
     let p = pieces_of c.args.items.now in
     let none = single-none c.args.items.now c.in-None.is in
