@@ -60,7 +60,7 @@ fn keys_have_numbers(rt: HostRuntime) -> Result<(), Fail> {
     let asked = keys_of(alloc, "p/m.py", "x")?;
     let mut keys = Keys::new(alloc);
     assert!(rt; keys.bound() == 0);
-    let ids = keys.intern_all(alloc, &asked)?;
+    let ids = keys.intern_all(alloc, &asked)?.ids;
     assert!(rt; ids.len() == 6);
     assert!(rt; known(&keys, &asked, &ids) == 6);
     for key in &keys_of(alloc, "p/m.py", "x")? {
@@ -81,7 +81,7 @@ fn forgotten_numbers_are_given_anew(rt: HostRuntime) -> Result<(), Fail> {
     let alloc = rt.alloc();
     let asked = keys_of(alloc, "m.py", "x")?;
     let mut keys = Keys::new(alloc);
-    let ids = keys.intern_all(alloc, &asked)?;
+    let ids = keys.intern_all(alloc, &asked)?.ids;
     keys.forget(ids[1]);
     assert_eq!(rt;
         held(alloc, &keys, &asked)?.as_slice(),
@@ -100,7 +100,7 @@ fn what_nobody_reads_is_let_go(rt: HostRuntime) -> Result<(), Fail> {
     let alloc = rt.alloc();
     let asked = keys_of(alloc, "m.py", "x")?;
     let mut keys = Keys::new(alloc);
-    let ids = keys.intern_all(alloc, &asked)?;
+    let ids = keys.intern_all(alloc, &asked)?.ids;
     let mut sets = Vec::new(alloc);
     for part in [&ids[..2], &ids[1..2], &ids[4..]] {
         let mut set = Vec::new(alloc);

@@ -63,12 +63,12 @@ const SOURCE: &str = "class C:\n    C: int\nclass D(C): ...\n";
 fn answers_are_known(rt: HostRuntime) -> Result<(), Fail> {
     let alloc = rt.alloc();
     let mut keys = Keys::new(alloc);
-    let ids = keys.intern_all(alloc, &keys_of(alloc, "m.py", "C")?)?;
+    let ids = keys.intern_all(alloc, &keys_of(alloc, "m.py", "C")?)?.ids;
     let mut answers = answers_of(alloc, SOURCE)?;
     let last = known(&mut answers, &keys, ids[4])?;
     assert!(rt; right(alloc, &mut answers, &keys, &ids)? == 6);
     assert!(rt; Rc::ptr_eq(&last, &known(&mut answers, &keys, ids[4])?));
-    let more = keys.intern_all(alloc, &keys_of(alloc, "m.py", "D")?)?;
+    let more = keys.intern_all(alloc, &keys_of(alloc, "m.py", "D")?)?.ids;
     assert!(rt; right(alloc, &mut answers, &keys, &more)? == 6);
     assert!(rt; right(alloc, &mut answers, &keys, &ids)? == 6);
     Ok(())
@@ -79,7 +79,7 @@ fn answers_are_known(rt: HostRuntime) -> Result<(), Fail> {
 fn answers_formed_elsewhere_are_kept(rt: HostRuntime) -> Result<(), Fail> {
     let alloc = rt.alloc();
     let mut keys = Keys::new(alloc);
-    let ids = keys.intern_all(alloc, &keys_of(alloc, "m.py", "C")?)?;
+    let ids = keys.intern_all(alloc, &keys_of(alloc, "m.py", "C")?)?.ids;
     let mut answers = answers_of(alloc, SOURCE)?;
     assert!(rt; answers.find(ids[3]).is_none());
     let formed = answers.world().ask(alloc, keys.key(ids[3]))?;
@@ -101,7 +101,7 @@ fn answers_formed_elsewhere_are_kept(rt: HostRuntime) -> Result<(), Fail> {
 fn other_worlds_have_other_answers(rt: HostRuntime) -> Result<(), Fail> {
     let alloc = rt.alloc();
     let mut keys = Keys::new(alloc);
-    let ids = keys.intern_all(alloc, &keys_of(alloc, "m.py", "C")?)?;
+    let ids = keys.intern_all(alloc, &keys_of(alloc, "m.py", "C")?)?.ids;
     let mut first = answers_of(alloc, SOURCE)?;
     let mut second = answers_of(alloc, "class C(int):\n    C: str\n")?;
     let own = known(&mut first, &keys, ids[3])?;
@@ -122,7 +122,7 @@ fn other_worlds_have_other_answers(rt: HostRuntime) -> Result<(), Fail> {
 fn forgotten_answers_are_formed_anew(rt: HostRuntime) -> Result<(), Fail> {
     let alloc = rt.alloc();
     let mut keys = Keys::new(alloc);
-    let ids = keys.intern_all(alloc, &keys_of(alloc, "m.py", "C")?)?;
+    let ids = keys.intern_all(alloc, &keys_of(alloc, "m.py", "C")?)?.ids;
     let mut answers = answers_of(alloc, SOURCE)?;
     assert!(rt; right(alloc, &mut answers, &keys, &ids)? == 6);
     keys.forget(ids[3]);
@@ -142,7 +142,7 @@ fn forgotten_answers_are_formed_anew(rt: HostRuntime) -> Result<(), Fail> {
 fn answers_go_with_their_numbers(rt: HostRuntime) -> Result<(), Fail> {
     let alloc = rt.alloc();
     let mut keys = Keys::new(alloc);
-    let ids = keys.intern_all(alloc, &keys_of(alloc, "m.py", "C")?)?;
+    let ids = keys.intern_all(alloc, &keys_of(alloc, "m.py", "C")?)?.ids;
     let mut answers = answers_of(alloc, SOURCE)?;
     assert!(rt; right(alloc, &mut answers, &keys, &ids)? == 6);
     let kept = known(&mut answers, &keys, ids[1])?;
@@ -151,7 +151,7 @@ fn answers_go_with_their_numbers(rt: HostRuntime) -> Result<(), Fail> {
     keys.keep_only(&[read]);
     answers.keep_held(&keys);
     assert!(rt; Rc::ptr_eq(&kept, &known(&mut answers, &keys, ids[1])?));
-    let more = keys.intern_all(alloc, &keys_of(alloc, "m.py", "D")?)?;
+    let more = keys.intern_all(alloc, &keys_of(alloc, "m.py", "D")?)?.ids;
     assert!(rt; keys.bound() == 7);
     assert!(rt; right(alloc, &mut answers, &keys, &more)? == 6);
     assert!(rt; right(alloc, &mut answers, &keys, &ids[1..2])? == 1);

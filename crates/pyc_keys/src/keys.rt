@@ -15,6 +15,13 @@ use pyc_reading::Key;
 use std::alloc::{AllocError, Global};
 use std::marker::Model;
 
+/// The numbers of keys, one after another, and which of these numbers are new.
+#[derive(Drop)]
+pub struct InternedKeys {
+    pub ids: Vec<KeyId>,
+    pub added: Vec<KeyId>,
+}
+
 /// Keys, each with a number of its own: a finite map from numbers to keys, and back. Contracts see the key of each
 /// number from 0 on, as far as the number is held.
 #[derive(Drop)]
@@ -61,20 +68,23 @@ impl Keys {
         }
     }
 
-    /// The numbers of keys, one after another. The only error is that memory runs out; then each number stands for what
-    /// it did before.
-    pub fn intern_all(&mut self, alloc: Global, keys: &[Key]) -> Result<Vec<KeyId>, AllocError>
-        ensures held { IfOk result (λ ids. AreOf (key_at self.new) ids.items (map key_of keys.now)) }
+    /// The numbers of keys, one after another. Without the new ones each number stands for what it did before. The only
+    /// error is that memory runs out; then each does.
+    pub fn intern_all(&mut self, alloc: Global, keys: &[Key]) -> Result<InternedKeys, AllocError>
+        ensures held { IfOk result (λ interned. AreOf (key_at self.new) interned.ids.items
+            (map key_of keys.now)) }
+        ensures added { IfOk result (λ interned. without_all (key_at self.new) interned.added.items
+            ≡ key_at self.old) }
         ensures extends { Extends (key_at self.old) (key_at self.new) }
         ensures same { OnErr result (key_at self.new ≡ key_at self.old) }
     {
         let mut ids = Vec::with_capacity(alloc, keys.len())?;
         let mut added = Vec::new(alloc);
         if self.intern_each(keys, &mut ids, &mut added).is_err() {
-            self.release_all(&added);
+            self.forget_all(&added);
             return Err(AllocError);
         }
-        Ok(ids)
+        Ok(InternedKeys { ids, added })
     }
 
     /// The number of a key, if it is held. Takes no memory.
@@ -119,6 +129,15 @@ impl Keys {
         ensures { key_at self.new ≡ without (key_at self.old) id }
     {
         self.release(id);
+    }
+
+    /// Lets some numbers go, so far as they are held. It takes no memory.
+    pub fn forget_all(&mut self, ids: &[KeyId])
+        ensures { key_at self.new ≡ without_all (key_at self.old) ids.now }
+    {
+        for id in ids {
+            self.release(*id);
+        }
     }
 
     /// Keeps the keys that one of these has read, and lets all others go. It takes no memory.
@@ -185,15 +204,6 @@ impl Keys {
         added.push_reserved(id);
         ids.push(id)?;
         Ok(())
-    }
-
-    /// Lets some numbers go, if they are held.
-    fn release_all(&mut self, ids: &[KeyId])
-        ensures { key_at self.new ≡ without_all (key_at self.old) ids.now }
-    {
-        for id in ids {
-            self.release(*id);
-        }
     }
 
     /// Lets a number go, if it is held.

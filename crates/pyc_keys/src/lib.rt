@@ -12,7 +12,7 @@ mod names;
 mod read_set;
 
 pub use key_id::KeyId;
-pub use keys::Keys;
+pub use keys::{InternedKeys, Keys};
 pub use name_id::NameId;
 pub use names::Names;
 pub use read_set::ReadSet;

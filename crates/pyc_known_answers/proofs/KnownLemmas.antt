@@ -1,13 +1,13 @@
 -- Known answers are those of their keys.
-use Rattle.std.proofs.Common.{◌≡◌, ℕ, ◌==◌, Bool, true, false, true≢false, List, [], ◌∷◌, length, map, Option, None, Some, is_some, option_map, subst, if◌then◌else◌, refl, sym, ap, ◌∙◌, arith}
-use Rattle.std.proofs.lemmas.Bool.{eqb-true}
+use Rattle.std.proofs.Common.{◌≡◌, ℕ, ◌<◌, ◌==◌, ◌||◌, Bool, true, false, true≢false, List, [], ◌∷◌, length, map, Option, None, Some, is_some, option_map, subst, if◌then◌else◌, refl, sym, ap, ◌∙◌, arith}
+use Rattle.std.proofs.lemmas.Bool.{eqb-true, eq-eqb}
 use Rattle.std.proofs.Math.Logic.{∥∥₁_elim}
 use mathlib.Core.HLevel.{Discrete, hedberg}
 use Rattle.pyc_iface.specs.Answers.{answer_by}
-use Rattle.pyc_keys.proofs.NumberingLemmas.{none_some, same_some}
+use Rattle.pyc_keys.proofs.NumberingLemmas.{none_some, same_some, held_there}
 use Rattle.pyc_keys.specs.Marks.{is_in}
 use Rattle.pyc_keys.specs.Numbering.{Numbering, AreOf, Extends, only, with_item}
-use Rattle.pyc_known_answers.specs.KnownAnswers.{AreKnownOf, answers_at}
+use Rattle.pyc_known_answers.specs.KnownAnswers.{AreKnownOf, answers_at, with_items}
 use Rattle.pyc_known_answers.specs.KnownAnswersLaws.{StayWithMoreKeys, StayWithFewerKeys, StayWithoutOne}
 use Rattle.pyc_names.specs.Interfaces.{Interface}
 use Rattle.pyc_reading.specs.Answers.{Answer}
@@ -98,6 +98,90 @@ module _ {A : Type 0} (keys : Numbering Key) (f : A → Answer) (g : Key → Ans
   none_left [] a bs none ([], of, given) = true≢false (sym (ap empty given))
   none_left [] a bs none (k ∷ ks, of, given) = true≢false (ap empty of)
   none_left (i ∷ is) a bs none left = omega (arith, none)
+
+-- ---- several that are kept
+
+pub in_first : (i : ℕ) (is : List ℕ) → is_in (i ∷ is) i ≡ true
+in_first i is = ap (λ b. b || is_in is i) (eq-eqb i i refl)
+
+pub in_rest : (i : ℕ) (is : List ℕ) (j : ℕ) → is_in is j ≡ true → is_in (i ∷ is) j ≡ true
+in_rest i is j h = by (i == j)
+  where
+    by : (b : Bool) → (b || is_in is j) ≡ true
+    by true = refl
+    by false = h
+
+with_none : {A : Type 0} (held : Numbering A) (ids : List ℕ) → with_items held ids [] ≡ held
+with_none held [] = refl
+with_none held (i ∷ is) = refl
+
+pub with_no_number : {A : Type 0} (held : Numbering A) (ids : List ℕ) (items : List A) → length ids ≡ 0
+    → with_items held ids items ≡ held
+with_no_number held [] items none = refl
+with_no_number held (i ∷ is) items none = absurd (omega (arith, none))
+
+pub with_no_item : {A B : Type 0} (held : Numbering A) (ids : List ℕ) (f : B → A) (xs : List B) → length xs ≡ 0
+    → with_items held ids (map f xs) ≡ held
+with_no_item held ids f [] none = with_none held ids
+with_no_item held ids f (x ∷ xs) none = absurd (omega (arith, none))
+
+module _ (interfaces : List Interface) (keys : Numbering Key) where
+  own_known : (known : Numbering Answer) (i : ℕ) (k : Key) → AreKnownOf interfaces keys known → keys i ≡ Some k
+      → Extends known (with_item known i (answer_by interfaces k))
+  own_known known i k are held = λ j x h. by j x (i == j) refl h
+    where
+      by : (j : ℕ) (x : Answer) (b : Bool) → (i == j) ≡ b → known j ≡ Some x
+          → (if b then Some (answer_by interfaces k) else known j) ≡ Some x
+      by j x true e h =
+          ap (λ a. Some a) (sym (known_to interfaces keys known j x k are (ap keys (sym (eqb-true i j e)) ∙ held) h))
+      by j x false e h = h
+
+  -- answers that are kept are known from then on, and what was known still is
+  pub all_kept : (known : Numbering Answer) (ids : List ℕ) (asked : List Key) → AreKnownOf interfaces keys known
+      → AreOf keys ids asked
+      → Extends known (with_items known ids (map (answer_by interfaces) asked))
+      × AreOf (with_items known ids (map (answer_by interfaces) asked)) ids (map (answer_by interfaces) asked)
+  all_kept known [] [] are of = ((λ j x h. h), refl)
+  all_kept known [] (k ∷ ks) are of = absurd (true≢false (ap empty of))
+  all_kept known (i ∷ is) [] are of = absurd (true≢false (sym (ap empty of)))
+  all_kept known (i ∷ is) (k ∷ ks) are of =
+      let own = answer_by interfaces k in
+      let held : keys i ≡ Some k = ap (first None) of in
+      let rest : AreOf keys is ks = ap others of in
+      let kept : AreKnownOf interfaces keys (with_item known i own) = one_more_kept interfaces keys known (with_item known i own) i own k are held refl refl in
+      let later = all_kept (with_item known i own) is ks kept rest in
+      let here : with_items (with_item known i own) is (map (answer_by interfaces) ks) i ≡ Some own = later.0 i own (held_there known i own) in
+      let after : map (with_items (with_item known i own) is (map (answer_by interfaces) ks)) is ≡ map (λ a. Some a) (map (answer_by interfaces) ks) = later.1 in
+      ((λ j x h. later.0 j x (own_known known i k are held j x h)), (λ t. here t ∷ after t))
+
+  -- what was known before, and those that were given
+  pub still_known : (before now : Numbering Answer) (ids : List ℕ) (asked : List Key) (given : List Answer) → AreKnownOf interfaces keys before
+      → AreOf keys ids asked → given ≡ map (answer_by interfaces) asked → now ≡ with_items before ids given → Extends before now
+  still_known before now ids asked given are of is new =
+      subst (Extends before) (sym (new ∙ ap (with_items before ids) is)) (all_kept before ids asked are of).0
+
+  pub given_known : (before now : Numbering Answer) (ids : List ℕ) (asked : List Key) (given : List Answer) → AreKnownOf interfaces keys before
+      → AreOf keys ids asked → given ≡ map (answer_by interfaces) asked → now ≡ with_items before ids given → AreOf now ids given
+  given_known before now ids asked given are of is new =
+      subst (AreOf now ids) (sym is)
+      (subst (λ known. AreOf known ids (map (answer_by interfaces) asked)) (sym (new ∙ ap (with_items before ids) is)) (all_kept before ids asked are of).1)
+
+-- a number that stands for a key is held
+are_held : (keys : Numbering Key) (ids : List ℕ) (asked : List Key) (i : ℕ) → AreOf keys ids asked → is_in ids i ≡ true → is_some (keys i) ≡ true
+are_held keys [] asked i of is = absurd (true≢false (sym is))
+are_held keys (j ∷ js) [] i of is = absurd (true≢false (sym (ap empty of)))
+are_held keys (j ∷ js) (k ∷ ks) i of is = by (j == i) refl is (are_held keys js ks i (ap others of))
+  where
+    by : (b : Bool) → (j == i) ≡ b → (b || is_in js i) ≡ true → (is_in js i ≡ true → is_some (keys i) ≡ true) → is_some (keys i) ≡ true
+    by true e is later = ap (λ n. is_some (keys n)) (sym (eqb-true j i e)) ∙ ap is_some (ap (first None) of)
+    by false e is later = later is
+
+-- it has a place where there is one for each up to a bound
+pub has_place : (keys : Numbering Key) (ids : List ℕ) (asked : List Key) (bound room : ℕ) → AreOf keys ids asked
+    → ((i : ℕ) → is_some (keys i) ≡ true → i < bound) → bound < room → (i : ℕ) → is_in ids i ≡ true → i < room
+has_place keys ids asked bound room of below wide i is =
+    let within : i < bound = below i (are_held keys ids asked i of is) in
+    omega (arith, within, wide)
 
 -- ---- laws
 

@@ -1,6 +1,7 @@
 -- Known answers as plain values.
-use Rattle.std.specs.Prelude.{ℕ, ◌<◌, List, length, None, option_map, slice_index_or}
+use Rattle.std.specs.Prelude.{◌≡◌, ℕ, true, ◌<◌, List, length, None, option_map, slice_index_or}
 use Rattle.pyc_iface.specs.PlainWorldView.{world_in}
+use Rattle.pyc_keys.specs.Marks.{is_in}
 use Rattle.pyc_keys.specs.Numbering.{Numbering}
 use Rattle.pyc_known_answers.specs.KnownAnswers.{AreKnownOf}
 use Rattle.pyc_known_answers.specs.declared.known_answers.KnownAnswers.{KnownAnswers}
@@ -24,3 +25,7 @@ IsOver keys answers = AreKnownOf (interfaces_of answers) keys (known_at answers)
 -- there is a place for the answer of a number
 abbrev pub HasPlace : KnownAnswers → ℕ → Type 0
 HasPlace answers number = number < length answers.known.items
+
+-- there is one for each of these
+abbrev pub HavePlaces : KnownAnswers → List ℕ → Type 0
+HavePlaces answers numbers = (i : ℕ) → is_in numbers i ≡ true → HasPlace answers i

@@ -1,12 +1,12 @@
 //! The answers of a world by number.
 
-ghost use Rattle.std.specs.Prelude.{◌≡◌, List, Some, None, true, is_some, map, if◌then◌else◌};
+ghost use Rattle.std.specs.Prelude.{◌≡◌, ℕ, List, Some, None, true, is_some, map, if◌then◌else◌};
 ghost use Rattle.std.specs.Prelude.{IfSome, IfNone, IfOk, OnOk, OnErr};
 ghost use Rattle.pyc_iface.specs.Answers.{answer_by};
 ghost use Rattle.pyc_iface.specs.PlainWorldView.{world_in};
 ghost use Rattle.pyc_keys.specs.KeyNumbers.{key_at};
 ghost use Rattle.pyc_keys.specs.Numbering.{with_item, without, AreOf, Extends, Numbering};
-ghost use Rattle.pyc_known_answers.specs.KnownAnswers.{restrict_to_held};
+ghost use Rattle.pyc_known_answers.specs.KnownAnswers.{restrict_to_held, with_items};
 ghost use Rattle.pyc_reading.specs.AnswerView.{answer_in};
 ghost use Rattle.pyc_reading.specs.KeyView.{key_of};
 ghost use Rattle.pyc_reading.specs.Keys.{Key as PlainKey};
@@ -31,7 +31,8 @@ pub struct KnownAnswers {
 }
 
 impl KnownAnswers {
-    ghost use Rattle.pyc_known_answers.specs.KnownAnswersView.{interfaces_of, known_at, HasPlace, IsOver};
+    ghost use Rattle.pyc_known_answers.specs.KnownAnswersView.{interfaces_of, known_at, HasPlace, HavePlaces};
+    ghost use Rattle.pyc_known_answers.specs.KnownAnswersView.{IsOver};
 
     /// No answers of a world. It takes no memory.
     pub fn new(alloc: Global, world: Rc<PlainWorld>) -> KnownAnswers
@@ -124,6 +125,8 @@ impl KnownAnswers {
             → AreOf keys ids.now asked
             → map (λ answer. answer_in answer.value) answers.items ≡ map (answer_by (interfaces_of self.old)) asked
             → IsOver keys self.new }
+        ensures known { HavePlaces self.old ids.now → known_at self.new
+            ≡ with_items (known_at self.old) ids.now (map (λ answer. answer_in answer.value) answers.items) }
         ensures world { interfaces_of self.new ≡ interfaces_of self.old }
     {
         let mut rest = ids;
@@ -139,6 +142,9 @@ impl KnownAnswers {
     fn keep_reserved(&mut self, id: KeyId, answer: Rc<Answer>)
         ensures over { (keys : Numbering PlainKey) (key : PlainKey) → IsOver keys self.old → keys id ≡ Some key
             → answer_in answer.value ≡ answer_by (interfaces_of self.old) key → IsOver keys self.new }
+        ensures known { HasPlace self.old id
+            → known_at self.new ≡ with_item (known_at self.old) id (answer_in answer.value) }
+        ensures places { (i : ℕ) → HasPlace self.old i → HasPlace self.new i }
         ensures world { interfaces_of self.new ≡ interfaces_of self.old }
     {
         let number = id.number();

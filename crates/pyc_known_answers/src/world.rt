@@ -39,7 +39,7 @@ impl Lins for World {
 }
 
 impl World {
-    ghost use Rattle.pyc_known_answers.specs.WorldView.{held_by, interfaces_by};
+    ghost use Rattle.pyc_known_answers.specs.WorldView.{held_by, interfaces_by, known_by};
 
     /// No keys, and a world that is to answer. It takes no memory.
     pub fn new(alloc: Global, world: Rc<PlainWorld>) -> World
@@ -78,8 +78,8 @@ impl World {
         }
     }
 
-    /// The numbers of keys, one after another, whose answers are kept. The only error is that memory runs out; then
-    /// each number stands for what it did before.
+    /// The numbers of keys, one after another, whose answers are known from then on. The only error is that memory runs
+    /// out; then each number stands for what it did before.
     pub fn keep_all(
         &mut self,
         alloc: Global,
@@ -89,15 +89,24 @@ impl World {
         requires { map (λ answer. answer_in answer.value) answers.items
             ≡ map (answer_by (interfaces_by self.old)) (map key_of keys.now) }
         ensures held { IfOk result (λ ids. AreOf (held_by self.new) ids.items (map key_of keys.now)) }
+        ensures known { IfOk result (λ ids. AreOf (known_by self.new) ids.items
+            (map (λ answer. answer_in answer.value) answers.items)) }
+        ensures still_known { Extends (known_by self.old) (known_by self.new) }
         ensures extends { Extends (held_by self.old) (held_by self.new) }
         ensures world { interfaces_by self.new ≡ interfaces_by self.old }
         ensures same { OnErr result (held_by self.new ≡ held_by self.old) }
     {
-        self.answers
-            .cover(self.keys.bound().saturating_add(keys.len()))?;
-        let ids = self.keys.intern_all(alloc, keys)?;
-        self.answers.keep_all(&ids, answers);
-        Ok(ids)
+        let interned = self.keys.intern_all(alloc, keys)?;
+        match self.answers.cover(self.keys.bound()) {
+            Ok(()) => {
+                self.answers.keep_all(&interned.ids, answers);
+                Ok(interned.ids)
+            }
+            Err(error) => {
+                self.keys.forget_all(&interned.added);
+                Err(error)
+            }
+        }
     }
 
     /// Keeps the keys that one of these has read, with their answers, and lets all others go. It takes no memory.

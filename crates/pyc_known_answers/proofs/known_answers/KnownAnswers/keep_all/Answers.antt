@@ -1,9 +1,11 @@
-use Rattle.std.proofs.Common.{◌∙◌, ◌∷◌, ap, arith, length, subst, sym}
+use Rattle.std.proofs.Common.{◌≡◌, ◌∙◌, ◌∷◌, ap, arith, length, map, subst, sym}
 use Rattle.std.specs.Vec.Iter.{into_iter_items}
 use Rattle.pyc_iface.specs.Answers.{answer_by}
 use Rattle.pyc_reading.specs.AnswerView.{answer_in}
-use Rattle.pyc_known_answers.specs.KnownAnswersView.{interfaces_of}
-use Rattle.pyc_known_answers.proofs.KnownLemmas.{AreLeft, first_left, none_left}
+use Rattle.pyc_known_answers.specs.KnownAnswersView.{interfaces_of, known_at, HasPlace}
+use Rattle.pyc_keys.specs.Marks.{is_in}
+use Rattle.pyc_known_answers.specs.KnownAnswers.{with_items}
+use Rattle.pyc_known_answers.proofs.KnownLemmas.{AreLeft, first_left, none_left, in_first, in_rest, with_no_item, with_no_number}
 use Rattle.pyc_known_answers.proofs.known_answers.KnownAnswers.keep_all.Goals as goal
 
 pub loop-answer-preserved-in-Some-split_first : goal.loop-answer-preserved-in-Some-split_first
@@ -14,6 +16,20 @@ loop-answer-preserved-in-Some-split_first c = record {
       let gone = c.in-Some.ensures.steps.1 in
       let short = ap (λ xs. length xs) c.in-Some.ensures.steps.0 in
       omega arith;
+  places = λ have i is.
+      c.keep_reserved.ensures.places i (c.loop-answer.invariant.places have i
+      (ap (λ ids. is_in ids i) c.in-Some-split_first.ensures.cases.0 ∙ in_rest c.in-Some-split_first.id.now c.in-Some-split_first.others.now i is));
+  known = λ have.
+      let after = map (λ answer. answer_in answer.value) (into_iter_items c.next.new.self) in
+      let before = known_at c.loop-answer.self in
+      let place : HasPlace c.loop-answer.self c.in-Some-split_first.id.now =
+      c.loop-answer.invariant.places have c.in-Some-split_first.id.now
+      (ap (λ ids. is_in ids c.in-Some-split_first.id.now) c.in-Some-split_first.ensures.cases.0
+      ∙ in_first c.in-Some-split_first.id.now c.in-Some-split_first.others.now) in
+      ap (λ known. with_items known c.in-Some-split_first.others.now after) (c.keep_reserved.ensures.known place)
+      ∙ ap (λ ids. with_items before ids (answer_in c.in-Some.answer.value ∷ after)) (sym c.in-Some-split_first.ensures.cases.0)
+      ∙ ap (λ answers. with_items before c.loop-answer.rest.now (map (λ answer. answer_in answer.value) answers)) (sym c.in-Some.ensures.steps.0)
+      ∙ c.loop-answer.invariant.known have;
   over = λ keys asked are of given.
       let answer_to = answer_by (interfaces_of c.args.self.now) in
       let after = into_iter_items c.next.new.self in
@@ -37,6 +53,12 @@ loop-answer-preserved c = record {
       let gone = c.in-Some.ensures.steps.1 in
       let short = ap (λ xs. length xs) c.in-Some.ensures.steps.0 in
       omega arith;
+  places = c.loop-answer.invariant.places;
+  known = λ have.
+      let before = known_at c.loop-answer.self in
+      with_no_number before c.loop-answer.rest.now (map (λ answer. answer_in answer.value) (into_iter_items c.next.new.self)) c.in_default.ensures.cases
+      ∙ sym (with_no_number before c.loop-answer.rest.now (map (λ answer. answer_in answer.value) (into_iter_items c.loop-answer.answer-iterator)) c.in_default.ensures.cases)
+      ∙ c.loop-answer.invariant.known have;
   over = λ keys asked are of given.
       let held = c.loop-answer.invariant.over keys asked are of given in
       absurd (none_left keys (λ answer. answer_in answer.value) (answer_by (interfaces_of c.args.self.now)) c.loop-answer.rest.now c.in-Some.answer
@@ -47,3 +69,9 @@ loop-answer-preserved c = record {
 
 pub returns-clause-over : goal.returns-clause-over
 returns-clause-over c = λ keys asked are of given. (c.loop-answer.invariant.over keys asked are of given).0
+
+pub returns-clause-known : goal.returns-clause-known
+returns-clause-known c = λ have.
+    let left = into_iter_items c.loop-answer.answer-iterator in
+    let none : length left ≡ 0 = sym c.loop-answer.invariant.count ∙ c.in-None.ensures.steps.0 in
+    sym (with_no_item (known_at c.loop-answer.self) c.loop-answer.rest.now (λ answer. answer_in answer.value) left none) ∙ c.loop-answer.invariant.known have

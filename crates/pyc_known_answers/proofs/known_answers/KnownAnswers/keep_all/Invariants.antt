@@ -4,7 +4,8 @@ use Rattle.pyc_iface.specs.Answers.{answer_by}
 use Rattle.pyc_keys.specs.Numbering.{AreOf, Numbering}
 use Rattle.pyc_reading.specs.AnswerView.{answer_in}
 use Rattle.pyc_reading.specs.Keys.{Key}
-use Rattle.pyc_known_answers.specs.KnownAnswersView.{interfaces_of, IsOver}
+use Rattle.pyc_known_answers.specs.KnownAnswersView.{interfaces_of, known_at, HavePlaces, IsOver}
+use Rattle.pyc_known_answers.specs.KnownAnswers.{with_items}
 use Rattle.pyc_known_answers.proofs.KnownLemmas.{AreLeft}
 use Rattle.pyc_known_answers.proofs.known_answers.KnownAnswers.keep_all.Given as goal
 
@@ -13,6 +14,10 @@ abbrev pub invariant-loop-answer : goal.invariant-loop-answer
 invariant-loop-answer l = record {
   world : interfaces_of l.self ≡ interfaces_of l.fn.self;
   count : into_iter_len l.answer-iterator ≡ length (into_iter_items l.answer-iterator);
+  places : HavePlaces l.fn.self l.fn.ids → HavePlaces l.self l.rest;
+  known : HavePlaces l.fn.self l.fn.ids
+      → with_items (known_at l.self) l.rest (map (λ answer. answer_in answer.value) (into_iter_items l.answer-iterator))
+      ≡ with_items (known_at l.fn.self) l.fn.ids (map (λ answer. answer_in answer.value) l.fn.answers.items);
   over : (keys : Numbering Key) (asked : List Key) → IsOver keys l.fn.self → AreOf keys l.fn.ids asked
       → map (λ answer. answer_in answer.value) l.fn.answers.items ≡ map (answer_by (interfaces_of l.fn.self)) asked
       → IsOver keys l.self

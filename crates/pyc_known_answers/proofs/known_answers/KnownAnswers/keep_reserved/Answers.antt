@@ -16,3 +16,9 @@ returns-then-number-len-clause-over c =
     ∙ ap (λ number. with_item (known_at self) number (answer_in c.args.answer.value)) c.number-number.ensures)
     (one_more_kept (interfaces_of self) keys (known_at self) (with_item (known_at self) c.args.id (answer_in c.args.answer.value)) c.args.id
     (answer_in c.args.answer.value) key are held is refl)
+
+pub returns-then-number-len-clause-known : goal.returns-then-number-len-clause-known
+returns-then-number-len-clause-known c =
+    λ place.
+    put_at (λ shared. answer_in shared.value) c.args.self.now.known.items c.number-number.result c.args.answer (omega (arith, c.if-number-len.true, c.len.ensures))
+    ∙ ap (λ number. with_item (known_at c.args.self.now) number (answer_in c.args.answer.value)) c.number-number.ensures

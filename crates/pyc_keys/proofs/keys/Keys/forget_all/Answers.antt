@@ -1,7 +1,7 @@
 use Rattle.std.proofs.Common.{◌+◌, ◌∙◌, ◌++◌, ◌∷◌, [], ap, sym, take}
 use Rattle.std.proofs.lemmas.List.{take_more}
 use Rattle.pyc_keys.proofs.NumberingLemmas.{more_without}
-use Rattle.pyc_keys.proofs.keys.Keys.release_all.Goals as goal
+use Rattle.pyc_keys.proofs.keys.Keys.forget_all.Goals as goal
 
 pub loop-id-preserved : goal.loop-id-preserved
 loop-id-preserved c =
