@@ -11,7 +11,7 @@ table `[tool.dmypy]` of pyproject.toml has the roots and the options of a projec
 Each folder of the workspace has a session. It holds the text of each open document as the editor has it, and the other
 files as they lie on the disk: those that git tracks or does not ignore, or all without git. When nothing more is typed
 the server has them checked, and sends the messages of each file where they changed. A warning says of a file that it is
-refused.
+refused. A file beside which a stub is, open or on the disk, has no messages: the stub is checked in its place.
 
 While a document is typed, it may have a fault that makes all its names Any. As long as an unsaved document has one that
 it did not have before, the session holds the text before it.

@@ -147,7 +147,8 @@ def run(given):
     checker = Checker(selection.folder, program, options, settings.roots, selection.is_given)
     try:
         checker.take(selection.stamps(settings.exclude))
-        ignores = Ignores(checker, sorted(filter(selection.is_given, checker.held())))
+        # (a file that is not taken has no errors: its comments are let be)
+        ignores = Ignores(checker, sorted(filter(selection.is_given, checker.taken())))
         ignores.take_unused() if given.unused else ignores.add()
         outcome = outcome_of(checker, checker.report(), shown=selection.shown)
     finally:

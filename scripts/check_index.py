@@ -21,6 +21,7 @@ from pathlib import Path
 sys.path.insert(0, str(Path(__file__).resolve().parents[1] / "editors"))
 from lsp.baseline import read_known
 from lsp.checker import Checker
+from lsp.paths import SUFFIXES
 from lsp.program import program_of
 from lsp.project import is_excluded
 from lsp.results import add_result_words, outcome_of
@@ -53,7 +54,7 @@ def check(top, folder, given):
     """Checks the files of the index, which are written into a folder of their own. Returns the status."""
     inner = "".join(f"{part}/" for part in given.root.split("/") if part not in ("", "."))
     python = staged_files(top, f":(literal){inner}" if inner else ".", *(f":(exclude){it}" for it in given.left_out))
-    python = [path[len(inner) :] for path in python if path.endswith(".py")]
+    python = [path[len(inner) :] for path in python if path.endswith(SUFFIXES)]
     settings_file = f"{inner}{FILE}"
     staged = staged_files(top, *(f":(literal){path}" for path in (settings_file, given.baseline) if path))
     check_out(top, [*(inner + path for path in python), *staged], folder)

@@ -6,9 +6,10 @@
                              [--json] [--watch] [--version] [PATH..]
 
 PATH is a folder or a file, the current folder if there is none. The session holds all files of the project that they
-are in, so that imports find them; the messages are those of the files that are given. The project's folder is the
-nearest one with a pyproject.toml that has the table `[tool.dmypy]`, or else with a pyproject.toml, setup.py, setup.cfg
-or .git, but for the home folder. The table may have `roots`, `exclude` and `options`, lists of texts, and `program`.
+are in, so that imports find them; the messages are those of the files that are given. Where a stub is beside a file,
+the stub is checked in its place. The project's folder is the nearest one with a pyproject.toml that has the table
+`[tool.dmypy]`, or else with a pyproject.toml, setup.py, setup.cfg or .git, but for the home folder. The table may have
+`roots`, `exclude` and `options`, lists of texts, and `program`.
 
 Messages are printed on standard output, all else on standard error; with --json as objects with the fields of mypy's,
 in which `column` is -1, since a report has no columns. The status is 0 where there is no error, 1 where
@@ -120,7 +121,7 @@ class Run:
 
     def check(self, progress, *remarks):
         """Checks, tells the user, remarks first, and returns the status."""
-        count = len(self.checker.held())
+        count = len(self.checker.taken())
         progress.tell(f"{count} files are checked" if count != 1 else "1 file is checked")
         report = self.checker.report()
         progress.end()

@@ -18,6 +18,7 @@ from pathlib import Path
 
 sys.path.insert(0, str(Path(__file__).resolve().parents[1] / "editors"))
 from lsp.checker import Checker
+from lsp.paths import SUFFIXES
 from lsp.program import program_of
 from lsp.project import is_excluded
 from lsp.results import say
@@ -50,9 +51,9 @@ class Repository:
         are no files."""
         found = {}
         for entry in self.git("ls-tree", "-r", "-z", "--full-tree", commit).split(b"\0"):
-            head, _, name = entry.partition(b"\t")
-            if (name.endswith(b".py") or name.decode(errors="replace") == FILE) and head.startswith(b"100"):
-                found[name.decode(errors="surrogateescape")] = head.split()[2].decode()
+            head, _, name = entry.decode(errors="surrogateescape").partition("\t")
+            if (name.endswith(SUFFIXES) or name == FILE) and head.startswith("100"):
+                found[name] = head.split()[2]
         return found
 
     def content(self, blob):

@@ -4,6 +4,7 @@
     checker.take(files)      has the session hold these files, each with what changes when the file does
     checker.report()         the report on them; Ended says why there is none
     checker.refused          the files that are not checked, each with the reason
+    checker.taken()          the files that are: those that are held, but for those beside whose paths stubs are held
     checker.strays()         imports of given files that find nothing, though a file fits them under another root
 
 What is held, and under which paths, depends on the files alone, and not on the order in which they came: the report is
@@ -48,7 +49,7 @@ class Checker:
             self.session.remove(path)
         self.failed = {path: why for path, why in self.failed.items() if path in self.wanted and path not in changed}
         self._send([path for path in self.wanted if path in changed or not self._has(path)], contents, tell)
-        self.refused = {**self.left_out, **self.failed}
+        self.refused = {**self.left_out, **self.failed, **self._passed_over()}
         self.seen = dict(files)
         return len(changed) + len(gone)
 
@@ -79,6 +80,11 @@ class Checker:
             module = module_of(layout.session_path(rival))
             self.left_out[path] = f"{printable(rival)} names the same module, {module}"
 
+    def _passed_over(self):
+        """Returns the files that the user means, and of which the session takes stubs that the user does not mean."""
+        stubs = {path: self.session.stub(path) for path in self.held() if self.is_given(path)}
+        return {path: f"its stub {printable(it)} is" for path, it in stubs.items() if it and not self.is_given(it)}
+
     def _has(self, path):
         """Whether the session holds a file, or failed to."""
         return self.session.holds(path) or path in self.failed
@@ -103,6 +109,10 @@ class Checker:
     def held(self):
         """Returns the files that the session holds."""
         return {*self.session.files.values()}
+
+    def taken(self):
+        """Returns the files that the session checks."""
+        return {path for path in self.held() if not self.session.stub(path)}
 
     def strays(self):
         """Returns the imports of given files that find nothing, though a file fits them under another root."""

@@ -14,6 +14,7 @@ from .documents import lines_of, units
 from .hover import dotted, probes_of
 from .names import FUNCTIONS, arguments, attributes, bindings, bound_by, class_around, declared_elsewhere, name_span
 from .names import own_nodes, scopes_of
+from .paths import INIT, beside
 from .trees import first_line, mended, word_at, words_from
 
 # how many imports a name may come through
@@ -155,7 +156,7 @@ class Finder:
     def base(self, path, statement):
         """Returns the module that a from-import imports from."""
         parts = self.folder.disk.module(path).split(".")
-        ups = statement.level - path.endswith("__init__.py") if statement.level else len(parts)
+        ups = statement.level - beside(path).endswith(INIT) if statement.level else len(parts)
         return ".".join([*parts[: max(0, len(parts) - ups)], *filter(None, [statement.module])])
 
     def of_import(self, path, source, statement, word):

@@ -2,7 +2,7 @@
 
 import time
 
-from .paths import INIT, Layout, imports_of, layout_of, module_named
+from .paths import Layout, imports_of, is_package_folder, layout_of, module_named
 from .project import is_excluded, stamps
 from .session import MANY, MOST_FILES, REASONS, content_of, printable
 from .settings import BadSettings, Settings, settings_of
@@ -18,7 +18,7 @@ class Disk:
 
     def __init__(self, root, is_marked):
         self.root = root
-        self.is_walked = (lambda folder: True) if is_marked else (lambda folder: (root / folder / INIT).is_file())
+        self.is_walked = (lambda folder: True) if is_marked else (lambda folder: is_package_folder(root / folder))
         self.until = 0
         self.settings = Settings()
         self.trouble = ""

@@ -7,6 +7,7 @@ from urllib.parse import unquote, urlsplit
 from .disk import Disk
 from .documents import lines_of
 from .faults import Faults, fault_among
+from .paths import SUFFIXES, is_stub
 from .program import NoProgram, find_program
 from .results import stray_lines
 from .session import Ended, Session, Silent
@@ -25,7 +26,7 @@ def local_path(uri):
 def path_below(root, uri):
     """Returns the path of a Python file below a folder, seen from there, or None."""
     given = local_path(uri)
-    if given is None or given.suffix != ".py":
+    if given is None or given.suffix not in SUFFIXES:
         return None
     for path, folder in ((given, root), (Path(os.path.realpath(given)), Path(os.path.realpath(root)))):
         if folder in path.parents:
@@ -105,8 +106,9 @@ class Folder:
         return lines_of(self.text(path))
 
     def modules(self):
-        """Returns the file of each module that the files name."""
-        return {self.disk.module(path): path for path in self.disk.files if path not in self.disk.left_out}
+        """Returns the file of each module that the files name: its stub where it has one."""
+        files = sorted(self.disk.files - self.disk.left_out.keys(), key=is_stub)
+        return {self.disk.module(path): path for path in files}
 
     def strays(self):
         """Returns the imports that find nothing, though a file fits them under another root."""
@@ -134,9 +136,11 @@ class Folder:
                 self.tell(f"{why}, and is started anew")
 
     def _found(self, report):
-        """Returns the messages of a report by path. Takes note of which documents have no fault."""
+        """Returns the messages of a report by path. Takes note of which documents have no fault, but for those that are not
+        checked since their stubs are."""
         found = by_path(report.messages())
-        for path, document in self.documents.items():
+        taken = [(path, it) for path, it in self.documents.items() if not self.session.stub(path)]
+        for path, document in taken:
             if document.fault:
                 found[path] = [document.fault._replace(path=path)]
             elif not fault_among(found.get(path, ())):

@@ -11,9 +11,12 @@ has the layout (session.py) takes and gives paths of the disk, so that its users
 
 **Roots.** Those that are given, as `[tool.dmypy] roots` has them, `*` and the like in a part of them; a file below two
 of them belongs to the longer one. If none are given, they are `src` and `lib`, as they are no packages, and the folder
-itself. A folder with an `__init__.py` is a package, and one without is none, unless the imports of the project say
-otherwise: whichever more of them name, the folder or what lies in it, decides. The project's folder may be a package,
-too: its files then have its name before theirs. What lies below no root has its path from the folder.
+itself. A folder with an `__init__.py` or `__init__.pyi` is a package, and one without is none, unless the imports of
+the project say otherwise: whichever more of them name, the folder or what lies in it, decides. The project's folder may
+be a package, too: its files then have its name before theirs. What lies below no root has its path from the folder.
+
+**Stubs.** A file and the stub beside it, whose name has an `i` more, name one module, and a session gets both. It takes
+the stub: the other file has no messages. They may lie under two roots, as typings/m.pyi and src/m.py.
 
 **Names.** A session takes no space, no control character, no bytes that are no text, and no path of more than 255
 bytes. Such a byte goes out as `%` and two digits, and `%` itself as `%25`, so that no two files come to one path, and
@@ -33,6 +36,9 @@ from typing import NamedTuple
 USUAL_ROOTS = ("src", "lib")
 HERE = "."
 INIT = "__init__.py"
+# how the names of Python files end: those of stubs, which stand beside a path without the last `i`, and others
+STUB = ".pyi"
+SUFFIXES = (".py", STUB)
 LONGEST_PATH = 255
 NOT_TAKEN = re.compile("[\x00-\x20\x7f%\udc80-\udcff]")
 IMPORT = re.compile(
@@ -73,7 +79,7 @@ class Layout(NamedTuple):
 
     def root_of(self, path):
         """Returns the root of a file: the longest, but of its own `__init__.py` a root is none."""
-        found = [root for root in self.roots if path.startswith(f"{root}/") and path != f"{root}/{INIT}"]
+        found = [root for root in self.roots if path.startswith(f"{root}/") and beside(path) != f"{root}/{INIT}"]
         return max(found, key=len, default=HERE)
 
     def session_path(self, path):
@@ -82,24 +88,33 @@ class Layout(NamedTuple):
         seen = path if root == HERE else path[len(root) + 1 :]
         if root == HERE and self.package:
             seen = f"{self.package}/{seen}"
-        name = seen.rpartition("/")[2]
-        is_module = name.endswith(".py") and name != ".py" and seen != INIT
-        taken = encoded(seen) if is_module else f"{encoded(seen)}%.py"
-        return taken if len(taken.encode()) <= LONGEST_PATH else f"%{hashlib.sha256(taken.encode()).hexdigest()}.py"
+        # (a stub has the path of the file that it stands beside, and an `i` more)
+        own, last = beside(seen), "i" if is_stub(seen) else ""
+        name = own.rpartition("/")[2]
+        is_module = name.endswith(".py") and name != ".py" and own != INIT
+        given = encoded(own) if is_module else f"{encoded(own)}%.py"
+        if len(f"{given}{last}".encode()) > LONGEST_PATH:
+            given = f"%{hashlib.sha256(given.encode()).hexdigest()}.py"
+        return given + last
 
     def rank(self, path):
-        """Returns what sorts files: by their roots, packages before modules of the same name, then by their paths."""
+        """Returns what sorts files: by their roots, packages before modules of the same name, then by their paths, a
+        stub before the file that it stands beside."""
         root = self.root_of(path)
         at = self.roots.index(root) if root in self.roots else len(self.roots)
-        return at, not path.endswith(f"/{INIT}"), path
+        return at, not beside(path).endswith(f"/{INIT}"), beside(path), path == beside(path)
 
     def rivals(self, files):
-        """Returns for each file that names the same module as one before it, by rank, that one."""
-        first, found = {}, {}
+        """Returns for each file that names the same module as one before it, by rank, that one. A file and the stub
+        beside it are no rivals."""
+        first, held, found = {}, {}, {}
         for path in sorted(files, key=self.rank):
-            winner = first.setdefault(module_key(self.session_path(path)), path)
-            if winner != path:
-                found[path] = winner
+            name = self.session_path(path)
+            winner = first.setdefault(module_key(name), name)
+            if beside(winner) != beside(name):
+                found[path] = held[winner]
+            elif held.setdefault(name, path) != path:
+                found[path] = held[name]
         return found
 
     def strays(self, imports, files=None):
@@ -123,6 +138,21 @@ def encoded(path):
     return NOT_TAKEN.sub(lambda it: "".join(f"%{byte:02X}" for byte in it[0].encode(errors="surrogateescape")), path)
 
 
+def is_stub(path):
+    """Whether a path is that of a stub."""
+    return path.endswith(STUB)
+
+
+def beside(path):
+    """Returns the path that a stub stands beside, and of any other file its own."""
+    return path[:-1] if is_stub(path) else path
+
+
+def is_package_folder(folder):
+    """Whether a folder has the file of a package, or its stub."""
+    return any((folder / f"{INIT}{last}").is_file() for last in ("", "i"))
+
+
 def module_of(path):
     """Returns the module that the path of a file or a folder names."""
     return ".".join(module_parts(path))
@@ -140,7 +170,8 @@ def module_key(path):
 
 def module_parts(path):
     """Returns the parts of the module that the path of a file or a folder names."""
-    parts = (path[: -len(".py")] if path.endswith(".py") else path).split("/")
+    own = beside(path)
+    parts = (own[: -len(".py")] if own.endswith(".py") else own).split("/")
     return parts[:-1] if parts[-1] == "__init__" else parts
 
 
@@ -177,7 +208,7 @@ def layout_of(folder, files, roots=(), imports=None):
     files = [*files]
     if roots:
         return Layout(given_roots(roots, files))
-    there = set(files)
+    there = {*map(beside, files)}
     usual = [root for root in USUAL_ROOTS if any(path.startswith(f"{root}/") for path in files)]
     is_package = INIT in there
     if not usual and not is_package:
@@ -213,7 +244,7 @@ def packages_above(folder):
     """Returns the name of a folder that is a package, with those of the packages that it is in before it."""
     parts = [folder.name]
     for outer in folder.parents:
-        if not (outer / INIT).is_file():
+        if not is_package_folder(outer):
             break
         parts.insert(0, outer.name)
     return "/".join(filter(None, parts))
@@ -251,7 +282,7 @@ def fits(folder, pattern):
 
 def files_by_ending(files):
     """Returns the files that name each module, or lie in it, by the roots under which they do: none is a package."""
-    packages = {path[: -len(INIT)] for path in files if path.rpartition("/")[2] == INIT}
+    packages = {path[: -len(INIT)] for path in map(beside, files) if path.rpartition("/")[2] == INIT}
     found = {}
     for root, module, path in (way for path in sorted(files) for way in ways_to(path, packages)):
         found.setdefault(module, {}).setdefault(root, path)

@@ -14,6 +14,7 @@ import subprocess
 from fnmatch import fnmatchcase
 from pathlib import Path
 
+from .paths import SUFFIXES, is_package_folder
 from .settings import FILE, table_of
 
 OUTPUTS = ("build", "dist")
@@ -64,7 +65,7 @@ def is_excluded(path, patterns):
 
 def tracked(root):
     """Returns the files below a folder that git tracks, or does not ignore; None where git does not answer."""
-    options = ["-z", "-t", "--cached", "--others", "--exclude-standard", "--", "*.py"]
+    options = ["-z", "-t", "--cached", "--others", "--exclude-standard", "--", *(f"*{it}" for it in SUFFIXES)]
     environment = {name: value for name, value in os.environ.items() if name not in OF_HOOKS}
     how = {"stdin": subprocess.DEVNULL, "capture_output": True, "env": environment, "check": False}
     try:
@@ -92,7 +93,7 @@ def is_left_out(root, folder):
     """Whether a folder holds no files of the project, but those of another one or what a build made."""
     name = folder.rpartition("/")[2]
     if name in OUTPUTS and folder == name:
-        return not (root / folder / "__init__.py").exists()
+        return not is_package_folder(root / folder)
     return name in OTHERS or (root / folder / "pyvenv.cfg").exists()
 
 
@@ -103,7 +104,7 @@ def walked(root, is_walked):
         inner = "" if folder == str(root) else os.path.relpath(folder, root) + "/"
         folders[:] = [name for name in folders if not name.startswith(".") and not is_left_out(root, inner + name)]
         folders[:] = [name for name in folders if is_walked(inner + name)]
-        found += [inner + name for name in files if name.endswith(".py")]
+        found += [inner + name for name in files if name.endswith(SUFFIXES)]
     return sorted(found)
 
 

@@ -83,7 +83,7 @@ def outcome_of(checker, report, known=None, skips_opaque=False, shown=lambda pat
     reported = [reported_of(checker, it, skips_opaque) for it in new]
     reported = [it._replace(message=it.message._replace(path=shown(it.message.path))) for it in reported]
     errors = [it.message for it in reported if it.message.kind == "error"]
-    checked = sum(map(checker.is_given, checker.held()))
+    checked = sum(map(checker.is_given, checker.taken()))
     last = summary(len(errors), len({it.path for it in errors}), checked)
     refused = refused_lines(checker, shown)
     lines = [*refused, *root_lines(checker), *stray_lines(checker, shown)]

@@ -12,7 +12,7 @@ packages and modules beside them, so that no home folder is searched for them.
 import os
 from pathlib import Path
 
-from .paths import HERE, INIT, USUAL_ROOTS
+from .paths import HERE, USUAL_ROOTS, is_package_folder
 from .project import project_folder, stamp, stamps, stamps_below
 from .trouble import Trouble
 
@@ -49,7 +49,7 @@ class Selection:
         """Whether a folder is a package, or in one that is given, or holds one."""
         given = [*self.folders, *(path.rpartition("/")[0] or HERE for path in self.files if "/" in path)]
         near = (is_below(folder, it) or is_below(it, folder) for it in given)
-        return (self.folder / folder / INIT).is_file() or any(near)
+        return is_package_folder(self.folder / folder) or any(near)
 
     def shown(self, path):
         """Returns the path of a file as it is seen from the current folder."""
@@ -85,6 +85,6 @@ def unmarked_folder(common):
     roots = [it for it in (common, *common.parents) if it.name in USUAL_ROOTS and here in it.parents]
     if roots:
         return roots[-1].parent
-    while (common / INIT).is_file() and common != common.parent:
+    while is_package_folder(common) and common != common.parent:
         common = common.parent
     return common.parent if common.name in USUAL_ROOTS else common

@@ -24,7 +24,7 @@ CAPABILITIES = {
     "codeActionProvider": {"codeActionKinds": [actions.KIND]},
     "workspace": {"workspaceFolders": {"supported": True, "changeNotifications": True}},
 }
-WATCHED = {"watchers": [{"globPattern": "**/*.py"}, {"globPattern": "**/pyproject.toml"}]}
+WATCHED = {"watchers": [{"globPattern": "**/*.{py,pyi}"}, {"globPattern": "**/pyproject.toml"}]}
 # notifications after which a report is on an old text
 EDITS = ("textDocument/didOpen", "textDocument/didChange", "textDocument/didClose")
 # how many seconds a check takes that follows each key, and how many pass without one before a check that takes longer

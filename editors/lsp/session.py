@@ -16,7 +16,7 @@ import subprocess
 from pathlib import Path
 from typing import NamedTuple
 
-from .paths import LONGEST_PATH, Layout, module_key, module_named
+from .paths import INIT, LONGEST_PATH, SUFFIXES, Layout, beside, module_key, module_named
 from .settings import OPTIONS
 from .trouble import Trouble
 
@@ -124,9 +124,9 @@ def is_file_path(path):
         len(name) <= LONGEST_PATH
         and all(byte > ord(" ") and byte != 127 for byte in name)
         and not any(part in ("", ".", "..") for part in parts)
-        and parts[-1].endswith(".py")
-        and parts[-1] != ".py"
-        and path != "__init__.py"
+        and parts[-1].endswith(SUFFIXES)
+        and parts[-1] not in SUFFIXES
+        and beside(path) != INIT
     )
 
 
@@ -205,6 +205,10 @@ class Session:
     def holds(self, path):
         """Whether a file is present."""
         return self.files.get(self.layout.session_path(path)) == path
+
+    def stub(self, path):
+        """Returns the stub that is taken in place of a file that is present, or None."""
+        return self.files.get(f"{self.layout.session_path(path)}i")
 
     def why(self, path, refusal):
         """Returns why a file is not checked, for users."""

@@ -4,6 +4,7 @@ import os
 from pathlib import Path
 
 from .folder import Folder, local_path, path_below
+from .paths import SUFFIXES
 from .project import project_folder
 from .selection import unmarked_folder
 
@@ -63,7 +64,7 @@ class Workspace:
 
     def elsewhere(self):
         """Returns the names of the documents of Python files that lie in no folder."""
-        files = [uri for uri in self.documents if (local_path(uri) or Path()).suffix == ".py"]
+        files = [uri for uri in self.documents if (local_path(uri) or Path()).suffix in SUFFIXES]
         return {uri for uri in files if self.find(uri) == (None, None)}
 
     def _place(self, document):

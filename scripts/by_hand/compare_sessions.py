@@ -44,7 +44,7 @@ from typed_files import TypedMaker
 
 PROGRAM = Path(__file__).resolve().parents[2] / "crates" / "dmypy"
 COUNT = 1_000
-STAGE = 7
+STAGE = 14
 LOT = 300_000
 SECONDS = 600
 IGNORE_MISSING, CHECK_UNTYPED = "--ignore-missing-imports", "--check-untyped-defs"
@@ -96,8 +96,11 @@ PATHS = """a.py b.py c.py d.py p/__init__.py p/a.py p/b.py p/m.py p/q/__init__.p
 RARE_PATHS = """typing.py typing_extensions.py collections/abc.py collections/__init__.py abc.py __future__.py
     collections/x.py typing/a.py abc/x.py p.py ａ.py p/ａ.py ﬁ.py fi.py int.py if.py p/__init__/a.py a.b.py a-b.py
     collections/abc/x.py p/q.py p/typing.py p/p/__init__.py p/p/p.py m.py q/__init__.py é.py
-    ℀.py a/c.py a．b.py p/__ｉnit__.py __ｉnit__.py p/__init__.py/a.py p/q/a/b/c/d.py .a.py p/ﬁ/x.py p/fi/x.py""".split()
-BAD_PATHS = ("__init__.py", "/a.py", "a//b.py", "../a.py", "./a.py", ".py", "a.pyi", "a.txt", "p/.py", "a", "p/../b.py")
+    ℀.py a/c.py a．b.py p/__ｉnit__.py __ｉnit__.py p/__init__.py/a.py p/q/a/b/c/d.py .a.py p/ﬁ/x.py p/fi/x.py
+    a.pyi a.pyi b.pyi c.pyi p/__init__.pyi p/a.pyi p/m.pyi q/__init__.pyi x.pyi a/__init__.pyi typing.pyi
+    a.py.py a.py.pyi ａ.pyi a.pyi/b.py __ｉnit__.pyi p/p.pyi p.pyi""".split()
+BAD_PATHS = """__init__.py /a.py a//b.py ../a.py ./a.py .py a.pyii a.txt p/.py a p/../b.py __init__.pyi .pyi p/.pyi
+    a.PYI""".split()
 FIXED = "typing typing_extensions collections collections.abc abc __future__".split()
 FIVE = "int str bool float None".split()
 ANNOTATIONS = """(int); "int"; 'str'; (None); object; list[int]; int | None; typing.Any; Optional[int]; a; p.q;
@@ -372,7 +375,7 @@ class Maker:
         paths = self.some(self.path, 6)
         self.names = self.random.sample(NAMES, self.one((2, 3, 5, 10)))
         self.imports = self.one((0.36, 0.36, 0.95))
-        self.modules = [path[:-3].replace("/", ".").removesuffix(".__init__") for path in paths if path.endswith(".py")]
+        self.modules = [path.removesuffix("i")[:-3].replace("/", ".").removesuffix(".__init__") for path in paths]
         words = r"(?!if\b)\w+(\.(?!if\b)\w+)*"
         self.modules = [name for name in self.modules if re.fullmatch(words, name)]
         commands = [added(path, self.source()) for path in paths] + [b"check\n"]

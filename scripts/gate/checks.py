@@ -42,6 +42,9 @@ CHECKS = [
     Check((), ("gone.py",), NONE, "dmypy: gone.py: refused 10 unreadable\n", 2),
     Check((), ("../good.py",), NONE, "dmypy: ../good.py: refused 2 path\n", 2),
     Check((), ("good.py", "good/__init__.py"), CLEAN, "dmypy: good/__init__.py: refused 7 module\n", 2),
+    # (the stub is checked in place of the file beside it)
+    Check((), ("bad.py", "bad.pyi"), CLEAN, "", 0),
+    Check((), ("good.pyi", "good/__init__.py"), CLEAN, "dmypy: good/__init__.py: refused 7 module\n", 2),
     Check((), ("large.py",), NONE, "dmypy: large.py: refused 5 large\n", 2),
     # nothing writes to the pipe: a check that opened it would wait
     Check((), ("pipe.py", "good.py"), CLEAN, "dmypy: pipe.py: refused 10 unreadable\n", 2),
@@ -55,7 +58,9 @@ def make_files(folder):
     (folder / "inner").mkdir()
     (folder / "good.py").write_text("x: int = 1\n")
     (folder / "good" / "__init__.py").write_text("")
+    (folder / "good.pyi").write_text('def f() -> int: return "a"\n')
     (folder / "bad.py").write_text('x: int = "a"\n')
+    (folder / "bad.pyi").write_text("x: int\n")
     (folder / "inner" / "bad.py").write_text('\ny: int = "a"\n')
     os.mkfifo(folder / "pipe.py")
     (folder / "large.py").write_text("\n" * 1_048_577)

@@ -39,6 +39,9 @@ COMMITS = (
     # (with src as a root the calls are wrong, and without it the import)
     ({"src/pkg/a.py": CALLED_TEXT, "b.py": CALLS}, (), f"2 sent, 0 refused: {CALLED.format('2 source files')}"),
     ({"pyproject.toml": ROOTS}, (), f"2 sent, 0 refused: {FOUND.format('2 source files')}"),
+    # (the stub is checked in place of the file)
+    ({"b.pyi": "x: int\n"}, (), f"1 sent, 0 refused: {CLEAN.format('2 source files')}"),
+    ({}, ("b.pyi",), f"1 sent, 0 refused: {FOUND.format('2 source files')}"),
 )
 
 
@@ -54,9 +57,9 @@ def judge(room, tally):
         tally.judge(line == want, f"{line}is not\n{want}")
     last = f"{len(COMMITS)} of {len(COMMITS)} commits have the fresh run's report\n"
     tally.judge((printed[len(COMMITS) :], done.returncode) == ([last], 0), f"the end: {done}")
-    done = room.script("follow_commits.py", ".", "HEAD~8..HEAD~6")
+    done = room.script("follow_commits.py", ".", "HEAD~10..HEAD~8")
     printed = done.stdout.decode().splitlines(keepends=True)
-    first = f"{names[-8][:12]} 3 sent, 0 refused: {FOUND.format('3 source files')}: the fresh run's report\n"
+    first = f"{names[-10][:12]} 3 sent, 0 refused: {FOUND.format('3 source files')}: the fresh run's report\n"
     tally.judge((len(printed), printed[0]) == (3, first), f"a part of the commits: {done}")
 
 

@@ -29,8 +29,6 @@ from replies import add
 
 FEW, MANY = 1, 40
 MOST = 8
-# for each unchanged file the name of its module is copied
-MOST_WITH_FILES = MOST + 2 * (MANY - FEW)
 # a line that names a variable takes one growth where it is examined, and would take two where it were examined twice
 MOST_EXAMINED = MOST + 3 * (MANY - FEW) // 2
 BATCH = 50
@@ -121,25 +119,25 @@ BODIES, INTERFACES = list(EDITS)[:2], list(EDITS)[2:]
 READER_EDITED = change("reader.py", READER + "    2\n")
 
 
-def compared(name, before, edits, most=MOST):
+def compared(name, before, edits):
     """The comparisons of one thing over some edits."""
-    return [Comparison(f"{name}, {edit}", before, EDITS[edit] + CHECK, most) for edit in edits]
+    return [Comparison(f"{name}, {edit}", before, EDITS[edit] + CHECK) for edit in edits]
 
 
 HOLDING = [
     *compared("lines of an unchanged file", lines, EDITS),
     *compared("calls in an unchanged file", calls, BODIES),
-    *compared("unchanged files", files, BODIES, MOST_WITH_FILES),
+    *compared("unchanged files", files, BODIES),
     *compared("parameters of a function that is named", parameters, BODIES),
     Comparison("parameters of a function, another body that names it", parameters, READER_EDITED + CHECK),
     Comparison("lines that are examined", examined, CHECK, MOST_EXAMINED),
 ]
-# after an edit of an interface answers are formed anew; a report is; the map of modules is copied at each check
+# after an edit of an interface answers are formed anew; a report is at each check
 LATER = [
     *compared("calls in an unchanged file", calls, INTERFACES),
     *compared("parameters of a function that is named", parameters, INTERFACES),
     *compared("messages of an unchanged file", messages, EDITS),
-    *compared("unchanged files", files, EDITS),
+    *compared("unchanged files", files, INTERFACES),
 ]
 
 

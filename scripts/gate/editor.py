@@ -246,15 +246,15 @@ def files(room, tally):
     """Which files of a folder are the project's, by git and without."""
     wrong = "x: int = ''\n"
     paths = ("new.py", "ignored.py", "caf\u00e9.py", ".hidden/a.py", "__pycache__/a.py", "env/a.py", "text.txt")
-    room.write(**{path: wrong for path in (*paths, "sub/a.py")})
+    room.write(**{path: wrong for path in (*paths, "sub/a.py", "sub/b.pyi")})
     room.write(**{".gitignore": "ignored.py\nenv\n", "env/pyvenv.cfg": ""})
     with room.begun() as client:
-        walked = {"new.py", "ignored.py", "caf%C3%A9.py", "sub/a.py", "shop.py"}
+        walked = {"new.py", "ignored.py", "caf%C3%A9.py", "sub/a.py", "sub/b.pyi", "shop.py"}
         tally.judge(set(client.shown) == walked, f"the files without git: {sorted(client.shown)}")
     room.git("init", "-q")
     room.git("add", "shop.py", "caf\u00e9.py", "models.py")
     with room.begun() as client:
-        tracked = {"new.py", "caf%C3%A9.py", ".hidden/a.py", "sub/a.py", "shop.py"}
+        tracked = {"new.py", "caf%C3%A9.py", ".hidden/a.py", "sub/a.py", "sub/b.pyi", "shop.py"}
         tally.judge(set(client.shown) == tracked, f"the files with git: {sorted(client.shown)}")
         client.open("ignored.py", wrong)
         told = [it[0] for it in client.told("ignored.py")]

@@ -54,6 +54,9 @@ def elsewhere(room, tally):
         client.close("two/shop.py")
         client.checked("two/shop.py")
         tally.judge(client.shown["two/shop.py"] == [], f"it is closed: {client.shown}")
+        client.open("two/other.pyi", "")
+        tally.judge(len(client.shown["two/other.pyi"]) == 1, f"a stub outside: {client.shown}")
+        client.close("two/other.pyi")
         client.open("two/shop.py", BAD, 5)
         client.refolder(added=["two"])
         client.checked("two/shop.py", 5)
@@ -61,7 +64,36 @@ def elsewhere(room, tally):
         for uri in ("untitled:1.py", client.uri("notes.txt")):
             client.tell("textDocument/didOpen", textDocument={"uri": uri, "version": 1, "text": BAD})
         client.change("two/shop.py", 6, edit((0, 3), (0, 6), "str"))
-        tally.judge({*client.shown} == {"one/shop.py", "two/shop.py"}, f"what is no Python file: {client.shown}")
+        there = {"one/shop.py", "two/shop.py", "two/other.pyi"}
+        tally.judge({*client.shown} == there, f"what is no Python file: {client.shown}")
+
+
+STUB = "class Item:\n    price: str\n\ndef first() -> Item: ...\n"
+
+
+def stubs(room, tally):
+    """A file whose stub is open or on the disk has no messages; the stub has, and imports find it."""
+    with room.begun() as client:
+        client.open("models.py", f"{MODELS}{BAD}")
+        told = client.told("models.py"), client.told("shop.py")
+        tally.judge(told == ([(7, *WRONG_FIRST[1:])], [WRONG, NOTE]), f"without a stub: {client.shown}")
+        client.open("models.pyi", f"{BAD}{STUB}")
+        told = [client.told(path) for path in ("models.py", "models.pyi", "shop.py")]
+        tally.judge(told == [[], [WRONG_FIRST], [NOTE]], f"an open stub: {client.shown}")
+        tally.judge(client.hover("models.py", 6, 11) is None, "hover in the file beside it")
+        found = client.definitions("shop.py", 2, 13)
+        tally.judge(found == [("models.pyi", 4, 4, 9)], f"a definition in the stub: {found}")
+        client.change("models.py", 2, edit((0, 0), (0, 0), "("))
+        tally.judge(client.told("models.py") == [], f"a fault in the file beside it: {client.shown}")
+        client.close("models.pyi")
+        client.checked("models.py", 2)
+        told = [it[1] for it in client.told("models.py")], client.told("models.pyi"), client.told("shop.py")
+        tally.judge(told == (["syntax"], [], [WRONG, NOTE]), f"the stub is closed: {client.shown}")
+        room.write(**{"models.pyi": STUB})
+        client.touch(1, "models.pyi")
+        client.checked("models.py", 2)
+        told = client.told("models.py"), client.told("shop.py")
+        tally.judge(told == ([], [NOTE]), f"a stub on the disk: {client.shown}")
 
 
 def layouts(room, tally):
@@ -164,4 +196,4 @@ def no_folder(room, tally):
         tally.judge(told == ([WRONG, NOTE], [WRONG_FIRST], []), f"a folder without a mark: {client.shown}")
 
 
-TESTS = (no_folder, folders, elsewhere, layouts, project_settings, unseen_changes, version)
+TESTS = (no_folder, folders, elsewhere, stubs, layouts, project_settings, unseen_changes, version)

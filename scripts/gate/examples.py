@@ -3,9 +3,9 @@
 
     scripts/gate/examples.py [--program PROGRAM]
 
-Each indented block of the first two pages is a file a.py, or the report on the file before it, without the last line.
-The command with its options stands on the page. A file without a report is clean. The README has two files and the
-whole report. CODES.md has a part for each code of docs/index/messages.md, in order, and the report of each has the
+Each indented block of the first two pages is a file a.py, or some files, of which a line `# file: PATH` begins each; or
+the report on the block before it, without the last line. The command with its options stands on the page. A block
+without a report is clean. The README has two files and the whole report. CODES.md has a part for each code of docs/index/messages.md, in order, and the report of each has the
 code. A problem matcher finds the parts of an error, and no note and no summary. The lines that USING.md quotes of
 scripts/check_project.py are those on a small project, and with the settings that stand there no import of it finds
 nothing. Ends with the line `examples: P passed, F failed`, and with status 0 or 1.
@@ -32,10 +32,11 @@ ERROR["code"] = "name-defined"
 NO_ERRORS = ('a.py:1: note: Revealed type is "int"', "Found 1 error in 1 file (checked 1 source file)")
 COMMAND = re.compile(r"`dmypy (check(?: --[a-z-]+)*) a\.py`")
 BLOCK = re.compile(r"(?:^    .*\n|^\n(?=    ))+", re.MULTILINE)
-REPORT = re.compile(r"a\.py:\d+: ")
+FILE = re.compile(r"^# file: (\S+)\n", re.MULTILINE)
+REPORT = re.compile(r"\w+\.pyi?:\d+: ")
 CODE = re.compile(r"  \[([a-z-]+)\]$", re.MULTILINE)
 LISTED = re.compile(r"^\| `[^|]*\| `([a-z-]+)` \|", re.MULTILINE)
-CLEAN = "Success: no issues found in 1 source file"
+CLEAN = "Success: no issues found in "
 # a project with an import that finds nothing, and with an opaque file
 PROJECT = {
     "app.py": "from shop.prices import price\n",
@@ -49,8 +50,14 @@ def blocks_of(text):
     return [re.sub(r"(?m)^    ", "", found[0]).strip("\n") + "\n" for found in BLOCK.finditer(text)]
 
 
+def files_of(block):
+    """The files of a block, by their paths."""
+    _, *parts = FILE.split(block)
+    return dict(zip(parts[::2], parts[1::2])) or {"a.py": block}
+
+
 def examples(text):
-    """The files of a page, each with the report on it, which is empty where the file is clean."""
+    """The files of a page, each block with the report on it, which is empty where it is clean."""
     blocks = blocks_of(text)
     for block, after in zip(blocks, [*blocks[1:], ""]):
         if not REPORT.match(block):
@@ -89,8 +96,8 @@ def judge_readme(program, tally):
 
 
 def judge_example(program, words, source, wanted, tally):
-    """The report on a file, less its last line."""
-    done = run(program, words, {"a.py": source})
+    """The report on the files of a block, less its last line."""
+    done = run(program, words, files_of(source))
     *lines, last = done.stdout.splitlines(keepends=True)
     is_right = ("".join(lines), done.returncode) == (wanted, 1 if wanted else 0)
     tally.judge(is_right and bool(wanted) != last.startswith(CLEAN), f"{source}{done.stdout}{done.stderr}")

@@ -46,6 +46,13 @@ FILES = {
     "missing.py": ("k: int = 1\n", "k: str = ''\n", "from use import x as k\n"),
     "p/__init__.py": ("from . import m\n", "from p.m import v\n", ""),
     "p/m.py": ("v: int = 1\n", "v: str = ''\n", "from missing import k as v\n", "def v() -> int:\n    return ''\n"),
+    # stubs, which come beside these files and go
+    "base.pyi": (
+        "class B:\n    def f(self, n: int) -> int: ...\n",
+        "class B:\n    x: str\n    def f(self, n: str) -> int: return ''\n",
+        "from child import C as B\n",
+    ),
+    "p/m.pyi": ("v: int\n", "from missing import k as v\n", "from missing import k as k\n", "import p.m as m\n"),
     "far.py": (
         "from p import m\nx: int = m.v\n",
         "from p import v\nx: int = v\nfor i in [v]:\n    reveal_type(i)\n",

@@ -103,10 +103,27 @@ def names(room, tally):
     (room.folder / os.fsdecode(b"caf\xe9.py")).write_text(WRONG)
     room.git("add", "-A")
     is_committed, said = room.try_commit()
-    wanted = [f"{name}.py:1: {ASSIGNED}" for name in ("caf\\udce9", "line\\nend", "my file")]
-    last = "Found 3 errors in 3 files (checked 4 source files)"
+    wanted = [f"{name}:1: {ASSIGNED}" for name in ("b.pyi", "caf\\udce9.py", "line\\nend.py", "my file.py")]
+    last = "Found 4 errors in 4 files (checked 5 source files)"
     is_right = (is_committed, said.splitlines()) == (False, [*wanted, last])
     tally.judge(is_right, f"names that a session does not take: {said}")
+
+
+def stubs(room, tally):
+    """A stub is checked in place of the file beside it, where it is staged."""
+    room.write(**{"prices.pyi": "def price(net: str) -> float: ...\n", "new.py": "x: int = 1\n"})
+    room.git("add", "new.py")
+    tally.judge(room.try_commit()[0], "a stub that is not staged")
+    room.git("add", "prices.pyi")
+    is_committed, said = room.try_commit()
+    last = "Found 1 error in 1 file (checked 3 source files)\n"
+    tally.judge((is_committed, said) == (False, TOLD + last), f"a stub that is staged: {said}")
+    room.write(**{"prices.pyi": "def price(net: float) -> float: ...\n", "prices.py": WRONG})
+    room.git("add", "-A")
+    tally.judge(room.try_commit()[0], "an error in the file beside a stub")
+    room.git("rm", "-q", "prices.pyi")
+    is_committed, said = room.try_commit()
+    tally.judge(not is_committed and said.startswith(f"prices.py:1: {ASSIGNED}"), f"the stub is deleted: {said}")
 
 
 def left_out(room, tally):
@@ -247,7 +264,7 @@ def listed(room, tally):
     tally.judge((is_committed, said.splitlines()) == (False, lines), f"the work tree in a hook of git: {said}")
 
 
-TESTS = (contents, names, left_out, layouts, inner_project, known, other_program, listed)
+TESTS = (contents, names, stubs, left_out, layouts, inner_project, known, other_program, listed)
 
 
 def main():

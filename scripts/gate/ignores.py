@@ -129,11 +129,28 @@ def judge_projects(room, tally):
     tally.judge(room.read("src/pkg/n.py") == wanted, f"a file of src: {done}")
 
 
+def judge_stubs(room, tally):
+    """A stub gets comments, and the file beside it, which is not checked, keeps its own."""
+    beside = "x: int = ''  # type: ignore[assignment]\ny: int = ''\n"
+    stub = "x: int = ''\n"
+    room.write(**{"a.py": beside, "a.pyi": stub, "b.py": "y = 1  # type: ignore\n"})
+    done = room.script("add_ignores.py")
+    got = room.read("a.py"), room.read("a.pyi")
+    wanted = (beside, "x: int = ''  # type: ignore[assignment]\n")
+    tally.judge((got, done.returncode) == (wanted, 0), f"a file and its stub: {got}: {done}")
+    room.write(**{"a.pyi": "x: int = 1  # type: ignore[assignment]\n"})
+    done = room.script("add_ignores.py", "--unused")
+    got = room.read("a.py"), room.read("a.pyi"), room.read("b.py")
+    wanted = (beside, "x: int = 1\n", "y = 1\n")
+    tally.judge((got, done.returncode) == (wanted, 0), f"--unused on a file and its stub: {got}: {done}")
+
+
 def main():
     program = program_given("Adds ignore comments to small projects.")
     tally = Tally("ignores")
     faults = (OSError, subprocess.SubprocessError)
-    judge_in_rooms((judge_texts, judge_unused, judge_projects), SmallRepository, program, tally, faults)
+    tests = (judge_texts, judge_unused, judge_projects, judge_stubs)
+    judge_in_rooms(tests, SmallRepository, program, tally, faults)
     return tally.close()
 
 

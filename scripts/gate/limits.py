@@ -45,6 +45,15 @@ def full():
     return session, OK * MOST_FILES + MANY + MODULE + OK + OK + clean(MOST_FILES)
 
 
+def full_of_pairs():
+    """A session that holds as many files as there may be, each a stub or the file beside one, and what it prints."""
+    pairs = MOST_FILES // 2
+    session = b"".join(add(f"m{at}.py{last}") for at in range(pairs) for last in ("", "i"))
+    session += add("more.pyi") + add("m7/__init__.pyi") + b"check\n"
+    session += b"remove m7.py\n" + add("more.pyi") + b"check\n"
+    return session, OK * MOST_FILES + MANY + MODULE + clean(pairs) + OK + OK + clean(pairs + 1)
+
+
 def ring(count):
     """A session with so many files that import one name around, until the first declares it, and what it prints."""
     files = {f"m{at}.py": f"from m{(at + 1) % count} import x\n" for at in range(count)}
@@ -118,8 +127,11 @@ LIMITS = [
     ("limits/file_one_byte_too_large", add("a.py", "\n" * (MOST_BYTES + 1)) + b"check\n", LARGE + clean(0)),
     ("limits/file_one_byte_too_large_at_the_end", add("a.py", "\n" * (MOST_BYTES + 1)), LARGE),
     ("limits/as_many_files_as_there_may_be", *full()),
+    ("limits/as_many_pairs_as_there_may_be", *full_of_pairs()),
     ("limits/long_import_ring", *ring(300)),
     ("limits/longest_path", add(path_of(255)), OK),
+    ("limits/longest_path_of_a_stub", add(f"{path_of(254)}i"), OK),
+    ("limits/path_of_a_stub_one_byte_too_long", add(f"{path_of(255)}i"), PATH),
     ("limits/path_one_byte_too_long", add(path_of(256)), PATH),
     ("limits/longest_line", add(path_of(506)), PATH),
     ("limits/longest_line_with_a_carriage_return", add(path_of(506)).replace(b"\n", b"\r\n"), PATH),

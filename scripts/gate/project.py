@@ -180,6 +180,39 @@ def names(room, tally):
     tally.judge(got == (*wanted, said), f"a large file: {got}")
 
 
+def stubs(room, tally):
+    """A stub is checked in place of the file beside it, under another root, too."""
+    room.write(**{"a.py": WRONG, "a.pyi": "x: str\n", "b.py": "from a import x\n\ny: int = x\n", **MARK})
+    got = room.check()
+    tally.judge(got == (1, [f"b.py:3: {ASSIGNED}", FOUND.format(2)], []), f"a file and its stub: {got}")
+    got = room.check("a.py", "b.py")
+    said = ["dmypy: a.py is not checked: its stub a.pyi is"]
+    tally.judge(got == (2, [f"b.py:3: {ASSIGNED}", ONE], said), f"a file without its stub: {got}")
+    got = room.check("a.pyi")
+    tally.judge(got == (0, [CLEAN], []), f"a stub alone: {got}")
+    got = room.check("--exclude", "*.pyi")
+    wanted = (1, [f"a.py:1: {ASSIGNED}", FOUND.format(2)], [])
+    tally.judge(got == wanted, f"stubs are left out: {got}")
+    texts = {"typings/pkg/m.pyi": "def f(n: int) -> int: return ''\n", "src/pkg/m.py": WRONG, "src/app.py": USE}
+    room.write(**{f"roots/{path}": text for path, text in texts.items()})
+    room.write(**{"roots/pyproject.toml": "[tool.dmypy]\nroots = ['src', 'typings']\n"})
+    got = room.check(inside="roots")
+    tally.judge(got == (1, [f"src/app.py:3: {CALLED}", FOUND.format(2)], []), f"a stub under another root: {got}")
+    packages = {"src/__init__.pyi": "", "src/m.pyi": MODULE, "app.py": USE.replace("pkg", "src"), "m.pyi": ""}
+    room.write(**{f"packages/{path}": text for path, text in {**packages, **MARK}.items()})
+    got = room.check(inside="packages")
+    tally.judge(got == (1, [f"app.py:3: {CALLED}", FOUND.format(4)], []), f"a package by its stub: {got}")
+    long = "/".join(["b" * 100] * 3)
+    paths = [f"names/{it}" for it in ("my file.py", "__init__.py", ".py", "a.py.py", f"{long}.py")]
+    room.write(**{path: WRONG for path in paths}, **{f"{path}i": "y: int = ''\n" for path in paths}, **MARK)
+    room.write(**{"names/setup.cfg": "", "names/a.pyi": "", "names/a/__init__.pyi": WRONG})
+    status, told, said = room.check(inside="names")
+    lines = {f"{path[len('names/'):]}i:1: {ASSIGNED}" for path in paths} | {f"a/__init__.pyi:1: {ASSIGNED}"}
+    last = "Found 6 errors in 6 files (checked 6 source files)"
+    wanted = ["dmypy: a.pyi is not checked: a/__init__.pyi names the same module, names.a"]
+    tally.judge((status, set(told[:-1]), told[-1], said) == (2, lines, last, wanted), f"names: {told} {said}")
+
+
 def many(room, tally):
     """More files than a session holds: those that are given come first."""
     room.write(**{f"a/m{number}.py": "x = 1\n" for number in range(1024)}, **{"z/last.py": WRONG, **MARK})
@@ -416,7 +449,7 @@ def baseline(room, tally):
     tally.judge(got == (2, [], ["dmypy: known.json: this is no file of known errors"]), f"another file: {got}")
 
 
-EDITED = ("a.py", "a/__init__.py", "p/m.py", "__init__.py", "b c.py")
+EDITED = ("a.py", "a.pyi", "a/__init__.py", "a/__init__.pyi", "p/m.py", "p/m.pyi", "__init__.py", "b c.py")
 EDITED_TEXTS = ("from p.m import f\nf('')\n", "import src.a\n", "from . import a\nreveal_type(a)\n", WRONG, MODULE)
 
 
@@ -554,7 +587,7 @@ def progress(room, tally):
 
 
 TESTS = (
-    *(layouts, roots, words, names, many, left_out, read_settings, use_settings, programs, outputs, forms),
+    *(layouts, roots, words, names, stubs, many, left_out, read_settings, use_settings, programs, outputs, forms),
     *(baseline, edits, watch, deaths, progress),
 )
 

@@ -42,6 +42,15 @@ SESSIONS = [
             (b"add ../a.py 10\nx=1\n", b"refused 8 truncated\n", 0),
         ],
     ),
+    (
+        b"add a.py 13\n" + ERROR + b"add a.pyi 0\ncheck\n",
+        [
+            (b"add a.pyi 13\n" + ERROR, b"refused 3 present\n", 0),
+            (b"status\n", b"files 1 bodies 2 rechecked 2\n", 0),
+            (b"remove a.pyi\n", b"ok\n", 0),
+            (b"change a.pyi 13\n" + ERROR, b"refused 4 absent\n", 0),
+        ],
+    ),
     # the room for the ten bytes, which are wanted until the input ends
     (b"status\n", [(b"add a.py 10\nx=1\n", b"refused 8 truncated\n", 1)]),
     (b"status\n", [(b"add a.py 00000000000\n", b"refused 1 command\n", 0)]),

@@ -1,16 +1,17 @@
 -- A check of files, update by update.
-use Rattle.std.proofs.Common.{◌≡◌, ℕ, Bool, true, false, List, [], ◌∷◌, ◌++◌, Option, None, Some, is_some, option_map, option_and_then, refl, sym, ap, subst, ◌∙◌, append_assoc, ◌||◌, true≢false, take, length, map, string_bytes, get_or, ◌+◌, ◌<◌, ◌≤◌, String, arith, codes, if◌then◌else◌, ◌==◌, ◌&&◌, not}
+use Rattle.std.proofs.Common.{◌≡◌, ℕ, Bool, true, false, List, [], ◌∷◌, ◌++◌, Option, None, Some, is_some, option_map, option_and_then, refl, sym, ap, subst, ◌∙◌, append_assoc, ◌||◌, ◌≢◌, ◌⊎◌, inl, inr, All, zero, suc, unwrap_or, true≢false, take, length, map, string_bytes, get_or, ◌+◌, ◌<◌, ◌≤◌, String, arith, codes, if◌then◌else◌, ◌==◌, ◌&&◌, not}
 use Rattle.std.specs.Prelude.{Result, Ok, Err, IfOk, OnOk, OnErr}
 use Rattle.std.specs.List.{concat}
 use Rattle.std.proofs.lemmas.Bool.{eqb-true}
 use Rattle.std.proofs.lemmas.List.{map-append, take_all, take_more}
+use Rattle.std.proofs.lemmas.List.Elements.{All-append}
 use Rattle.std.specs.Global.{Global}
 use Rattle.std.specs.Io.KnownBytes.{Appends}
 use Rattle.pyc_iface.specs.declared.options.Options.{Options}
 use Rattle.pyc_session.specs.Entry.{Entry}
 use Rattle.pyc_session.specs.Event.{Event, FetchStep}
 use Rattle.pyc_workspace.specs.Fresh.{fresh, checked, source_of}
-use Rattle.pyc_workspace.specs.Workspace.{File}
+use Rattle.pyc_workspace.specs.Workspace.{File, taken}
 use Rattle.pyc_daemon.specs.Counted.{IsSound, FailsOnce, at_fault, at_empty, faults_of, zeros_of}
 use Rattle.pyc_daemon.specs.declared.counted.Counted.{Counted}
 use Rattle.pyc_daemon.specs.Replies.{WritesPart}
@@ -19,11 +20,12 @@ use Rattle.pyc_session.specs.declared.ending.RunFault.{RunFault}
 use Rattle.pyc_session.specs.Session.{Outcome, updated, refusal_in}
 use Rattle.pyc_session.specs.State.{State, start}
 use Rattle.pyc_session.specs.declared.refusal.Refusal.{Refusal}
+use Rattle.pyc_session.specs.declared.refusal.Refusal.TheVariants as refusal
 use Rattle.pyc_daemon.proofs.Going.{appends_none, appends_trans, links_push, part_before, part_after}
 use Rattle.pyc_daemon.proofs.Moving.{append_nil, sound_none, sound_trans, write_fault}
 use Rattle.pyc_console.specs.declared.checking.CheckFault.{CheckFault}
 use Rattle.pyc_console.specs.declared.checking.CheckFault.TheVariants as check_fault
-use Rattle.pyc_console.specs.CheckFiles.{Checks, Outside, Prints, RefusedFile, UpdatedFiles, before_others, end_line, is_any, outside, refusal_lines, refused_file, report_status, updated_files}
+use Rattle.pyc_console.specs.CheckFiles.{Checks, Outside, Prints, RefusedFile, TellsMemory, UpdatedFiles, before_others, end_line, is_any, outside, refusal_lines, refused_file, report_status, updated_files}
 use Rattle.pyc_console.specs.Lines.{Writes, program_line, refusal_line}
 use Rattle.pyc_console.specs.Updates.{UpdatesAll, UpdatesOne, WritesOn, more, none, has_failed}
 
@@ -140,7 +142,7 @@ writes_on first writer writer' reported reported' reported'' text later true fau
   },
 )
 
-both_true : (a b : Bool) → not (a && b) ≡ false → (a ≡ true) × (b ≡ true)
+pub both_true : (a b : Bool) → not (a && b) ≡ false → (a ≡ true) × (b ≡ true)
 both_true true true e = (refl, refl)
 both_true true false e = cc
 both_true false b e = cc
@@ -200,20 +202,126 @@ prints_part out out' printed printed' options files report refused same fails pa
   some = report_some options files;
 }
 
+-- ---- want of memory
+
+one_left : (file : RefusedFile) → file.refusal ≢ refusal.Memory → All (λ (f : RefusedFile). f.refusal ≢ refusal.Memory) (file ∷ [])
+one_left file other zero d within = other
+one_left file other (suc k) d within = absurd (omega (arith, within))
+
+-- all files have their lines
+told_whole : (reported reported' : Option (List ℕ)) (files : List RefusedFile) → Appends reported reported' (refusal_lines files)
+    → TellsMemory reported reported' files
+told_whole reported reported' files appends = record {
+  told = files;
+  others = [];
+  parts = sym (files_nil files);
+  later = [];
+  appends = subst (λ zs. Appends reported reported' zs) (sym (append_nil (refusal_lines files))) appends;
+  no_memory = λ k d within. absurd (omega (arith, within));
+}
+
+-- the lines stay where more is written
+told_later : (reported reported' reported'' : Option (List ℕ)) (files : List RefusedFile) (text : List ℕ) → TellsMemory reported reported' files
+    → Appends reported' reported'' text → TellsMemory reported reported'' files
+told_later reported reported' reported'' files text t appends = record {
+  told = t.told;
+  others = t.others;
+  parts = t.parts;
+  later = t.later ++ text;
+  appends = subst (λ zs. Appends reported reported'' zs) (append_assoc (refusal_lines t.told) t.later text)
+      (appends_trans reported reported' reported'' (refusal_lines t.told ++ t.later) text t.appends appends);
+  no_memory = t.no_memory;
+}
+
+-- a file more, which is not refused for want of memory
+told_other : (reported reported' : Option (List ℕ)) (files : List RefusedFile) (file : RefusedFile) → TellsMemory reported reported' files
+    → file.refusal ≢ refusal.Memory → TellsMemory reported reported' (files ++ file ∷ [])
+told_other reported reported' files file t other = record {
+  told = t.told;
+  others = t.others ++ file ∷ [];
+  parts = ap (λ fs. fs ++ file ∷ []) t.parts ∙ sym (files_assoc t.told t.others (file ∷ []));
+  later = t.later;
+  appends = t.appends;
+  no_memory = All-append (λ (f : RefusedFile). f.refusal ≢ refusal.Memory) t.others (file ∷ []) t.no_memory (one_left file other);
+}
+
+-- what is written of a text
+written_by : {W : Type 0} (writer writer' : Counted W) (reported reported' : Option (List ℕ)) (text : List ℕ) → WritesOn writer writer' reported reported' text
+    → (part : List ℕ) × Appends reported reported' part
+written_by writer writer' reported reported' text (more f z false w) = (text, w.1)
+written_by writer writer' reported reported' text (more f z true w) = (w.part.written, w.part.appends)
+written_by writer writer' reported reported' text (none has same_writer same_reported) = ([], subst (λ r. Appends reported r []) (sym same_reported) (appends_none reported))
+
+some_failure : (a b : Bool) → (a ≡ true → b ≡ true → ⊥) → not (a && b) ≡ true
+some_failure true true h = absurd (h refl refl)
+some_failure true false h = refl
+some_failure false b h = refl
+
+-- where a write failed that was the first, one has failed
+has_failed_once : {W : Type 0} (first writer : Counted W) → faults_of first ≡ 0 → zeros_of first ≡ 0 → FailsOnce first writer → has_failed writer ≡ true
+has_failed_once first writer faults zeros fails =
+    some_failure (faults_of writer == 0) (zeros_of writer == 0)
+    (λ f z. failed_once first writer faults zeros fails (eqb-true _ _ f) (eqb-true _ _ z))
+
+-- the files with one more that is refused
+told_refused : {W : Type 0} (first writer writer' : Counted W) (reported reported' reported'' : Option (List ℕ)) (files : List RefusedFile) (file : RefusedFile) (failed : Bool)
+    → faults_of first ≡ 0 → zeros_of first ≡ 0 → Writes failed first writer reported reported' (refusal_lines files) → TellsMemory reported reported' files
+    → WritesOn writer writer' reported' reported'' (refusal_lines (file ∷ [])) → (has_failed writer' ≡ true → file.refusal ≢ refusal.Memory)
+    → TellsMemory reported reported'' (files ++ file ∷ [])
+told_refused first writer writer' reported reported' reported'' files file false faults zeros w t (more f z false m) other =
+    told_whole reported reported'' (files ++ file ∷ [])
+    (subst (λ zs. Appends reported reported'' zs) (sym (lines_append files (file ∷ [])))
+    (appends_trans reported reported' reported'' (refusal_lines files) (refusal_lines (file ∷ [])) w.1 m.1))
+told_refused first writer writer' reported reported' reported'' files file true faults zeros w t (more f z false m) other =
+    absurd (failed_once first writer faults zeros w.fails f z)
+told_refused first writer writer' reported reported' reported'' files file failed faults zeros w t (more f z true m) other =
+    told_other reported reported'' files file (told_later reported reported' reported'' files m.part.written t m.part.appends)
+    (other (has_failed_once writer writer' f z m.fails))
+told_refused first writer writer' reported reported' reported'' files file failed faults zeros w t (none has same_writer same_reported) other =
+    subst (λ r. TellsMemory reported r (files ++ file ∷ [])) (sym same_reported)
+    (told_other reported reported' files file t (other (ap (λ w. has_failed w) same_writer ∙ has)))
+
+told_by : {W : Type 0} (first writer writer' : Counted W) (reported reported' reported'' : Option (List ℕ)) (files : List RefusedFile) (path : List ℕ) (why : Option Refusal) (failed : Bool)
+    → faults_of first ≡ 0 → zeros_of first ≡ 0 → Writes failed first writer reported reported' (refusal_lines files) → TellsMemory reported reported' files
+    → WritesOn writer writer' reported' reported'' (refusal_lines (refused_file path why)) → (has_failed writer' ≡ true → why ≢ Some refusal.Memory)
+    → TellsMemory reported reported'' (files ++ refused_file path why)
+told_by first writer writer' reported reported' reported'' files path None failed faults zeros w t one other =
+    let more_written = written_by writer writer' reported' reported'' [] one in
+    subst (λ fs. TellsMemory reported reported'' fs) (sym (files_nil files)) (told_later reported reported' reported'' files more_written.0 t more_written.1)
+told_by first writer writer' reported reported' reported'' files path (Some why) failed faults zeros w t one other =
+    told_refused first writer writer' reported reported' reported'' files (record { path = path; refusal = why }) failed faults zeros w t one
+    (λ has is. other has (ap (λ r. Some r) is))
+
+-- of two of which one tells nothing
+neither : (a b : Bool) → (a || b) ≡ false → (a ≡ false) × (b ≡ false)
+neither true b e = cc
+neither false b e = (refl, e)
+
 -- ---- updates
 
 -- no file is updated yet
 pub updates_none : {S E : Type 0} (step : S → List ℕ → Entry → S → Type 0) (source : S) (err : Counted E) (reported : Option (List ℕ)) (s : State)
-    → (failed : Bool) × UpdatesAll step source source err err reported reported s s [] false failed
-updates_none step source err reported s = (false, record { events = []; files = []; reaches = refl; links = refl; reports = (sound_none err, appends_none reported); is = refl })
+    → (failed : Bool) × UpdatesAll step source source err err reported reported s s [] false false failed
+updates_none step source err reported s = (
+  false,
+  record {
+    events = [];
+    files = [];
+    reaches = refl;
+    links = refl;
+    reports = (sound_none err, appends_none reported);
+    is = refl;
+    told = λ _. told_whole reported reported [] (appends_none reported);
+  },
+)
 
 -- one more is
-pub updates_on : {S E : Type 0} (step : S → List ℕ → Entry → S → Type 0) (source source' source'' : S) (err err' err'' : Counted E) (reported reported' reported'' : Option (List ℕ)) (s s' s'' : State) (paths : List (List ℕ)) (path : List ℕ) (refused more_refused : Bool) (event : Event)
+pub updates_on : {S E : Type 0} (step : S → List ℕ → Entry → S → Type 0) (source source' source'' : S) (err err' err'' : Counted E) (reported reported' reported'' : Option (List ℕ)) (s s' s'' : State) (paths : List (List ℕ)) (path : List ℕ) (refused untold more_refused more_untold : Bool) (event : Event)
     → faults_of err ≡ 0 → zeros_of err ≡ 0
-    → (failed : Bool) × UpdatesAll step source source' err err' reported reported' s s' paths refused failed
-    → FetchStep step source' event.fetched source'' → UpdatesOne err' err'' reported' reported'' path s' s'' event more_refused
-    → (failed : Bool) × UpdatesAll step source source'' err err'' reported reported'' s s'' (paths ++ path ∷ []) (refused || more_refused) failed
-updates_on step source source' source'' err err' err'' reported reported' reported'' s s' s'' paths path refused more_refused event faults zeros (failed, u) fetched one =
+    → (failed : Bool) × UpdatesAll step source source' err err' reported reported' s s' paths refused untold failed
+    → FetchStep step source' event.fetched source'' → UpdatesOne err' err'' reported' reported'' path s' s'' event more_refused more_untold
+    → (failed : Bool) × UpdatesAll step source source'' err err'' reported reported'' s s'' (paths ++ path ∷ []) (refused || more_refused) (untold || more_untold) failed
+updates_on step source source' source'' err err' err'' reported reported' reported'' s s' s'' paths path refused untold more_refused more_untold event faults zeros (failed, u) fetched one =
     let files = refused_file path one.refusal in
     let w = writes_on err err' err'' reported reported' reported'' (refusal_lines u.files) (refusal_lines files) failed faults zeros u.reports one.reports in (
       w.0,
@@ -224,6 +332,9 @@ updates_on step source source' source'' err err' err'' reported reported' report
         links = links_push step source source' source'' u.events u.links event fetched;
         reports = subst (λ zs. Writes w.0 err err'' reported reported'' zs) (sym (lines_append u.files files)) w.1;
         is = rw (u.is, one.is) (sym (any_append u.files files ∙ ap (λ b. is_any u.files || b) (any_file path one.refusal)));
+        told = λ tells.
+            let both = neither untold more_untold tells in
+            told_by err err' err'' reported reported' reported'' u.files path one.refusal failed faults zeros u.reports (u.told both.0) one.reports (one.told both.1);
       },
     )
 
@@ -244,29 +355,41 @@ pub reported_result : (s' : State) (answer answer' : Result (Unit {0}) Refusal) 
     → o ≡ Some (record { refusal = refusal_in answer'; state = s' })
 reported_result s' answer answer' o e same = e ∙ ap (λ r. Some (record { refusal = refusal_in r; state = s' })) same
 
+some_refusal : (a b : Refusal) → Some a ≡ Some b → a ≡ b
+some_refusal a b is = ap (λ r. unwrap_or r a) is
+
 -- the file is accepted
 pub one_accepted : {E : Type 0} (err : Counted E) (reported : Option (List ℕ)) (path : List ℕ) (s s' : State) (event : Event) → updated s path event ≡ Some (record { refusal = None; state = s' })
-    → UpdatesOne err err reported reported path s s' event false
-one_accepted err reported path s s' event e = record { refusal = None; reaches = e; reports = writes_nothing err reported; is = refl }
+    → UpdatesOne err err reported reported path s s' event false false
+one_accepted err reported path s s' event e = record { refusal = None; reaches = e; reports = writes_nothing err reported; is = refl; told = λ tells has is. true≢false (sym (ap is_some is)) }
 
 -- it is refused
-pub one_refused : {E : Type 0} (err err' : Counted E) (reported reported' : Option (List ℕ)) (path : List ℕ) (s s' : State) (event : Event) (why : Refusal) → updated s path event ≡ Some (record { refusal = Some why; state = s' })
-    → WritesOn err err' reported reported' (refusal_line path why) → UpdatesOne err err' reported reported' path s s' event true
-one_refused err err' reported reported' path s s' event why e w = record {
+pub one_refused : {E : Type 0} (err err' : Counted E) (reported reported' : Option (List ℕ)) (path : List ℕ) (s s' : State) (event : Event) (why : Refusal) (untold : Bool) → updated s path event ≡ Some (record { refusal = Some why; state = s' })
+    → WritesOn err err' reported reported' (refusal_line path why) → (untold ≡ false → has_failed err' ≡ true → why ≢ refusal.Memory)
+    → UpdatesOne err err' reported reported' path s s' event true untold
+one_refused err err' reported reported' path s s' event why untold e w told = record {
   refusal = Some why;
   reaches = e;
   reports = subst (λ zs. WritesOn err err' reported reported' zs) (sym (append_nil (refusal_line path why))) w;
   is = refl;
+  told = λ tells has is. told tells has (some_refusal why refusal.Memory is);
 }
 
 -- ---- the whole check
 
-pub checks : {S O E : Type 0} (step : S → List ℕ → Entry → S → Type 0) (options : Options) (source source' : S) (out out' : Counted O) (err err' err'' : Counted E) (printed printed' reported reported' reported'' : Option (List ℕ)) (s' : State) (paths : List (List ℕ)) (refused : Bool) (result : Result ℕ CheckFault)
+told_at_end : (reported reported' reported'' : Option (List ℕ)) (files : List RefusedFile) (untold : Bool) (result : Result ℕ CheckFault)
+    → (result ≡ Err check_fault.Memory) ⊎ (untold ≡ false) → (untold ≡ false → TellsMemory reported reported' files)
+    → (part : List ℕ) × Appends reported' reported'' part → (result ≡ Err check_fault.Memory) ⊎ TellsMemory reported reported'' files
+told_at_end reported reported' reported'' files untold result (inl wants) tells later = inl wants
+told_at_end reported reported' reported'' files untold result (inr all) tells later = inr (told_later reported reported' reported'' files later.0 (tells all) later.1)
+
+pub checks : {S O E : Type 0} (step : S → List ℕ → Entry → S → Type 0) (options : Options) (source source' : S) (out out' : Counted O) (err err' err'' : Counted E) (printed printed' reported reported' reported'' : Option (List ℕ)) (s' : State) (paths : List (List ℕ)) (refused untold : Bool) (result : Result ℕ CheckFault)
     → faults_of err ≡ 0 → zeros_of err ≡ 0
-    → (failed : Bool) × UpdatesAll step source source' err err' reported reported' (start options) s' paths refused failed
-    → Prints result (fresh s'.options s'.present) refused out out' printed printed' → WritesOn err' err'' reported' reported'' (end_line result)
+    → (failed : Bool) × UpdatesAll step source source' err err' reported reported' (start options) s' paths refused untold failed
+    → (result ≡ Err check_fault.Memory) ⊎ (untold ≡ false)
+    → Prints result (fresh s'.options (taken s'.present)) refused out out' printed printed' → WritesOn err' err'' reported' reported'' (end_line result)
     → (failed : Bool) × Checks step options (outside source out err printed reported) (outside source' out' err'' printed' reported'') paths result failed
-checks step options source source' out out' err err' err'' printed printed' reported reported' reported'' s' paths refused result faults zeros (failed, u) p end =
+checks step options source source' out out' err err' err'' printed printed' reported reported' reported'' s' paths refused untold result faults zeros (failed, u) told p end =
     let w = writes_on err err' err'' reported reported' reported'' (refusal_lines u.files) (end_line result) failed faults zeros u.reports end in (
       w.0,
       record {
@@ -274,8 +397,9 @@ checks step options source source' out out' err err' err'' printed printed' repo
         reached = record { refused = u.files; state = s' };
         reaches = u.reaches;
         links = u.links;
-        prints = subst (λ t. Prints result (fresh s'.options s'.present) t out out' printed printed') u.is p;
+        prints = subst (λ t. Prints result (fresh s'.options (taken s'.present)) t out out' printed printed') u.is p;
         reports = w.1;
+        told = told_at_end reported reported' reported'' u.files untold result told u.told (written_by err' err'' reported' reported'' (end_line result) end);
       },
     )
 
@@ -297,7 +421,7 @@ sound_below : {S O E : Type 0} (step : S → List ℕ → Entry → S → Type 0
     → Checks step options before after paths (Ok status) failed → status < 2 → IsSound before.out after.out × IsSound before.err after.err
 sound_below step options before after paths status false c low = (c.prints.1.0, c.reports.0)
 sound_below step options before after paths status true c low =
-    let no_file = nothing_reported (fresh c.reached.state.options c.reached.state.present) c.reached.refused status c.prints.0 low in
+    let no_file = nothing_reported (fresh c.reached.state.options (taken c.reached.state.present)) c.reached.refused status c.prints.0 low in
     absurd (c.reports.some (ap (λ files. refusal_lines files ++ []) no_file))
 
 pub sound_after : {S O E : Type 0} (step : S → List ℕ → Entry → S → Type 0) (options : Options) (before after : Outside S O E) (paths : List (List ℕ)) (result : Result ℕ CheckFault)

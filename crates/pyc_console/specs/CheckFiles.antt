@@ -1,6 +1,7 @@
 -- What a check of files prints, what it reports on standard error, and the status that it ends with.
-use Rattle.std.specs.Prelude.{◌≡◌, ℕ, Bool, true, false, if◌then◌else◌, List, [], ◌∷◌, ◌++◌}
+use Rattle.std.specs.Prelude.{◌≡◌, ◌≢◌, ◌⊎◌, All, ℕ, Bool, true, false, if◌then◌else◌, List, [], ◌∷◌, ◌++◌}
 use Rattle.std.specs.Prelude.{Option, None, Some, option_map, option_and_then, Result, Ok, Err}
+use Rattle.std.specs.Io.KnownBytes.{Appends}
 use Rattle.pyc_daemon.specs.declared.counted.Counted.{Counted}
 use Rattle.pyc_iface.specs.declared.options.Options.{Options}
 use Rattle.pyc_report.specs.Report.{Report}
@@ -13,6 +14,7 @@ use Rattle.pyc_session.specs.declared.ending.RunFault.TheVariants as run_fault
 use Rattle.pyc_session.specs.declared.refusal.Refusal.{Refusal}
 use Rattle.pyc_session.specs.declared.refusal.Refusal.TheVariants as refusal
 use Rattle.pyc_workspace.specs.Fresh.{fresh}
+use Rattle.pyc_workspace.specs.Workspace.{taken}
 use Rattle.pyc_console.specs.declared.checking.CheckFault.{CheckFault}
 use Rattle.pyc_console.specs.declared.checking.CheckFault.TheVariants as check_fault
 use Rattle.pyc_console.specs.Lines.{Writes, fault_line, program_line, refusal_line}
@@ -58,7 +60,7 @@ is_any (file ∷ files) = true
 
 -- the report on the files that are accepted
 abbrev pub accepted_report : UpdatedFiles → Report
-accepted_report done = fresh done.state.options done.state.present
+accepted_report done = fresh done.state.options (taken done.state.present)
 
 -- the status of a report that was printed: 2 where a file is refused, else 0 where it is clean, and 1 where it is not
 abbrev pub report_status : Report → Bool → ℕ
@@ -77,6 +79,16 @@ end_line (Err fault) = check_fault_line fault
 -- what goes to the error output: the lines on the files that are refused, and the one on the report
 abbrev pub err_text : UpdatedFiles → Result ℕ CheckFault → List ℕ
 err_text done answer = refusal_lines done.refused ++ end_line answer
+
+-- The error output has a line on each file of these that is refused for want of memory: what was written there begins
+-- with the lines on the first of them, and none of the others is refused for that.
+pub record TellsMemory (reported reported' : Option (List ℕ)) (files : List RefusedFile) : Type 0 where
+  pub told : List RefusedFile
+  pub others : List RefusedFile
+  pub parts : files ≡ told ++ others
+  pub later : List ℕ
+  pub appends : Appends reported reported' (refusal_lines told ++ later)
+  pub no_memory : All (λ (file : RefusedFile). file.refusal ≢ refusal.Memory) others
 
 -- What was done to the output, whose known bytes are `printed`, for a report: it was written whole, and the status is
 -- its; or nothing was done; or it was written in part.
@@ -102,7 +114,8 @@ outside source out err printed reported =
     record { source = source; out = out; err = err; printed = printed; reported = reported }
 
 -- A check of files, by what a fetch does to a source (`step`): `events` is what the updates met, one event a file. All
--- files are updated and the report is printed, also where a write to the error output failed (`failed`).
+-- files are updated and the report is printed, also where a write to the error output failed (`failed`); but where a
+-- file is refused for want of memory and its line was not written, the check is, and no report is printed.
 pub record Checks {S O E : Type 0} (step : S → List ℕ → Entry → S → Type 0) (options : Options)
     (before after : Outside S O E) (paths : List (List ℕ)) (result : Result ℕ CheckFault) (failed : Bool)
     : Type 0 where
@@ -113,6 +126,7 @@ pub record Checks {S O E : Type 0} (step : S → List ℕ → Entry → S → Ty
   pub prints :
       Prints result (accepted_report reached) (is_any reached.refused) before.out after.out before.printed after.printed
   pub reports : Writes failed before.err after.err before.reported after.reported (err_text reached result)
+  pub told : (result ≡ Err check_fault.Memory) ⊎ TellsMemory before.reported after.reported reached.refused
 
 -- the status that the program ends with: 2 also where the report was not printed, or in part alone
 abbrev pub exit_status : Result ℕ CheckFault → ℕ

@@ -1,11 +1,12 @@
 //! One check of the files that the command line names.
 
-ghost use Rattle.std.specs.Prelude.{◌≡◌, ◌<◌, ◌++◌, [], Bool, false, codes, map, string_bytes, IfOk};
-ghost use Rattle.std.specs.Prelude.{if◌then◌else◌};
+ghost use Rattle.std.specs.Prelude.{◌≡◌, ◌≢◌, ◌⊎◌, ◌<◌, ◌++◌, [], Bool, true, false, codes, map, string_bytes};
+ghost use Rattle.std.specs.Prelude.{Err, IfOk, if◌then◌else◌};
 ghost use Rattle.pyc_daemon.specs.Counted.{inner_of, faults_of, zeros_of, IsSound, GivesRoom};
 ghost use Rattle.pyc_daemon.specs.Replies.{joined};
 ghost use Rattle.pyc_session.specs.Event.{Event, FetchStep};
 ghost use Rattle.pyc_workspace.specs.Fresh.{fresh};
+ghost use Rattle.pyc_workspace.specs.Workspace.{taken};
 ghost use Rattle.pyc_console.specs.CheckFiles.{Checks, Prints, check_fault_line, end_line, exit_status, outside};
 ghost use Rattle.pyc_console.specs.Lines.{program_line};
 ghost use Rattle.pyc_console.specs.Updates.{UpdatesAll, UpdatesOne, WritesOn, has_failed};
@@ -17,16 +18,26 @@ use std::io::Write;
 /// Why a check of files did not print its report whole.
 #[derive(Clone, Copy, Debug, PartialEq, Eq)]
 pub enum CheckFault {
-    /// The check wants memory. Nothing was printed.
+    /// The check wants memory, or a file did and no line on `err` says so. Nothing was printed.
     Memory,
     /// A write to the output failed, or took no byte.
     Write,
 }
 
+/// What updates came to.
+#[derive(Clone, Copy)]
+struct Updates {
+    /// Whether a file was refused.
+    refused: bool,
+    /// Whether one was refused for want of memory, and no line says so.
+    untold: bool,
+}
+
 /// Checks the files of these paths, whose bytes the source hands over, prints the report to `out`, and answers the
 /// status: 0 where all files are accepted and have no error, 1 where all are accepted and have one, else 2. Each file
 /// that is refused is reported on a line of `err`, and so is a fault. Where a write to `err` fails, nothing more is
-/// written there, and the check goes on.
+/// written there, and the check goes on; but where no line says of a file that it was refused for want of memory, no
+/// report is printed.
 pub fn check_files<S: Sources, O: Write, E: Write>(
     alloc: Global,
     sources: &mut S,
@@ -52,8 +63,8 @@ pub fn check_files<S: Sources, O: Write, E: Write>(
     ensures buffers { GivesRoom out.old out.new × GivesRoom err.old err.new }
 {
     let mut daemon = Daemon::new(alloc, *options);
-    let refused = update_all(&mut daemon, sources, err, files);
-    let answer = print_report(&mut daemon, out, refused);
+    let updates = update_all(&mut daemon, sources, err, files);
+    let answer = print_report(&mut daemon, out, updates);
     report_end(err, &answer);
     answer
 }
@@ -68,45 +79,68 @@ pub fn check_status(answer: &Result<u8, CheckFault>) -> u8
     }
 }
 
-// Updates the files in order, and answers whether one was refused.
+// Updates the files in order.
 fn update_all<S: Sources, E: Write>(
     daemon: &mut Daemon,
     sources: &mut S,
     err: &mut Counted<E>,
     files: &[String],
-) -> bool
+) -> Updates
     requires unreported { (faults_of err.old ≡ 0) × (zeros_of err.old ≡ 0) }
     ensures updates { (failed : Bool) × UpdatesAll S.step sources.old sources.new err.old err.new
         (E.contents (inner_of err.old)) (E.contents (inner_of err.new)) daemon.old daemon.new
-        (map string_bytes files.now) result failed }
+        (map string_bytes files.now) result.refused result.untold failed }
     ensures buffers { GivesRoom err.old err.new }
 {
     let mut refused = false;
+    let mut untold = false;
     for file in files {
-        refused |= update_one(daemon, sources, err, file);
+        let one = update_one(daemon, sources, err, file);
+        refused |= one.refused;
+        untold |= one.untold;
     }
-    refused
+    Updates { refused, untold }
 }
 
-// Updates a file, and answers whether it was refused.
+// Updates a file.
 fn update_one<S: Sources, E: Write>(
     daemon: &mut Daemon,
     sources: &mut S,
     err: &mut Counted<E>,
     file: &str,
-) -> bool
+) -> Updates
     ensures update { (event : Event) × FetchStep S.step sources.old event.fetched sources.new
         × UpdatesOne err.old err.new (E.contents (inner_of err.old)) (E.contents (inner_of err.new)) file.now
-        daemon.old daemon.new event result }
+        daemon.old daemon.new event result.refused result.untold }
     ensures buffers { GivesRoom err.old err.new }
 {
     match daemon.update(sources, file.as_bytes()) {
-        Ok(()) => false,
+        Ok(()) => Updates {
+            refused: false,
+            untold: false,
+        },
         Err(why) => {
             report_refusal(err, file, why.text());
-            true
+            Updates {
+                refused: true,
+                untold: is_untold(err, why),
+            }
         }
     }
+}
+
+// Whether a file was refused for want of memory, and a write has failed.
+fn is_untold<E: Write>(err: &Counted<E>, why: Refusal) -> bool
+    ensures { result ≡ false → has_failed err.now ≡ true → why ≢ Refusal.Memory }
+{
+    why == Refusal::Memory && has_failed(err)
+}
+
+// Whether a write has failed.
+fn has_failed<E: Write>(err: &Counted<E>) -> bool
+    ensures { result ≡ has_failed err.now }
+{
+    !(err.faults() == 0 && err.zeros() == 0)
 }
 
 // Writes the line on a file that is refused, from its path and the text of the refusal.
@@ -122,17 +156,21 @@ fn report_refusal<'a, E: Write>(err: &mut Counted<E>, file: &'a str, text: &'a s
 fn print_report<O: Write>(
     daemon: &mut Daemon,
     out: &mut Counted<O>,
-    refused: bool,
+    updates: Updates,
 ) -> Result<u8, CheckFault>
-    ensures prints { Prints result (fresh daemon.old.options daemon.old.present) refused out.old out.new
+    ensures prints { Prints result (fresh daemon.old.options (taken daemon.old.present)) updates.refused out.old out.new
         (O.contents (inner_of out.old)) (O.contents (inner_of out.new)) }
+    ensures told { (result ≡ Err CheckFault.Memory) ⊎ (updates.untold ≡ false) }
     ensures buffers { GivesRoom out.old out.new }
 {
+    if updates.untold {
+        return Err(CheckFault::Memory);
+    }
     let Ok(report) = daemon.check() else {
         return Err(CheckFault::Memory);
     };
     match write_bytes(out, report.text.as_bytes()) {
-        Ok(()) => Ok(report_status(refused, report.clean)),
+        Ok(()) => Ok(report_status(updates.refused, report.clean)),
         Err(_) => Err(CheckFault::Write),
     }
 }
@@ -180,7 +218,7 @@ fn print_parts<E: Write>(err: &mut Counted<E>, parts: &[&str])
         (joined parts.now) }
     ensures buffers { GivesRoom err.old err.new }
 {
-    if err.faults() == 0 && err.zeros() == 0 {
+    if !has_failed(err) {
         let _ = write_parts(err, parts);
     }
 }

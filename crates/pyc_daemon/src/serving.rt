@@ -131,7 +131,7 @@ fn short_answer(answer: Result<(), Refusal>) -> Answer
     }
 }
 
-/// Checks all files: the answer to `check`.
+/// Checks the files that are taken: the answer to `check`.
 fn check(daemon: &mut Daemon) -> Answer
     ensures { (mark : Bool) × ((rest : List ℕ) → check_turn daemon.old mark rest ≡ turn_of result daemon.new rest) }
 {

@@ -49,10 +49,10 @@ fn push_checks(
 
 /// Checks of the units of all files of a workspace, over one another and in order.
 fn checks_of(alloc: Global, workspace: &Workspace) -> Result<Vec<Checked>, AllocError> {
-    let world = PlainWorld::build(alloc, &interfaces_of(alloc, workspace.files())?)?;
+    let world = PlainWorld::build(alloc, &interfaces_of(alloc, workspace.held().files())?)?;
     let mut keys = World::new(alloc, Rc::new(alloc, world)?);
     let mut checks = Vec::new(alloc);
-    for file in workspace.files() {
+    for file in workspace.held().files() {
         push_checks(alloc, &mut keys, file, &mut checks)?;
     }
     Ok(checks)
@@ -61,7 +61,7 @@ fn checks_of(alloc: Global, workspace: &Workspace) -> Result<Vec<Checked>, Alloc
 /// The units of a workspace, each as its path and its number.
 fn units_shown(alloc: Global, workspace: &Workspace) -> Result<String, Fail> {
     let mut shown = String::new(alloc);
-    for unit in &workspace.units(alloc)? {
+    for unit in &workspace.held().units(alloc)? {
         let path = unit.path;
         let index = unit.index;
         write!(shown, "{path} {index};")?;
@@ -82,7 +82,7 @@ fn units_stand_in_order(rt: HostRuntime) -> Result<(), Fail> {
 fn checks_of_all_units_are_reported(rt: HostRuntime) -> Result<(), Fail> {
     let workspace = workspace_of(rt.alloc(), FILES)?;
     let checks = checks_of(rt.alloc(), &workspace)?;
-    let report = report(rt.alloc(), workspace.files(), &checks)?;
+    let report = report(rt.alloc(), workspace.held().files(), &checks)?;
     assert_eq!(rt;
         report.text.as_str(),
         "b.py:2: error: Incompatible types in assignment (expression has type \"int\", variable has type \"str\")  \

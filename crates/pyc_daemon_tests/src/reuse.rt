@@ -47,7 +47,7 @@ fn touched(alloc: Global, paths: &[&str]) -> Result<IndexSet<String>, AllocError
 fn first_check(alloc: Global, present: &Workspace) -> Result<(Report, LastCheck), AllocError> {
     let last = LastCheck::of_nothing(alloc, OPTIONS)?;
     let touched = touched(alloc, &["rate.py", "use.py"])?;
-    let (last, report) = check_again(alloc, last, present, &touched);
+    let (last, report) = check_again(alloc, last, present.held(), &touched);
     Ok((report?, last))
 }
 
@@ -86,7 +86,12 @@ fn first_check_examines_all(rt: HostRuntime) -> Result<(), Fail> {
 fn nothing_changed_examines_nothing(rt: HostRuntime) -> Result<(), Fail> {
     let present = two_files(rt.alloc())?;
     let (_, first) = first_check(rt.alloc(), &present)?;
-    let (last, report) = check_again(rt.alloc(), first, &present, &touched(rt.alloc(), &[])?);
+    let (last, report) = check_again(
+        rt.alloc(),
+        first,
+        present.held(),
+        &touched(rt.alloc(), &[])?,
+    );
     assert_eq!(rt; report?.text.as_str(), WRONG);
     assert_counts(&rt, &last, 2, 5, 0);
     Ok(())
@@ -105,7 +110,7 @@ fn other_result_examines_its_readers(rt: HostRuntime) -> Result<(), Fail> {
     let (last, report) = check_again(
         rt.alloc(),
         first,
-        &present,
+        present.held(),
         &touched(rt.alloc(), &["rate.py"])?,
     );
     assert_eq!(rt; report?.text.as_str(), CLEAN);
@@ -127,7 +132,7 @@ fn other_body_examines_its_file_alone(rt: HostRuntime) -> Result<(), Fail> {
     let (last, report) = check_again(
         rt.alloc(),
         first,
-        &present,
+        present.held(),
         &touched(rt.alloc(), &["rate.py"])?,
     );
     assert_eq!(rt; report?.text.as_str(), WRONG);

@@ -56,7 +56,7 @@ fn files_of_a_source_are_fetched(rt: HostRuntime) -> Result<(), Fail> {
 
 // A source whose fetch of number `wanting`, from 0, wants memory; the others are those of the source inside it.
 #[derive(Drop)]
-struct Wanting {
+pub(crate) struct Wanting {
     inside: MemorySource,
     wanting: usize,
     fetches: usize,
@@ -64,7 +64,7 @@ struct Wanting {
 
 impl Wanting {
     // That source over one with `a.py` alone.
-    fn new(alloc: Global, wanting: usize) -> Result<Self, AllocError> {
+    pub(crate) fn new(alloc: Global, wanting: usize) -> Result<Self, AllocError> {
         Ok(Wanting {
             inside: source(alloc)?,
             wanting,

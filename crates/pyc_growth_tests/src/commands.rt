@@ -2,6 +2,7 @@
 
 use crate::spending::spend;
 use pyc_daemon::{Daemon, MemorySource, Options, Refusal, Status};
+use pyc_names::beside;
 use std::alloc::{AllocError, Global};
 use std::process::Abort;
 use std::test::Fail;
@@ -23,10 +24,11 @@ pub(crate) enum Command {
     Change(usize, &'static str),
     /// The source has this text.
     Update(usize, &'static str),
+    Remove(usize),
     Check,
 }
 
-/// Commands, with what is expected of them.
+/// Commands, with what is expected of them. The second file may be the stub beside the first.
 pub(crate) struct Row {
     pub(crate) paths: [&'static str; 2],
     pub(crate) commands: &'static [Command],
@@ -46,6 +48,16 @@ impl Row {
             }
         }
         None
+    }
+
+    /// How many of these files are taken: a stub, and not the file beside it.
+    fn count_taken(&self, files: Files) -> usize {
+        let present = files.iter().filter(|text| !text.is_empty()).count();
+        if present == 2 && beside(self.paths[1]) == self.paths[0] {
+            1
+        } else {
+            present
+        }
     }
 
     /// How many units a check of the files `now` examines after one of the files `then`.
@@ -79,7 +91,7 @@ fn prepare(alloc: Global, paths: [&str; 2], command: Command) -> Result<Prepared
             files.push((path, text.as_bytes().to_vec(alloc)?))?;
             Ok(Prepared::Source(MemorySource::new(files)))
         }
-        Command::Check => Ok(Prepared::Nothing),
+        Command::Remove(_) | Command::Check => Ok(Prepared::Nothing),
     }
 }
 
@@ -110,7 +122,7 @@ impl Session<'_> {
     fn assert_status(&self, rt: &impl Abort) {
         let (bodies, _) = self.row.report(self.then).expect(rt, "a row of reports");
         let expected = Status {
-            files: self.then.iter().filter(|text| !text.is_empty()).count(),
+            files: self.row.count_taken(self.then),
             bodies,
             rechecked: self.examined,
         };
@@ -170,6 +182,11 @@ impl Session<'_> {
                 let path = self.row.paths[file].as_bytes();
                 let reply = self.daemon.update(&mut source, path);
                 self.note_kept(rt, file, text, reply, None)
+            }
+            (Command::Remove(file), _) => {
+                let other = self.now[file].is_empty().then_some(Refusal::Absent);
+                let reply = self.daemon.remove(self.row.paths[file].as_bytes());
+                self.note_kept(rt, file, "", reply, other)
             }
             _ => self.check(rt),
         };

@@ -22,7 +22,7 @@ fn asked(alloc: Global) -> Result<Asked, AllocError> {
     let first = keys_of(alloc, "m.py", "x")?;
     let more = keys_of(alloc, "m.py", "y")?;
     let mut keys = Keys::new(alloc);
-    let ids = keys.intern_all(alloc, &first)?;
+    let ids = keys.intern_all(alloc, &first)?.ids;
     Ok(Asked {
         first,
         ids,

@@ -270,6 +270,42 @@ const BASE_GAINS: Row = Row {
     ],
 };
 
+/// A file with an error, and a stub beside it.
+const WRONG: &str = "x: int = \"a\"\n";
+
+const STUB: &str = "x: int\n";
+
+const NO_INT: &str =
+    "a.py:1: error: Incompatible types in assignment (expression has type \"str\", variable has type \"int\")  [assignment]\nFound 1 error in 1 file (checked 1 source file)\n";
+
+/// A stub comes beside a file, and goes.
+const STUB_COMES: Row = Row {
+    paths: ["a.py", "a.pyi"],
+    commands: &[
+        Command::Add(0, WRONG),
+        Command::Check,
+        Command::Add(1, STUB),
+        Command::Check,
+        Command::Remove(1),
+        Command::Check,
+    ],
+    reports: &[
+        (["", ""], 0, NONE_CLEAN),
+        ([WRONG, ""], 2, NO_INT),
+        (["", STUB], 2, ONE_CLEAN),
+        ([WRONG, STUB], 2, ONE_CLEAN),
+    ],
+    // a file that was not taken is new, unless its stub came and went since the last completed check
+    counts: &[
+        (["", ""], [WRONG, ""], 2),
+        (["", ""], ["", STUB], 2),
+        (["", ""], [WRONG, STUB], 2),
+        ([WRONG, ""], [WRONG, STUB], 2),
+        ([WRONG, STUB], [WRONG, ""], 2),
+        (["", STUB], ["", ""], 0),
+    ],
+};
+
 /// A function has another value, and then another type.
 // growths: 1 to 1700
 pub(crate) fn result_changes(rt: &impl Abort, alloc: Global, spent: usize) -> Result<bool, Fail> {
@@ -310,6 +346,12 @@ pub(crate) fn base_gains(rt: &impl Abort, alloc: Global, spent: usize) -> Result
     is_given_again(rt, alloc, spent, &BASE_GAINS)
 }
 
+/// A stub that comes beside a file, and goes again.
+// growths: 1 to 1750
+pub(crate) fn stub_comes(rt: &impl Abort, alloc: Global, spent: usize) -> Result<bool, Fail> {
+    is_given_again(rt, alloc, spent, &STUB_COMES)
+}
+
 /// The rows.
 const ROWS: &[Row] = &[
     RESULT_CHANGES,
@@ -318,6 +360,7 @@ const ROWS: &[Row] = &[
     RING_OPENS,
     OVERRIDE_IS_MENDED,
     BASE_GAINS,
+    STUB_COMES,
 ];
 
 #[test]

@@ -129,7 +129,7 @@ pub(crate) fn keeping_one(rt: &impl Abort, alloc: Global, spent: usize) -> Resul
     let world = world_of(alloc, &two_files(alloc)?)?;
     let asked = six_keys(alloc)?;
     let mut keys = Keys::new(alloc);
-    let ids = keys.intern_all(alloc, &asked)?;
+    let ids = keys.intern_all(alloc, &asked)?.ids;
     let mut known = KnownAnswers::new(alloc, world.answers().world().clone()?);
     let first = known.find_or_form(&keys, ids[0])?;
     known.keep(ids[0], first.clone()?)?;

@@ -8,7 +8,7 @@ use Rattle.pyc_iface.specs.declared.options.Options.{Options}
 use Rattle.pyc_reuse.specs.declared.recheck.Recheck.{Recheck}
 use Rattle.pyc_reuse.specs.Examined.{is_unchanged}
 use Rattle.pyc_workspace.specs.Files.{files_in}
-use Rattle.pyc_workspace.specs.Workspace.{File}
+use Rattle.pyc_workspace.specs.Workspace.{File, has_file}
 
 -- the options, the files at the last check, and the files that are present
 abbrev pub options_in : Recheck → Options
@@ -24,7 +24,9 @@ present_in recheck = files_in recheck.present.now
 abbrev pub is_touched : {S : Type 0} → IndexSet (String Global) S → List ℕ → Bool
 is_touched touched path = contains_by (λ other. bytes_eq path (string_bytes other)) touched
 
--- a file that is present and whose path is not among those that were touched stands among the last ones as it is
+-- a file that is present, whose path is not among those that were touched and is one of the last ones, stands among
+-- these as it is
 abbrev pub AreKept : {S : Type 0} → (last present : List File) → IndexSet (String Global) S → Type 0
 AreKept last present touched =
-    (file : File) → Contains present file → is_touched touched file.path ≡ false → is_unchanged last file ≡ true
+    (file : File) → Contains present file → is_touched touched file.path ≡ false → has_file last file.path ≡ true
+    → is_unchanged last file ≡ true

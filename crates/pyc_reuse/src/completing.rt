@@ -27,7 +27,7 @@ use indexmap::IndexSet;
 use pyc_body::{Checker, Meter};
 use pyc_known_answers::World;
 use pyc_report::Report;
-use pyc_workspace::{File, Workspace};
+use pyc_workspace::{File, Files};
 use std::alloc::{AllocError, Global};
 use std::rc::Rc;
 
@@ -46,7 +46,7 @@ struct Completed {
 pub fn check_again(
     alloc: Global,
     last: LastCheck,
-    present: &Workspace,
+    present: &Files,
     touched: &IndexSet<String>,
 ) -> (LastCheck, Result<Report, AllocError>)
     requires { AreKept (revision_in last).files present.now touched.now }
@@ -81,7 +81,7 @@ fn check_present<'a>(
     alloc: Global,
     last: &'a KeptResults,
     keys: &mut World,
-    present: &'a Workspace,
+    present: &'a Files,
     touched: &'a IndexSet<String>,
 ) -> Result<Completed, AllocError>
     requires kept { AreKept (revision_kept last.now).files present.now touched.now }
@@ -127,7 +127,7 @@ fn check_present<'a>(
 fn complete(
     recheck: Recheck<'_>,
     keys: &mut World,
-    present: &Workspace,
+    present: &Files,
     list: &[FileStatus],
 ) -> Result<Completed, AllocError>
     requires present { present_in recheck ≡ present.now }

@@ -6,7 +6,7 @@ ghost use Rattle.pyc_workspace.specs.Fresh.{units_of};
 use crate::file_result::FileResult;
 use pyc_body::Meter;
 use pyc_iface::Options;
-use pyc_workspace::Workspace;
+use pyc_workspace::Files;
 use std::rc::Rc;
 
 /// What a completed check leaves, but for the keys and their answers: the options, the files that it checked, what came
@@ -14,7 +14,7 @@ use std::rc::Rc;
 #[derive(Drop)]
 pub(crate) struct KeptResults {
     pub(crate) options: Options,
-    pub(crate) files: Workspace,
+    pub(crate) files: Files,
     pub(crate) file_results: Vec<Rc<FileResult>>,
     pub(crate) meter: Meter,
     pub(crate) bodies: usize,

@@ -12,7 +12,7 @@ use crate::kept_results::KeptResults;
 use pyc_body::Meter;
 use pyc_iface::{Options, PlainWorld};
 use pyc_known_answers::World;
-use pyc_workspace::Workspace;
+use pyc_workspace::Files;
 use std::alloc::{AllocError, Global};
 use std::rc::Rc;
 
@@ -35,7 +35,7 @@ impl LastCheck {
     pub fn of_nothing(alloc: Global, options: Options) -> Result<LastCheck, AllocError>
         ensures { IfOk result (λ last. revision_in last ≡ record { options = options; files = []; examined = [] }) }
     {
-        let files = Workspace::new(alloc);
+        let files = Files::new(alloc);
         let world = PlainWorld::build(alloc, &[])?;
         let shared = Rc::new(alloc, world)?;
         Ok(LastCheck {

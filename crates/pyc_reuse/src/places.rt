@@ -5,6 +5,7 @@ ghost use Rattle.pyc_reuse.specs.Examined.{is_unchanged};
 ghost use Rattle.pyc_reuse.specs.Places.{place_in};
 ghost use Rattle.pyc_reuse.specs.RecheckView.{AreKept, is_touched, last_in, present_in};
 ghost use Rattle.pyc_workspace.specs.Files.{file_in};
+ghost use Rattle.pyc_workspace.specs.Workspace.{has_file};
 
 use crate::recheck::Recheck;
 use pyc_workspace::File;
@@ -27,6 +28,7 @@ impl Recheck<'_> {
     /// then.
     fn place(&self, file: &File) -> Option<usize>
         requires { is_touched self.now.touched.now (file_in file.now).path ≡ false
+            → has_file (last_in self.now) (file_in file.now).path ≡ true
             → is_unchanged (last_in self.now) (file_in file.now) ≡ true }
         ensures { result ≡ place_in (last_in self.now) (file_in file.now) }
     {

@@ -11,7 +11,7 @@ use Rattle.pyc_workspace.specs.Path.{is_file_path}
 use Rattle.pyc_session.specs.declared.keep.Keep.{Keep}
 use Rattle.pyc_session.specs.Session.{Turn, Onward, Session, Progress, turn, has_command, file_turn, reported, kept, removed, updated, handed_over, refusal_in, check_turn, check_reply, after_check, keeping, dropping, replied, ok, last_turn, goes_on, ends, onto, after_turn, session_from, further, go_on, progress, CommandsComeFirst}
 use Rattle.pyc_session.specs.State.{State}
-use Rattle.pyc_workspace.specs.Workspace.{File}
+use Rattle.pyc_workspace.specs.Workspace.{File, taken}
 use Rattle.pyc_workspace.specs.Fresh.{fresh}
 use Rattle.pyc_report.specs.Report.{Report}
 use Rattle.pyc_session.specs.declared.refusal.Refusal.{Refusal}
@@ -194,7 +194,7 @@ file_not_kept how s path size (Some why) held rest e is =
     file_whole how s path size true held rest e ∙ rw (e, early_reported how s.present path size true why (sym is)) refl
 
 -- a check that is done
-pub check_done : (s s' : State) (report : Report) (rest : List ℕ) → report ≡ fresh s.options s.present → s' ≡ after_check s
+pub check_done : (s s' : State) (report : Report) (rest : List ℕ) → report ≡ fresh s.options (taken s.present) → s' ≡ after_check s
     → check_turn s false rest ≡ replied (check_reply report) s' rest
 unfolding check_turn
 check_done s s' report rest e f = rw (e, f) refl

@@ -15,7 +15,8 @@ abbrev pub revision_of : Options → Option LastCheck → Revision
 revision_of options None = record { options = options; files = []; examined = [] }
 revision_of options (Some last) = revision_in last
 
--- it was a check with these options, and a file that is present and was not put since then stands among its files
+-- it was a check with these options, and a file that is present and was not put since then stands among its files as it
+-- is, where its path is one of theirs
 pub record KeepsUp {S : Type 0} (options : Options) (present : List File) (touched : IndexSet (String Global) S)
     (last : Option LastCheck) : Type 0 where
   pub options_are : (revision_of options last).options ≡ options

@@ -6,7 +6,6 @@ use Rattle.pyc_session.specs.declared.refusal.Refusal.TheVariants as refusal
 use Rattle.pyc_session.specs.declared.keep.Keep.{Keep}
 use Rattle.pyc_session.specs.declared.keep.Keep.TheVariants as keep
 use Rattle.pyc_session.specs.Limits.{largest_file, most_files}
-use Rattle.pyc_names.specs.ModuleName.{module_of}
 use Rattle.pyc_workspace.specs.Path.{is_file_path}
 use Rattle.pyc_workspace.specs.Workspace.{File, has_file, is_module_taken}
 
@@ -41,7 +40,7 @@ presence keep.Change files path = record { stands = not (has_file files path); r
 -- what a new file needs besides: a module of its own, and room for one more file
 abbrev pub room : Keep → List File → List ℕ → List Reason
 room keep.Add files path =
-    record { stands = is_module_taken files (module_of path); refusal = refusal.Module }
+    record { stands = is_module_taken files path; refusal = refusal.Module }
     ∷ record { stands = not (nat_lt (length files) most_files); refusal = refusal.Many } ∷ []
 room keep.Change files path = []
 

@@ -20,7 +20,7 @@ use Rattle.pyc_report.specs.Report.{Report}
 use Rattle.pyc_reuse.specs.Examined.{examined}
 use Rattle.pyc_workspace.specs.Path.{is_file_path}
 use Rattle.pyc_session.specs.State.{State, start}
-use Rattle.pyc_workspace.specs.Workspace.{File, with_file, without_file}
+use Rattle.pyc_workspace.specs.Workspace.{File, taken, with_file, without_file}
 
 -- ---- what a command does to the files
 
@@ -83,7 +83,8 @@ updated s path event =
 -- the state after a completed check: it examined the units of new and changed files, and those of whose reads then some
 -- key has another answer now
 abbrev pub after_check : State → State
-after_check s = record s { last = s.present; examined = examined s.options s.last s.present }
+after_check s =
+    record s { last = taken s.present; examined = examined s.options s.last (taken s.present) }
 
 -- ---- replies
 
@@ -142,7 +143,7 @@ file_turn how s path size wanting rest =
 unfoldable pub check_turn : State → Bool → List ℕ → Turn
 check_turn s wanting rest =
     if wanting then replied (refusal_text refusal.Memory) s rest
-    else replied (check_reply (fresh s.options s.present)) (after_check s) rest
+    else replied (check_reply (fresh s.options (taken s.present))) (after_check s) rest
 
 -- What a command does with what it met, a row a command; absent where what it met does not fit it. `update` alone
 -- fetches.

@@ -3,8 +3,8 @@ use Rattle.std.specs.Prelude.{List, []}
 use Rattle.pyc_iface.specs.declared.options.Options.{Options}
 use Rattle.pyc_workspace.specs.Workspace.{File, Unit}
 
--- a session's state: the options that it is run with, the files that are present, the files at the last completed
--- check, and the units that it examined
+-- a session's state: the options that it is run with, the files that are present, those that were taken at the last
+-- completed check, and the units that it examined
 pub record State : Type 0 where
   pub options : Options
   pub present : List File

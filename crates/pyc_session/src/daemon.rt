@@ -14,7 +14,7 @@ ghost use Rattle.pyc_reuse.specs.RevisionView.{revision_in};
 ghost use Rattle.pyc_session.specs.DaemonView.{revision_of};
 ghost use Rattle.pyc_session.specs.Session.{after_check, keeping, dropping, updated, refusal_in};
 ghost use Rattle.pyc_session.specs.State.{State, start};
-ghost use Rattle.pyc_workspace.specs.Workspace.{has_file};
+ghost use Rattle.pyc_workspace.specs.Workspace.{has_file, taken};
 
 use crate::keep::Keep;
 use crate::refusal::Refusal;
@@ -36,8 +36,8 @@ pub const MOST_FILES: usize = 1024;
 /// How many bytes a file may have.
 pub const LARGEST_FILE: usize = 1_048_576;
 
-/// The files of a session, and what its last check left. Contracts see its state: the files that are present, the files
-/// at the last completed check, and the units that it examined.
+/// The files of a session, and what its last check left. Contracts see its state: the files that are present, those
+/// that were taken at the last completed check, and the units that it examined.
 #[derive(Drop)]
 pub struct Daemon {
     alloc: Global,
@@ -148,11 +148,11 @@ impl Daemon {
         Ok(())
     }
 
-    /// Checks all files. Where memory is refused all is as before.
+    /// Checks the files that are taken. Where memory is refused all is as before.
     pub fn check(&mut self) -> Result<Report, AllocError>
-        ensures fresh { IfOk result (λ report. report_in report ≡ fresh self.old.options self.old.present) }
+        ensures fresh { IfOk result (λ report. report_in report ≡ fresh self.old.options (taken self.old.present)) }
         ensures after { OnOk result (self.new ≡ after_check self.old) }
-        ensures exact { IfOk result (λ report. IsExact self.old.options self.old.last self.old.present
+        ensures exact { IfOk result (λ report. IsExact self.old.options self.old.last (taken self.old.present)
             (report_in report) self.new.examined) }
         ensures same { OnErr result (self.new ≡ self.old) }
     {
@@ -181,16 +181,18 @@ impl Daemon {
         }
     }
 
-    /// A check of all files, after the last completed one if there was one. Where memory is refused all is as before.
+    /// A check of the files that are taken, after the last completed one if there was one. Where memory is refused all
+    /// is as before.
     fn check_all_files(&mut self) -> Result<Report, AllocError>
-        ensures fresh { IfOk result (λ report. report_in report ≡ fresh self.old.options self.old.present) }
+        ensures fresh { IfOk result (λ report. report_in report ≡ fresh self.old.options (taken self.old.present)) }
         ensures after { OnOk result (self.new ≡ after_check self.old) }
-        ensures exact { IfOk result (λ report. IsExact self.old.options self.old.last self.old.present
+        ensures exact { IfOk result (λ report. IsExact self.old.options self.old.last (taken self.old.present)
             (report_in report) self.new.examined) }
         ensures same { OnErr result (self.new ≡ self.old) }
     {
+        let taken = self.present.taken(self.alloc)?;
         let last = last_or_nothing(self.alloc, self.options, self.last.take())?;
-        let (next, report) = check_again(self.alloc, last, &self.present, &self.touched);
+        let (next, report) = check_again(self.alloc, last, &taken, &self.touched);
         self.last = Some(next);
         report
     }
@@ -236,7 +238,7 @@ impl Daemon {
         let Ok(name) = ModuleName::of_path(self.alloc, path) else {
             return Err(Refusal::Memory);
         };
-        if let Some(why) = module_refusal(&self.present, keep, &name) {
+        if let Some(why) = module_refusal(&self.present, keep, path, &name) {
             return Err(why);
         }
         match self.put(path, name, bytes) {
@@ -317,13 +319,13 @@ fn remove_refusal(files: &Workspace, path: &[u8]) -> Option<Refusal>
 
 /// Why the module that its path names refuses a file that is kept so.
 #[tactic(auto, unfolding(crate::specs::Refusal::reasons))]
-fn module_refusal(files: &Workspace, keep: Keep, name: &ModuleName) -> Option<Refusal>
-    ensures { (path : List ℕ) (size : ℕ) → name.now ≡ module_of path
-        → result ≡ late_refusal keep files.now path size false }
+fn module_refusal(files: &Workspace, keep: Keep, path: &str, name: &ModuleName) -> Option<Refusal>
+    requires { name.now ≡ module_of path.now }
+    ensures { (size : ℕ) → result ≡ late_refusal keep files.now path.now size false }
 {
     if keep == Keep::Change {
         None
-    } else if files.names_module(name) {
+    } else if files.names_module(path, name) {
         Some(Refusal::Module)
     } else if files.len() >= MOST_FILES {
         Some(Refusal::Many)

@@ -28,7 +28,7 @@ use Rattle.pyc_expression_laws.specs.Rows.{name_key}
 use Rattle.pyc_reading.specs.Keys.{Key}
 use Rattle.pyc_reading.specs.Keys as key
 use Rattle.pyc_unit_laws.proofs.ImportLemmas.{class_import_asks, import_asks, local_import_asks}
-use Rattle.pyc_unit_laws.specs.ImportRows.{found_keys, module_path_of, local_import_keys, local_name_keys}
+use Rattle.pyc_unit_laws.specs.ImportRows.{Answers, found_keys, module_path_of, local_import_keys, local_name_keys}
 use Rattle.pyc_type_exprs.specs.TypeExprs.{type_expr}
 
 -- ---- imports

@@ -1,5 +1,5 @@
 -- How many files name each module, one file more or less.
-use Rattle.std.proofs.Common.{◌≡◌, ℕ, ◌+◌, ◌-◌, ◌<◌, ◌≤◌, Bool, true, false, cond, ◌||◌, if◌then◌else◌, List, [], ◌∷◌, length, set, get_or, insert, remove, count_by, Result, Ok, Err, IsOk, OnOk, Option, Some, None, unwrap_or, refl, sym, ap, ◌∙◌, arith}
+use Rattle.std.proofs.Common.{◌≡◌, ℕ, ◌+◌, ◌-◌, ◌<◌, ◌≤◌, Bool, true, false, cond, not, ◌&&◌, ◌||◌, bytes_eq, true≢false, if◌then◌else◌, List, [], ◌∷◌, length, set, get_or, insert, remove, count_by, Result, Ok, Err, IsOk, OnOk, OnErr, Option, Some, None, unwrap_or, refl, sym, ap, ◌∙◌, arith}
 use Rattle.std.proofs.lemmas.List.{map-set}
 use Rattle.std.proofs.lemmas.List.Sums.{sum_by-cons, sum_by-set, sum_by-insert, sum_by-remove}
 use Rattle.std.proofs.lemmas.Bool.{lt-ltb, false≢true}
@@ -7,12 +7,12 @@ use Rattle.std.specs.declared.alloc.Global.{Global}
 use Rattle.std.specs.declared.rc.Rc.{Rc}
 use Rattle.std.specs.List.{list_any}
 use Rattle.std.specs.Prelude.{nat_lt}
-use Rattle.pyc_names.specs.ModuleName.{module_of, same_module}
+use Rattle.pyc_names.specs.ModuleName.{module_of, same_module, beside}
 use Rattle.pyc_workspace.specs.declared.file.File.{File as FileOf}
 use Rattle.pyc_workspace.specs.Files.{file_in, files_in}
 use Rattle.pyc_workspace.specs.ModuleCounts.{name_count}
-use Rattle.pyc_workspace.specs.Workspace.{File, is_module_taken}
-use Rattle.pyc_workspace.proofs.WorkspaceLemmas.{map-insert}
+use Rattle.pyc_workspace.specs.Workspace.{File, IsPlaceOf, is_module_taken, with_file}
+use Rattle.pyc_workspace.proofs.WorkspaceLemmas.{map-insert, with_file-place}
 
 -- ---- one entry
 
@@ -59,9 +59,23 @@ any_counted test [] = refl
 any_counted test (file ∷ files) =
     ap (nat_lt 0) (sum_by-cons (λ (f : File). cond (test f) 1 0) file files) ∙ counted test (count_by test files) (test file) (list_any test files) (sym (any_counted test files))
 
--- a module is taken where at least one file names it
-pub taken : (files : List File) (m : List (List ℕ)) (count : ℕ) → count ≡ name_count files m → nat_lt 0 count ≡ is_module_taken files m
-taken files m count is = ap (nat_lt 0) is ∙ any_counted (λ file. same_module (module_of file.path) m) files
+neither : (a b : Bool) → (a || b) ≡ false → (a ≡ false) × (b ≡ false)
+neither true b e = absurd (true≢false e)
+neither false b e = (refl, e)
+
+-- where none passes a test, none passes two
+none_both : (test other : File → Bool) (files : List File) → list_any test files ≡ false → list_any (λ file. test file && other file) files ≡ false
+none_both test other [] none = refl
+none_both test other (file ∷ files) none =
+    let parts = neither (test file) (list_any test files) none in
+    rw (parts.0, none_both test other files parts.1) refl
+
+-- a module that no file names is not taken
+pub not_taken : (files : List File) (path : List ℕ) (m : List (List ℕ)) (count : ℕ) → count ≤ 0 → count ≡ name_count files m → m ≡ module_of path → is_module_taken files path ≡ false
+not_taken files path m count few is named =
+    let none : count ≡ 0 = omega (arith, few) in
+    none_both (λ file. same_module (module_of file.path) (module_of path)) (λ file. not (bytes_eq (beside file.path) (beside path))) files
+    (sym (any_counted (λ file. same_module (module_of file.path) (module_of path)) files) ∙ ap (λ k. nat_lt 0 (name_count files k)) (sym named) ∙ ap (nat_lt 0) (sym is ∙ none))
 
 pub no_name : (m : List (List ℕ)) → name_count [] m ≡ 0
 no_name m = refl
@@ -84,3 +98,9 @@ module _ (files : List File) (file : File) (m : List (List ℕ)) where
       let sums = sum_by-remove (λ (f : File). cond (same_module (module_of f.path) m) 1 0) files i file within in
       let one = ap {B = ℕ} (λ (f : File). cond (same_module (module_of f.path) m) 1 0) is in
       omega (arith, sums, one)
+
+-- a file in place of the one of its path, or all as before
+pub count-replaced : {A E : Type 0} (old new : List File) (file : File) (i : ℕ) (m : List (List ℕ)) (r : Result A E) → IsPlaceOf old file.path i → OnOk r (new ≡ with_file old file) → OnErr r (new ≡ old)
+    → name_count new m ≡ name_count old m
+count-replaced old new file i m (Ok a) place put same = ap (λ fs. name_count fs m) (put ∙ sym (with_file-place old file i place)) ∙ count-set old file m i place.in_range (place.has_path file)
+count-replaced old new file i m (Err e) place put same = ap (λ fs. name_count fs m) same

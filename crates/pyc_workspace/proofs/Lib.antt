@@ -3,3 +3,4 @@ pub mod Texts
 pub mod WorkspaceLemmas
 pub mod FileLemmas
 pub mod CountLemmas
+pub mod TakenLemmas

@@ -1,5 +1,5 @@
 -- Files in order of their paths: where a path is among them, and what an edit at that place leaves.
-use Rattle.std.proofs.Common.{◌≡◌, ℕ, zero, suc, ◌+◌, ◌<◌, Bool, true, false, ◌||◌, List, [], ◌∷◌, length, map, set, get_or, Result, Ok, Err, IfOk, IfErr, is_ok, Ordering, Less, Equal, Greater, bytes_eq, is_eq, is_lt, refl, sym, ap, ◌∙◌, subst, arith}
+use Rattle.std.proofs.Common.{◌≡◌, ℕ, zero, suc, ◌+◌, ◌<◌, Bool, true, false, cond, ◌||◌, List, [], ◌∷◌, length, map, filter, set, get_or, Result, Ok, Err, IfOk, IfErr, is_ok, Ordering, Less, Equal, Greater, bytes_eq, is_eq, is_lt, refl, sym, ap, ◌∙◌, subst, arith}
 use Rattle.std.proofs.lemmas.Cmp.{nat_list_cmp_total, tied_itself}
 use Rattle.std.proofs.lemmas.List.{get_or-map, length-map}
 use Rattle.std.proofs.lemmas.List.Sorted.{searchable_from_sorted}
@@ -181,6 +181,22 @@ in_order-remove [] (suc i) sorted = sorted
 in_order-remove (first ∷ files) zero sorted = sorted_tail below first files sorted
 in_order-remove (first ∷ files) (suc i) sorted =
     in_order_cons first (remove files i) (all-remove (λ later. below first later ≡ Less) files i (sorted_head below first files sorted)) (in_order-remove files i (sorted_tail below first files sorted))
+
+all-filter : {X : Type 0} (P : X → Type 0) (test : X → Bool) (xs : List X) → AllByRecursion P xs → AllByRecursion P (filter test xs)
+all-filter P test [] all = tt
+all-filter P test (x ∷ xs) all = elim (test x) as (λ b. AllByRecursion P (cond b (x ∷ filter test xs) (filter test xs))) [
+  | true ↦ (all.0, all-filter P test xs all.1)
+  | false ↦ all-filter P test xs all.1
+]
+
+-- those that pass a test are in order too
+pub in_order-filter : (test : File → Bool) (files : List File) → IsInOrder files → IsInOrder (filter test files)
+in_order-filter test [] sorted = sorted
+in_order-filter test (first ∷ files) sorted = elim (test first) as (λ b. IsInOrder (cond b (first ∷ filter test files) (filter test files))) [
+  | true ↦ in_order_cons first (filter test files) (all-filter (λ later. below first later ≡ Less) test files (sorted_head below first files sorted))
+      (in_order-filter test files (sorted_tail below first files sorted))
+  | false ↦ in_order-filter test files (sorted_tail below first files sorted)
+]
 
 -- ---- a binary search over what stands for files in order
 

@@ -1,5 +1,6 @@
 -- The files of a session.
-use Rattle.std.specs.Prelude.{◌≡◌, ℕ, ◌<◌, ◌≤◌, Bool, not, bytes_eq, List, [], ◌∷◌, length, filter, slice_index_or}
+use Rattle.std.specs.Prelude.{◌≡◌, ℕ, ◌<◌, ◌≤◌, Bool, not, ◌&&◌, bytes_eq, List, []}
+use Rattle.std.specs.Prelude.{◌∷◌, length, filter, slice_index_or}
 use Rattle.std.specs.declared.cmp.Ordering.{Ordering}
 use Rattle.std.specs.declared.cmp.Ordering.TheVariants.{Less, Greater}
 use Rattle.std.specs.Cmp.Lexicographic.{slice_cmp}
@@ -7,7 +8,7 @@ use Rattle.std.specs.List.{list_any}
 use Rattle.std.specs.List.Sorted.{IsStrictlySortedBy}
 use Rattle.std.specs.Ordering.{nat_cmp, match_ordering}
 use Rattle.pyc_body.specs.FileUnits.{UnitId}
-use Rattle.pyc_names.specs.ModuleName.{module_of, same_module}
+use Rattle.pyc_names.specs.ModuleName.{module_of, same_module, is_stub_path, beside}
 
 -- one file: its path and its bytes
 pub record File : Type 0 where
@@ -26,9 +27,21 @@ IsInOrder = IsStrictlySortedBy (λ file later. path_cmp file.path later.path)
 abbrev pub has_file : List File → List ℕ → Bool
 has_file files path = list_any (λ file. bytes_eq file.path path) files
 
--- whether a file names this module
-abbrev pub is_module_taken : List File → List (List ℕ) → Bool
-is_module_taken files module_name = list_any (λ file. same_module (module_of file.path) module_name) files
+-- whether a file is the stub that stands beside a path
+abbrev pub is_stub_of : List ℕ → File → Bool
+is_stub_of path file = is_stub_path file.path && bytes_eq path (beside file.path)
+
+-- the files that are taken: all but those beside which a stub stands
+abbrev pub taken : List File → List File
+taken files = filter (λ file. not (list_any (is_stub_of file.path) files)) files
+
+-- whether a file names the module of a path, though it is not the stub beside it and does not stand beside that stub
+abbrev pub is_other_of : List ℕ → File → Bool
+is_other_of path file =
+    same_module (module_of file.path) (module_of path) && not (bytes_eq (beside file.path) (beside path))
+
+abbrev pub is_module_taken : List File → List ℕ → Bool
+is_module_taken files path = list_any (is_other_of path) files
 
 -- the files with this one: in place of the file of its path, or else after those whose paths are below its own
 abbrev pub with_file : List File → File → List File

@@ -2,6 +2,7 @@
 #![tactic(auto)]
 
 mod file;
+mod files;
 mod fresh;
 pub mod laws;
 mod module_counts;
@@ -9,6 +10,7 @@ mod path;
 mod workspace;
 
 pub use file::File;
+pub use files::Files;
 pub use fresh::{interfaces_of, report};
 pub use path::{LONGEST_PATH, is_file_path};
 pub use pyc_body::{Checked, Meter};

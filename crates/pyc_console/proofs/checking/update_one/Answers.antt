@@ -9,4 +9,4 @@ returns-in-Ok-clause-update g c =
 pub returns-in-Err-clause-update : goal.returns-in-Err-clause-update
 returns-in-Err-clause-update g c =
     let reported = rw c.as_bytes.ensures.value at c.update.ensures.reported in
-    (reported.0, reported.1, one_refused _ _ _ _ _ _ _ _ c.in-Err.why (reported_result _ _ _ _ reported.2 c.in-Err.is) (rw c.text.ensures at c.report_refusal.ensures.reports))
+    (reported.0, reported.1, one_refused _ _ _ _ _ _ _ _ c.in-Err.why _ (reported_result _ _ _ _ reported.2 c.in-Err.is) (rw c.text.ensures at c.report_refusal.ensures.reports) c.is_untold.ensures)

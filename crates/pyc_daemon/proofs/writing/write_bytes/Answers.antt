@@ -1,4 +1,5 @@
-use Rattle.std.proofs.Common.{◌∙◌, ◌++◌, ap, refl, sym, take, arith}
+use Rattle.std.proofs.Common.{◌∙◌, ◌++◌, ap, refl, sym, take, arith, rules}
+use Rattle.std.proofs.lemmas.Grind.{common_steps}
 use Rattle.std.proofs.lemmas.List.{take-append-drop}
 use Rattle.std.proofs.lemmas.Result.{err_from_is_err_and}
 use Rattle.pyc_daemon.proofs.Going.{written_none, written_on, written_part}
@@ -23,7 +24,7 @@ loop-rest-preserved g c =
 pub returns-in_err-count-clause-part : goal.returns-in_err-count-clause-part
 returns-in_err-count-clause-part g c =
     let p = err_from_is_err_and c.from_residual.result c.from_residual.ensures.1 in
-    rw p.1 (written_part _ _ _ _ _ c.loop-rest.invariant.written c.in_err-count.ensures.none (omega arith))
+    rw p.1 (written_part _ _ _ _ _ c.loop-rest.invariant.written c.in_err-count.ensures.none (first_of (grind (arith, common_steps, c.loop-rest-test.true, c.is_empty.ensures), omega (arith, c.loop-rest-test.true, c.is_empty.ensures), search rules)))
 
 pub returns-in_err-count-clause-cause : goal.returns-in_err-count-clause-cause
 returns-in_err-count-clause-cause g c =

@@ -2,6 +2,7 @@ use Rattle.std.proofs.Common.{ap, bytes_eq, refl, subst, sym, ◌∙◌}
 use Rattle.pyc_reuse.proofs.InterfaceLemmas.{file_is}
 use Rattle.pyc_reuse.proofs.PlaceLemmas.{other_there, place_of_none, same_there, unchanged_there}
 use Rattle.pyc_reuse.specs.RecheckView.{is_touched, last_in}
+use Rattle.pyc_workspace.proofs.WorkspaceLemmas.{has_file-place}
 use Rattle.pyc_workspace.specs.Files.{file_in}
 use Rattle.pyc_workspace.specs.Workspace.{File, IsPlaceOf, has_file}
 use Rattle.pyc_reuse.proofs.recheck.Recheck.place.Goals as goal
@@ -19,7 +20,7 @@ returns-then-not-contains c =
     let path = c.as_bytes.ensures.value ∙ c.path.ensures in
     let there = subst (λ p. IsPlaceOf last p c.in_ok-place.place) path c.in_ok-place.ensures.found in
     unchanged_there last file c.in_ok-place.place c.files-files.ensures.ordered there
-    (c.requires (ap (is_touched c.args.self.now.touched.now) (sym c.path-2.ensures) ∙ sym c.if-not-contains.ensures))
+    (c.requires (ap (is_touched c.args.self.now.touched.now) (sym c.path-2.ensures) ∙ sym c.if-not-contains.ensures) (has_file-place last file.path c.in_ok-place.place there))
 
 pub returns-then-eq : goal.returns-then-eq
 returns-then-eq c =
