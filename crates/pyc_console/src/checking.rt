@@ -14,6 +14,7 @@ ghost use Rattle.pyc_console.specs.Updates.{UpdatesAll, UpdatesOne, WritesOn, ha
 use pyc_daemon::{Counted, Daemon, Options, Refusal, RunFault, Sources, write_bytes, write_parts};
 use std::alloc::Global;
 use std::io::Write;
+use std::mem;
 
 /// Why a check of files did not print its report whole.
 #[derive(Clone, Copy, Debug, PartialEq, Eq)]
@@ -37,7 +38,7 @@ struct Updates {
 /// status: 0 where all files are accepted and have no error, 1 where all are accepted and have one, else 2. Each file
 /// that is refused is reported on a line of `err`, and so is a fault. Where a write to `err` fails, nothing more is
 /// written there, and the check goes on; but where no line says of a file that it was refused for want of memory, no
-/// report is printed.
+/// report is printed. The files are not dropped: their memory goes back when the process ends.
 pub fn check_files<S: Sources, O: Write, E: Write>(
     alloc: Global,
     sources: &mut S,
@@ -65,6 +66,7 @@ pub fn check_files<S: Sources, O: Write, E: Write>(
     let mut daemon = Daemon::new(alloc, *options);
     let updates = update_all(&mut daemon, sources, err, files);
     let answer = print_report(&mut daemon, out, updates);
+    mem::forget(daemon);
     report_end(err, &answer);
     answer
 }

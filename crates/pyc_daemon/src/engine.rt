@@ -20,9 +20,11 @@ use crate::writing::write_reply;
 use pyc_session::{Daemon, End, Options, RunFault, Sources};
 use std::alloc::Global;
 use std::io::{Read, Write};
+use std::mem;
 
 /// Runs a session: reads commands and writes their replies, each before the next read waits. The buffers are made
-/// before the first read. It ends at `stop`, at the end of the input, or where the input cannot be read on.
+/// before the first read. It ends at `stop`, at the end of the input, or where the input cannot be read on. The files
+/// that are present then are not dropped: their memory goes back when the process ends.
 pub fn run<R: Read, W: Write, S: Sources>(
     alloc: Global,
     reader: &mut Counted<R>,
@@ -62,7 +64,7 @@ pub fn run<R: Read, W: Write, S: Sources>(
         return Err(RunFault::Memory);
     };
     let mut daemon = Daemon::new(alloc, *options);
-    serve_all(
+    let answer = serve_all(
         alloc,
         reader,
         writer,
@@ -71,7 +73,9 @@ pub fn run<R: Read, W: Write, S: Sources>(
         sources,
         &mut daemon,
         options.turns,
-    )
+    );
+    mem::forget(daemon);
+    answer
 }
 
 /// Serves commands until the session ends.

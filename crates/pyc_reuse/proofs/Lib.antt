@@ -3,6 +3,7 @@ pub mod ListLemmas
 pub mod UnitLemmas
 pub mod RowLemmas
 pub mod FileStatusLemmas
+pub mod InPlaceLemmas
 pub mod InterfaceLemmas
 pub mod CountLemmas
 pub mod FlagLemmas

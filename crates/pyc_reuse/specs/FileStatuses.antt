@@ -1,5 +1,5 @@
 -- What is to be done for files.
-use Rattle.std.specs.Prelude.{ℕ, Bool, List, Option, Some, None, if◌then◌else◌, map}
+use Rattle.std.specs.Prelude.{◌≡◌, ℕ, zero, suc, ◌+◌, Bool, List, [], ◌∷◌, Option, Some, None, if◌then◌else◌, map}
 use Rattle.std.specs.List.{list_any}
 use Rattle.pyc_body.specs.FileUnits.{file_units}
 use Rattle.pyc_iface.specs.declared.options.Options.{Options}
@@ -53,3 +53,12 @@ work_from options last present (Some place) = status_by_flags place (flags_of op
 abbrev pub kept_file_status : Option ℕ → FileStatus
 kept_file_status None = all
 kept_file_status (Some place) = nothing place
+
+-- nothing is to be done for so many files, the first of which stood at this place
+abbrev pub nothing_from : ℕ → ℕ → List FileStatus
+nothing_from place zero = []
+nothing_from place (suc many) = nothing place ∷ nothing_from (place + 1) many
+
+-- nothing is to be done for so many files, and they stand where they stood
+abbrev pub AreInPlace : List FileStatusOf → ℕ → Type 0
+AreInPlace list many = map file_status_in list ≡ nothing_from 0 many

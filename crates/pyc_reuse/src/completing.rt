@@ -1,6 +1,6 @@
 //! A check after another, from its files to its report.
 
-ghost use Rattle.std.specs.Prelude.{◌≡◌, length, map, IfOk, OnErr, OnOk};
+ghost use Rattle.std.specs.Prelude.{◌≡◌, length, map, IfOk, IsTrue, OnErr, OnOk};
 ghost use Rattle.pyc_keys.specs.Numbering.{Extends};
 ghost use Rattle.pyc_known_answers.specs.WorldView.{held_by, interfaces_by};
 ghost use Rattle.pyc_report.specs.Report.{report_in};
@@ -10,7 +10,7 @@ ghost use Rattle.pyc_reuse.specs.Holding.{HoldsJust};
 ghost use Rattle.pyc_reuse.specs.Revision.{file_results_among};
 ghost use Rattle.pyc_reuse.specs.RevisionView.{keys_in, revision_in, revision_kept, reads_kept};
 ghost use Rattle.pyc_reuse.specs.RecheckView.{AreKept, last_in, options_in, present_in};
-ghost use Rattle.pyc_reuse.specs.FileResultView.{file_results_in};
+ghost use Rattle.pyc_reuse.specs.FileResultView.{reads_in, file_results_in};
 ghost use Rattle.pyc_reuse.specs.Reports.{next_revision};
 ghost use Rattle.pyc_reuse.specs.FileStatuses.{file_status_in, file_status_of};
 ghost use Rattle.pyc_workspace.specs.Files.{files_in};
@@ -18,7 +18,7 @@ ghost use Rattle.pyc_workspace.specs.Fresh.{fresh, units_of};
 
 use crate::comparing::RecheckPlan;
 use crate::examining::Examination;
-use crate::file_status::FileStatus;
+use crate::file_status::{FileStatus, are_in_place};
 use crate::kept_results::KeptResults;
 use crate::last_check::LastCheck;
 use crate::recheck::Recheck;
@@ -31,11 +31,13 @@ use pyc_workspace::{File, Files};
 use std::alloc::{AllocError, Global};
 use std::rc::Rc;
 
-/// A check that is done: its report, and what it leaves for the next one but for the keys.
+/// A check that is done: its report, what it leaves for the next one but for the keys, and whether nothing was to be
+/// done, so that its rows have read just what those of the last check did.
 #[derive(Drop)]
 struct Completed {
     report: Report,
     kept: KeptResults,
+    is_settled: bool,
 }
 
 /// Checks the files that are present, after the last check; `touched` has the paths of those that were put since then.
@@ -61,7 +63,7 @@ pub fn check_again(
     let LastCheck { kept, mut keys } = last;
     match check_present(alloc, &kept, &mut keys, present, touched) {
         Ok(done) => {
-            keys.keep_only(&done.kept.file_results);
+            sweep(&mut keys, &done);
             let next = LastCheck {
                 kept: done.kept,
                 keys,
@@ -73,6 +75,23 @@ pub fn check_again(
             (LastCheck { kept, keys }, Err(error))
         }
     }
+}
+
+/// Lets the keys go that no row of a check has read: none where nothing was to be done. It takes no memory.
+fn sweep(keys: &mut World, done: &Completed)
+    requires file_results { file_results_in (held_by keys.old) done.now.kept.file_results.items
+        ≡ file_results_among done.now.kept.options done.now.kept.files }
+    requires settled { IsTrue done.now.is_settled
+        → HoldsJust (held_by keys.old) (reads_in done.now.kept.file_results.items) }
+    ensures file_results { file_results_in (held_by keys.new) done.now.kept.file_results.items
+        ≡ file_results_in (held_by keys.old) done.now.kept.file_results.items }
+    ensures held { HoldsJust (held_by keys.new) (reads_in done.now.kept.file_results.items) }
+    ensures world { interfaces_by keys.new ≡ interfaces_by keys.old }
+{
+    if done.is_settled {
+        return;
+    }
+    keys.keep_only(&done.kept.file_results);
 }
 
 /// A check of the files that are present, after the last one, over what their world answers. No key is let go. Where
@@ -98,6 +117,9 @@ fn check_present<'a>(
         ≡ file_results_among done.kept.options done.kept.files) }
     ensures answers { IfOk result (λ done. AnswerAs (interfaces_by keys.new) done.kept.files) }
     ensures extends { Extends (held_by keys.old) (held_by keys.new) }
+    ensures held { IfOk result (λ done. IsTrue done.is_settled → held_by keys.new ≡ held_by keys.old) }
+    ensures reads { IfOk result (λ done. IsTrue done.is_settled
+        → reads_in done.kept.file_results.items ≡ reads_in last.now.file_results.items) }
     ensures same { OnErr result (interfaces_by keys.new ≡ interfaces_by keys.old) }
 {
     let recheck = Recheck {
@@ -145,10 +167,14 @@ fn complete(
         ≡ file_results_among done.kept.options done.kept.files) }
     ensures answers { IfOk result (λ done. AnswerAs (interfaces_by keys.new) done.kept.files) }
     ensures extends { Extends (held_by keys.old) (held_by keys.new) }
+    ensures held { IfOk result (λ done. IsTrue done.is_settled → held_by keys.new ≡ held_by keys.old) }
+    ensures reads { IfOk result (λ done. IsTrue done.is_settled
+        → reads_in done.kept.file_results.items ≡ reads_in recheck.entry.last.now.file_results.items) }
     ensures world { interfaces_by keys.new ≡ interfaces_by keys.old }
 {
     let alloc = recheck.alloc;
     let options = recheck.last.options;
+    let is_settled = are_in_place(list, recheck.last.file_results.len());
     let examination = Examination {
         recheck,
         checker: Checker::new(alloc, options),
@@ -167,6 +193,7 @@ fn complete(
             meter,
             bodies,
         },
+        is_settled,
     })
 }
 

@@ -1,6 +1,9 @@
 //! The examination of the units of files.
 
-ghost use Rattle.std.specs.Prelude.{◌≡◌, ◌++◌, ◌∷◌, [], filter, map, IfOk, OnOk, if◌then◌else◌};
+ghost use Rattle.std.specs.Prelude.{◌≡◌, ◌++◌, ◌∷◌, [], ℕ, filter, length, map, slice_index_or, IfOk, OnOk};
+ghost use Rattle.std.specs.Prelude.{if◌then◌else◌};
+ghost use Rattle.std.specs.declared.alloc.Global.{Global as GlobalOf};
+ghost use Rattle.std.specs.declared.rc.Rc.{Rc as RcOf};
 ghost use Rattle.pyc_body.specs.FileUnits.{file_units, id_of};
 ghost use Rattle.pyc_body.specs.FileUnitView.{file_unit_in};
 ghost use Rattle.pyc_body.specs.FoundMessages.{checked};
@@ -12,7 +15,8 @@ ghost use Rattle.pyc_reuse.specs.Examination.{HasOptions, last_in, options_in, p
 ghost use Rattle.pyc_reuse.specs.Examined.{examined, examined_in, reads_anew};
 ghost use Rattle.pyc_reuse.specs.Revision.{file_result_among, file_results_among};
 ghost use Rattle.pyc_reuse.specs.FileResultView.{file_result_in, file_results_in};
-ghost use Rattle.pyc_reuse.specs.FileStatuses.{flags_of, file_status_in, file_status_of};
+ghost use Rattle.pyc_reuse.specs.FileStatuses.{AreInPlace, flags_of, file_status_in, file_status_of, nothing};
+ghost use Rattle.pyc_reuse.specs.declared.file_result.FileResult.{FileResult as FileResultOf};
 ghost use Rattle.pyc_workspace.specs.Files.{file_in};
 ghost use Rattle.pyc_workspace.specs.Fresh.{source_of, sources_of};
 
@@ -51,6 +55,13 @@ impl Examination<'_> {
         ensures metered { OnOk result (meter.new
             ≡ meter.old ++ examined (options_in self.now) (last_in self.now) (present_in self.now)) }
         ensures extends { Extends (held_by keys.old) (held_by keys.new) }
+        // Where nothing is to be done, the keys and the rows are those of before.
+        ensures held { OnOk result (AreInPlace list.now (length self.now.recheck.last.now.file_results.items)
+            → held_by keys.new ≡ held_by keys.old) }
+        ensures own { IfOk result (λ file_results.
+            AreInPlace list.now (length self.now.recheck.last.now.file_results.items)
+            → map (λ file_result. file_result.value) file_results.items
+            ≡ map (λ file_result. file_result.value) self.now.recheck.last.now.file_results.items) }
         ensures world { interfaces_by keys.new ≡ interfaces_by keys.old }
     {
         let files = self.recheck.present;
@@ -81,6 +92,12 @@ impl Examination<'_> {
         ensures metered { OnOk result (meter.new ≡ meter.old
             ++ examined_in (options_in self.now) (last_in self.now) (present_in self.now) (file_in file.now)) }
         ensures extends { Extends (held_by keys.old) (held_by keys.new) }
+        ensures held { OnOk result ((place : ℕ) → file_status_in file_status.now ≡ nothing place
+            → held_by keys.new ≡ held_by keys.old) }
+        ensures own { IfOk result (λ file_result. (place : ℕ) (own : RcOf FileResultOf GlobalOf)
+            → file_status_in file_status.now ≡ nothing place
+            → own ≡ slice_index_or self.now.recheck.last.now.file_results.items place own
+            → file_result.value ≡ own.value) }
         ensures world { interfaces_by keys.new ≡ interfaces_by keys.old }
     {
         match file_status {

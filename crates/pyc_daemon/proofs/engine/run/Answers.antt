@@ -8,4 +8,4 @@ pub returns-in_default-with_capacity-clause-runs : goal.returns-in_default-with_
 returns-in_default-with_capacity-clause-runs g c = runs_none _ _ _ _ _
 
 pub returns-clause-replies : goal.returns-clause-replies
-returns-clause-replies g c = replies_ok _ _ _ _ _ _ _ _ c.serve_all.result (rw c.new-daemon.ensures at c.serve_all.ensures.runs)
+returns-clause-replies g c = replies_ok _ _ _ _ _ _ _ _ c.serve_all-answer.result (rw c.new-daemon.ensures at c.serve_all-answer.ensures.runs)

@@ -1,4 +1,4 @@
-use Rattle.std.proofs.Common.{List, subst, sym}
+use Rattle.std.proofs.Common.{◌∙◌, List, subst, sym}
 use Rattle.pyc_keys.specs.Numbering.{Extends, Numbering}
 use Rattle.pyc_known_answers.proofs.KnownLemmas.{stay_with_more_keys}
 use Rattle.pyc_known_answers.specs.WorldView.{held_by, interfaces_by}
@@ -34,3 +34,6 @@ pub complete-requires-in-None-clause-answers : goal.complete-requires-in-None-cl
 complete-requires-in-None-clause-answers c =
     let answers = rw c.in-None.is at c.in_ok-list.ensures.alike in
     subst (AnswerAs (interfaces_by c.args.keys.now)) c.files.ensures.all answers
+
+pub returns-in-Ok-clause-held : goal.returns-in-Ok-clause-held
+returns-in-Ok-clause-held c = λ settled. c.in-Ok.ensures.held settled ∙ c.replace_world-before.ensures.held

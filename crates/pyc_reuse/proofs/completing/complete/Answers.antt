@@ -1,10 +1,11 @@
-use Rattle.std.proofs.Common.{◌++◌, ap, length, List, map, subst, sym, ◌∙◌}
+use Rattle.std.proofs.Common.{◌≡◌, ◌++◌, ap, arith, length, List, map, subst, sym, ◌∙◌}
 use Rattle.std.proofs.lemmas.List.{length-map}
 use Rattle.std.specs.declared.alloc.Global.{Global}
 use Rattle.std.specs.declared.rc.Rc.{Rc}
 use Rattle.pyc_known_answers.specs.WorldView.{held_by, interfaces_by}
 use Rattle.pyc_names.specs.Interfaces.{Interface}
 use Rattle.pyc_reuse.proofs.ExactLemmas.{exact_from}
+use Rattle.pyc_reuse.proofs.InPlaceLemmas.{same_reads}
 use Rattle.pyc_reuse.proofs.RowLemmas.{report_is}
 use Rattle.pyc_reuse.specs.Answering.{AnswerAs}
 use Rattle.pyc_reuse.specs.declared.file_result.FileResult.{FileResult as FileResultOf}
@@ -12,7 +13,7 @@ use Rattle.pyc_reuse.specs.Examined.{examined}
 use Rattle.pyc_reuse.specs.Revision.{file_result_among, file_results_among}
 use Rattle.pyc_reuse.specs.RecheckView.{last_in, options_in, present_in}
 use Rattle.pyc_reuse.specs.FileResultView.{file_result_in, file_results_in}
-use Rattle.pyc_reuse.specs.FileStatuses.{file_status_of}
+use Rattle.pyc_reuse.specs.FileStatuses.{AreInPlace, file_status_of}
 use Rattle.pyc_workspace.specs.declared.file.File.{File as FileOf}
 use Rattle.pyc_workspace.specs.Files.{file_in, files_in}
 use Rattle.pyc_workspace.specs.Fresh.{units_of}
@@ -67,3 +68,18 @@ pub returns-clause-answers : goal.returns-clause-answers
 returns-clause-answers c =
     subst (λ (interfaces : List Interface). AnswerAs interfaces c.in_ok-files.files) (sym c.in_ok-file_results.ensures.world)
     (subst (AnswerAs (interfaces_by c.args.keys.now)) (sym c.in_ok-files.ensures.same) c.requires.answers)
+
+pub returns-clause-held : goal.returns-clause-held
+returns-clause-held c =
+    λ settled.
+    let rows = c.args.recheck.last.now.file_results in
+    let many : c.len.result ≡ length rows.items = omega (arith, c.len.ensures, rows.ok.0) in
+    c.in_ok-file_results.ensures.held (subst (AreInPlace c.args.list.now) many (c.are_in_place-is_settled.ensures settled))
+
+pub returns-clause-reads : goal.returns-clause-reads
+returns-clause-reads c =
+    λ settled.
+    let rows = c.args.recheck.last.now.file_results in
+    let many : c.len.result ≡ length rows.items = omega (arith, c.len.ensures, rows.ok.0) in
+    same_reads c.in_ok-file_results.file_results.items rows.items
+    (c.in_ok-file_results.ensures.own (subst (AreInPlace c.args.list.now) many (c.are_in_place-is_settled.ensures settled)))
