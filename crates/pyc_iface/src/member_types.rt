@@ -20,7 +20,7 @@ use pyc_ast::{Expr, Form, FunctionDefinition, Parameter, ParameterKind, Text};
 use pyc_bindings::{Binding, BindingForm, has_setter, is_decorated};
 use pyc_declarations::initialiser_type;
 use pyc_members::{AttributeForm, MethodKind, OwnMember, SelfAttribute, method_kind};
-use pyc_names::Interface;
+use pyc_names::{Interface, Looks};
 use pyc_reading::{MemberAnswer, MemberKind};
 use pyc_types::Ty;
 use std::alloc::{AllocError, Global};
@@ -81,7 +81,7 @@ impl PlainWorld {
             BindingForm::Annotated(found) => {
                 let ty = self
                     .declarations()
-                    .annotated_type(alloc, c.file, &found.annotation)?;
+                    .annotated_type(alloc, c.file, &found.annotation, &mut Looks::unkept(alloc))?;
                 variable(c, ty)
             }
             BindingForm::Assigned(value) => variable(c, initialiser_type(value)),
@@ -110,14 +110,14 @@ impl PlainWorld {
             MethodKind::Static => {
                 let ty = self
                     .declarations()
-                    .declared_function(alloc, c.file, Ty::Any, head)?;
+                    .declared_function(alloc, c.file, Ty::Any, head, &mut Looks::unkept(alloc))?;
                 member_of(c, MemberKind::StaticMethod, ty)
             }
             MethodKind::Class => {
                 let receiver = Ty::Class(c.id.clone()?);
                 let ty = self
                     .declarations()
-                    .declared_function(alloc, c.file, receiver, head)?;
+                    .declared_function(alloc, c.file, receiver, head, &mut Looks::unkept(alloc))?;
                 member_of(c, MemberKind::ClassMethod, ty)
             }
             MethodKind::Plain => {
@@ -156,7 +156,7 @@ impl PlainWorld {
     {
         let receiver = Ty::Instance(c.id.clone()?);
         self.declarations()
-            .declared_function(alloc, c.file, receiver, head)
+            .declared_function(alloc, c.file, receiver, head, &mut Looks::unkept(alloc))
     }
 
     /// An attribute that a method of a class gives its instance.
@@ -188,7 +188,7 @@ impl PlainWorld {
         match form {
             AttributeForm::Annotated(found) => {
                 self.declarations()
-                    .annotated_type(alloc, file, &found.annotation)
+                    .annotated_type(alloc, file, &found.annotation, &mut Looks::unkept(alloc))
             }
             AttributeForm::Assigned(value) => {
                 self.value_type(alloc, file, &head.parameters, value)
@@ -231,7 +231,7 @@ impl PlainWorld {
         };
         match (parameter.kind, &parameter.annotation) {
             (ParameterKind::Plain, Some(annotation)) => {
-                self.declarations().annotated_type(alloc, file, annotation)
+                self.declarations().annotated_type(alloc, file, annotation, &mut Looks::unkept(alloc))
             }
             _ => Ok(Ty::Any),
         }

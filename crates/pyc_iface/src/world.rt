@@ -14,7 +14,7 @@ ghost use Rattle.pyc_reading.specs.KeyView.{key_of};
 use pyc_class_ids::{ClassId, Lin, Lins};
 use pyc_class_table::ClassTable;
 use pyc_declarations::{Answers, Declarations};
-use pyc_names::{Interface, Table};
+use pyc_names::{Interface, Looks, Table};
 use pyc_reading::{Answer, Key, MroAnswer};
 use std::alloc::{AllocError, Global};
 use std::rc::Rc;
@@ -111,7 +111,7 @@ impl PlainWorld {
 fn class_table(alloc: Global, table: &Table) -> Result<ClassTable, AllocError>
     ensures { IfOk result (λ classes. (c : Id) → orders_in classes c ≡ orders_by (table_in table.now) c) }
 {
-    let entries = Declarations::new(table).class_entries(alloc)?;
+    let entries = Declarations::new(table).class_entries(alloc, &mut Looks::unkept(alloc))?;
     ClassTable::build(alloc, entries)
 }
 
