@@ -5,12 +5,16 @@ ghost use Rattle.pyc_class_ids.specs.Class.{Id};
 ghost use Rattle.pyc_class_table.specs.MroView.{orders_in};
 ghost use Rattle.pyc_iface.specs.Answers as spec;
 ghost use Rattle.pyc_iface.specs.Answers.{orders_by};
+ghost use Rattle.pyc_iface.specs.Looks.{answer_looks};
 ghost use Rattle.pyc_declarations.specs.KindsView.{declarations_in};
 ghost use Rattle.pyc_names.specs.InterfaceView.{interfaces_in};
+ghost use Rattle.pyc_names.specs.NotedLooks.{with_looks};
+ghost use Rattle.pyc_names.specs.NotedLooksView.{noted_in};
 ghost use Rattle.pyc_names.specs.TableView.{table_in};
 ghost use Rattle.pyc_reading.specs.AnswerView.{answer_in, class_order_of};
 ghost use Rattle.pyc_reading.specs.KeyView.{key_of};
 
+use crate::members::note_order_of;
 use pyc_class_ids::{ClassId, Lin, Lins};
 use pyc_class_table::ClassTable;
 use pyc_declarations::{Answers, Declarations};
@@ -79,10 +83,29 @@ impl PlainWorld {
     pub fn ask(&self, alloc: Global, key: &Key) -> Result<Answer, AllocError>
         ensures { IfOk result (λ answer. answer_in answer ≡ spec.answer_by (world_in self.now) (key_of key.now)) }
     {
+        self.ask_noted(alloc, key, &mut Looks::unkept(alloc))
+    }
+
+    /// The answer to a key; what is looked at for that is noted. The only error is that memory runs out.
+    #[tactic(auto, using(pyc_names::proofs::NotedLemmas::noting))]
+    pub fn ask_noted(
+        &self,
+        alloc: Global,
+        key: &Key,
+        looks: &mut Looks,
+    ) -> Result<Answer, AllocError>
+        ensures found { IfOk result (λ answer. answer_in answer
+            ≡ spec.answer_by (world_in self.now) (key_of key.now)) }
+        ensures looks { IfOk result (λ answer. noted_in looks.new ≡ with_looks (noted_in looks.old)
+            (answer_looks (world_in self.now) (key_of key.now))) }
+    {
         match key {
-            Key::Class(class) => Ok(Answer::Mro(self.class_order(alloc, class)?)),
-            Key::Member(name) => Ok(Answer::Member(self.member(alloc, name)?)),
-            _ => self.declarations().answer(alloc, key),
+            Key::Class(class) => {
+                note_order_of(class, looks)?;
+                Ok(Answer::Mro(self.class_order(alloc, class)?))
+            }
+            Key::Member(name) => Ok(Answer::Member(self.member(alloc, name, looks)?)),
+            _ => self.declarations().answer_noted(alloc, key, looks),
         }
     }
 
