@@ -12,7 +12,7 @@ ghost use Rattle.pyc_report.specs.Report.{report_in};
 ghost use Rattle.pyc_reuse.specs.Exact.{IsExact};
 ghost use Rattle.pyc_reuse.specs.RevisionView.{revision_in};
 ghost use Rattle.pyc_session.specs.DaemonView.{revision_of};
-ghost use Rattle.pyc_session.specs.Session.{after_check, keeping, dropping, updated, refusal_in};
+ghost use Rattle.pyc_session.specs.Session.{after_check, checked, keeping, dropping, updated, refusal_in};
 ghost use Rattle.pyc_session.specs.State.{State, start};
 ghost use Rattle.pyc_workspace.specs.Workspace.{has_file, taken};
 
@@ -50,7 +50,7 @@ pub struct Daemon {
 }
 
 impl Model for Daemon {
-    ghost use Rattle.pyc_session.specs.DaemonView.{KeepsUp, revision_of};
+    ghost use Rattle.pyc_session.specs.DaemonView.{KeepsUp, revision_of, touched_in};
     ghost use Rattle.pyc_session.specs.State.{State};
 
     ghost Value = { State };
@@ -59,6 +59,7 @@ impl Model for Daemon {
         record {
           options = d.options;
           present = d.present;
+          touched = touched_in d.present d.touched;
           last = (revision_of d.options d.last).files;
           examined = (revision_of d.options d.last).examined;
         } };
@@ -185,7 +186,7 @@ impl Daemon {
     /// is as before.
     fn check_all_files(&mut self) -> Result<Report, AllocError>
         ensures fresh { IfOk result (λ report. report_in report ≡ fresh self.old.options (taken self.old.present)) }
-        ensures after { OnOk result (self.new ≡ after_check self.old) }
+        ensures after { OnOk result (self.new ≡ checked self.old) }
         ensures exact { IfOk result (λ report. IsExact self.old.options self.old.last (taken self.old.present)
             (report_in report) self.new.examined) }
         ensures same { OnErr result (self.new ≡ self.old) }
