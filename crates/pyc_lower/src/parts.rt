@@ -7,6 +7,7 @@ ghost use Rattle.pyc_lower.specs.Parts as spec;
 ghost use Rattle.pyc_lower.specs.Parts.{part_in, lowered_of, AddsPart, AnswersParts, AnswersWhole};
 ghost use Rattle.pyc_lower_atom.specs.OriginView.{origin_of};
 
+use crate::read_strings::StringReader;
 use pyc_ast::Stmt;
 use pyc_lex::{Keyword, Kind, LogicalLine, Scan};
 use pyc_lower_block::{into_statements, statements_suspend};
@@ -78,6 +79,16 @@ fn add_part<Q: Quotes>(
         (part_in Q.spelled (origin_of lowering.now.origin) (map line_in part.items))
         (lowered_of found.old) fault (lowered_of found.new)) }
 {
+    let reader = StringReader {
+        alloc: lowering.alloc,
+        quotes: lowering.quotes,
+        origin: lowering.origin,
+    };
+    let lowering = Lowering {
+        alloc: lowering.alloc,
+        origin: lowering.origin,
+        quotes: &reader.read_lines(&part, names)?,
+    };
     let scan = Scan {
         lines: part,
         ignores: Vec::new(lowering.alloc),
@@ -86,7 +97,7 @@ fn add_part<Q: Quotes>(
     match parse(lowering.alloc, scan) {
         Ok(module) => {
             found.suspends = found.suspends || statements_suspend(&module.statements);
-            let mut more = into_statements(lowering, module.statements, names)?;
+            let mut more = into_statements(&lowering, module.statements, names)?;
             found.statements.append(&mut more)?;
             Ok(None)
         }

@@ -5,6 +5,7 @@ ghost use Rattle.std.specs.Prelude.{◌≡◌, IfOk, option_map};
 use crate::content::{content, is_skipped};
 use crate::expression_input::expression_of_line;
 use crate::only_line::only_line;
+use crate::read_strings::StringReader;
 use pyc_ast::{Expr, Position};
 use pyc_lower_expression::{Lowering, Names, Origin, Quotes, Role};
 use std::alloc::{AllocError, Global};
@@ -37,16 +38,22 @@ impl<Q: Quotes> Quotes for Inside<Q> {
         let Some(line) = only_line(alloc, source)? else {
             return Ok(None);
         };
-        let Some(tree) = expression_of_line(&line) else {
+        let Some(tree) = expression_of_line(&line.tree) else {
             return Ok(None);
+        };
+        let origin = Origin {
+            source,
+            string: Some(at),
+        };
+        let reader = StringReader {
+            alloc,
+            quotes: &self.inner,
+            origin,
         };
         let lowering = Lowering {
             alloc,
-            origin: Origin {
-                source,
-                string: Some(at),
-            },
-            quotes: &self.inner,
+            origin,
+            quotes: &reader.read_lines(&line.lines, names)?,
         };
         Ok(Some(lowering.expr(tree, Role::Annotation, names)?))
     }
