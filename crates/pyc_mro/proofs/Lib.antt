@@ -6,3 +6,4 @@ pub mod SearchLemmas
 pub mod RowLemmas
 pub mod LawLemmas
 pub mod DepthLemmas
+pub mod TailLemmas

@@ -7,3 +7,4 @@ pub mod MroView
 pub mod Passes
 pub mod Marks
 pub mod MroLaws
+pub mod Tails

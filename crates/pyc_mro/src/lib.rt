@@ -2,12 +2,14 @@
 #![tactic(auto)]
 
 mod ancestors;
+mod counting;
 pub mod laws;
 mod linear;
 mod merging;
 mod orders;
 mod stored;
 mod table;
+mod tails;
 
 pub use orders::{Mro, MroTable};
 pub use table::Base;

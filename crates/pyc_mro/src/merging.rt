@@ -4,14 +4,47 @@ ghost use Rattle.std.specs.Prelude.{◌≡◌, IfOk, List, ℕ, map, option_map}
 ghost use Rattle.std.specs.List.{list_all};
 ghost use Rattle.pyc_mro.specs.Merge as spec;
 ghost use Rattle.pyc_mro.specs.Rows.{rows_in, past};
+ghost use Rattle.pyc_mro.specs.Tails as tails;
 
+use crate::counting::merge_counted;
 use std::alloc::{AllocError, Global};
 
+/// How many classes a row may have that is looked through for each head.
+const FEW: usize = 16;
+
 /// The merge of rows, or none where it fails. The only error is that memory runs out.
-pub(crate) fn merge(
-    alloc: Global,
-    mut rows: Vec<&[usize]>,
-) -> Result<Option<Vec<usize>>, AllocError>
+pub(crate) fn merge(alloc: Global, rows: Vec<&[usize]>) -> Result<Option<Vec<usize>>, AllocError>
+    ensures { IfOk result (λ merged. option_map (λ classes. classes.items) merged
+        ≡ spec.merge (rows_in rows.entry.items)) }
+{
+    if are_short(&rows) {
+        merge_short(alloc, rows)
+    } else {
+        merge_counted(alloc, rows)
+    }
+}
+
+/// Whether no row has more than a few classes.
+fn are_short(rows: &[&[usize]]) -> bool
+    ensures { result ≡ list_all tails.is_short (rows_in rows.now) }
+{
+    for row in rows {
+        if !is_short(row) {
+            return false;
+        }
+    }
+    true
+}
+
+/// Whether a row has few classes.
+fn is_short(row: &[usize]) -> bool
+    ensures { result ≡ tails.is_short row.now }
+{
+    row.len() <= FEW
+}
+
+/// The merge of rows, or none where it fails: each head is looked for in each tail.
+fn merge_short(alloc: Global, mut rows: Vec<&[usize]>) -> Result<Option<Vec<usize>>, AllocError>
     ensures { IfOk result (λ merged. option_map (λ classes. classes.items) merged
         ≡ spec.merge (rows_in rows.entry.items)) }
 {
@@ -72,7 +105,7 @@ fn stands_in_tail(row: &[usize], class: usize) -> bool
 }
 
 /// Whether all rows are empty.
-fn are_empty(rows: &[&[usize]]) -> bool
+pub(crate) fn are_empty(rows: &[&[usize]]) -> bool
     ensures { result ≡ list_all spec.is_empty (rows_in rows.now) }
 {
     for row in rows {

@@ -4,7 +4,7 @@ use Rattle.pyc_mro.specs.Merge.{first_free, is_empty}
 use Rattle.std.specs.List.{list_all}
 use Rattle.pyc_mro.specs.Rows.{rows_in, past}
 use Rattle.pyc_mro.proofs.MergeLemmas.{merge-more, entry_count-more, merge-done, merge-fails}
-use Rattle.pyc_mro.proofs.merging.merge.Goals as goal
+use Rattle.pyc_mro.proofs.merging.merge_short.Goals as goal
 
 pub loop-class-smaller : goal.loop-class-smaller
 loop-class-smaller c =

@@ -1,7 +1,7 @@
 use Rattle.std.proofs.Common.{◌≡◌, ◌++◌, option_map}
 use Rattle.pyc_mro.specs.Merge.{merge, entry_count}
 use Rattle.pyc_mro.specs.Rows.{rows_in}
-use Rattle.pyc_mro.proofs.merging.merge.Given as goal
+use Rattle.pyc_mro.proofs.merging.merge_short.Given as goal
 
 -- the classes so far, before the merge of the rows that are left, are the whole
 abbrev pub invariant-loop-class : goal.invariant-loop-class
