@@ -7,6 +7,7 @@ ghost use Rattle.pyc_places.specs.StateView.{narrowing_of, state_of};
 ghost use Rattle.pyc_type_forms.specs.TypeView.{ty_of};
 ghost use Rattle.pyc_type_forms.specs.Unions.{union_of};
 
+use crate::lookup::{places_of, type_by};
 use crate::places::Place;
 use crate::states::{Narrowing, State, type_of};
 use pyc_type_forms::{Ty, union_of};
@@ -27,8 +28,28 @@ pub fn join(alloc: Global, state: &State, other: &State) -> Result<State, AllocE
     }
 }
 
+/// So many narrowings are walked for each place; among more, a place is looked up.
+const FEW: usize = 16;
+
 /// The narrowings of the places that both narrow.
 fn joined(
+    alloc: Global,
+    narrowings: &[Rc<Narrowing>],
+    more: &[Rc<Narrowing>],
+) -> Result<Vec<Rc<Narrowing>>, AllocError>
+    ensures { IfOk result (λ joined. map (λ n. narrowing_of n.value) joined.items
+        ≡ flat_map (λ n. spec.on_both n (spec.type_of (map (λ n. narrowing_of n.value) more.now) n.place))
+        (map (λ n. narrowing_of n.value) narrowings.now)) }
+{
+    if more.len() <= FEW {
+        joined_few(alloc, narrowings, more)
+    } else {
+        joined_many(alloc, narrowings, more)
+    }
+}
+
+/// The narrowings of the places that both narrow, where there are few.
+fn joined_few(
     alloc: Global,
     narrowings: &[Rc<Narrowing>],
     more: &[Rc<Narrowing>],
@@ -44,6 +65,29 @@ fn joined(
             &mut joined,
             narrowing,
             type_of(more, &narrowing.place),
+        )?;
+    }
+    Ok(joined)
+}
+
+/// The narrowings of the places that both narrow, where there are many.
+fn joined_many(
+    alloc: Global,
+    narrowings: &[Rc<Narrowing>],
+    more: &[Rc<Narrowing>],
+) -> Result<Vec<Rc<Narrowing>>, AllocError>
+    ensures { IfOk result (λ joined. map (λ n. narrowing_of n.value) joined.items
+        ≡ flat_map (λ n. spec.on_both n (spec.type_of (map (λ n. narrowing_of n.value) more.now) n.place))
+        (map (λ n. narrowing_of n.value) narrowings.now)) }
+{
+    let places = places_of(alloc, more)?;
+    let mut joined = Vec::new(alloc);
+    for narrowing in narrowings {
+        add_on_both(
+            alloc,
+            &mut joined,
+            narrowing,
+            type_by(&places, more, &narrowing.place),
         )?;
     }
     Ok(joined)

@@ -2,6 +2,7 @@
 #![tactic(auto)]
 
 mod joining;
+mod lookup;
 mod places;
 mod states;
 mod targets;

@@ -2,7 +2,7 @@ use Rattle.std.proofs.Common.{◌≡◌, ◌++◌, map, drop}
 use Rattle.std.specs.List.{flat_map}
 use Rattle.pyc_places.specs.States.{on_both, type_of}
 use Rattle.pyc_places.specs.StateView.{narrowing_of}
-use Rattle.pyc_places.proofs.joining.joined.Given as goal
+use Rattle.pyc_places.proofs.joining.joined_few.Given as goal
 
 -- what was joined, with what is of those that are left, is the whole
 abbrev pub invariant-loop-narrowing : goal.invariant-loop-narrowing
