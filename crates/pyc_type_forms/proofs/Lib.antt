@@ -1,3 +1,4 @@
 pub mod TextLemmas
 pub mod EqualityLemmas
 pub mod UnionLemmas
+pub mod DistinctLemmas

@@ -6,3 +6,4 @@ pub mod Equality
 pub mod Size
 pub mod Unions
 pub mod Narrowing
+pub mod Distinct

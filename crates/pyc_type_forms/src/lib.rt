@@ -1,6 +1,7 @@
 //! The forms of the types of annotated Python.
 #![tactic(auto)]
 
+mod distinct;
 mod equality;
 mod instances;
 mod narrowing;

@@ -5,6 +5,7 @@ ghost use Rattle.pyc_type_forms.specs.TypeView.{ty_of, row};
 ghost use Rattle.pyc_type_forms.specs.Unions as spec;
 
 use crate::Ty;
+use crate::distinct::without_repeats;
 use crate::equality::same_type;
 use crate::size::is_at_most;
 use std::alloc::{AllocError, Global};
@@ -20,9 +21,7 @@ pub fn union_of(alloc: Global, types: &[Ty]) -> Result<Ty, AllocError>
 {
     let mut items = Vec::new(alloc);
     add_row_items(&mut items, types)?;
-    let mut kept = Vec::new(alloc);
-    add_new(&mut kept, &items)?;
-    let union = joined(alloc, kept)?;
+    let union = joined(alloc, without_repeats(alloc, &items)?)?;
     any_if_too_large(&union)
 }
 
@@ -66,7 +65,7 @@ pub(crate) fn add(out: &mut Vec<Ty>, ty: &Ty) -> Result<(), AllocError>
 }
 
 /// Adds those of some types that are not there, in order.
-fn add_new(kept: &mut Vec<Ty>, types: &[Ty]) -> Result<(), AllocError>
+pub(crate) fn add_new(kept: &mut Vec<Ty>, types: &[Ty]) -> Result<(), AllocError>
     ensures { OnOk result (map ty_of kept.new.items
         ≡ spec.with_items (map ty_of kept.old.items) (map ty_of types.now)) }
 {
@@ -77,7 +76,7 @@ fn add_new(kept: &mut Vec<Ty>, types: &[Ty]) -> Result<(), AllocError>
 }
 
 /// Adds a type, unless it is there.
-fn add_if_new(kept: &mut Vec<Ty>, ty: &Ty) -> Result<(), AllocError>
+pub(crate) fn add_if_new(kept: &mut Vec<Ty>, ty: &Ty) -> Result<(), AllocError>
     ensures { OnOk result (map ty_of kept.new.items ≡ spec.with_item (map ty_of kept.old.items) (ty_of ty.now)) }
 {
     if is_among(kept, ty) {
