@@ -11,7 +11,7 @@ use Rattle.pyc_type_forms.specs.Types.{Ty, Tys, any, none, module_type, instance
 use Rattle.pyc_type_forms.specs.TypeView.{ty_of, row}
 use Rattle.pyc_types.specs.declared.ways.Ways.{Ways}
 use Rattle.pyc_types.specs.Assignable.{is_union}
-use Rattle.pyc_types.specs.Cross.{count, is_flat, is_crossable, goes_to_some, each_goes, reach, reach_all, cross_ways}
+use Rattle.pyc_types.specs.Cross.{count, is_flat, is_crossable, goes_to_some, each_goes, each_back, reach, reach_all, cross_ways}
 use Rattle.pyc_types.specs.Pairs.{both}
 use Rattle.pyc_types.specs.Ways.{is_any, is_object, into_items, none_rule, instance_rule, list_rule, dict_rule, gathered, tuple_rule, tuple_of_rule, callable_rule, class_rule, back_to, all_back_to, union_rule, ways, ways_of, params_ways_of}
 use Rattle.pyc_types.proofs.WayLemmas.{items_there, simple_there, simple_back}
@@ -39,18 +39,6 @@ reach_length f (cons y ys) (mark ∷ marks) = ap suc (reach_length f ys marks)
 
 -- joining what is done with what is left
 pub ruleset crosses = (or-false, or_assoc, and-true, and_assoc, reach_length)
-
--- no item is left
-pub rows_done : (o : MroTable) (xs ys : List TyOf) (i : ℕ) (there back : Bool) (marks : List Bool) → length xs ≤ i
-    → (there && each_goes (ways_of o (row (drop i xs))) (row ys)) ≡ each_goes (ways_of o (row xs)) (row ys)
-    → reach_all (ways_of o (row (drop i xs))) (row ys) marks ≡ reach_all (ways_of o (row xs)) (row ys) (replicate 64 false)
-    → back ≡ list_all (λ mark. mark) (take (length ys) marks)
-    → both there back ≡ cross_ways (ways_of o (row xs)) (row ys)
-rows_done o xs ys i there back marks past goes reached all =
-    let left : drop i xs ≡ [] = drop_all i xs past in
-    let goes-is : there ≡ each_goes (ways_of o (row xs)) (row ys) = sym (and-true there) ∙ subst (λ rest. (there && each_goes (ways_of o (row rest)) (row ys)) ≡ each_goes (ways_of o (row xs)) (row ys)) left goes in
-    let marks-is : marks ≡ reach_all (ways_of o (row xs)) (row ys) (replicate 64 false) = subst (λ rest. reach_all (ways_of o (row rest)) (row ys) marks ≡ reach_all (ways_of o (row xs)) (row ys) (replicate 64 false)) left reached in
-    rw (all, count_row ys, goes-is, ← marks-is) refl
 
 -- ---- the rule for unions
 
@@ -89,11 +77,6 @@ each_there o (cons x xs) y ys flat =
     ap (λ b. b && (gathered (ways_of o xs) (union (cons y ys))).there) (goes_there o x y ys (not_so _ parts.0))
     ∙ ap (λ b. goes_to_some (ways o x) (cons y ys) && b) (each_there o xs y ys parts.1)
 
--- whether each of a row goes to some of these types
-abbrev each_back : List (Ty → Ways) → Tys → Bool
-each_back items nil = true
-each_back items (cons other others) = (gathered items other).back && each_back items others
-
 -- the mark of the first of a row
 first_reached : (fs : List (Ty → Ways)) (y : Ty) (ys : Tys) (mark : Bool) (marks : List Bool) → reach_all fs (cons y ys) (mark ∷ marks) ≡ (mark || (gathered fs y).back) ∷ reach_all fs ys marks
 first_reached [] y ys mark marks = ap (λ b. b ∷ marks) (sym (or-false mark))
@@ -108,6 +91,24 @@ reached_back fs (cons y ys) zero within = absurd (omega (arith, within))
 reached_back fs (cons y ys) (suc n) within =
     ap (λ marks. list_all (λ mark. mark) (take (suc (count ys)) marks)) (first_reached fs y ys false (replicate n false))
     ∙ ap (λ b. (gathered fs y).back && b) (reached_back fs ys n (omega (arith, within)))
+
+-- no item is left
+pub rows_done : (o : MroTable) (xs ys : List TyOf) (i n : ℕ) (there back : Bool) (marks : List Bool) → length xs ≤ i → length ys ≤ n
+    → (there && each_goes (ways_of o (row (drop i xs))) (row ys)) ≡ each_goes (ways_of o (row xs)) (row ys)
+    → reach_all (ways_of o (row (drop i xs))) (row ys) marks ≡ reach_all (ways_of o (row xs)) (row ys) (replicate n false)
+    → back ≡ list_all (λ mark. mark) (take (length ys) marks)
+    → both there back ≡ cross_ways (ways_of o (row xs)) (row ys)
+rows_done o xs ys i n there back marks past within goes reached all =
+    let fs = ways_of o (row xs) in
+    let left : drop i xs ≡ [] = drop_all i xs past in
+    let goes-is : there ≡ each_goes fs (row ys) = sym (and-true there) ∙ subst (λ rest. (there && each_goes (ways_of o (row rest)) (row ys)) ≡ each_goes fs (row ys)) left goes in
+    let marks-is : marks ≡ reach_all fs (row ys) (replicate n false) = subst (λ rest. reach_all (ways_of o (row rest)) (row ys) marks ≡ reach_all fs (row ys) (replicate n false)) left reached in
+    let enough : count (row ys) ≤ n = omega (arith, count_row ys, within) in
+    let back-is : back ≡ each_back fs (row ys) =
+    all ∙ ap (λ m. list_all (λ mark. mark) (take (length ys) m)) marks-is
+    ∙ ap (λ k. list_all (λ mark. mark) (take k (reach_all fs (row ys) (replicate n false)))) (sym (count_row ys))
+    ∙ reached_back fs (row ys) n enough in
+    ap (λ b. both b back) goes-is ∙ ap (λ b. both (each_goes fs (row ys)) b) back-is
 
 -- a type that is no union goes to a union that has an item where it goes to some item, asked the other way round
 back_of : (o : MroTable) (x : Ty) (xs : Tys) (y : Ty) → is_union y ≡ false → back_to o (ways_of o (cons x xs)) y ≡ (gathered (ways_of o (cons x xs)) y).back
@@ -133,18 +134,18 @@ each_back_of o x xs (cons y ys) flat =
     ∙ ap (λ b. (gathered (ways_of o (cons x xs)) y).back && b) (each_back_of o x xs ys parts.1)
 
 -- the parts of a test whether unions can be crossed
-crossable_parts : (xs ys : Tys) → is_crossable xs ys ≡ true → (nat_lt 0 (count ys) ≡ true) × (count ys ≤ 64) × (is_flat xs ≡ true) × (is_flat ys ≡ true)
+crossable_parts : (xs ys : Tys) → is_crossable xs ys ≡ true → (nat_lt 0 (count ys) ≡ true) × (count ys ≤ 1000) × (is_flat xs ≡ true) × (is_flat ys ≡ true)
 crossable_parts xs ys h =
     let some = and_parts (nat_lt 0 (count xs)) _ h in
     let others = and_parts (nat_lt 0 (count ys)) _ some.1 in
-    let few = and_parts (nat_le (count ys) 64) _ others.1 in
+    let few = and_parts (nat_le (count ys) 1000) _ others.1 in
     let flat = and_parts (is_flat xs) (is_flat ys) few.1 in
-    (others.0, leb-true (count ys) 64 few.0, flat.0, flat.1)
+    (others.0, leb-true (count ys) 1000 few.0, flat.0, flat.1)
 
 -- there are marks enough
-pub enough_marks : (xs ys : List TyOf) → is_crossable (row xs) (row ys) ≡ true → length ys ≤ 64
+pub enough_marks : (xs ys : List TyOf) → is_crossable (row xs) (row ys) ≡ true → length ys ≤ 1000
 enough_marks xs ys h =
-    let few : count (row ys) ≤ 64 = (crossable_parts (row xs) (row ys) h).1 in
+    let few : count (row ys) ≤ 1000 = (crossable_parts (row xs) (row ys) h).1 in
     omega (arith, few, count_row ys)
 
 -- crossing is the rule for unions
@@ -156,6 +157,5 @@ crossed o (cons x xs) (cons y ys) h =
     let others = cons y ys in
     let parts = crossable_parts (cons x xs) others h in
     let there : each_goes fs others ≡ ((gathered fs (union others)).there || false) = sym (or-false _ ∙ each_there o (cons x xs) y ys parts.2) in
-    let back : list_all (λ mark. mark) (take (count others) (reach_all fs others (replicate 64 false))) ≡ all_back_to o fs others = reached_back fs others 64 parts.1 ∙ sym (each_back_of o x xs others parts.3) in
-    ap (λ b. both b (list_all (λ mark. mark) (take (count others) (reach_all fs others (replicate 64 false))))) there
-    ∙ ap (λ b. both ((gathered fs (union others)).there || false) b) back
+    let back : each_back fs others ≡ all_back_to o fs others = sym (each_back_of o x xs others parts.3) in
+    ap (λ b. both b (each_back fs others)) there ∙ ap (λ b. both ((gathered fs (union others)).there || false) b) back

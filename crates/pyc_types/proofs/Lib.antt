@@ -3,6 +3,7 @@ pub mod WalkLemmas
 pub mod PlaceLemmas
 pub mod WayLemmas
 pub mod CrossLemmas
+pub mod GoingLemmas
 pub mod PairLemmas
 pub mod Complete
 pub mod Sound

@@ -3,6 +3,7 @@ pub mod Assignable
 pub mod Pairs
 pub mod Ways
 pub mod Cross
+pub mod Going
 pub mod Slots
 pub mod Laws
 pub mod MroLaws

@@ -9,12 +9,14 @@ ghost use Rattle.pyc_types.specs.Ways.{assignable, ways};
 
 mod bare;
 mod crossing;
+mod going;
 mod instances;
 mod parameters;
 mod rules;
 mod unions;
 
 use crate::ways::Ways;
+use going::goes;
 use instances::{instance_ways, is_object, is_unknown_instance};
 use pyc_class_ids::Lins;
 use pyc_type_forms::Ty;
@@ -26,14 +28,7 @@ pub fn assignable<L: Lins>(lins: &L, got: &Ty, want: &Ty) -> bool
     ensures test { result ≡ assignable (L.orders lins.now) (ty_of got.now) (ty_of want.now) }
     ensures rules { IsTrue result ↔ Assignable (L.orders lins.now) (ty_of got.now) (ty_of want.now) }
 {
-    is_assignable(lins, got, want)
-}
-
-/// Whether a value of type `got` may stand where `want` is wanted, by the walk of both.
-fn is_assignable<L: Lins>(lins: &L, got: &Ty, want: &Ty) -> bool
-    ensures { result ≡ assignable (L.orders lins.now) (ty_of got.now) (ty_of want.now) }
-{
-    walk(lins, got, want).there
+    goes(lins, got, want)
 }
 
 /// The ways between two types: one walk for both, since the rules for list, dict and callables ask both.

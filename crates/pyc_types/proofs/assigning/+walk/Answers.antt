@@ -32,15 +32,15 @@ crossing::cross_row-walk-ways-requires g t c κs within =
     let h : size (ty_of c.index-others-i.result) ≤ row_size (row c.args.others.now) = size_in_row _ c.loop-i.i _ (omega arith) c.index-others-i.is in
     search rules
 
-pub crossing::cross_ways-cross_row-goes-requires : goal.crossing::cross_ways-cross_row-goes-requires
-crossing::cross_ways-cross_row-goes-requires g t c κs within =
+pub crossing::cross_marked-cross_row-goes-requires : goal.crossing::cross_marked-cross_row-goes-requires
+crossing::cross_marked-cross_row-goes-requires g t c κs within =
     let h : size (ty_of c.item-item.result) ≤ row_size (row c.args.items.now) = size_in_row _ c.loop-item.item-index _ (omega arith) c.item-item.is in
-    let k : length c.args.others.now ≤ length c.loop-item.reached = omega (arith, c.requires, c.loop-item.invariant.marks) in
+    let k : length c.args.others.now ≤ length c.loop-item.reached = omega (arith, c.requires.marks, c.loop-item.invariant.marks) in
     search rules
 
 pub unions::union_ways-cross_ways-requires : goal.unions::union_ways-cross_ways-requires
 unions::union_ways-cross_ways-requires g t c κs within =
-    let few : length c.deref-then-is_crossable-2.result.now ≤ 64 = enough_marks c.args.items.now c.deref-then-is_crossable-2.result.now (search rules) in
+    let few : length c.deref-then-is_crossable-2.result.now ≤ 1000 = enough_marks c.args.items.now c.deref-then-is_crossable-2.result.now (search rules) in
     let u : ty_of c.args.want.now ≡ union (row c.deref-then-is_crossable-2.result.now) = rw c.in-Union.is (search (rules, the_lemmas)) in
     let m : size (ty_of c.args.want.now) ≡ suc (row_size (row c.deref-then-is_crossable-2.result.now)) = ap size u in
     (search rules, (search rules, few))
@@ -99,9 +99,18 @@ pub parameters::rows_ways-loop-i-preserved : goal.parameters::rows_ways-loop-i-p
 parameters::rows_ways-loop-i-preserved g t c =
     rows_step (g.L.Lins.orders c.args.lins.now) (pairs.pair_ways (slots_in c.args.gots.now) (slots_in c.args.wants.now)) (param_row c.args.wants.now) c.args.gots.now c.loop-i.i c.index-gots-i.result c.loop-i.all c.row_ways.result c.meet-all.result _ (omega arith) c.index-gots-i.is c.row_ways.ensures c.meet-all.ensures c.loop-i.invariant
 
-pub crossing::cross_ways-returns : goal.crossing::cross_ways-returns
-crossing::cross_ways-returns g t c =
-    rows_done (g.L.Lins.orders c.args.lins.now) c.args.items.now c.args.others.now c.loop-item.item-index c.loop-item.there c.is_all_reached.result c.loop-item.reached (omega arith) c.loop-item.invariant.there c.loop-item.invariant.reached c.is_all_reached.ensures
+pub crossing::cross_marked-returns : goal.crossing::cross_marked-returns
+crossing::cross_marked-returns g t c =
+    rows_done (g.L.Lins.orders c.args.lins.now) c.args.items.now c.args.others.now c.loop-item.item-index (length c.args.reached.now) c.loop-item.there c.is_all_reached.result c.loop-item.reached (omega arith) c.requires.marks c.loop-item.invariant.there c.loop-item.invariant.reached c.is_all_reached.ensures
+
+pub crossing::cross_marked-loop-item-init : goal.crossing::cross_marked-loop-item-init
+crossing::cross_marked-loop-item-init g t c =
+    let fs = spec.ways_of (g.L.Lins.orders c.args.lins.now) (row c.args.items.now) in
+    record {
+      there = search rules;
+      reached = ap (cross.reach_all fs (row c.args.others.now)) c.requires.unmarked;
+      marks = refl;
+    }
 
 pub unions::union_ways-returns-then-is_crossable : goal.unions::union_ways-returns-then-is_crossable
 unions::union_ways-returns-then-is_crossable g t c =

@@ -119,19 +119,28 @@ invariant-unions::is_some_back-loop-item g l =
     (spec.gathered (ways_of o (row (drop l.item-index l.items))) (ty_of l.other)).back ≡ (spec.gathered (ways_of o (row l.items)) (ty_of l.other)).back
 
 abbrev pub decreases-crossing::cross_ways : goal.decreases-crossing::cross_ways
-decreases-crossing::cross_ways g l = 8 * (row_size (row l.items.now) + row_size (row l.others.now)) + 5
+decreases-crossing::cross_ways g l = 8 * (row_size (row l.items.now) + row_size (row l.others.now)) + 7
+
+abbrev pub decreases-crossing::cross_few : goal.decreases-crossing::cross_few
+decreases-crossing::cross_few g l = 8 * (row_size (row l.items.now) + row_size (row l.others.now)) + 6
+
+abbrev pub decreases-crossing::cross_many : goal.decreases-crossing::cross_many
+decreases-crossing::cross_many g l = 8 * (row_size (row l.items.now) + row_size (row l.others.now)) + 6
+
+abbrev pub decreases-crossing::cross_marked : goal.decreases-crossing::cross_marked
+decreases-crossing::cross_marked g l = 8 * (row_size (row l.items.now) + row_size (row l.others.now)) + 5
 
 abbrev pub decreases-crossing::cross_row : goal.decreases-crossing::cross_row
 decreases-crossing::cross_row g l = 8 * (size (ty_of l.item.now) + row_size (row l.others.now)) + 4
 
 -- the items left give the rest of what all give
-abbrev pub invariant-crossing::cross_ways-loop-item : goal.invariant-crossing::cross_ways-loop-item
-invariant-crossing::cross_ways-loop-item g l =
+abbrev pub invariant-crossing::cross_marked-loop-item : goal.invariant-crossing::cross_marked-loop-item
+invariant-crossing::cross_marked-loop-item g l =
     let o = g.L.Lins.orders l.lins in
     record {
       there : (l.there && cross.each_goes (ways_of o (row (drop l.item-index l.items))) (row l.others)) ≡ cross.each_goes (ways_of o (row l.items)) (row l.others);
-      reached : cross.reach_all (ways_of o (row (drop l.item-index l.items))) (row l.others) l.reached ≡ cross.reach_all (ways_of o (row l.items)) (row l.others) (replicate 64 false);
-      marks : length l.reached ≡ 64;
+      reached : cross.reach_all (ways_of o (row (drop l.item-index l.items))) (row l.others) l.reached ≡ cross.reach_all (ways_of o (row l.items)) (row l.others) (replicate (length l.fn.reached) false);
+      marks : length l.reached ≡ length l.fn.reached;
     }
 
 -- the others left give the rest of what all give
