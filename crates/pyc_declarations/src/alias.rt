@@ -12,7 +12,7 @@ ghost use Rattle.pyc_type_exprs.specs.TypeExprView.{type_expr_of};
 use crate::kinds::Kinds;
 use pyc_ast::{Expr, Text};
 use pyc_builtins::is_dunder;
-use pyc_names::{Interface, ModuleName, QualifiedName, Referent, fixed_module};
+use pyc_names::{Interface, Looks, ModuleName, QualifiedName, Referent, fixed_module};
 use pyc_reading::NameKind;
 use pyc_type_exprs::{TypeExpr, type_expr};
 use std::alloc::{AllocError, Global};
@@ -149,7 +149,7 @@ impl Kinds<'_> {
         ensures { IfOk result (λ end. referent_of end
             ≡ spec.outside_referent (kinds_in self.now) (qualified_of q.now)) }
     {
-        let found = self.table.follow(alloc, q)?;
+        let found = self.table.follow(alloc, q, &mut Looks::unkept(alloc))?;
         if may_be_hidden(&found) && self.table.hides(q) {
             self.table.unbound_referent(alloc, q)
         } else {
@@ -171,7 +171,7 @@ impl Kinds<'_> {
             module_path: module_path.clone()?,
             name: name.clone()?,
         };
-        self.table.follow(alloc, &q)
+        self.table.follow(alloc, &q, &mut Looks::unkept(alloc))
     }
 }
 

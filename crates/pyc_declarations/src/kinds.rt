@@ -20,7 +20,7 @@ use pyc_ast::{ClassDefinition, Text};
 use pyc_bindings::{Binding, BindingForm, is_decorated};
 use pyc_class_ids::{ClassId, UnknownMro};
 use pyc_names::{
-    FixedName, Interface, ModuleName, QualifiedName, Referent, Table, fixed_module, fixed_name,
+    FixedName, Interface, Looks, ModuleName, QualifiedName, Referent, Table, fixed_module, fixed_name,
 };
 use pyc_reading::{Answer, Key, MroAnswer, NameAnswer, NameKind};
 use pyc_types::Ty;
@@ -83,7 +83,7 @@ impl<'a> Kinds<'a> {
     ) -> Result<Found<'a>, AllocError>
         ensures { IfOk result (λ found. found_in found ≡ spec.found_name (kinds_in self.now) (qualified_of q.now)) }
     {
-        let found = self.table.follow(alloc, q)?;
+        let found = self.table.follow(alloc, q, &mut Looks::unkept(alloc))?;
         self.found_referent(alloc, q, found)
     }
 

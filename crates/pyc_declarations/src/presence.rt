@@ -8,7 +8,7 @@ ghost use Rattle.pyc_names.specs.InterfaceView.{interface_in};
 
 use crate::kinds::Kinds;
 use pyc_bindings::Binding;
-use pyc_names::{Interface, ModuleName, QualifiedName, fixed_module, module_of_parts};
+use pyc_names::{Interface, Looks, ModuleName, QualifiedName, fixed_module, module_of_parts};
 use pyc_reading::Presence;
 use std::alloc::{AllocError, Global};
 use std::slice;
@@ -94,7 +94,7 @@ impl Kinds<'_> {
     {
         match found {
             Some(_) => {
-                if self.table.is_on_ring(alloc, q)? {
+                if self.table.is_on_ring(alloc, q, &mut Looks::unkept(alloc))? {
                     Ok(Presence::Cycle)
                 } else {
                     Ok(Presence::There)

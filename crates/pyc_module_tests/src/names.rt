@@ -2,7 +2,7 @@
 
 use crate::sources::{dotted, file_of, interfaces_of, module_of, name_of};
 use pyc_ast::Outcome;
-use pyc_names::{ModuleName, QualifiedName, Referent, SourceFile, Table, module_of_parts};
+use pyc_names::{Looks, ModuleName, QualifiedName, Referent, SourceFile, Table, module_of_parts};
 use std::alloc::{AllocError, Global};
 use std::test::Fail;
 
@@ -31,8 +31,9 @@ fn write_followed(
     name: &QualifiedName,
     shown: &mut String,
 ) -> Result<(), AllocError> {
-    shown.push_str(word(&table.follow(alloc, name)?))?;
-    if table.is_on_ring(alloc, name)? {
+    let mut looks = Looks::new(alloc);
+    shown.push_str(word(&table.follow(alloc, name, &mut looks)?))?;
+    if table.is_on_ring(alloc, name, &mut looks)? {
         shown.push_str(" on a ring")?;
     }
     Ok(())

@@ -1,4 +1,5 @@
 pub mod ModuleLemmas
+pub mod NotedLemmas
 pub mod FollowingLemmas
 pub mod RingLemmas
 pub mod ReturnLemmas

@@ -14,4 +14,6 @@ pub mod FollowingView
 pub mod TableView
 pub mod Looks
 pub mod LookNumbers
+pub mod NotedLooks
+pub mod NotedLooksView
 pub mod CarryLaws
