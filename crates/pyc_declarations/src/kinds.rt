@@ -20,7 +20,8 @@ use pyc_ast::{ClassDefinition, Text};
 use pyc_bindings::{Binding, BindingForm, is_decorated};
 use pyc_class_ids::{ClassId, UnknownMro};
 use pyc_names::{
-    FixedName, Interface, Looks, ModuleName, QualifiedName, Referent, Table, fixed_module, fixed_name,
+    FixedName, Interface, Looks, ModuleName, QualifiedName, Referent, Table, fixed_module,
+    fixed_name,
 };
 use pyc_reading::{Answer, Key, MroAnswer, NameAnswer, NameKind};
 use pyc_types::Ty;
