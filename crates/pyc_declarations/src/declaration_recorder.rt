@@ -1,6 +1,7 @@
 //! What performs readings over answers: it records the keys asked and the messages reported.
 
-ghost use Rattle.std.specs.Prelude.{◌≡◌, IfOk, is_ok};
+ghost use Rattle.std.specs.Prelude.{◌≡◌, IfOk, is_ok, map};
+ghost use Rattle.pyc_reading.specs.KeyView.{key_of};
 
 use crate::answers::Answers;
 use crate::keys::note;
@@ -29,6 +30,13 @@ impl<A: Answers + Copy> DeclarationRecorder<A> {
             keys: Vec::new(alloc),
             messages: Vec::new(alloc),
         }
+    }
+
+    /// The keys that were asked.
+    pub(crate) fn keys(&self) -> &[Key]
+        ensures { map key_of result.now ≡ (trace_of A.answers self.now).keys }
+    {
+        &self.keys
     }
 }
 

@@ -1,14 +1,17 @@
 //! What names stand for before annotations are read.
 
-ghost use Rattle.std.specs.Prelude.{◌≡◌, IfOk, option_map};
+ghost use Rattle.std.specs.Prelude.{◌≡◌, IfOk, OnOk, option_map};
 ghost use Rattle.pyc_ast.specs.ExprView.{expr_of};
 ghost use Rattle.pyc_bindings.specs.BindingView.{binding_of, binding_form_of};
 ghost use Rattle.pyc_class_ids.specs.Class.{user};
 ghost use Rattle.pyc_declarations.specs.Kinds as spec;
 ghost use Rattle.pyc_declarations.specs.KindsView.{found_in};
+ghost use Rattle.pyc_declarations.specs.Looks as look;
 ghost use Rattle.pyc_names.specs.FixedModules.{fixed_module as fixed_module_of};
 ghost use Rattle.pyc_names.specs.FollowingView.{qualified_of, referent_of};
 ghost use Rattle.pyc_names.specs.InterfaceView.{interface_in};
+ghost use Rattle.pyc_names.specs.NotedLooks.{with_looks};
+ghost use Rattle.pyc_names.specs.NotedLooksView.{noted_in};
 ghost use Rattle.pyc_class_table.specs.ClassMros.{undeclared};
 ghost use Rattle.pyc_reading.specs.AnswerView.{answer_in, class_order_of, kind_of, name_answer_of};
 ghost use Rattle.pyc_reading.specs.KeyView.{key_of};
@@ -16,6 +19,7 @@ ghost use Rattle.pyc_reading.specs.KeyView.{key_of};
 use crate::alias::variable_kind;
 use crate::answers::Answers;
 use crate::declared_types::initialiser_type;
+use crate::looking::Looking;
 use pyc_ast::{ClassDefinition, Text};
 use pyc_bindings::{Binding, BindingForm, is_decorated};
 use pyc_class_ids::{ClassId, UnknownMro};
@@ -50,41 +54,85 @@ impl Answers for Kinds<'_> {
     ghost answers = { λ kinds. kind_answer (kinds_in kinds) };
 
     fn answer(&self, alloc: Global, key: &Key) -> Result<Answer, AllocError> {
-        match key {
-            Key::HasModule(name) => Ok(Answer::Presence(self.module_presence(name))),
-            Key::HasName(name) => Ok(Answer::Presence(self.name_presence(alloc, name)?)),
-            Key::Name(name) => Ok(Answer::Name(self.name_kind(alloc, name)?)),
-            Key::Class(_) => Ok(Answer::Mro(unknown_order(alloc))),
-            Key::Member(_) => Ok(Answer::Member(None)),
-            Key::Export(name) => Ok(Answer::Export(self.name_export(alloc, name)?)),
-        }
+        self.answer_noted(alloc, key, &mut Looks::unkept(alloc))
+    }
+}
+
+impl Looking for Kinds<'_> {
+    ghost use Rattle.pyc_declarations.specs.KindsView.{kinds_in};
+    ghost use Rattle.pyc_declarations.specs.Looks.{kind_looks};
+
+    ghost looked_at = { λ kinds. kind_looks (kinds_in kinds) };
+
+    fn note_looks(&self, alloc: Global, key: &Key, looks: &mut Looks) -> Result<(), AllocError> {
+        self.answer_noted(alloc, key, looks)?;
+        Ok(())
     }
 }
 
 impl<'a> Kinds<'a> {
     ghost use Rattle.pyc_declarations.specs.KindsView.{kinds_in};
 
-    /// What a name stands for, by its kind alone.
-    fn name_kind(&self, alloc: Global, q: &QualifiedName) -> Result<NameAnswer, AllocError>
-        ensures { IfOk result (λ found. name_answer_of found
-            ≡ spec.name_kind (kinds_in self.now) (qualified_of q.now)) }
+    /// The answer to a key; what is looked at for that is noted.
+    #[tactic(auto, using(pyc_names::proofs::NotedLemmas::noting))]
+    pub(crate) fn answer_noted(
+        &self,
+        alloc: Global,
+        key: &Key,
+        looks: &mut Looks,
+    ) -> Result<Answer, AllocError>
+        ensures found { IfOk result (λ answer. answer_in answer
+            ≡ spec.kind_answer (kinds_in self.now) (key_of key.now)) }
+        ensures looks { IfOk result (λ answer. noted_in looks.new
+            ≡ with_looks (noted_in looks.old) (look.kind_looks (kinds_in self.now) (key_of key.now))) }
     {
-        match self.found_name(alloc, q)? {
-            Found::Declared(file, form) => self.form_kind(alloc, file, form),
+        match key {
+            Key::HasModule(name) => {
+                looks.note_module(name.parts())?;
+                Ok(Answer::Presence(self.module_presence(name)))
+            }
+            Key::HasName(name) => Ok(Answer::Presence(self.name_presence(alloc, name, looks)?)),
+            Key::Name(name) => Ok(Answer::Name(self.name_kind(alloc, name, looks)?)),
+            Key::Class(_) => Ok(Answer::Mro(unknown_order(alloc))),
+            Key::Member(_) => Ok(Answer::Member(None)),
+            Key::Export(name) => Ok(Answer::Export(self.name_export(alloc, name, looks)?)),
+        }
+    }
+
+    /// What a name stands for, by its kind alone; what is looked at for that is noted.
+    #[tactic(auto, using(pyc_names::proofs::NotedLemmas::noting))]
+    fn name_kind(
+        &self,
+        alloc: Global,
+        q: &QualifiedName,
+        looks: &mut Looks,
+    ) -> Result<NameAnswer, AllocError>
+        ensures found { IfOk result (λ found. name_answer_of found
+            ≡ spec.name_kind (kinds_in self.now) (qualified_of q.now)) }
+        ensures looks { IfOk result (λ found. noted_in looks.new
+            ≡ with_looks (noted_in looks.old) (look.name_kind_looks (kinds_in self.now) (qualified_of q.now))) }
+    {
+        match self.found_name(alloc, q, looks)? {
+            Found::Declared(file, form) => self.form_kind(alloc, file, form, looks),
             Found::Answered(found) => Ok(found),
         }
     }
 
-    /// What a name leads to.
-    #[tactic(auto, unfolding(crate::specs::Kinds::found_name))]
+    /// What a name leads to; what is looked at for that is noted.
+    #[tactic(auto, using(pyc_names::proofs::NotedLemmas::noting), unfolding(crate::specs::Kinds::found_name))]
     pub(crate) fn found_name(
         &self,
         alloc: Global,
         q: &QualifiedName,
+        looks: &mut Looks,
     ) -> Result<Found<'a>, AllocError>
-        ensures { IfOk result (λ found. found_in found ≡ spec.found_name (kinds_in self.now) (qualified_of q.now)) }
+        ensures found { IfOk result (λ found. found_in found
+            ≡ spec.found_name (kinds_in self.now) (qualified_of q.now)) }
+        ensures looks { IfOk result (λ found. noted_in looks.new
+            ≡ with_looks (noted_in looks.old) (look.found_name_looks (kinds_in self.now) (qualified_of q.now))) }
     {
-        let found = self.table.follow(alloc, q, &mut Looks::unkept(alloc))?;
+        let found = self.table.follow(alloc, q, looks)?;
+        note_referent(q, &found, looks)?;
         self.found_referent(alloc, q, found)
     }
 
@@ -127,21 +175,26 @@ impl<'a> Kinds<'a> {
         }
     }
 
-    /// What a declaration of this form is in a file.
+    /// What a declaration of this form is in a file; what is looked at for that is noted.
+    #[tactic(auto, using(pyc_names::proofs::NotedLemmas::noting))]
     pub(crate) fn form_kind(
         &self,
         alloc: Global,
         file: &Interface,
         form: &BindingForm,
+        looks: &mut Looks,
     ) -> Result<NameAnswer, AllocError>
-        ensures { IfOk result (λ found. name_answer_of found
+        ensures found { IfOk result (λ found. name_answer_of found
             ≡ spec.form_kind (kinds_in self.now) (interface_in file.now) (binding_form_of form.now)) }
+        ensures looks { IfOk result (λ found. noted_in looks.new
+            ≡ with_looks (noted_in looks.old)
+            (look.form_kind_looks (kinds_in self.now) (interface_in file.now) (binding_form_of form.now))) }
     {
         match form {
             BindingForm::Function(_) => Ok(of_kind(NameKind::Function)),
             BindingForm::Class(head) => class_kind(alloc, file, head),
             BindingForm::Annotated(found) => {
-                let is_alias = self.is_alias(alloc, file, &found.annotation)?;
+                let is_alias = self.is_alias(alloc, file, &found.annotation, looks)?;
                 Ok(of_kind(variable_kind(is_alias)))
             }
             BindingForm::Assigned(value) => Ok(NameAnswer {
@@ -150,6 +203,19 @@ impl<'a> Kinds<'a> {
             }),
             _ => Ok(of_kind(NameKind::Variable)),
         }
+    }
+}
+
+/// Notes the module of a name that leads into a file with a fault: that may be the file of the name's own module. The
+/// only error is that memory runs out.
+#[tactic(auto, using(pyc_names::proofs::NotedLemmas::noting))]
+fn note_referent(q: &QualifiedName, found: &Referent, looks: &mut Looks) -> Result<(), AllocError>
+    ensures { OnOk result (noted_in looks.new
+        ≡ with_looks (noted_in looks.old) (look.referent_looks (qualified_of q.now) (referent_of found.now))) }
+{
+    match found {
+        Referent::Opaque => looks.note_module(q.module_path.parts()),
+        _ => Ok(()),
     }
 }
 

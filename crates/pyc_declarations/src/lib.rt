@@ -11,9 +11,11 @@ mod exports;
 mod keys;
 mod kinds;
 pub mod laws;
+mod looking;
 mod presence;
 
 pub use answers::Answers;
+pub use class_entries::note_fixed;
 pub use declaration_recorder::DeclarationRecorder;
 pub use declarations::Declarations;
 pub use declared_types::{initialiser_type, literal_type};

@@ -2,9 +2,13 @@
 
 ghost use Rattle.std.specs.Prelude.{◌≡◌, IfOk, option_map};
 ghost use Rattle.pyc_bindings.specs.BindingView.{binding_of};
+ghost use Rattle.pyc_declarations.specs.Looks as look;
 ghost use Rattle.pyc_declarations.specs.Presences as spec;
 ghost use Rattle.pyc_names.specs.FollowingView.{qualified_of};
 ghost use Rattle.pyc_names.specs.InterfaceView.{interface_in};
+ghost use Rattle.pyc_names.specs.Looks.{unbound_looks};
+ghost use Rattle.pyc_names.specs.NotedLooks.{with_looks};
+ghost use Rattle.pyc_names.specs.NotedLooksView.{noted_in};
 
 use crate::kinds::Kinds;
 use pyc_bindings::Binding;
@@ -31,22 +35,28 @@ impl Kinds<'_> {
         }
     }
 
-    /// Whether a module has a name.
-    #[tactic(auto, unfolding(crate::specs::Presences::name_presence))]
+    /// Whether a module has a name; what is looked at for that is noted.
+    #[tactic(auto, using(pyc_names::proofs::NotedLemmas::noting), unfolding(crate::specs::Presences::name_presence, crate::specs::Looks::presence_looks))]
     pub(crate) fn name_presence(
         &self,
         alloc: Global,
         q: &QualifiedName,
+        looks: &mut Looks,
     ) -> Result<Presence, AllocError>
-        ensures { IfOk result (λ found. found ≡ spec.name_presence (kinds_in self.now) (qualified_of q.now)) }
+        ensures found { IfOk result (λ found. found
+            ≡ spec.name_presence (kinds_in self.now) (qualified_of q.now)) }
+        ensures looks { IfOk result (λ found. noted_in looks.new
+            ≡ with_looks (noted_in looks.old) (look.presence_looks (kinds_in self.now) (qualified_of q.now))) }
     {
+        looks.note_name(q)?;
         let parts = q.module_path.parts();
         if !self.table.has_module(parts) {
+            looks.note_module(parts)?;
             return Ok(Presence::NoModule);
         }
         match fixed_module(parts) {
             Some(_) => Ok(Presence::There),
-            None => self.name_in_file(alloc, q, self.table.file(parts)),
+            None => self.name_in_file(alloc, q, self.table.file(parts), looks),
         }
     }
 
@@ -56,13 +66,17 @@ impl Kinds<'_> {
         alloc: Global,
         q: &QualifiedName,
         file: Option<&Interface>,
+        looks: &mut Looks,
     ) -> Result<Presence, AllocError>
-        ensures { IfOk result (λ found. found ≡ spec.name_in_file (kinds_in self.now) (qualified_of q.now)
+        ensures found { IfOk result (λ found. found ≡ spec.name_in_file (kinds_in self.now) (qualified_of q.now)
             (option_map (λ file. interface_in file.now) file.entry)) }
+        ensures looks { IfOk result (λ found. noted_in looks.new
+            ≡ with_looks (noted_in looks.old) (look.file_looks (kinds_in self.now) (qualified_of q.now)
+            (option_map (λ file. interface_in file.now) file.entry))) }
     {
         match file {
-            Some(file) => self.name_in_source(alloc, q, file),
-            None => self.submodule_presence(alloc, q),
+            Some(file) => self.name_in_source(alloc, q, file, looks),
+            None => self.submodule_presence(alloc, q, looks),
         }
     }
 
@@ -72,14 +86,19 @@ impl Kinds<'_> {
         alloc: Global,
         q: &QualifiedName,
         file: &Interface,
+        looks: &mut Looks,
     ) -> Result<Presence, AllocError>
-        ensures { IfOk result (λ found. found ≡ spec.name_in_source (kinds_in self.now) (qualified_of q.now)
+        ensures found { IfOk result (λ found. found ≡ spec.name_in_source (kinds_in self.now) (qualified_of q.now)
             (interface_in file.now) (interface_in file.now).has_fault) }
+        ensures looks { IfOk result (λ found. noted_in looks.new
+            ≡ with_looks (noted_in looks.old) (look.source_looks (kinds_in self.now) (qualified_of q.now)
+            (interface_in file.now) (interface_in file.now).has_fault)) }
     {
         if file.has_fault() {
+            looks.note_module(q.module_path.parts())?;
             return Ok(Presence::Opaque);
         }
-        self.binding_presence(alloc, q, file.declaration(&q.name))
+        self.binding_presence(alloc, q, file.declaration(&q.name), looks)
     }
 
     /// Whether a name that has this declaration is there.
@@ -88,26 +107,40 @@ impl Kinds<'_> {
         alloc: Global,
         q: &QualifiedName,
         found: Option<&Binding>,
+        looks: &mut Looks,
     ) -> Result<Presence, AllocError>
-        ensures { IfOk result (λ presence. presence ≡ spec.binding_presence (kinds_in self.now) (qualified_of q.now)
+        ensures found { IfOk result (λ presence. presence
+            ≡ spec.binding_presence (kinds_in self.now) (qualified_of q.now)
             (option_map (λ b. binding_of b.now) found.entry)) }
+        ensures looks { IfOk result (λ presence. noted_in looks.new
+            ≡ with_looks (noted_in looks.old) (look.binding_looks (kinds_in self.now) (qualified_of q.now)
+            (option_map (λ b. binding_of b.now) found.entry))) }
     {
         match found {
             Some(_) => {
-                if self.table.is_on_ring(alloc, q, &mut Looks::unkept(alloc))? {
+                if self.table.is_on_ring(alloc, q, looks)? {
                     Ok(Presence::Cycle)
                 } else {
                     Ok(Presence::There)
                 }
             }
-            None => self.submodule_presence(alloc, q),
+            None => self.submodule_presence(alloc, q, looks),
         }
     }
 
-    /// Whether the submodule of a name is there.
-    fn submodule_presence(&self, alloc: Global, q: &QualifiedName) -> Result<Presence, AllocError>
-        ensures { IfOk result (λ found. found ≡ spec.submodule_presence (kinds_in self.now) (qualified_of q.now)) }
+    /// Whether the submodule of a name that nothing binds is there.
+    fn submodule_presence(
+        &self,
+        alloc: Global,
+        q: &QualifiedName,
+        looks: &mut Looks,
+    ) -> Result<Presence, AllocError>
+        ensures found { IfOk result (λ found. found
+            ≡ spec.submodule_presence (kinds_in self.now) (qualified_of q.now)) }
+        ensures looks { IfOk result (λ found. noted_in looks.new
+            ≡ with_looks (noted_in looks.old) (unbound_looks (qualified_of q.now))) }
     {
+        looks.note_unbound(q)?;
         let under = module_of_parts(alloc, q.module_path.parts(), slice::from_ref(&q.name))?;
         if self.table.has_module(under.parts()) {
             Ok(Presence::There)
