@@ -1,2 +1,4 @@
 pub mod CarryLemmas
 pub mod ComparedLemmas
+pub mod FlagLemmas
+pub mod MemberLookLemmas

@@ -6,3 +6,4 @@ pub mod WorldLaws
 pub mod Looks
 pub mod CarryLaws
 pub mod ComparedLaws
+pub mod Flags

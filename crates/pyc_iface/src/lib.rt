@@ -2,12 +2,14 @@
 #![tactic(auto)]
 
 mod declared;
+mod flags;
 pub mod laws;
 mod member_types;
 mod members;
 mod options;
 mod world;
 
+pub use flags::Flags;
 pub use options::{Options, TURNS};
 pub use pyc_declarations::{Answers, DeclarationRecorder, literal_type};
 pub use pyc_reading::{

@@ -5,16 +5,20 @@ ghost use Rattle.pyc_class_ids.specs.Class.{Id};
 ghost use Rattle.pyc_class_table.specs.MroView.{orders_in};
 ghost use Rattle.pyc_iface.specs.Answers as spec;
 ghost use Rattle.pyc_iface.specs.Answers.{orders_by};
+ghost use Rattle.pyc_iface.specs.Looks.{answer_looks};
 ghost use Rattle.pyc_declarations.specs.KindsView.{declarations_in};
 ghost use Rattle.pyc_names.specs.InterfaceView.{interfaces_in};
+ghost use Rattle.pyc_names.specs.NotedLooks.{with_looks};
+ghost use Rattle.pyc_names.specs.NotedLooksView.{noted_in};
 ghost use Rattle.pyc_names.specs.TableView.{table_in};
 ghost use Rattle.pyc_reading.specs.AnswerView.{answer_in, class_order_of};
 ghost use Rattle.pyc_reading.specs.KeyView.{key_of};
 
+use crate::members::note_order_of;
 use pyc_class_ids::{ClassId, Lin, Lins};
 use pyc_class_table::ClassTable;
 use pyc_declarations::{Answers, Declarations};
-use pyc_names::{Interface, Table};
+use pyc_names::{Interface, Looks, Table};
 use pyc_reading::{Answer, Key, MroAnswer};
 use std::alloc::{AllocError, Global};
 use std::rc::Rc;
@@ -67,6 +71,13 @@ impl PlainWorld {
         Ok(PlainWorld { table, classes })
     }
 
+    /// The interfaces of the files, by name.
+    pub fn table(&self) -> &Table
+        ensures { table_in result.now ≡ world_in self.now }
+    {
+        &self.table
+    }
+
     /// The answers of the world, as readings ask for them. It takes no memory. The call is for users of the library:
     /// the program does not make it.
     pub fn answers(&self) -> PlainWorldAnswers<'_>
@@ -79,10 +90,29 @@ impl PlainWorld {
     pub fn ask(&self, alloc: Global, key: &Key) -> Result<Answer, AllocError>
         ensures { IfOk result (λ answer. answer_in answer ≡ spec.answer_by (world_in self.now) (key_of key.now)) }
     {
+        self.ask_noted(alloc, key, &mut Looks::unkept(alloc))
+    }
+
+    /// The answer to a key; what is looked at for that is noted. The only error is that memory runs out.
+    #[tactic(auto, using(pyc_names::proofs::NotedLemmas::noting))]
+    pub fn ask_noted(
+        &self,
+        alloc: Global,
+        key: &Key,
+        looks: &mut Looks,
+    ) -> Result<Answer, AllocError>
+        ensures found { IfOk result (λ answer. answer_in answer
+            ≡ spec.answer_by (world_in self.now) (key_of key.now)) }
+        ensures looks { IfOk result (λ answer. noted_in looks.new ≡ with_looks (noted_in looks.old)
+            (answer_looks (world_in self.now) (key_of key.now))) }
+    {
         match key {
-            Key::Class(class) => Ok(Answer::Mro(self.class_order(alloc, class)?)),
-            Key::Member(name) => Ok(Answer::Member(self.member(alloc, name)?)),
-            _ => self.declarations().answer(alloc, key),
+            Key::Class(class) => {
+                note_order_of(class, looks)?;
+                Ok(Answer::Mro(self.class_order(alloc, class)?))
+            }
+            Key::Member(name) => Ok(Answer::Member(self.member(alloc, name, looks)?)),
+            _ => self.declarations().answer_noted(alloc, key, looks),
         }
     }
 
@@ -111,7 +141,7 @@ impl PlainWorld {
 fn class_table(alloc: Global, table: &Table) -> Result<ClassTable, AllocError>
     ensures { IfOk result (λ classes. (c : Id) → orders_in classes c ≡ orders_by (table_in table.now) c) }
 {
-    let entries = Declarations::new(table).class_entries(alloc)?;
+    let entries = Declarations::new(table).class_entries(alloc, &mut Looks::unkept(alloc))?;
     ClassTable::build(alloc, entries)
 }
 
