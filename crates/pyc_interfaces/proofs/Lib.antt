@@ -6,3 +6,9 @@ pub mod WorldLemmas
 pub mod SameRows
 pub mod SameLemmas
 pub mod LookLemmas
+pub mod ChangedRows
+pub mod ChangesLemmas
+pub mod ChangedLemmas
+pub mod NotedChanges
+pub mod NotedSteps
+pub mod BetweenLemmas

@@ -38,7 +38,7 @@ texts_are x y same = (bytes_eq-Decides x y).0 same
 paths_are : (x y : List (List ℕ)) → pointwise bytes_eq x y ≡ true → x ≡ y
 paths_are x y same = (slice_eq-Decides bytes_eq-Decides x y (pointwise bytes_eq x y) refl).0 same
 
-flags_are : (a b : Bool) → beq a b ≡ true → a ≡ b
+pub flags_are : (a b : Bool) → beq a b ≡ true → a ≡ b
 flags_are true true same = refl
 flags_are true false same = absurd (false≢true same)
 flags_are false true same = absurd (false≢true same)
@@ -564,7 +564,7 @@ binding_forms_are other (annotated more) same = absurd (false≢true same)
 binding_forms_are other (assigned y) same = absurd (false≢true same)
 binding_forms_are other other same = refl
 
-bindings_are : (b c : Binding) → same_binding b c ≡ true → bare_binding b ≡ bare_binding c
+pub bindings_are : (b c : Binding) → same_binding b c ≡ true → bare_binding b ≡ bare_binding c
 bindings_are b c same =
     let made : List ℕ → Bool → BindingForm → Binding =
     λ name is_passed_on form. record { name = name; place = placed nowhere false; is_passed_on = is_passed_on; form = form } in
@@ -586,7 +586,7 @@ attribute_forms_are attribute.other (attribute.annotated more) same = absurd (fa
 attribute_forms_are attribute.other (attribute.assigned y) same = absurd (false≢true same)
 attribute_forms_are attribute.other attribute.other same = refl
 
-attributes_are : (a b : SelfAttribute) → same_attribute a b ≡ true → bare_attribute a ≡ bare_attribute b
+pub attributes_are : (a b : SelfAttribute) → same_attribute a b ≡ true → bare_attribute a ≡ bare_attribute b
 attributes_are a b same =
     let made : List ℕ → AttributeForm → FunctionDefinition → SelfAttribute = λ name form method. record { name = name; at = nowhere; form = form; method = method } in
     let p = and_parts (bytes_eq a.name b.name && same_attribute_form a.form b.form) (same_function a.method b.method) same in

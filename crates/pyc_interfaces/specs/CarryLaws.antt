@@ -1,9 +1,11 @@
 -- Where what files answer is the same among other files, whatever their positions.
-use Rattle.std.specs.Prelude.{◌≡◌, Bool, List, map}
+use Rattle.std.specs.Prelude.{◌≡◌, ℕ, Bool, true, List, map}
 use Rattle.pyc_declarations.specs.Looks.{entries_looks}
 use Rattle.pyc_iface.specs.CarryLaws.{AnswersStay, AreAllAlike}
+use Rattle.pyc_iface.specs.ComparedLaws.{EachOf}
 use Rattle.pyc_iface.specs.Looks.{answer_looks}
 use Rattle.pyc_interfaces.specs.BareInterfaces.{bare_interface}
+use Rattle.pyc_interfaces.specs.ChangedBetween.{HaveInCommon, changed_between}
 use Rattle.pyc_names.specs.Interfaces.{Interface}
 use Rattle.pyc_names.specs.Looks.{Look}
 use Rattle.pyc_reading.specs.Keys.{Key}
@@ -25,3 +27,14 @@ abbrev pub FilesCarryOver : Type 0
 FilesCarryOver =
     (differs : Look → Bool) (files others : List Interface)
     → AreAllAlike differs (map bare_interface files) (map bare_interface others) → AnswersStay differs files others
+
+-- each of these looks differs
+abbrev pub AllDiffer : (Look → Bool) → List Look → Type 0
+AllDiffer differs looks = EachOf (λ look. differs look ≡ true) looks
+
+-- answers for which nothing is looked at that differs are the same among later files, where all differs that is listed
+-- between the two; so many of their first and of their last are alike without positions
+abbrev pub ChangedLooksAreAll : Type 0
+ChangedLooksAreAll =
+    (differs : Look → Bool) (front back : ℕ) (files others : List Interface) → HaveInCommon front back files others
+    → AllDiffer differs (changed_between front back files others) → AnswersStay differs files others

@@ -3,4 +3,7 @@ pub mod BareInterfaces
 pub mod SameExpressions
 pub mod SameInterfaces
 pub mod InterfaceLaws
+pub mod ChangedLooks
+pub mod ChangedBetween
 pub mod CarryLaws
+pub mod HomeView

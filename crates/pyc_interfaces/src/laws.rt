@@ -1,6 +1,7 @@
 //! Laws of interfaces, proved for all files.
 
-ghost use Rattle.pyc_interfaces.specs.CarryLaws.{FilesCarryOver, PositionsChangeNoEntry, PositionsChangeNoLook};
+ghost use Rattle.pyc_interfaces.specs.CarryLaws.{ChangedLooksAreAll, FilesCarryOver, PositionsChangeNoEntry};
+ghost use Rattle.pyc_interfaces.specs.CarryLaws.{PositionsChangeNoLook};
 ghost use Rattle.pyc_interfaces.specs.InterfaceLaws.{AlikeFilesAnswerAlike, PositionsChangeNoAnswer};
 
 /// Interfaces answer each key as they do without positions, and without what else no answer looks at.
@@ -19,4 +20,10 @@ pub fn carry_over()
     ensures looks { PositionsChangeNoLook }
     ensures entries { PositionsChangeNoEntry }
     ensures files { FilesCarryOver }
+{}
+
+/// An answer is the same among later files, and the same is looked at, where nothing is looked at for it of what is
+/// listed between the files and the later ones.
+pub fn changed_looks_are_all()
+    ensures { ChangedLooksAreAll }
 {}

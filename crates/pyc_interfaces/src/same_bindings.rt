@@ -48,7 +48,7 @@ fn same_form(a: &BindingForm, b: &BindingForm) -> bool
 }
 
 /// Whether two bindings are one.
-fn same_binding(a: &Binding, b: &Binding) -> bool
+pub(crate) fn same_binding(a: &Binding, b: &Binding) -> bool
     ensures { result ≡ spec.same_binding (binding_of a.now) (binding_of b.now) }
 {
     a.name == b.name && a.is_passed_on == b.is_passed_on && same_form(&a.form, &b.form)

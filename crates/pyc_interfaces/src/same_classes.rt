@@ -28,7 +28,7 @@ fn same_form(a: &AttributeForm, b: &AttributeForm) -> bool
 }
 
 /// Whether two attributes are one.
-fn same_attribute(a: &SelfAttribute, b: &SelfAttribute) -> bool
+pub(crate) fn same_attribute(a: &SelfAttribute, b: &SelfAttribute) -> bool
     ensures { result ≡ spec.same_attribute (attribute_of a.now) (attribute_of b.now) }
 {
     a.name == b.name && same_form(&a.form, &b.form) && same_function(&a.method, &b.method)
