@@ -1,4 +1,5 @@
 pub mod InputLemmas
 pub mod StringLemmas
+pub mod ExpressionSet
 pub mod PartLemmas
 pub mod ReadingLemmas

@@ -6,6 +6,7 @@ mod expression_input;
 mod ignores;
 mod only_line;
 mod parts;
+mod read_strings;
 mod reading;
 mod strings;
 

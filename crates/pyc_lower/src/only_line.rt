@@ -13,6 +13,14 @@ use pyc_token::Token;
 use pyc_tree::Line;
 use std::alloc::{AllocError, Global};
 
+/// The only logical line of a source, with its tree.
+#[derive(Drop)]
+pub struct OnlyLine {
+    /// The line alone.
+    pub lines: Vec<LogicalLine>,
+    pub tree: Line,
+}
+
 /// The tree of a line with these tokens. The only error is that memory runs out.
 fn line_tree(alloc: Global, tokens: &[Token]) -> Result<Option<Line>, AllocError>
     ensures { IfOk result (λ found. option_map line_of found ≡ grammar.line_tree tokens.now) }
@@ -40,14 +48,22 @@ fn only_tree(alloc: Global, lines: &[LogicalLine]) -> Result<Option<Line>, Alloc
     }
 }
 
-/// The tree of the only logical line of a source, whatever its indent: a source with a lexical fault has none. The only
-/// error is that memory runs out.
-pub fn only_line(alloc: Global, source: &[u8]) -> Result<Option<Line>, AllocError>
-    ensures { IfOk result (λ found. option_map line_of found ≡ spec.tree_read (lines_of source.now)) }
+/// The only logical line of a source with its tree, whatever its indent: a source with a lexical fault has none. The
+/// only error is that memory runs out.
+pub fn only_line(alloc: Global, source: &[u8]) -> Result<Option<OnlyLine>, AllocError>
+    ensures { IfOk result
+        (λ found. option_map (λ line. line_of line.tree) found ≡ spec.tree_read (lines_of source.now)) }
 {
-    match scan(alloc, source) {
-        Ok(scan) => only_tree(alloc, &scan.lines),
-        Err(LexFault::Memory) => Err(AllocError),
-        Err(_) => Ok(None),
+    let scan = match scan(alloc, source) {
+        Ok(scan) => scan,
+        Err(LexFault::Memory) => return Err(AllocError),
+        Err(_) => return Ok(None),
+    };
+    match only_tree(alloc, &scan.lines)? {
+        Some(tree) => Ok(Some(OnlyLine {
+            lines: scan.lines,
+            tree,
+        })),
+        None => Ok(None),
     }
 }

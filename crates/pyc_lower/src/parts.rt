@@ -7,6 +7,7 @@ ghost use Rattle.pyc_lower.specs.Parts as spec;
 ghost use Rattle.pyc_lower.specs.Parts.{part_in, lowered_of, AddsPart, AnswersParts, AnswersWhole};
 ghost use Rattle.pyc_lower_atom.specs.OriginView.{origin_of};
 
+use crate::read_strings::{ReadStrings, strings_of_lines};
 use pyc_ast::Stmt;
 use pyc_lex::{Keyword, Kind, LogicalLine, Scan};
 use pyc_lower_block::{into_statements, statements_suspend};
@@ -14,6 +15,7 @@ use pyc_lower_expression::{Lowering, Names, Quotes};
 use pyc_parse::{ParseFault, What, parse};
 use pyc_token::Arithmetic;
 use std::alloc::{AllocError, Global};
+use std::cell::Cell;
 use std::mem;
 
 /// How many lines a part has at least, but for the last.
@@ -68,7 +70,7 @@ fn begins_part(part: &[LogicalLine], line: &LogicalLine) -> bool {
 
 /// Adds what the lines of a part are, by themselves, to what is lowered. A part with a fault adds nothing. The only
 /// error is that memory runs out.
-fn add_part<Q: Quotes>(
+fn add_lines<Q: Quotes>(
     lowering: &Lowering<'_, Q>,
     part: Vec<LogicalLine>,
     found: &mut Lowered,
@@ -98,6 +100,33 @@ fn add_part<Q: Quotes>(
         ) => Err(AllocError),
         Err(fault) => Ok(Some(fault)),
     }
+}
+
+/// Adds what the lines of a part are, by themselves, to what is lowered, their long strings read before. A part with a
+/// fault adds nothing. The only error is that memory runs out.
+fn add_part<Q: Quotes>(
+    lowering: &Lowering<'_, Q>,
+    part: Vec<LogicalLine>,
+    found: &mut Lowered,
+    names: &mut Names,
+) -> Result<Option<ParseFault>, AllocError>
+    ensures { IfOk result (λ fault. AddsPart
+        (part_in Q.spelled (origin_of lowering.now.origin) (map line_in part.items))
+        (lowered_of found.old) fault (lowered_of found.new)) }
+{
+    let strings = Cell::new(strings_of_lines(lowering, &part, names)?);
+    let quotes = ReadStrings {
+        quotes: lowering.quotes,
+        strings: &strings,
+    };
+    let lowering = Lowering {
+        alloc: lowering.alloc,
+        origin: lowering.origin,
+        quotes: &quotes,
+    };
+    let fault = add_lines(&lowering, part, found, names);
+    drop(strings.into_inner());
+    fault
 }
 
 /// Nothing of a module.

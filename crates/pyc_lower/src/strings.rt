@@ -1,13 +1,48 @@
 //! Strings that are annotations.
 
-ghost use Rattle.std.specs.Prelude.{◌≡◌, IfOk, option_map};
+ghost use Rattle.std.specs.Prelude.{◌≡◌, IfOk};
+ghost use Rattle.pyc_ast.specs.ExprView.{expr_of};
+ghost use Rattle.pyc_lower_atom.specs.declared.role.Role.TheVariants.{Annotation};
+ghost use Rattle.pyc_lower_atom.specs.OriginView.{origin_of};
+ghost use Rattle.pyc_lower_expression.specs.Expressions.{expr_in};
+ghost use Rattle.pyc_tree.specs.View.{tree_of};
 
 use crate::content::{content, is_skipped};
 use crate::expression_input::expression_of_line;
 use crate::only_line::only_line;
+use crate::read_strings::{ReadStrings, strings_of_lines};
 use pyc_ast::{Expr, Position};
+use pyc_lex::LogicalLine;
 use pyc_lower_expression::{Lowering, Names, Origin, Quotes, Role};
+use pyc_tree::Expr as Tree;
 use std::alloc::{AllocError, Global};
+use std::cell::Cell;
+
+/// The expression that a tree on these lines is as an annotation, their long strings read before it. The only error is
+/// that memory runs out.
+fn lower_annotation<Q: Quotes>(
+    lowering: &Lowering<'_, Q>,
+    lines: &[LogicalLine],
+    tree: &Tree,
+    names: &mut Names,
+) -> Result<Expr, AllocError>
+    ensures { IfOk result (λ e. expr_of e
+        ≡ expr_in Q.spelled (origin_of lowering.now.origin) Annotation (tree_of tree.now)) }
+{
+    let strings = Cell::new(strings_of_lines(lowering, lines, names)?);
+    let quotes = ReadStrings {
+        quotes: lowering.quotes,
+        strings: &strings,
+    };
+    let lowering = Lowering {
+        alloc: lowering.alloc,
+        origin: lowering.origin,
+        quotes: &quotes,
+    };
+    let expr = lowering.expr(tree, Role::Annotation, names);
+    drop(strings.into_inner());
+    expr
+}
 
 /// A reader of strings, in whose expressions another reads the strings.
 #[derive(Clone, Copy)]
@@ -37,7 +72,7 @@ impl<Q: Quotes> Quotes for Inside<Q> {
         let Some(line) = only_line(alloc, source)? else {
             return Ok(None);
         };
-        let Some(tree) = expression_of_line(&line) else {
+        let Some(tree) = expression_of_line(&line.tree) else {
             return Ok(None);
         };
         let lowering = Lowering {
@@ -48,6 +83,6 @@ impl<Q: Quotes> Quotes for Inside<Q> {
             },
             quotes: &self.inner,
         };
-        Ok(Some(lowering.expr(tree, Role::Annotation, names)?))
+        Ok(Some(lower_annotation(&lowering, &line.lines, tree, names)?))
     }
 }
