@@ -41,11 +41,11 @@ unless None s s' = record { refusal = None; state = s' }
 
 -- the state with this file, in place of the file of its path if there is one
 abbrev pub keeping : State → File → State
-keeping s file = record s { present = with_file s.present file }
+keeping s file = record s { present = with_file s.present file; touched = with_file s.touched file }
 
 -- the state without the file of this path
 abbrev pub dropping : State → List ℕ → State
-dropping s path = record s { present = without_file s.present path }
+dropping s path = record s { present = without_file s.present path; touched = without_file s.touched path }
 
 -- a file of these bytes is kept, unless it is refused
 abbrev pub kept : Keep → State → List ℕ → List ℕ → Bool → Outcome
@@ -80,11 +80,14 @@ updated s path event =
     if is_file_path path then fetched_at event.fetched path (handed_over s path event.wants_memory)
     else unfetched event.fetched (record { refusal = Some refusal.Path; state = s })
 
--- the state after a completed check: it examined the units of new and changed files, and those of whose reads then some
--- key has another answer now
+-- the state where the files were checked that are taken: it examined the units of new and changed files, and those of
+-- whose reads then some key has another answer now
+abbrev pub checked : State → State
+checked s = record s { last = taken s.present; examined = examined s.options s.last (taken s.present) }
+
+-- the state after a completed check: no file was put since
 abbrev pub after_check : State → State
-after_check s =
-    record s { last = taken s.present; examined = examined s.options s.last (taken s.present) }
+after_check s = record (checked s) { touched = [] }
 
 -- ---- replies
 

@@ -12,7 +12,7 @@ ghost use Rattle.pyc_report.specs.Report.{report_in};
 ghost use Rattle.pyc_reuse.specs.Exact.{IsExact};
 ghost use Rattle.pyc_reuse.specs.RevisionView.{revision_in};
 ghost use Rattle.pyc_session.specs.DaemonView.{revision_of};
-ghost use Rattle.pyc_session.specs.Session.{after_check, keeping, dropping, updated, refusal_in};
+ghost use Rattle.pyc_session.specs.Session.{after_check, checked, keeping, dropping, updated, refusal_in};
 ghost use Rattle.pyc_session.specs.State.{State, start};
 ghost use Rattle.pyc_workspace.specs.Workspace.{has_file, taken};
 
@@ -36,8 +36,8 @@ pub const MOST_FILES: usize = 1024;
 /// How many bytes a file may have.
 pub const LARGEST_FILE: usize = 1_048_576;
 
-/// The files of a session, and what its last check left. Contracts see its state: the files that are present, those
-/// that were taken at the last completed check, and the units that it examined.
+/// The files of a session, and what its last check left. Contracts see its state: the files that are present, those of
+/// them that were put since the last completed check, those that were taken at it, and the units that it examined.
 #[derive(Drop)]
 pub struct Daemon {
     alloc: Global,
@@ -50,7 +50,7 @@ pub struct Daemon {
 }
 
 impl Model for Daemon {
-    ghost use Rattle.pyc_session.specs.DaemonView.{KeepsUp, revision_of};
+    ghost use Rattle.pyc_session.specs.DaemonView.{KeepsUp, revision_of, touched_in};
     ghost use Rattle.pyc_session.specs.State.{State};
 
     ghost Value = { State };
@@ -59,6 +59,7 @@ impl Model for Daemon {
         record {
           options = d.options;
           present = d.present;
+          touched = touched_in d.present d.touched;
           last = (revision_of d.options d.last).files;
           examined = (revision_of d.options d.last).examined;
         } };
@@ -148,7 +149,7 @@ impl Daemon {
         Ok(())
     }
 
-    /// Checks the files that are taken. Where memory is refused all is as before.
+    /// Checks the files that are taken; after that none counts as put since. Where memory is refused all is as before.
     pub fn check(&mut self) -> Result<Report, AllocError>
         ensures fresh { IfOk result (λ report. report_in report ≡ fresh self.old.options (taken self.old.present)) }
         ensures after { OnOk result (self.new ≡ after_check self.old) }
@@ -185,7 +186,7 @@ impl Daemon {
     /// is as before.
     fn check_all_files(&mut self) -> Result<Report, AllocError>
         ensures fresh { IfOk result (λ report. report_in report ≡ fresh self.old.options (taken self.old.present)) }
-        ensures after { OnOk result (self.new ≡ after_check self.old) }
+        ensures after { OnOk result (self.new ≡ checked self.old) }
         ensures exact { IfOk result (λ report. IsExact self.old.options self.old.last (taken self.old.present)
             (report_in report) self.new.examined) }
         ensures same { OnErr result (self.new ≡ self.old) }
