@@ -126,16 +126,14 @@ def compared(name, before, edits):
 
 HOLDING = [
     *compared("lines of an unchanged file", lines, EDITS),
-    *compared("calls in an unchanged file", calls, BODIES),
+    *compared("calls in an unchanged file", calls, EDITS),
     *compared("unchanged files", files, BODIES),
-    *compared("parameters of a function that is named", parameters, BODIES),
+    *compared("parameters of a function that is named", parameters, EDITS),
     Comparison("parameters of a function, another body that names it", parameters, READER_EDITED + CHECK),
     Comparison("lines that are examined", examined, CHECK, MOST_EXAMINED),
 ]
-# after an edit of an interface answers are formed anew; a report is at each check
+# after an edit of an interface the tables of files and classes are made anew; a report is at each check
 LATER = [
-    *compared("calls in an unchanged file", calls, INTERFACES),
-    *compared("parameters of a function that is named", parameters, INTERFACES),
     *compared("messages of an unchanged file", messages, EDITS),
     *compared("unchanged files", files, INTERFACES),
 ]

@@ -9,7 +9,7 @@ parameters by the thousand. A session adds the files, checks them, gives each a 
 interface is compared; gives one of them a name more and checks again, so that answers are; and removes them. Every check
 reports the same, and the last nothing.
 
-With `--all` those inputs are run as well that take more stack yet: nearly the highest trees in strings in annotations, inside
+With `--all` those inputs are run as well that take more stack yet: nearly the highest unions in strings in annotations, inside
 one another. Each input is one judgement. With `--least` nothing is judged: the smallest stack is printed, in steps of 16 KiB,
 under which the program answers so. Ends with the line `deep inputs: P passed, F failed`, and with status 0 or 1.
 """

@@ -8,17 +8,20 @@ ghost use Rattle.pyc_body.specs.FileUnitView.{file_unit_in};
 ghost use Rattle.pyc_body.specs.FoundMessages as spec;
 ghost use Rattle.pyc_recorder.specs.CheckedView.{checked_in};
 ghost use Rattle.pyc_recorder.specs.UnitTraceView.{asked_in, reported_in, AreAnswered};
-ghost use Rattle.pyc_iface.specs.Answers.{answer_by};
 ghost use Rattle.pyc_keys.specs.Numbering.{Extends};
 ghost use Rattle.pyc_known_answers.specs.WorldView.{held_by, interfaces_by};
+ghost use Rattle.pyc_iface.specs.Answers.{answer_by};
+ghost use Rattle.pyc_reading.specs.Readings.{asked, reported};
+ghost use Rattle.pyc_reading.specs.Traces.{with_keys};
 
 use crate::meter::Meter;
 use crate::numbering::FileUnit;
+use crate::unit_reading::{IsRead, UnitToRead};
 use pyc_iface::Options;
 use pyc_known_answers::World;
-use pyc_recorder::{Checked, Recorder, UnitTrace};
-use pyc_units::UnitReader;
+use pyc_recorder::{Checked, OverFiles, Recorder, UnitTrace};
 use std::alloc::{AllocError, Global};
+use std::marker::Brand;
 
 /// What checks units of files, with some options, over what a world answers.
 #[derive(Clone, Copy)]
@@ -67,15 +70,31 @@ impl Checker {
             ≡ (spec.trace_by (options_in self.now) (interfaces_by keys.now) (file_unit_in unit.now)).keys) }
         ensures messages { IfOk result (λ unit_trace. reported_in unit_trace
             ≡ (spec.trace_by (options_in self.now) (interfaces_by keys.now) (file_unit_in unit.now)).messages) }
-        ensures answers { IfOk result (λ unit_trace. AreAnswered (answer_by (interfaces_by keys.now)) unit_trace) }
+        ensures answers { IfOk result (λ unit_trace. AreAnswered (interfaces_by keys.now) unit_trace) }
     {
-        let mut recorder = Recorder::new(self.alloc, keys);
-        let reader = UnitReader {
+        let read = UnitToRead {
             alloc: self.alloc,
             options: self.options,
-            file: unit.file,
+            unit,
         };
-        reader.read(&mut recorder, unit.unit)?;
+        self.read_over::<UnitToRead<'_>, Brand>(keys, &read)
+    }
+
+    /// What was asked, answered and reported where something was read over these files.
+    fn read_over<R: IsRead, F: OverFiles>(
+        &self,
+        keys: &World,
+        read: &R,
+    ) -> Result<UnitTrace, AllocError>
+        requires { interfaces_by keys.now ≡ F.files }
+        ensures keys { IfOk result (λ unit_trace. asked_in unit_trace
+            ≡ with_keys [] (asked (answer_by (interfaces_by keys.now)) (R.reading read.now))) }
+        ensures messages { IfOk result (λ unit_trace. reported_in unit_trace
+            ≡ reported (answer_by (interfaces_by keys.now)) (R.reading read.now)) }
+        ensures answers { IfOk result (λ unit_trace. AreAnswered F.files unit_trace) }
+    {
+        let mut recorder: Recorder<'_, F> = Recorder::new(self.alloc, keys);
+        read.read(&mut recorder)?;
         Ok(recorder.into_unit_trace())
     }
 }

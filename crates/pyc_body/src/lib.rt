@@ -6,6 +6,7 @@ pub mod laws;
 mod meter;
 mod numbering;
 mod suppressing;
+mod unit_reading;
 
 pub use checker::Checker;
 pub use meter::Meter;

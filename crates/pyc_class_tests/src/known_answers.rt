@@ -2,9 +2,8 @@
 
 use crate::keys::keys_of;
 use crate::sources::world_of;
-use pyc_iface::Answer;
 use pyc_keys::{KeyId, Keys};
-use pyc_known_answers::{KnownAnswers, is_same};
+use pyc_known_answers::{KnownAnswers, LookedAnswer, is_same};
 use std::alloc::{AllocError, Global};
 use std::rc::Rc;
 use std::test::Fail;
@@ -16,7 +15,11 @@ fn answers_of(alloc: Global, source: &str) -> Result<KnownAnswers, AllocError> {
 }
 
 /// The answer of a number, which is known from then on.
-fn known(answers: &mut KnownAnswers, keys: &Keys, id: KeyId) -> Result<Rc<Answer>, AllocError> {
+fn known(
+    answers: &mut KnownAnswers,
+    keys: &Keys,
+    id: KeyId,
+) -> Result<Rc<LookedAnswer>, AllocError> {
     let found = answers.find_or_form(keys, id)?;
     answers.keep(id, found.clone()?)?;
     Ok(found)
@@ -32,7 +35,7 @@ fn right(
     let mut count = 0;
     for id in ids {
         let found = known(answers, keys, *id)?;
-        if is_same(&found, &answers.world().ask(alloc, keys.key(*id))?) {
+        if is_same(found.answer(), &answers.world().ask(alloc, keys.key(*id))?) {
             count += 1;
         }
     }
@@ -51,7 +54,7 @@ fn same(
     for id in ids {
         let own = known(first, keys, *id)?;
         let other = known(second, keys, *id)?;
-        reported.push(is_same(&own, &other))?;
+        reported.push(is_same(own.answer(), other.answer()))?;
     }
     Ok(reported)
 }
@@ -82,8 +85,7 @@ fn answers_formed_elsewhere_are_kept(rt: HostRuntime) -> Result<(), Fail> {
     let ids = keys.intern_all(alloc, &keys_of(alloc, "m.py", "C")?)?.ids;
     let mut answers = answers_of(alloc, SOURCE)?;
     assert!(rt; answers.find(ids[3]).is_none());
-    let formed = answers.world().ask(alloc, keys.key(ids[3]))?;
-    let formed = Rc::new(alloc, formed)?;
+    let formed = answers.form(keys.key(ids[3]))?;
     answers.keep(ids[3], formed.clone()?)?;
     assert!(rt; answers.find(ids[2]).is_none());
     assert!(rt;

@@ -2,9 +2,9 @@
 
 use crate::keys::keys_of;
 use crate::sources::world_of;
-use pyc_iface::{Answer, Key, PlainWorld};
+use pyc_iface::{Key, PlainWorld};
 use pyc_keys::KeyId;
-use pyc_known_answers::{KnownAnswers, World, is_same};
+use pyc_known_answers::{KnownAnswers, LookedAnswer, World, is_same};
 use std::alloc::{AllocError, Global};
 use std::rc::Rc;
 use std::test::Fail;
@@ -28,7 +28,7 @@ fn answers_to(
     alloc: Global,
     answered: &World,
     keys: &[Key],
-) -> Result<Vec<Rc<Answer>>, AllocError> {
+) -> Result<Vec<Rc<LookedAnswer>>, AllocError> {
     let mut answers = Vec::new(alloc);
     for key in keys {
         answers.push(answered.answer(key)?)?;
@@ -52,7 +52,7 @@ fn right(alloc: Global, answered: &World, keys: &[Key]) -> Result<usize, AllocEr
         let Some(known) = answered.answers().find(id) else {
             continue;
         };
-        if is_same(known, &answered.answers().world().ask(alloc, key)?) {
+        if is_same(known.answer(), &answered.answers().world().ask(alloc, key)?) {
             count += 1;
         }
     }
@@ -112,7 +112,7 @@ fn answers_are_exchanged(rt: HostRuntime) -> Result<(), Fail> {
     let mut second = KnownAnswers::new(alloc, other);
     let now = second.find_or_form(answered.keys(), ids[4])?;
     second.keep(ids[4], now.clone()?)?;
-    assert!(rt; !is_same(&first, &now));
+    assert!(rt; !is_same(first.answer(), now.answer()));
     let before = answered.replace_world(second);
     assert!(rt; Rc::ptr_eq(&now, &answered.answer(&keys[4])?));
     assert!(rt; right(alloc, &answered, &keys)? == 1);

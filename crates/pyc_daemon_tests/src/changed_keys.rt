@@ -2,6 +2,7 @@
 
 use pyc_body::{Checked, Checker, Meter, numbered_units};
 use pyc_iface::{Options, PlainWorld};
+use pyc_interfaces::{Common, changed_looks};
 use pyc_keys::ReadSet;
 use pyc_known_answers::{ChangedKeys, World};
 use pyc_names::ModuleName;
@@ -51,11 +52,22 @@ fn checked(alloc: Global, text: &str) -> Result<(World, Vec<Checked>), AllocErro
     Ok((keys, checks))
 }
 
+/// Verdicts on none of the keys, of which a second world answers some otherwise.
+fn changed_in(
+    alloc: Global,
+    keys: &World,
+    second: Rc<PlainWorld>,
+) -> Result<ChangedKeys<'_>, AllocError> {
+    let nothing = Common { front: 0, back: 0 };
+    let changed = changed_looks(alloc, keys.answers().world(), &second, nothing)?;
+    ChangedKeys::new(alloc, keys, second, &changed)
+}
+
 #[test]
 fn other_type_is_another_answer(rt: HostRuntime) -> Result<(), Fail> {
     let (keys, checks) = checked(rt.alloc(), "x: int = 1\n")?;
     let second = world_of(rt.alloc(), "x: str = \"\"\n")?;
-    let mut changed_keys = ChangedKeys::new(rt.alloc(), &keys, second)?;
+    let mut changed_keys = changed_in(rt.alloc(), &keys, second)?;
     assert!(rt; !changed_keys.is_any_changed(checks[0].reads())?);
     assert!(rt; changed_keys.is_any_changed(checks[1].reads())?);
     Ok(())
@@ -65,7 +77,7 @@ fn other_type_is_another_answer(rt: HostRuntime) -> Result<(), Fail> {
 fn other_value_is_no_other_answer(rt: HostRuntime) -> Result<(), Fail> {
     let (keys, checks) = checked(rt.alloc(), "x: int = 1\n")?;
     let second = world_of(rt.alloc(), "x: int = 2\n")?;
-    let mut changed_keys = ChangedKeys::new(rt.alloc(), &keys, second)?;
+    let mut changed_keys = changed_in(rt.alloc(), &keys, second)?;
     assert!(rt; !changed_keys.is_any_changed(checks[0].reads())?);
     assert!(rt; !changed_keys.is_any_changed(checks[1].reads())?);
     Ok(())
@@ -75,7 +87,7 @@ fn other_value_is_no_other_answer(rt: HostRuntime) -> Result<(), Fail> {
 fn keys_are_compared_once(rt: HostRuntime) -> Result<(), Fail> {
     let (keys, checks) = checked(rt.alloc(), "x: int = 1\n")?;
     let second = world_of(rt.alloc(), "x: str = \"\"\n")?;
-    let mut changed_keys = ChangedKeys::new(rt.alloc(), &keys, second)?;
+    let mut changed_keys = changed_in(rt.alloc(), &keys, second)?;
     let count = checks[1].reads().len();
     assert!(rt; count > 0);
     for _ in 0..2 {
@@ -89,13 +101,35 @@ fn keys_are_compared_once(rt: HostRuntime) -> Result<(), Fail> {
 fn compared_keys_have_answers(rt: HostRuntime) -> Result<(), Fail> {
     let (keys, checks) = checked(rt.alloc(), "x: int = 1\n")?;
     let second = world_of(rt.alloc(), "x: str = \"\"\n")?;
-    let mut changed_keys = ChangedKeys::new(rt.alloc(), &keys, second)?;
+    let mut changed_keys = changed_in(rt.alloc(), &keys, second)?;
     let reads = checks[1].reads();
-    let _ = changed_keys.is_any_changed(&reads[..1])?;
-    let known = changed_keys.into_second();
-    assert!(rt; known.find(reads[0]).is_some());
-    for id in &reads[1..] {
-        assert!(rt; known.find(*id).is_none());
+    for id in reads {
+        let _ = changed_keys.is_any_changed(&[*id])?;
     }
+    let known = changed_keys.into_second();
+    for id in reads {
+        assert!(rt; known.find(*id).is_some());
+    }
+    Ok(())
+}
+
+/// An answer for which nothing that differs was looked at is known in the second world from the first, and shared; one
+/// for which something was is not.
+#[test]
+fn answers_are_carried_over(rt: HostRuntime) -> Result<(), Fail> {
+    let (keys, checks) = checked(rt.alloc(), "x: int = 1\ny: int = 1\n")?;
+    let second = world_of(rt.alloc(), "x: int = 1\ny: str = \"\"\n")?;
+    let known = changed_in(rt.alloc(), &keys, second)?.into_second();
+    for id in checks[1].reads() {
+        let before = keys.answers().find(*id);
+        assert!(rt;
+            known
+                .find(*id)
+                .is_some_and(|now| before.is_some_and(|own| Rc::ptr_eq(own, now)))
+        );
+    }
+    let third = world_of(rt.alloc(), "x: str = \"\"\ny: int = 1\n")?;
+    let known = changed_in(rt.alloc(), &keys, third)?.into_second();
+    assert!(rt; checks[1].reads().iter().any(|id| known.find(*id).is_none()));
     Ok(())
 }

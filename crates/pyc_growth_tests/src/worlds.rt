@@ -4,7 +4,7 @@ use crate::files::{keys_of, two_files, world_of};
 use crate::spending::spend;
 use pyc_iface::{Answer, Key, NameKind, PlainWorld, Presence};
 use pyc_keys::{KeyId, Keys};
-use pyc_known_answers::{KnownAnswers, World};
+use pyc_known_answers::{KnownAnswers, LookedAnswer, World};
 use pyc_workspace::interfaces_of;
 use std::alloc::{AllocError, Global};
 use std::process::Abort;
@@ -64,14 +64,18 @@ pub(crate) fn answering(rt: &impl Abort, alloc: Global, spent: usize) -> Result<
             Ok(answer) => answer,
             Err(_) => world.answer(key)?,
         };
-        assert!(rt; is_right(key, &answer));
+        assert!(rt; is_right(key, answer.answer()));
         assert!(rt; world.keys().bound() == 0);
     }
     Ok(is_refused)
 }
 
 /// The answers to keys.
-fn answers_to(alloc: Global, world: &World, keys: &[Key]) -> Result<Vec<Rc<Answer>>, AllocError> {
+fn answers_to(
+    alloc: Global,
+    world: &World,
+    keys: &[Key],
+) -> Result<Vec<Rc<LookedAnswer>>, AllocError> {
     let mut answers = Vec::with_capacity(alloc, keys.len())?;
     for key in keys {
         answers.push(world.answer(key)?)?;
@@ -84,7 +88,7 @@ fn assert_known(rt: &impl Abort, world: &World, keys: &[Key], ids: &[KeyId]) {
     for i in 0..keys.len() {
         assert!(rt; world.keys().find(&keys[i]) == Some(ids[i]));
         let known = world.answers().find(ids[i]);
-        assert!(rt; known.is_some_and(|answer| is_right(&keys[i], answer)));
+        assert!(rt; known.is_some_and(|known| is_right(&keys[i], known.answer())));
     }
 }
 
@@ -150,7 +154,7 @@ pub(crate) fn keeping_one(rt: &impl Abort, alloc: Global, spent: usize) -> Resul
     assert!(rt;
         known
             .find(ids[5])
-            .is_some_and(|answer| is_right(&asked[5], answer))
+            .is_some_and(|known| is_right(&asked[5], known.answer()))
     );
     Ok(is_refused)
 }

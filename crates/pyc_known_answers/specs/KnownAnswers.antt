@@ -1,18 +1,19 @@
 -- Answers by the numbers of their keys.
-use Rattle.std.specs.Prelude.{ℕ, List, [], ◌∷◌, None, is_some, if◌then◌else◌, option_map}
-use Rattle.pyc_iface.specs.Answers.{answer_by}
-use Rattle.pyc_keys.specs.Numbering.{Numbering, Extends, with_item}
+use Rattle.std.specs.Prelude.{◌≡◌, ℕ, List, [], ◌∷◌, Option, None, Some, is_some, if◌then◌else◌}
+use Rattle.pyc_keys.specs.Numbering.{Numbering, with_item}
+use Rattle.pyc_known_answers.specs.LookedAnswers.{LookedAnswer, IsAnswerOf}
 use Rattle.pyc_names.specs.Interfaces.{Interface}
-use Rattle.pyc_reading.specs.Answers.{Answer}
 use Rattle.pyc_reading.specs.Keys.{Key}
 
--- the answer to the key of each number that is held, where files have these interfaces
-abbrev pub answers_at : List Interface → Numbering Key → Numbering Answer
-answers_at interfaces keys i = option_map (answer_by interfaces) (keys i)
+-- it is the answer of these files to a key, and there is one
+abbrev pub IsAnswerAt : List Interface → Option Key → LookedAnswer → Type 0
+IsAnswerAt interfaces None looked = ⊥
+IsAnswerAt interfaces (Some key) looked = IsAnswerOf interfaces key looked
 
 -- each known answer is the one to the key that its number stands for
-abbrev pub AreKnownOf : List Interface → Numbering Key → Numbering Answer → Type 0
-AreKnownOf interfaces keys known = ∥ Extends known (answers_at interfaces keys) ∥₁
+abbrev pub AreKnownOf : List Interface → Numbering Key → Numbering LookedAnswer → Type 0
+AreKnownOf interfaces keys known =
+    ∥ ((i : ℕ) (looked : LookedAnswer) → known i ≡ Some looked → IsAnswerAt interfaces (keys i) looked) ∥₁
 
 -- what numbers stand for, so far as they are held elsewhere too
 abbrev pub restrict_to_held : {A B : Type 0} → Numbering A → Numbering B → Numbering B

@@ -5,18 +5,18 @@ use Rattle.pyc_keys.specs.Marks.{is_in}
 use Rattle.pyc_keys.specs.Numbering.{Numbering}
 use Rattle.pyc_known_answers.specs.KnownAnswers.{AreKnownOf}
 use Rattle.pyc_known_answers.specs.declared.known_answers.KnownAnswers.{KnownAnswers}
+use Rattle.pyc_known_answers.specs.LookedAnswers.{LookedAnswer}
+use Rattle.pyc_known_answers.specs.LookedAnswerView.{looked_in}
 use Rattle.pyc_names.specs.Interfaces.{Interface}
-use Rattle.pyc_reading.specs.AnswerView.{answer_in}
-use Rattle.pyc_reading.specs.Answers.{Answer}
 use Rattle.pyc_reading.specs.Keys.{Key}
 
 -- the interfaces of the files of the world whose answers these are
 abbrev pub interfaces_of : KnownAnswers → List Interface
 interfaces_of answers = world_in answers.world.value
 
--- the answer of each number, if it is known
-abbrev pub known_at : KnownAnswers → Numbering Answer
-known_at answers i = option_map (λ shared. answer_in shared.value) (slice_index_or answers.known.items i None)
+-- the answer of each number, with what was looked at for it, if it is known
+abbrev pub known_at : KnownAnswers → Numbering LookedAnswer
+known_at answers i = option_map (λ shared. looked_in shared.value) (slice_index_or answers.known.items i None)
 
 -- the answers are over these keys: each known one is the one to the key that its number stands for
 abbrev pub IsOver : Numbering Key → KnownAnswers → Type 0

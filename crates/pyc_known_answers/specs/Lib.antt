@@ -1,3 +1,5 @@
+pub mod LookedAnswers
+pub mod LookedAnswerView
 pub mod KnownAnswers
 pub mod KnownAnswersView
 pub mod KnownAnswersLaws

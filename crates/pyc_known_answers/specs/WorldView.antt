@@ -1,5 +1,5 @@
 -- Keys with their answers, as plain values.
-use Rattle.std.specs.Prelude.{List}
+use Rattle.std.specs.Prelude.{List, option_map}
 use Rattle.pyc_keys.specs.KeyNumbers.{key_at}
 use Rattle.pyc_keys.specs.Numbering.{Numbering}
 use Rattle.pyc_known_answers.specs.declared.world.World.{World}
@@ -18,4 +18,4 @@ interfaces_by answered = interfaces_of answered.answers
 
 -- the answer of each number, if it is known
 abbrev pub known_by : World → Numbering Answer
-known_by answered = known_at answered.answers
+known_by answered i = option_map (λ looked. looked.answer) (known_at answered.answers i)

@@ -3,6 +3,8 @@
 ghost use Rattle.std.specs.Prelude.{◌≡◌, ◌||◌, [], true, false, length, is_some, map, None, IfOk, OnOk};
 ghost use Rattle.std.specs.List.{list_all, list_any};
 ghost use Rattle.pyc_iface.specs.Answers.{answer_by};
+ghost use Rattle.pyc_iface.specs.CarryLaws.{AnswersStay};
+ghost use Rattle.pyc_iface.specs.Flags.{is_flagged};
 ghost use Rattle.pyc_iface.specs.PlainWorldView.{world_in};
 ghost use Rattle.pyc_known_answers.specs.WorldView.{held_by, interfaces_by};
 ghost use Rattle.pyc_known_answers.specs.KnownAnswersView.{interfaces_of, IsOver};
@@ -11,7 +13,7 @@ ghost use Rattle.pyc_known_answers.specs.Changes.{AreKnown, has_changed, unknown
 use crate::compared::Compared;
 use crate::known_answers::KnownAnswers;
 use crate::world::World;
-use pyc_iface::PlainWorld;
+use pyc_iface::{Flags, PlainWorld};
 use pyc_keys::KeyId;
 use std::alloc::{AllocError, Global};
 use std::rc::Rc;
@@ -33,21 +35,25 @@ pub struct ChangedKeys<'a> {
 impl<'a> ChangedKeys<'a> {
     ghost use Rattle.pyc_known_answers.specs.ChangedKeysView.{compared_in, first_in, held_in, second_in};
 
-    /// Verdicts on none of these keys. The only error is that memory runs out.
+    /// Verdicts on none of these keys. What was looked at for the answers that change has to be flagged; the others are
+    /// known in the second world from the first. The only error is that memory runs out.
     pub fn new(
         alloc: Global,
         first: &'a World,
         second: Rc<PlainWorld>,
+        changed: &Flags,
     ) -> Result<ChangedKeys<'a>, AllocError>
+        requires { ∥ AnswersStay (is_flagged changed.now) (interfaces_by first.now) (world_in second.value) ∥₁ }
         ensures held { IfOk result (λ changed_keys. held_in changed_keys ≡ held_by first.now) }
         ensures first { IfOk result (λ changed_keys. first_in changed_keys ≡ interfaces_by first.now) }
         ensures second { IfOk result (λ changed_keys. second_in changed_keys ≡ world_in second.value) }
         ensures compared { IfOk result (λ changed_keys. compared_in changed_keys ≡ []) }
     {
         let known = unknowns(alloc, first.keys().bound())?;
+        let second = first.answers().carried(alloc, second, changed)?;
         Ok(ChangedKeys {
             first,
-            second: KnownAnswers::new(alloc, second),
+            second,
             compared: Compared::new(alloc),
             known,
         })

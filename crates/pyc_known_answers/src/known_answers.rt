@@ -1,21 +1,27 @@
 //! The answers of a world by number.
 
-ghost use Rattle.std.specs.Prelude.{◌≡◌, ℕ, List, Some, None, true, is_some, map, if◌then◌else◌};
+ghost use Rattle.std.specs.Prelude.{◌≡◌, ℕ, List, Some, None, true, is_some, map, if◌then◌else◌, option_map};
 ghost use Rattle.std.specs.Prelude.{IfSome, IfNone, IfOk, OnOk, OnErr};
 ghost use Rattle.pyc_iface.specs.Answers.{answer_by};
+ghost use Rattle.pyc_iface.specs.CarryLaws.{AnswersStay};
+ghost use Rattle.pyc_iface.specs.Flags.{is_flagged};
 ghost use Rattle.pyc_iface.specs.PlainWorldView.{world_in};
 ghost use Rattle.pyc_keys.specs.KeyNumbers.{key_at};
 ghost use Rattle.pyc_keys.specs.Numbering.{with_item, without, AreOf, Extends, Numbering};
+ghost use Rattle.pyc_known_answers.specs.CarryLaws.{carried};
 ghost use Rattle.pyc_known_answers.specs.KnownAnswers.{restrict_to_held, with_items};
-ghost use Rattle.pyc_reading.specs.AnswerView.{answer_in};
+ghost use Rattle.pyc_known_answers.specs.LookedAnswers.{AreAnswersOf, IsAnswerOf};
+ghost use Rattle.pyc_known_answers.specs.LookedAnswerView.{looked_in};
 ghost use Rattle.pyc_reading.specs.KeyView.{key_of};
 ghost use Rattle.pyc_reading.specs.Keys.{Key as PlainKey};
 ghost use Rattle.pyc_known_answers.specs.SameAnswers.{same_answer};
 
+use crate::looked_answer::LookedAnswer;
 use crate::same_answers::is_same;
-use pyc_iface::PlainWorld;
+use pyc_iface::{Flags, PlainWorld};
 use pyc_keys::{KeyId, Keys};
-use pyc_reading::{Answer, Key};
+use pyc_names::Looks;
+use pyc_reading::Key;
 use std::alloc::{AllocError, Global};
 use std::rc::Rc;
 
@@ -27,7 +33,7 @@ use std::rc::Rc;
 pub struct KnownAnswers {
     alloc: Global,
     world: Rc<PlainWorld>,
-    known: Vec<Option<Rc<Answer>>>,
+    known: Vec<Option<Rc<LookedAnswer>>>,
 }
 
 impl KnownAnswers {
@@ -46,6 +52,29 @@ impl KnownAnswers {
         }
     }
 
+    /// The answers that stay known in another world, which are shared: those for which nothing flagged was looked at.
+    /// The only error is that memory runs out.
+    #[tactic(auto, using(crate::proofs::CarryLemmas::carried_slots, crate::proofs::CarryLemmas::carried_over))]
+    pub fn carried(
+        &self,
+        alloc: Global,
+        world: Rc<PlainWorld>,
+        flags: &Flags,
+    ) -> Result<KnownAnswers, AllocError>
+        ensures known { IfOk result (λ answers. known_at answers ≡ (λ i. carried flags.now (known_at self.now i))) }
+        ensures over { (keys : Numbering PlainKey)
+            → AnswersStay (is_flagged flags.now) (interfaces_of self.now) (world_in world.value)
+            → IsOver keys self.now → IfOk result (λ answers. IsOver keys answers) }
+        ensures world { IfOk result (λ answers. interfaces_of answers ≡ world_in world.value) }
+    {
+        let known = all_carried(alloc, &self.known, flags)?;
+        Ok(KnownAnswers {
+            alloc,
+            world,
+            known,
+        })
+    }
+
     /// The world whose answers these are.
     pub fn world(&self) -> &Rc<PlainWorld>
         ensures { world_in result.now.value ≡ interfaces_of self.now }
@@ -54,11 +83,11 @@ impl KnownAnswers {
     }
 
     /// The answer of a number, if it is known. It is the one to the number's key. It takes no memory.
-    pub fn find(&self, id: KeyId) -> Option<&Rc<Answer>>
-        ensures known { IfSome result (λ answer. known_at self.now id ≡ Some (answer_in answer.now.value)) }
+    pub fn find(&self, id: KeyId) -> Option<&Rc<LookedAnswer>>
+        ensures known { IfSome result (λ answer. known_at self.now id ≡ Some (looked_in answer.now.value)) }
         ensures none { IfNone result (known_at self.now id ≡ None) }
         ensures answer { (keys : Numbering PlainKey) (key : PlainKey) → IsOver keys self.now → keys id ≡ Some key
-            → IfSome result (λ answer. answer_in answer.now.value ≡ answer_by (interfaces_of self.now) key) }
+            → IfSome result (λ answer. IsAnswerOf (interfaces_of self.now) key (looked_in answer.now.value)) }
     {
         match self.known.get(id.number()) {
             Some(Some(answer)) => Some(answer),
@@ -66,38 +95,36 @@ impl KnownAnswers {
         }
     }
 
-    /// Whether the answer to the key of a number that is held is this one. It is formed and kept; where it is this one,
-    /// this one is shared. The only error is that memory runs out.
+    /// Whether the answer to the key of a number that is held is this one. Unless it is known, it is formed and kept.
+    /// The only error is that memory runs out.
     pub fn is_answered_by(
         &mut self,
         keys: &Keys,
         id: KeyId,
-        given: &Rc<Answer>,
+        given: &Rc<LookedAnswer>,
     ) -> Result<bool, AllocError>
         requires held { is_some (key_at keys.now id) ≡ true }
         requires over { IsOver (key_at keys.now) self.old }
         ensures value { (key : PlainKey) → key_at keys.now id ≡ Some key → IfOk result (λ same. same
-            ≡ same_answer (answer_in given.now.value) (answer_by (interfaces_of self.old) key)) }
+            ≡ same_answer (looked_in given.now.value).answer (answer_by (interfaces_of self.old) key)) }
         ensures over { IsOver (key_at keys.now) self.new }
         ensures world { interfaces_of self.new ≡ interfaces_of self.old }
     {
-        let formed = self.world.ask(self.alloc, keys.key(id))?;
-        if is_same(given, &formed) {
-            let shared = given.clone()?;
-            self.keep(id, shared)?;
-            return Ok(true);
+        if let Some(known) = self.find(id) {
+            return Ok(is_same(given.answer(), known.answer()));
         }
-        let shared = Rc::new(self.alloc, formed)?;
-        self.keep(id, shared)?;
-        Ok(false)
+        let formed = self.form(keys.key(id))?;
+        let same = is_same(given.answer(), formed.answer());
+        self.keep(id, formed)?;
+        Ok(same)
     }
 
     /// Keeps the answer of a number, which was formed elsewhere. The only error is that memory runs out; then the same
     /// answers are known as before.
-    pub fn keep(&mut self, id: KeyId, answer: Rc<Answer>) -> Result<(), AllocError>
-        ensures kept { OnOk result (known_at self.new ≡ with_item (known_at self.old) id (answer_in answer.value)) }
+    pub fn keep(&mut self, id: KeyId, answer: Rc<LookedAnswer>) -> Result<(), AllocError>
+        ensures kept { OnOk result (known_at self.new ≡ with_item (known_at self.old) id (looked_in answer.value)) }
         ensures over { (keys : Numbering PlainKey) (key : PlainKey) → IsOver keys self.old → keys id ≡ Some key
-            → answer_in answer.value ≡ answer_by (interfaces_of self.old) key → IsOver keys self.new }
+            → IsAnswerOf (interfaces_of self.old) key (looked_in answer.value) → IsOver keys self.new }
         ensures world { interfaces_of self.new ≡ interfaces_of self.old }
         ensures same { OnErr result (known_at self.new ≡ known_at self.old) }
     {
@@ -120,13 +147,13 @@ impl KnownAnswers {
     }
 
     /// Keeps the answers of some numbers, which were formed elsewhere, as far as they have a place. It takes no memory.
-    pub fn keep_all(&mut self, ids: &[KeyId], answers: Vec<Rc<Answer>>)
+    pub fn keep_all(&mut self, ids: &[KeyId], answers: Vec<Rc<LookedAnswer>>)
         ensures over { (keys : Numbering PlainKey) (asked : List PlainKey) → IsOver keys self.old
             → AreOf keys ids.now asked
-            → map (λ answer. answer_in answer.value) answers.items ≡ map (answer_by (interfaces_of self.old)) asked
+            → AreAnswersOf (interfaces_of self.old) asked (map (λ answer. looked_in answer.value) answers.items)
             → IsOver keys self.new }
         ensures known { HavePlaces self.old ids.now → known_at self.new
-            ≡ with_items (known_at self.old) ids.now (map (λ answer. answer_in answer.value) answers.items) }
+            ≡ with_items (known_at self.old) ids.now (map (λ answer. looked_in answer.value) answers.items) }
         ensures world { interfaces_of self.new ≡ interfaces_of self.old }
     {
         let mut rest = ids;
@@ -139,11 +166,11 @@ impl KnownAnswers {
     }
 
     /// Keeps the answer of a number, which was formed elsewhere, if it has a place.
-    fn keep_reserved(&mut self, id: KeyId, answer: Rc<Answer>)
+    fn keep_reserved(&mut self, id: KeyId, answer: Rc<LookedAnswer>)
         ensures over { (keys : Numbering PlainKey) (key : PlainKey) → IsOver keys self.old → keys id ≡ Some key
-            → answer_in answer.value ≡ answer_by (interfaces_of self.old) key → IsOver keys self.new }
+            → IsAnswerOf (interfaces_of self.old) key (looked_in answer.value) → IsOver keys self.new }
         ensures known { HasPlace self.old id
-            → known_at self.new ≡ with_item (known_at self.old) id (answer_in answer.value) }
+            → known_at self.new ≡ with_item (known_at self.old) id (looked_in answer.value) }
         ensures places { (i : ℕ) → HasPlace self.old i → HasPlace self.new i }
         ensures world { interfaces_of self.new ≡ interfaces_of self.old }
     {
@@ -155,11 +182,12 @@ impl KnownAnswers {
 
     /// The answer to the key of a number that is held: the known one, or one that is formed and not kept. The only
     /// error is that memory runs out.
-    pub fn find_or_form(&self, keys: &Keys, id: KeyId) -> Result<Rc<Answer>, AllocError>
+    #[tactic(auto, using(crate::proofs::KnownLemmas::same_known))]
+    pub fn find_or_form(&self, keys: &Keys, id: KeyId) -> Result<Rc<LookedAnswer>, AllocError>
         requires held { is_some (key_at keys.now id) ≡ true }
         requires over { IsOver (key_at keys.now) self.now }
         ensures { (key : PlainKey) → key_at keys.now id ≡ Some key
-            → IfOk result (λ answer. answer_in answer.value ≡ answer_by (interfaces_of self.now) key) }
+            → IfOk result (λ answer. IsAnswerOf (interfaces_of self.now) key (looked_in answer.value)) }
     {
         match self.find(id) {
             Some(answer) => answer.clone(),
@@ -180,12 +208,14 @@ impl KnownAnswers {
     }
 
     /// Forms the answer to a key, which is not kept. The only error is that memory runs out.
-    pub fn form(&self, key: &Key) -> Result<Rc<Answer>, AllocError>
-        ensures { IfOk result (λ answer. answer_in answer.value
-            ≡ answer_by (interfaces_of self.now) (key_of key.now)) }
+    #[tactic(auto, using(crate::proofs::CarryLemmas::formed))]
+    pub fn form(&self, key: &Key) -> Result<Rc<LookedAnswer>, AllocError>
+        ensures { IfOk result (λ answer.
+            IsAnswerOf (interfaces_of self.now) (key_of key.now) (looked_in answer.value)) }
     {
-        let answer = self.world.ask(self.alloc, key)?;
-        let shared = Rc::new(self.alloc, answer)?;
+        let mut looks = Looks::new(self.alloc);
+        let answer = self.world.ask_noted(self.alloc, key, &mut looks)?;
+        let shared = Rc::new(self.alloc, LookedAnswer::new(answer, looks))?;
         Ok(shared)
     }
 
@@ -208,5 +238,37 @@ impl KnownAnswers {
         if number < self.known.len() {
             self.known[number] = None;
         }
+    }
+}
+
+/// What stays known of the answers of all numbers.
+fn all_carried(
+    alloc: Global,
+    known: &[Option<Rc<LookedAnswer>>],
+    flags: &Flags,
+) -> Result<Vec<Option<Rc<LookedAnswer>>>, AllocError>
+    ensures { IfOk result (λ kept. map (option_map (λ answer. looked_in answer.value)) kept.items
+        ≡ map (carried flags.now) (map (option_map (λ answer. looked_in answer.value)) known.now)) }
+{
+    let mut kept = Vec::with_capacity(alloc, known.len())?;
+    for answer in known {
+        let one = carried(answer, flags)?;
+        kept.push(one)?;
+    }
+    Ok(kept)
+}
+
+/// What stays known of the answer of a number.
+#[tactic(auto, using(crate::proofs::CarryLemmas::carried_one))]
+fn carried(
+    known: &Option<Rc<LookedAnswer>>,
+    flags: &Flags,
+) -> Result<Option<Rc<LookedAnswer>>, AllocError>
+    ensures { IfOk result (λ kept. option_map (λ answer. looked_in answer.value) kept
+        ≡ carried flags.now (option_map (λ answer. looked_in answer.value) known.now)) }
+{
+    match known {
+        Some(answer) if !answer.is_flagged(flags) => Ok(Some(answer.clone()?)),
+        _ => Ok(None),
     }
 }

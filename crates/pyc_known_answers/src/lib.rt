@@ -1,5 +1,5 @@
-//! The answers of a world by the numbers of their keys, each formed once; whether two answers are one; and which keys
-//! have other answers in another world, each compared once.
+//! The answers of a world by the numbers of their keys, each formed once, with what was looked at for it; whether two
+//! answers are one; and which keys have other answers in another world, each compared once.
 #![tactic(auto)]
 
 mod changed_keys;
@@ -7,11 +7,13 @@ mod compared;
 pub mod equality_laws;
 mod known_answers;
 pub mod laws;
+mod looked_answer;
 mod same_answers;
 mod world;
 
 pub use changed_keys::ChangedKeys;
 pub use compared::Compared;
 pub use known_answers::KnownAnswers;
+pub use looked_answer::LookedAnswer;
 pub use same_answers::is_same;
 pub use world::World;

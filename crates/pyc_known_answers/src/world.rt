@@ -1,19 +1,21 @@
 //! Keys by number, with their answers.
 
 ghost use Rattle.std.specs.Prelude.{◌≡◌, None, map, flat_map, IfOk, OnErr};
-ghost use Rattle.pyc_iface.specs.Answers.{answer_by, orders_by};
+ghost use Rattle.pyc_iface.specs.Answers.{orders_by};
 ghost use Rattle.pyc_iface.specs.PlainWorldView.{world_in};
 ghost use Rattle.pyc_keys.specs.KeyNumbers.{key_at};
 ghost use Rattle.pyc_keys.specs.Numbering.{only, AreOf, Extends};
 ghost use Rattle.pyc_known_answers.specs.KnownAnswersView.{interfaces_of, IsOver};
-ghost use Rattle.pyc_reading.specs.AnswerView.{answer_in};
+ghost use Rattle.pyc_known_answers.specs.LookedAnswers.{AreAnswersOf, IsAnswerOf};
+ghost use Rattle.pyc_known_answers.specs.LookedAnswerView.{looked_in};
 ghost use Rattle.pyc_reading.specs.KeyView.{key_of};
 
 use crate::known_answers::KnownAnswers;
+use crate::looked_answer::LookedAnswer;
 use pyc_class_ids::{ClassId, Lin, Lins};
 use pyc_iface::PlainWorld;
 use pyc_keys::{KeyId, Keys, ReadSet};
-use pyc_reading::{Answer, Key};
+use pyc_reading::Key;
 use std::alloc::{AllocError, Global};
 use std::mem;
 use std::rc::Rc;
@@ -69,8 +71,9 @@ impl World {
 
     /// The world's answer to a key: the known one, or one that is formed and not kept. The only error is that memory
     /// runs out.
-    pub fn answer(&self, key: &Key) -> Result<Rc<Answer>, AllocError>
-        ensures { IfOk result (λ answer. answer_in answer.value ≡ answer_by (interfaces_by self.now) (key_of key.now)) }
+    pub fn answer(&self, key: &Key) -> Result<Rc<LookedAnswer>, AllocError>
+        ensures { IfOk result (λ answer.
+            IsAnswerOf (interfaces_by self.now) (key_of key.now) (looked_in answer.value)) }
     {
         match self.keys.find(key) {
             Some(id) => self.answers.find_or_form(&self.keys, id),
@@ -84,13 +87,13 @@ impl World {
         &mut self,
         alloc: Global,
         keys: &[Key],
-        answers: Vec<Rc<Answer>>,
+        answers: Vec<Rc<LookedAnswer>>,
     ) -> Result<Vec<KeyId>, AllocError>
-        requires { map (λ answer. answer_in answer.value) answers.items
-            ≡ map (answer_by (interfaces_by self.old)) (map key_of keys.now) }
+        requires { AreAnswersOf (interfaces_by self.old) (map key_of keys.now)
+            (map (λ answer. looked_in answer.value) answers.items) }
         ensures held { IfOk result (λ ids. AreOf (held_by self.new) ids.items (map key_of keys.now)) }
         ensures known { IfOk result (λ ids. AreOf (known_by self.new) ids.items
-            (map (λ answer. answer_in answer.value) answers.items)) }
+            (map (λ answer. (looked_in answer.value).answer) answers.items)) }
         ensures still_known { Extends (known_by self.old) (known_by self.new) }
         ensures extends { Extends (held_by self.old) (held_by self.new) }
         ensures world { interfaces_by self.new ≡ interfaces_by self.old }

@@ -1,5 +1,5 @@
--- Two proofs that answers, or lists of them, are one are the same.
-use Rattle.std.proofs.Common.{◌≡◌, List}
+-- Two proofs that answers are one are the same.
+use Rattle.std.proofs.Common.{◌≡◌}
 use Rattle.std.specs.Coded.{Coded, Coded-set, codes}
 use Rattle.pyc_reading.specs.Answers.{Answer}
 use Rattle.pyc_recorder.proofs.TypeTokens.{ty_code}
@@ -9,9 +9,3 @@ answer_code = Prim.hlevel (codes, ty_code)
 
 pub one_proof : (a b : Answer) → IsProp (a ≡ b)
 one_proof a b = Coded-set answer_code a b
-
-answers_code : Coded (List Answer)
-answers_code = Prim.hlevel (codes, ty_code)
-
-pub one_list : (a b : List Answer) → IsProp (a ≡ b)
-one_list a b = Coded-set answers_code a b

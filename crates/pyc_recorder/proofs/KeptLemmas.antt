@@ -8,7 +8,13 @@ use Rattle.std.specs.declared.alloc.AllocError.{AllocError}
 use Rattle.std.specs.declared.alloc.Global.{Global}
 use Rattle.std.specs.declared.rc.Rc.{Rc}
 use Rattle.indexmap.specs.IndexMap.{insert_entry}
-use Rattle.pyc_recorder.proofs.AnswerSets.{one_list, one_proof}
+use Rattle.pyc_iface.specs.Answers.{answer_by}
+use Rattle.pyc_known_answers.proofs.KnownLemmas.{one_list}
+use Rattle.pyc_known_answers.specs.LookedAnswers.{LookedAnswer, IsAnswerOf, AreAnswersOf}
+use Rattle.pyc_known_answers.specs.LookedAnswerView.{looked_in}
+use Rattle.pyc_known_answers.specs.declared.looked_answer.LookedAnswer.{LookedAnswer as LookedAnswerOf}
+use Rattle.pyc_names.specs.Interfaces.{Interface}
+use Rattle.pyc_recorder.proofs.AnswerSets.{one_proof}
 use Rattle.pyc_recorder.specs.KeptAnswers.{AreAnswers}
 use Rattle.pyc_keys.specs.KeyEquality.{is_asked, keys_are}
 use Rattle.pyc_reading.specs.AnswerView.{answer_in}
@@ -66,81 +72,67 @@ last k a (e ∷ es) h = by (is_asked k e.0) refl (last k a es)
 -- ---- answers to their keys
 
 abbrev Kept : Type 0
-Kept = Key × Rc AnswerOf Global
+Kept = Key × Rc LookedAnswerOf Global
 
-abbrev first : {A : Type 0} → A → List A → A
-first x [] = x
-first x (y ∷ ys) = y
+-- an answer of files that are these, to this key
+pub asked_answer : (world files : List Interface) (k asked : Key) (x : LookedAnswer) → world ≡ files → k ≡ asked → IsAnswerOf world k x
+    → IsAnswerOf files asked x
+asked_answer world files k asked x same is answer =
+    subst (λ key. IsAnswerOf files key x) is (subst (λ interfaces. IsAnswerOf interfaces k x) same answer)
 
-abbrev others : {A : Type 0} → List A → List A
-others [] = []
-others (y ∷ ys) = ys
-
-module _ (answers : Key → Answer) where
-  own : (e : Kept) (es : List Kept) → AreAnswers answers (e ∷ es) → answer_in e.1.value ≡ answers e.0
-  own e es are = ap (first (answers e.0)) are
-
-  rest_answers : (e : Kept) (es : List Kept) → AreAnswers answers (e ∷ es) → AreAnswers answers es
-  rest_answers e es are = ap others are
-
-  one_more : (e : Kept) (es : List Kept) → answer_in e.1.value ≡ answers e.0 → AreAnswers answers es → AreAnswers answers (e ∷ es)
-  one_more e es is are = ap₂ (λ (x : Answer) (xs : List Answer). x ∷ xs) is are
-
+module _ (interfaces : List Interface) where
   -- the answer to a key that is kept
-  kept_answer : (k : Key) (a : Rc AnswerOf Global) (es : List Kept) → AreAnswers answers es → lookup (is_asked k) es ≡ Some a
-      → answer_in a.value ≡ answers k
+  kept_answer : (k : Key) (a : Rc LookedAnswerOf Global) (es : List Kept) → AreAnswers interfaces es → lookup (is_asked k) es ≡ Some a
+      → IsAnswerOf interfaces k (looked_in a.value)
   kept_answer k a [] are found = absurd (none_some found)
-  kept_answer k a (e ∷ es) are found = by (is_asked k e.0) refl (kept_answer k a es (rest_answers e es are))
+  kept_answer k a (e ∷ es) are found = by (is_asked k e.0) refl (kept_answer k a es are.1)
     where
-      by : (c : Bool) → is_asked k e.0 ≡ c → (lookup (is_asked k) es ≡ Some a → answer_in a.value ≡ answers k)
-          → answer_in a.value ≡ answers k
+      by : (c : Bool) → is_asked k e.0 ≡ c → (lookup (is_asked k) es ≡ Some a → IsAnswerOf interfaces k (looked_in a.value)) → IsAnswerOf interfaces k (looked_in a.value)
       by true p rest =
           let kept : Some e.1 ≡ Some a = sym (ap (λ c. cond c (Some e.1) (lookup (is_asked k) es)) p) ∙ found in
-          ap (λ (s : Rc AnswerOf Global). answer_in s.value) (sym (same_some kept)) ∙ own e es are ∙ ap answers (keys_are e.0 k p)
+          subst (λ (s : Rc LookedAnswerOf Global). IsAnswerOf interfaces k (looked_in s.value)) (same_some kept)
+          (subst (λ key. IsAnswerOf interfaces key (looked_in e.1.value)) (keys_are e.0 k p) are.0)
       by false p rest = rest (sym (ap (λ c. cond c (Some e.1) (lookup (is_asked k) es)) p) ∙ found)
 
   -- the answers that are kept stay the ones to their keys where one more such is kept
-  pub still_answers : (k : Key) (a : Rc AnswerOf Global) (es : List Kept) → answer_in a.value ≡ answers k → AreAnswers answers es
-      → AreAnswers answers (insert_entry is_asked es k a)
-  still_answers k a [] is are = one_more (k, a) [] is refl
-  still_answers k a (e ∷ es) is are = by (is_asked k e.0) refl (still_answers k a es is (rest_answers e es are))
+  pub still_answers : (k : Key) (a : Rc LookedAnswerOf Global) (es : List Kept) → IsAnswerOf interfaces k (looked_in a.value) → AreAnswers interfaces es
+      → AreAnswers interfaces (insert_entry is_asked es k a)
+  still_answers k a [] is are = (is, tt)
+  still_answers k a (e ∷ es) is are = by (is_asked k e.0) refl (still_answers k a es is are.1)
     where
-      by : (c : Bool) → is_asked k e.0 ≡ c → AreAnswers answers (insert_entry is_asked es k a)
-          → AreAnswers answers (insert_entry is_asked (e ∷ es) k a)
+      by : (c : Bool) → is_asked k e.0 ≡ c → AreAnswers interfaces (insert_entry is_asked es k a)
+          → AreAnswers interfaces (insert_entry is_asked (e ∷ es) k a)
       by true p rest =
-          subst (λ c. AreAnswers answers (if c then (e.0, a) ∷ es else e ∷ insert_entry is_asked es k a)) (sym p)
-          (one_more (e.0, a) es (is ∙ ap answers (sym (keys_are e.0 k p))) (rest_answers e es are))
+          subst (λ c. AreAnswers interfaces (if c then (e.0, a) ∷ es else e ∷ insert_entry is_asked es k a)) (sym p)
+          (subst (λ key. IsAnswerOf interfaces key (looked_in a.value)) (sym (keys_are e.0 k p)) is, are.1)
       by false p rest =
-          subst (λ c. AreAnswers answers (if c then (e.0, a) ∷ es else e ∷ insert_entry is_asked es k a)) (sym p)
-          (one_more e (insert_entry is_asked es k a) (own e es are) rest)
-
-  -- the answers to the keys of which some are kept
-  keyed : (es : List Kept) → map (λ entry. answers entry.0) es ≡ map answers (keys_of es)
-  keyed [] = refl
-  keyed (e ∷ es) = ap (λ (xs : List Answer). answers e.0 ∷ xs) (keyed es)
-
-  valued : (es : List Kept) → map (λ answer. answer_in answer.value) (values_of es) ≡ map (λ entry. answer_in entry.1.value) es
-  valued [] = refl
-  valued (e ∷ es) = ap (λ (xs : List Answer). answer_in e.1.value ∷ xs) (valued es)
+          subst (λ c. AreAnswers interfaces (if c then (e.0, a) ∷ es else e ∷ insert_entry is_asked es k a)) (sym p) (are.0, rest)
 
   -- answers and keys that were listed
-  pub listed_answers : (es : List Kept) (answers_in_order : List (Rc AnswerOf Global)) (asked : List Key) → ∥ AreAnswers answers es ∥₁
-      → map (λ answer. answer_in answer.value) answers_in_order ≡ map (λ answer. answer_in answer.value) (values_of es) → asked ≡ keys_of es
-      → map (λ answer. answer_in answer.value) answers_in_order ≡ map answers asked
+  pub listed_answers : (es : List Kept) (answers_in_order : List (Rc LookedAnswerOf Global)) (asked : List Key) → ∥ AreAnswers interfaces es ∥₁
+      → map (λ answer. looked_in answer.value) answers_in_order ≡ map (λ answer. looked_in answer.value) (values_of es) → asked ≡ keys_of es
+      → AreAnswersOf interfaces asked (map (λ answer. looked_in answer.value) answers_in_order)
   listed_answers es answers_in_order asked are all keys =
-      ∥∥₁_elim are (one_list _ _) (λ own. all ∙ valued es ∙ own ∙ keyed es ∙ ap (map answers) (sym keys))
+      subst (λ ks. AreAnswersOf interfaces ks (map (λ answer. looked_in answer.value) answers_in_order)) (sym keys)
+      (subst (AreAnswersOf interfaces (keys_of es)) (sym all)
+      (∥∥₁_elim are (one_list interfaces (keys_of es) (map (λ answer. looked_in answer.value) (values_of es))) (λ own. own)))
+
+-- what is kept answers as the world does whose files these are
+pub kept_to : (world files : List Interface) (k : Key) (a : Rc LookedAnswerOf Global) (es : List Kept) → ∥ world ≡ files ∥₁ → ∥ AreAnswers files es ∥₁
+    → lookup (is_asked k) es ≡ Some a → (looked_in a.value).answer ≡ answer_by world k
+kept_to world files k a es same are found =
+    ∥∥₁_elim same (one_proof _ _)
+    (λ w. ∥∥₁_elim are (one_proof _ _) (λ all. (kept_answer files k a es all found).answers ∙ ap (λ (l : List Interface). answer_by l k) (sym w)))
 
 module _ (answers : Key → Answer) (messages : List Message) where
   abbrev pub trace_with : List Key → Trace
   trace_with keys = record { answers = answers; keys = keys; messages = messages }
 
   -- an answer that is kept is handed out, and nothing is taken down
-  pub handed_out : (es : List Kept) (k : Key) (a : Rc AnswerOf Global) (result : Result AnswerOf AllocError)
-      → ∥ AreAnswers answers es ∥₁ → lookup (is_asked k) es ≡ Some a
-      → IfOk result (λ copy. answer_in copy ≡ answer_in a.value)
+  pub handed_out : (es : List Kept) (k : Key) (a : Rc LookedAnswerOf Global) (result : Result AnswerOf AllocError)
+      → (looked_in a.value).answer ≡ answers k → lookup (is_asked k) es ≡ Some a → IfOk result (λ copy. answer_in copy ≡ (looked_in a.value).answer)
       → Performs answer_in (asking k) (trace_with (keys_of es)) result (trace_with (keys_of es))
-  handed_out es k a (Ok copy) are found same =
-      let is : answer_in a.value ≡ answers k = ∥∥₁_elim are (one_proof _ _) (λ all. kept_answer answers k a es all found) in
+  handed_out es k a (Ok copy) is found same =
       let stay : with_key (keys_of es) k ≡ keys_of es =
       ap (λ c. if c then keys_of es else keys_of es ++ (k ∷ [])) (among (is_asked k) es a found)
       in
@@ -148,12 +140,12 @@ module _ (answers : Key → Answer) (messages : List Message) where
         done = λ j. (sym (same ∙ is) j, trace_with (stay j));
         grown = record { answers = refl; more = []; keys = sym (append-nil (keys_of es)) };
       }
-  handed_out es k a (Err e) are found same =
+  handed_out es k a (Err e) is found same =
       record { done = tt; grown = record { answers = refl; more = []; keys = sym (append-nil (keys_of es)) } }
 
   -- a new answer is handed out, and its key taken down
-  pub newly_kept : (es fs : List Kept) (k : Key) (a : Rc AnswerOf Global) (copy : AnswerOf)
-      → lookup (is_asked k) es ≡ None → answer_in a.value ≡ answers k → answer_in copy ≡ answer_in a.value
+  pub newly_kept : (es fs : List Kept) (k : Key) (a : Rc LookedAnswerOf Global) (copy : AnswerOf)
+      → lookup (is_asked k) es ≡ None → (looked_in a.value).answer ≡ answers k → answer_in copy ≡ (looked_in a.value).answer
       → fs ≡ insert_entry is_asked es k a
       → Performs answer_in (asking k) (trace_with (keys_of es)) (Ok copy) (trace_with (keys_of fs))
   newly_kept es fs k a copy none is same kept =

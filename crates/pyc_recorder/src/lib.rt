@@ -11,5 +11,5 @@ mod recorder;
 mod unit_trace;
 
 pub use checked::Checked;
-pub use recorder::Recorder;
+pub use recorder::{OverFiles, Recorder};
 pub use unit_trace::UnitTrace;

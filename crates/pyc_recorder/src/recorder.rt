@@ -11,35 +11,54 @@ use crate::kept::keep;
 use crate::unit_trace::UnitTrace;
 use indexmap::IndexMap;
 use pyc_class_ids::{ClassId, Lin, Lins};
-use pyc_known_answers::World;
+use pyc_known_answers::{LookedAnswer, World};
 use pyc_obligations::AskTypes;
 use pyc_reading::{Answer, Ask, Key};
 use pyc_report::Message;
 use std::alloc::{AllocError, Global};
+use std::marker::{Brand, PhantomData};
 use std::rc::Rc;
+
+/// Files over which an examiner performs readings. Who makes the examiner picks them.
+pub trait OverFiles {
+    ghost use Rattle.std.specs.Prelude.{List};
+    ghost use Rattle.pyc_names.specs.Interfaces.{Interface};
+
+    ghost files: { List Interface };
+}
+
+impl OverFiles for Brand {
+    ghost use Rattle.std.specs.Prelude.{[]};
+
+    ghost files = { [] };
+}
 
 /// The examiner performs readings over what a world answers, and keeps the keys that were asked, each once with its
 /// answer, in the order in which they were first asked, and the messages that were reported.
 #[derive(Drop)]
-pub struct Recorder<'a> {
+pub struct Recorder<'a, F: OverFiles> {
     keys: &'a World,
-    answers: IndexMap<AskedKey, Rc<Answer>>,
+    answers: IndexMap<AskedKey, Rc<LookedAnswer>>,
     messages: Vec<Message>,
-    ghost answers_are: { ∥ AreAnswers (answer_by (interfaces_by keys.now)) answers.entries ∥₁ },
+    files: PhantomData<F>,
+    ghost files_are: { ∥ interfaces_by keys.now ≡ F.files ∥₁ },
+    ghost answers_are: { ∥ AreAnswers F.files answers.entries ∥₁ },
 }
 
-impl<'a> Recorder<'a> {
+impl<'a, F: OverFiles> Recorder<'a, F> {
     ghost use Rattle.pyc_recorder.specs.RecorderView.{trace_of};
     ghost use Rattle.pyc_recorder.specs.UnitTraceView.{asked_in, reported_in, AreAnswered};
 
     /// An examiner over what a world answers, at which nothing was asked or reported. It takes no memory.
-    pub fn new(alloc: Global, keys: &'a World) -> Recorder<'a>
+    pub fn new(alloc: Global, keys: &'a World) -> Recorder<'a, F>
+        requires { interfaces_by keys.now ≡ F.files }
         ensures { trace_of result ≡ record { answers = answer_by (interfaces_by keys.now); keys = []; messages = [] } }
     {
         Recorder {
             keys,
             answers: IndexMap::new(alloc),
             messages: Vec::new(alloc),
+            files: PhantomData,
         }
     }
 
@@ -47,13 +66,13 @@ impl<'a> Recorder<'a> {
     pub fn into_unit_trace(self) -> UnitTrace
         ensures keys { asked_in result ≡ (trace_of self.entry).keys }
         ensures messages { reported_in result ≡ (trace_of self.entry).messages }
-        ensures answers { AreAnswered (trace_of self.entry).answers result }
+        ensures answers { AreAnswered F.files result }
     {
         UnitTrace::new(self.answers, self.messages)
     }
 }
 
-impl Ask for Recorder<'_> {
+impl<F: OverFiles> Ask for Recorder<'_, F> {
     ghost use Rattle.pyc_recorder.specs.RecorderView.{trace_of};
 
     ghost trace = { trace_of };
@@ -61,10 +80,10 @@ impl Ask for Recorder<'_> {
     fn ask(&mut self, _: Global, key: Key) -> Result<Answer, AllocError> {
         let asked = AskedKey::new(key);
         if let Some(answer) = self.answers.get(&asked) {
-            return copy_of(answer);
+            return copy_of(answer.answer());
         }
         let answer = self.keys.answer(asked.key())?;
-        let copy = copy_of(&answer)?;
+        let copy = copy_of(answer.answer())?;
         keep(&mut self.answers, asked, answer)?;
         Ok(copy)
     }
@@ -75,7 +94,7 @@ impl Ask for Recorder<'_> {
     }
 }
 
-impl AskTypes for Recorder<'_> {
+impl<F: OverFiles> AskTypes for Recorder<'_, F> {
     fn lin(&self, class: &ClassId) -> Lin<'_> {
         self.keys.lin(class)
     }

@@ -4,18 +4,17 @@ ghost use Rattle.std.specs.Prelude.{◌≡◌, map, IfOk, OnErr};
 ghost use Rattle.indexmap.specs.IndexMap.{keys, values};
 ghost use Rattle.pyc_recorder.specs.KeptAnswers.{AreAnswers};
 ghost use Rattle.pyc_report.specs.FoundOrder.{in_order};
-ghost use Rattle.pyc_iface.specs.Answers.{answer_by};
 ghost use Rattle.pyc_keys.specs.Numbering.{AreOf, Extends};
+ghost use Rattle.pyc_known_answers.specs.LookedAnswerView.{looked_in};
 ghost use Rattle.pyc_known_answers.specs.WorldView.{held_by, interfaces_by};
-ghost use Rattle.pyc_reading.specs.AnswerView.{answer_in};
 ghost use Rattle.pyc_reading.specs.KeyView.{key_of};
 ghost use Rattle.pyc_report.specs.Message.{message_in};
 
 use crate::asked_key::AskedKey;
 use crate::checked::Checked;
 use indexmap::IndexMap;
-use pyc_known_answers::World;
-use pyc_reading::{Answer, Key};
+use pyc_known_answers::{LookedAnswer, World};
+use pyc_reading::Key;
 use pyc_report::{Message, in_order};
 use std::alloc::{AllocError, Global};
 use std::rc::Rc;
@@ -24,7 +23,7 @@ use std::rc::Rc;
 /// what it was reported.
 #[derive(Drop)]
 pub struct UnitTrace {
-    answers: IndexMap<AskedKey, Rc<Answer>>,
+    answers: IndexMap<AskedKey, Rc<LookedAnswer>>,
     messages: Vec<Message>,
 }
 
@@ -33,7 +32,10 @@ impl UnitTrace {
     ghost use Rattle.pyc_recorder.specs.UnitTraceView.{asked_in, reported_in, AreAnswered};
 
     /// These answers and messages. It takes no memory.
-    pub(crate) fn new(answers: IndexMap<AskedKey, Rc<Answer>>, messages: Vec<Message>) -> UnitTrace
+    pub(crate) fn new(
+        answers: IndexMap<AskedKey, Rc<LookedAnswer>>,
+        messages: Vec<Message>,
+    ) -> UnitTrace
         ensures keys { asked_in result ≡ keys answers }
         ensures messages { reported_in result ≡ map message_in messages.items }
         ensures answers { result.answers.entries ≡ answers.entries }
@@ -51,7 +53,7 @@ impl UnitTrace {
     /// What was asked, by number, and what was reported in order, each line, code and text once; the answers are kept.
     /// The only error is that memory runs out; then each number stands for what it did before.
     pub fn into_checked(self, alloc: Global, keys: &mut World) -> Result<Checked, AllocError>
-        requires { AreAnswered (answer_by (interfaces_by keys.old)) self }
+        requires { AreAnswered (interfaces_by keys.old) self }
         ensures reads { IfOk result (λ checked. AreOf (held_by keys.new) (numbers_in checked) (asked_in self)) }
         ensures messages { IfOk result (λ checked. messages_of checked ≡ in_order (reported_in self)) }
         ensures extends { Extends (held_by keys.old) (held_by keys.new) }
@@ -69,10 +71,10 @@ impl UnitTrace {
 /// The answers of a map, in their order. The only error is that memory runs out.
 fn answers_in_order(
     alloc: Global,
-    kept: &IndexMap<AskedKey, Rc<Answer>>,
-) -> Result<Vec<Rc<Answer>>, AllocError>
-    ensures { IfOk result (λ answers_in_order. map (λ answer. answer_in answer.value) answers_in_order.items
-        ≡ map (λ answer. answer_in answer.value) (values kept.now)) }
+    kept: &IndexMap<AskedKey, Rc<LookedAnswer>>,
+) -> Result<Vec<Rc<LookedAnswer>>, AllocError>
+    ensures { IfOk result (λ answers_in_order. map (λ answer. looked_in answer.value) answers_in_order.items
+        ≡ map (λ answer. looked_in answer.value) (values kept.now)) }
 {
     let mut answers_in_order = Vec::with_capacity(alloc, kept.len())?;
     for answer in kept.values() {
@@ -83,7 +85,7 @@ fn answers_in_order(
 }
 
 /// The keys of a map, in their order. The only error is that memory runs out.
-fn listed(alloc: Global, kept: IndexMap<AskedKey, Rc<Answer>>) -> Result<Vec<Key>, AllocError>
+fn listed(alloc: Global, kept: IndexMap<AskedKey, Rc<LookedAnswer>>) -> Result<Vec<Key>, AllocError>
     ensures { IfOk result (λ listed. map key_of listed.items ≡ keys kept) }
 {
     let mut listed = Vec::with_capacity(alloc, kept.len())?;

@@ -6,7 +6,7 @@ use Rattle.pyc_body.specs.FileUnits.{file_units, id_of}
 use Rattle.pyc_reuse.proofs.ListLemmas.{any_flag, filter_none, none_of}
 use Rattle.pyc_reuse.proofs.PlaceLemmas.{stands, unchanged_place}
 use Rattle.pyc_reuse.proofs.UnitLemmas.{examined_unchanged, examined_whole, none_where_alike}
-use Rattle.pyc_reuse.specs.Answering.{AnswerAlike}
+use Rattle.pyc_reuse.specs.Answering.{AreAlike}
 use Rattle.pyc_reuse.specs.Examined.{examined_in, reads_anew}
 use Rattle.pyc_reuse.specs.Places.{IsPlace, file_at, place_in}
 use Rattle.pyc_reuse.specs.FileStatuses.{FileStatus, all, nothing, flagged, status_by_flags, flags_of, is_any, kept_file_status, work_at, work_from, file_status_of}
@@ -96,7 +96,7 @@ module _ (options : Options) (last present : List File) (file : File) where
       examined_unchanged options last present file (sym (unchanged_place last file) ∙ ap is_some (flagged_parts place found h).at)
 
   -- where all files answer alike, what came of a file that is as it was is kept
-  pub kept_where_alike : AnswerAlike last present → kept_file_status (place_in last file) ≡ file_status_of options last present file
+  pub kept_where_alike : AreAlike last present → kept_file_status (place_in last file) ≡ file_status_of options last present file
   kept_where_alike same = by (place_in last file)
     where
       by : (p : Option ℕ) → kept_file_status p ≡ work_at options last present file p
@@ -106,7 +106,7 @@ module _ (options : Options) (last present : List File) (file : File) where
           any_flag (reads_anew options last present) (file_units (source_of file)) ∙ none_of (reads_anew options last present) (none_where_alike options last present same) (file_units (source_of file)) in
           sym (ap (λ c. if c then flagged place (flags_of options last present file) else nothing place) none)
 
-pub kept_file_statuses : (options : Options) (last present : List File) → AnswerAlike last present → (files : List File)
+pub kept_file_statuses : (options : Options) (last present : List File) → AreAlike last present → (files : List File)
     → map kept_file_status (map (place_in last) files) ≡ map (file_status_of options last present) files
 kept_file_statuses options last present same [] = refl
 kept_file_statuses options last present same (file ∷ files) =

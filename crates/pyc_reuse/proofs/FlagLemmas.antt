@@ -17,7 +17,8 @@ use Rattle.pyc_keys.specs.Numbering.{Numbering}
 use Rattle.pyc_names.specs.Interfaces.{Interface}
 use Rattle.pyc_reading.specs.Answers.{Answer}
 use Rattle.pyc_reading.specs.Keys.{Key}
-use Rattle.pyc_reuse.specs.Answering.{AnswerAs}
+use Rattle.pyc_reuse.proofs.InterfaceLemmas.{answer_as}
+use Rattle.pyc_reuse.specs.Answering.{StandFor}
 use Rattle.pyc_reuse.specs.Examined.{answers_of, reads_among, reads_anew}
 use Rattle.pyc_reuse.specs.SharedChecks.{checks_of}
 use Rattle.pyc_reuse.specs.FileStatuses.{flags_of}
@@ -56,10 +57,10 @@ module _ (options : Options) (last present : List File) (first second : List Int
       (λ t. one t ∷ flags_from before now units t)
 
   -- over interfaces that answer as the files do, the flags of a file's checks are those of its units
-  pub flags_are : (file : File) (checks : List Checked) → AnswerAs first last → AnswerAs second present
+  pub flags_are : (file : File) (checks : List Checked) → StandFor first last → StandFor second present
       → ∥ checks ≡ map (checked options (map source_of last)) (file_units (source_of file)) ∥₁ → map is_flagged checks ≡ flags_of options last present file
   flags_are file checks before now are =
-      ∥∥₁_elim before (Prim.hlevel props) (λ b. ∥∥₁_elim now (Prim.hlevel props) (λ n. ∥∥₁_elim are (Prim.hlevel props) (λ e.
+      ∥∥₁_elim (answer_as first last before) (Prim.hlevel props) (λ b. ∥∥₁_elim (answer_as second present now) (Prim.hlevel props) (λ n. ∥∥₁_elim are (Prim.hlevel props) (λ e.
       ap (map is_flagged) e ∙ flags_from b n (file_units (source_of file)))))
 
 -- ---- keys that are held

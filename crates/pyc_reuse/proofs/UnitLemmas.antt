@@ -14,8 +14,9 @@ use Rattle.pyc_names.specs.SourceFiles.{SourceFile}
 use Rattle.pyc_reading.specs.Answers.{Answer}
 use Rattle.pyc_reading.specs.Frames.{Agree, nothing_asked, one_more}
 use Rattle.pyc_reading.specs.Keys.{Key}
+use Rattle.pyc_reuse.proofs.InterfaceLemmas.{answer_alike, answer_as}
 use Rattle.pyc_reuse.proofs.ListLemmas.{filter_all, map_where, none_of}
-use Rattle.pyc_reuse.specs.Answering.{AnswerAlike, AnswerAs}
+use Rattle.pyc_reuse.specs.Answering.{AreAlike, StandFor}
 use Rattle.pyc_reuse.specs.Examined.{answers_of, examined_in, is_unchanged, reads_anew}
 use Rattle.pyc_known_answers.proofs.EqualityLemmas.{answers_decide}
 use Rattle.pyc_known_answers.specs.SameAnswers.{same_answer}
@@ -63,14 +64,14 @@ module _ (options : Options) (last present : List File) where
   pub none_anew : ((key : Key) → answers_of last key ≡ answers_of present key) → (unit : FileUnit) → reads_anew options last present unit ≡ false
   none_anew same unit = none_of (is_changed (answers_of last) (answers_of present)) (λ key. same_is_no_change (answers_of last) (answers_of present) key (same key)) _
 
-  pub none_where_alike : AnswerAlike last present → (unit : FileUnit) → reads_anew options last present unit ≡ false
-  none_where_alike alike unit = ∥∥₁_elim alike (Prim.hlevel props) (λ same. none_anew same unit)
+  pub none_where_alike : AreAlike last present → (unit : FileUnit) → reads_anew options last present unit ≡ false
+  none_where_alike alike unit = ∥∥₁_elim (answer_alike last present alike) (Prim.hlevel props) (λ same. none_anew same unit)
 
   -- what comes of a unit over interfaces that answer as the files that are present
-  pub check_over : (interfaces : List Interface) (unit : FileUnit) → AnswerAs interfaces present → checked_by options interfaces unit ≡ checked options (map source_of present) unit
+  pub check_over : (interfaces : List Interface) (unit : FileUnit) → StandFor interfaces present → checked_by options interfaces unit ≡ checked options (map source_of present) unit
   unfolding answers_of
   check_over interfaces unit alike =
-      ∥∥₁_elim alike (Prim.hlevel props) (λ same. over_alike options interfaces (map interface_of (map source_of present)) unit same)
+      ∥∥₁_elim (answer_as interfaces present alike) (Prim.hlevel props) (λ same. over_alike options interfaces (map interface_of (map source_of present)) unit same)
 
   -- the units that are examined of a file that is as it was, and of another
   pub examined_unchanged : (file : File) → is_unchanged last file ≡ true → examined_in options last present file ≡ map id_of (filter (reads_anew options last present) (file_units (source_of file)))

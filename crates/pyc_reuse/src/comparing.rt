@@ -3,9 +3,12 @@
 ghost use Rattle.std.specs.Prelude.{◌≡◌, true, is_some, map, IfOk, IfSome, IfNone};
 ghost use Rattle.std.specs.List.{list_all, list_any};
 ghost use Rattle.pyc_iface.specs.Answers.{answer_by};
+ghost use Rattle.pyc_iface.specs.CarryLaws.{AnswersStay};
+ghost use Rattle.pyc_iface.specs.Flags.{is_flagged};
+ghost use Rattle.pyc_iface.specs.PlainWorldView.{world_in};
 ghost use Rattle.pyc_known_answers.specs.WorldView.{held_by, interfaces_by};
 ghost use Rattle.pyc_known_answers.specs.KnownAnswersView.{interfaces_of, IsOver};
-ghost use Rattle.pyc_reuse.specs.Answering.{AnswerAs};
+ghost use Rattle.pyc_reuse.specs.Answering.{StandFor};
 ghost use Rattle.pyc_reuse.specs.Revision.{file_results_among};
 ghost use Rattle.pyc_reuse.specs.Places.{IsPlace, place_in};
 ghost use Rattle.pyc_reuse.specs.RecheckView.{last_in, options_in, present_in};
@@ -25,6 +28,8 @@ ghost use Rattle.pyc_known_answers.specs.ChangedKeysView.{first_in, held_in, sec
 use crate::file_result::FileResult;
 use crate::file_status::FileStatus;
 use crate::recheck::Recheck;
+use pyc_iface::{Flags, PlainWorld};
+use pyc_interfaces::changed_looks;
 use pyc_keys::ReadSet;
 use pyc_known_answers::{ChangedKeys, KnownAnswers, World};
 use std::alloc::AllocError;
@@ -47,19 +52,20 @@ impl Recheck<'_> {
         requires file_results { ∥ file_results_in (held_by keys.now) self.now.last.now.file_results.items
             ≡ file_results_among (options_in self.now) (last_in self.now) ∥₁ }
         requires places { places.now ≡ map (place_in (last_in self.now)) (present_in self.now) }
-        requires last { AnswerAs (interfaces_by keys.now) (last_in self.now) }
+        requires last { StandFor (interfaces_by keys.now) (last_in self.now) }
         ensures list { IfOk result (λ plan. map file_status_in plan.list.items
             ≡ map (file_status_of (options_in self.now) (last_in self.now) (present_in self.now))
             (present_in self.now)) }
         ensures answers { IfOk result (λ plan. IfSome plan.next (λ next.
-            AnswerAs (interfaces_of next) (present_in self.now))) }
+            StandFor (interfaces_of next) (present_in self.now))) }
         ensures over { IfOk result (λ plan. IfSome plan.next (λ next. IsOver (held_by keys.now) next)) }
         ensures alike { IfOk result (λ plan. IfNone plan.next
-            (AnswerAs (interfaces_by keys.now) (present_in self.now))) }
+            (StandFor (interfaces_by keys.now) (present_in self.now))) }
     {
         match self.next_world(places)? {
             Some(world) => {
-                let mut changed_keys = ChangedKeys::new(self.alloc, keys, world)?;
+                let changed = self.changed(keys, &world, places)?;
+                let mut changed_keys = ChangedKeys::new(self.alloc, keys, world, &changed)?;
                 let list = self.compare_files(places, &mut changed_keys)?;
                 let next = Some(changed_keys.into_second());
                 Ok(RecheckPlan { list, next })
@@ -69,6 +75,27 @@ impl Recheck<'_> {
                 Ok(RecheckPlan { list, next: None })
             }
         }
+    }
+
+    /// What differs between the last world and this one, that of the files that are present, by the numbers of looks.
+    fn changed(
+        &self,
+        keys: &World,
+        world: &PlainWorld,
+        places: &[Option<usize>],
+    ) -> Result<Flags, AllocError>
+        requires places { places.now ≡ map (place_in (last_in self.now)) (present_in self.now) }
+        requires last { StandFor (interfaces_by keys.now) (last_in self.now) }
+        requires next { StandFor (world_in world.now) (present_in self.now) }
+        ensures { IfOk result (λ flags.
+            ∥ AnswersStay (is_flagged flags) (interfaces_by keys.now) (world_in world.now) ∥₁) }
+    {
+        changed_looks(
+            self.alloc,
+            keys.answers().world(),
+            world,
+            self.common(places),
+        )
     }
 
     /// What is to be done where no key has another answer.
@@ -94,8 +121,8 @@ impl Recheck<'_> {
         requires file_results { ∥ file_results_in (held_in changed_keys.old) self.now.last.now.file_results.items
             ≡ file_results_among (options_in self.now) (last_in self.now) ∥₁ }
         requires places { places.now ≡ map (place_in (last_in self.now)) (present_in self.now) }
-        requires first { AnswerAs (first_in changed_keys.old) (last_in self.now) }
-        requires second { AnswerAs (second_in changed_keys.old) (present_in self.now) }
+        requires first { StandFor (first_in changed_keys.old) (last_in self.now) }
+        requires second { StandFor (second_in changed_keys.old) (present_in self.now) }
         ensures list { IfOk result (λ list. map file_status_in list.items
             ≡ map (file_status_of (options_in self.now) (last_in self.now) (present_in self.now))
             (present_in self.now)) }
@@ -119,8 +146,8 @@ impl Recheck<'_> {
         requires file_results { ∥ file_results_in (held_in changed_keys.old) self.now.last.now.file_results.items
             ≡ file_results_among (options_in self.now) (last_in self.now) ∥₁ }
         requires place { IsPlace (last_in self.now) place }
-        requires first { AnswerAs (first_in changed_keys.old) (last_in self.now) }
-        requires second { AnswerAs (second_in changed_keys.old) (present_in self.now) }
+        requires first { StandFor (first_in changed_keys.old) (last_in self.now) }
+        requires second { StandFor (second_in changed_keys.old) (present_in self.now) }
         ensures file_status { IfOk result (λ file_status. file_status_in file_status
             ≡ work_from (options_in self.now) (last_in self.now) (present_in self.now) place) }
         ensures held { held_in changed_keys.new ≡ held_in changed_keys.old }

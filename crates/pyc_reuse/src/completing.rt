@@ -4,7 +4,7 @@ ghost use Rattle.std.specs.Prelude.{◌≡◌, length, map, IfOk, IsTrue, OnErr,
 ghost use Rattle.pyc_keys.specs.Numbering.{Extends};
 ghost use Rattle.pyc_known_answers.specs.WorldView.{held_by, interfaces_by};
 ghost use Rattle.pyc_report.specs.Report.{report_in};
-ghost use Rattle.pyc_reuse.specs.Answering.{AnswerAs};
+ghost use Rattle.pyc_reuse.specs.Answering.{StandFor};
 ghost use Rattle.pyc_reuse.specs.Exact.{IsExact};
 ghost use Rattle.pyc_reuse.specs.Holding.{HoldsJust};
 ghost use Rattle.pyc_reuse.specs.Revision.{file_results_among};
@@ -106,7 +106,7 @@ fn check_present<'a>(
     requires kept { AreKept (revision_kept last.now).files present.now touched.now }
     requires file_results { ∥ file_results_in (held_by keys.old) last.now.file_results.items
         ≡ file_results_among last.now.options last.now.files ∥₁ }
-    requires answers { AnswerAs (interfaces_by keys.old) last.now.files }
+    requires answers { StandFor (interfaces_by keys.old) last.now.files }
     ensures report { IfOk result (λ done. report_in done.report ≡ fresh (revision_kept last.now).options present.now) }
     ensures revision { IfOk result (λ done. revision_kept done.kept ≡ next_revision (revision_kept last.now)
         present.now) }
@@ -115,7 +115,7 @@ fn check_present<'a>(
         (report_in done.report) (revision_kept done.kept).examined) }
     ensures file_results { IfOk result (λ done. file_results_in (held_by keys.new) done.kept.file_results.items
         ≡ file_results_among done.kept.options done.kept.files) }
-    ensures answers { IfOk result (λ done. AnswerAs (interfaces_by keys.new) done.kept.files) }
+    ensures answers { IfOk result (λ done. StandFor (interfaces_by keys.new) done.kept.files) }
     ensures extends { Extends (held_by keys.old) (held_by keys.new) }
     ensures held { IfOk result (λ done. IsTrue done.is_settled → held_by keys.new ≡ held_by keys.old) }
     ensures reads { IfOk result (λ done. IsTrue done.is_settled
@@ -155,7 +155,7 @@ fn complete(
     requires present { present_in recheck ≡ present.now }
     requires file_results { ∥ file_results_in (held_by keys.old) recheck.last.now.file_results.items
         ≡ file_results_among (options_in recheck) (last_in recheck) ∥₁ }
-    requires answers { AnswerAs (interfaces_by keys.old) present.now }
+    requires answers { StandFor (interfaces_by keys.old) present.now }
     requires list { map file_status_in list.now
         ≡ map (file_status_of (options_in recheck) (last_in recheck) present.now) present.now }
     ensures report { IfOk result (λ done. report_in done.report ≡ fresh (options_in recheck.entry) present.now) }
@@ -165,7 +165,7 @@ fn complete(
         (report_in done.report) (revision_kept done.kept).examined) }
     ensures file_results { IfOk result (λ done. file_results_in (held_by keys.new) done.kept.file_results.items
         ≡ file_results_among done.kept.options done.kept.files) }
-    ensures answers { IfOk result (λ done. AnswerAs (interfaces_by keys.new) done.kept.files) }
+    ensures answers { IfOk result (λ done. StandFor (interfaces_by keys.new) done.kept.files) }
     ensures extends { Extends (held_by keys.old) (held_by keys.new) }
     ensures held { IfOk result (λ done. IsTrue done.is_settled → held_by keys.new ≡ held_by keys.old) }
     ensures reads { IfOk result (λ done. IsTrue done.is_settled

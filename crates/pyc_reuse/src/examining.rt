@@ -10,7 +10,7 @@ ghost use Rattle.pyc_body.specs.FoundMessages.{checked};
 ghost use Rattle.pyc_recorder.specs.CheckedView.{checked_in};
 ghost use Rattle.pyc_keys.specs.Numbering.{Extends};
 ghost use Rattle.pyc_known_answers.specs.WorldView.{held_by, interfaces_by};
-ghost use Rattle.pyc_reuse.specs.Answering.{AnswerAs};
+ghost use Rattle.pyc_reuse.specs.Answering.{StandFor};
 ghost use Rattle.pyc_reuse.specs.Examination.{HasOptions, last_in, options_in, present_in};
 ghost use Rattle.pyc_reuse.specs.Examined.{examined, examined_in, reads_anew};
 ghost use Rattle.pyc_reuse.specs.Revision.{file_result_among, file_results_among};
@@ -45,7 +45,7 @@ impl Examination<'_> {
         list: &[FileStatus],
     ) -> Result<Vec<Rc<FileResult>>, AllocError>
         requires options { HasOptions self.now }
-        requires answers { AnswerAs (interfaces_by keys.old) (present_in self.now) }
+        requires answers { StandFor (interfaces_by keys.old) (present_in self.now) }
         requires file_results { ∥ file_results_in (held_by keys.old) self.now.recheck.last.now.file_results.items
             ≡ file_results_among (options_in self.now) (last_in self.now) ∥₁ }
         requires list { map file_status_in list.now ≡ map (file_status_of (options_in self.now) (last_in self.now)
@@ -82,7 +82,7 @@ impl Examination<'_> {
         file_status: &FileStatus,
     ) -> Result<Rc<FileResult>, AllocError>
         requires options { HasOptions self.now }
-        requires answers { AnswerAs (interfaces_by keys.old) (present_in self.now) }
+        requires answers { StandFor (interfaces_by keys.old) (present_in self.now) }
         requires file_results { ∥ file_results_in (held_by keys.old) self.now.recheck.last.now.file_results.items
             ≡ file_results_among (options_in self.now) (last_in self.now) ∥₁ }
         requires file_status { file_status_in file_status.now
@@ -127,7 +127,7 @@ impl Examination<'_> {
         file: &File,
     ) -> Result<FileResult, AllocError>
         requires options { HasOptions self.now }
-        requires answers { AnswerAs (interfaces_by keys.old) (present_in self.now) }
+        requires answers { StandFor (interfaces_by keys.old) (present_in self.now) }
         ensures file_result { IfOk result (λ file_result. file_result_in (held_by keys.new) file_result
             ≡ file_result_among (options_in self.now) (present_in self.now) (file_in file.now)) }
         ensures metered { OnOk result (meter.new
@@ -154,7 +154,7 @@ impl Examination<'_> {
         flags: &[bool],
     ) -> Result<FileResult, AllocError>
         requires options { HasOptions self.now }
-        requires answers { AnswerAs (interfaces_by keys.old) (present_in self.now) }
+        requires answers { StandFor (interfaces_by keys.old) (present_in self.now) }
         requires revision { file_result_in (held_by keys.old) revision.now
             ≡ file_result_among (options_in self.now) (last_in self.now) (file_in file.now) }
         requires flags { flags.now
@@ -192,7 +192,7 @@ impl Examination<'_> {
         flag: bool,
     ) -> Result<Rc<Checked>, AllocError>
         requires options { HasOptions self.now }
-        requires answers { AnswerAs (interfaces_by keys.old) (present_in self.now) }
+        requires answers { StandFor (interfaces_by keys.old) (present_in self.now) }
         requires revision { checked_in (held_by keys.old) revision.now.value
             ≡ checked (options_in self.now) (sources_of (last_in self.now)) (file_unit_in unit.now) }
         requires flag { flag
@@ -219,7 +219,7 @@ impl Examination<'_> {
         unit: &FileUnit<'_>,
     ) -> Result<Rc<Checked>, AllocError>
         requires options { HasOptions self.now }
-        requires answers { AnswerAs (interfaces_by keys.old) (present_in self.now) }
+        requires answers { StandFor (interfaces_by keys.old) (present_in self.now) }
         ensures checked { IfOk result (λ check. checked_in (held_by keys.new) check.value
             ≡ checked (options_in self.now) (sources_of (present_in self.now)) (file_unit_in unit.now)) }
         ensures metered { OnOk result (meter.new ≡ meter.old ++ (id_of (file_unit_in unit.now) ∷ [])) }

@@ -1,14 +1,14 @@
 //! The world of the files that are present: the last one, where no interface is another one.
 
-ghost use Rattle.std.specs.Prelude.{◌≡◌, ◌<◌, IsTrue, length, map, IfOk, IfSome, IfNone};
+ghost use Rattle.std.specs.Prelude.{◌≡◌, ◌<◌, ◌≤◌, ◌+◌, IsTrue, length, map, IfOk, IfSome, IfNone};
 ghost use Rattle.pyc_iface.specs.PlainWorldView.{world_in};
-ghost use Rattle.pyc_reuse.specs.Answering.{AnswerAlike, AnswerAs};
+ghost use Rattle.pyc_reuse.specs.Answering.{AreAlike, AreAlikeFirst, AreAlikeLast, StandFor};
 ghost use Rattle.pyc_reuse.specs.Places.{bare_of, file_at, place_in};
 ghost use Rattle.pyc_reuse.specs.RecheckView.{last_in, present_in};
 
 use crate::recheck::Recheck;
 use pyc_iface::PlainWorld;
-use pyc_interfaces::same_interface;
+use pyc_interfaces::{Common, same_interface};
 use pyc_workspace::interfaces_of;
 use std::alloc::AllocError;
 use std::rc::Rc;
@@ -22,8 +22,8 @@ impl Recheck<'_> {
     ) -> Result<Option<Rc<PlainWorld>>, AllocError>
         requires { places.now ≡ map (place_in (last_in self.now)) (present_in self.now) }
         ensures answers { IfOk result (λ next. IfSome next (λ world.
-            AnswerAs (world_in world.value) (present_in self.now))) }
-        ensures alike { IfOk result (λ next. IfNone next (AnswerAlike (last_in self.now) (present_in self.now))) }
+            StandFor (world_in world.value) (present_in self.now))) }
+        ensures alike { IfOk result (λ next. IfNone next (AreAlike (last_in self.now) (present_in self.now))) }
     {
         if self.has_old_interfaces(places) {
             return Ok(None);
@@ -43,25 +43,73 @@ impl Recheck<'_> {
             return false;
         }
         for index in 0..self.present.len() {
-            if !self.has_old_interface(index, places[index]) {
+            if !self.has_old_interface(index, index, places[index]) {
                 return false;
             }
         }
         true
     }
 
-    /// Whether a file has the interface of the one that stood at its place at the last check.
-    fn has_old_interface(&self, index: usize, place: Option<usize>) -> bool
-        requires last { index < length (last_in self.now) }
+    /// How many of the first files, and how many of the last, have the interfaces of those of the last check.
+    pub(crate) fn common(&self, places: &[Option<usize>]) -> Common
+        requires { places.now ≡ map (place_in (last_in self.now)) (present_in self.now) }
+        ensures fit_last { result.front + result.back ≤ length (last_in self.now) }
+        ensures fit_present { result.front + result.back ≤ length (present_in self.now) }
+        ensures first { AreAlikeFirst result.front (last_in self.now) (present_in self.now) }
+        ensures last { AreAlikeLast result.back (last_in self.now) (present_in self.now) }
+    {
+        let shorter = self.present.len().min(self.last.files.len());
+        let front = self.common_front(places, shorter);
+        let back = self.common_back(places, shorter - front);
+        Common { front, back }
+    }
+
+    /// How many of the first files, up to so many, have the interfaces of those of the last check.
+    fn common_front(&self, places: &[Option<usize>], most: usize) -> usize
+        requires places { places.now ≡ map (place_in (last_in self.now)) (present_in self.now) }
+        requires last { most ≤ length (last_in self.now) }
+        requires present { most ≤ length (present_in self.now) }
+        ensures most { result ≤ most }
+        ensures alike { AreAlikeFirst result (last_in self.now) (present_in self.now) }
+    {
+        for index in 0..most {
+            if !self.has_old_interface(index, index, places[index]) {
+                return index;
+            }
+        }
+        most
+    }
+
+    /// How many of the last files, up to so many, have the interfaces of those of the last check.
+    fn common_back(&self, places: &[Option<usize>], most: usize) -> usize
+        requires places { places.now ≡ map (place_in (last_in self.now)) (present_in self.now) }
+        requires last { most ≤ length (last_in self.now) }
+        requires present { most ≤ length (present_in self.now) }
+        ensures most { result ≤ most }
+        ensures alike { AreAlikeLast result (last_in self.now) (present_in self.now) }
+    {
+        for count in 0..most {
+            let old = self.last.files.len() - 1 - count;
+            let index = self.present.len() - 1 - count;
+            if !self.has_old_interface(old, index, places[index]) {
+                return count;
+            }
+        }
+        most
+    }
+
+    /// Whether a file has the interface of the one that stood at a place at the last check.
+    fn has_old_interface(&self, old: usize, index: usize, place: Option<usize>) -> bool
+        requires last { old < length (last_in self.now) }
         requires present { index < length (present_in self.now) }
         requires place { place ≡ place_in (last_in self.now) (file_at (present_in self.now) index) }
         ensures { IsTrue result
-            → ∥ bare_of (file_at (last_in self.now) index) ≡ bare_of (file_at (present_in self.now) index) ∥₁ }
+            → ∥ bare_of (file_at (last_in self.now) old) ≡ bare_of (file_at (present_in self.now) index) ∥₁ }
     {
         match place {
-            Some(place) if place == index => true,
+            Some(place) if place == old => true,
             _ => same_interface(
-                self.last.files.files()[index].source().interface(),
+                self.last.files.files()[old].source().interface(),
                 self.present[index].source().interface(),
             ),
         }

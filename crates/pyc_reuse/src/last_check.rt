@@ -2,7 +2,7 @@
 
 ghost use Rattle.std.specs.Prelude.{◌≡◌, [], length, IfOk};
 ghost use Rattle.pyc_known_answers.specs.WorldView.{held_by, interfaces_by};
-ghost use Rattle.pyc_reuse.specs.Answering.{AnswerAs};
+ghost use Rattle.pyc_reuse.specs.Answering.{StandFor};
 ghost use Rattle.pyc_reuse.specs.Holding.{HoldsJust};
 ghost use Rattle.pyc_reuse.specs.Revision.{file_results_among};
 ghost use Rattle.pyc_reuse.specs.FileResultView.{reads_in, file_results_in};
@@ -24,7 +24,7 @@ pub struct LastCheck {
     pub(crate) keys: World,
     ghost file_results_are: { ∥ file_results_in (held_by keys) kept.file_results.items ≡ file_results_among
         kept.options kept.files ∥₁ },
-    ghost answers_are: { AnswerAs (interfaces_by keys) kept.files },
+    ghost answers_are: { StandFor (interfaces_by keys) kept.files },
     ghost held: { HoldsJust (held_by keys) (reads_in kept.file_results.items) },
 }
 

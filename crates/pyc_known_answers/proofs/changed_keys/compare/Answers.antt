@@ -1,10 +1,10 @@
 use Rattle.std.proofs.Common.{◌∙◌, ap, is_some, List, subst, sym}
 use Rattle.pyc_iface.specs.Answers.{answer_by}
 use Rattle.pyc_keys.specs.Numbering.{Numbering}
+use Rattle.pyc_known_answers.specs.LookedAnswerView.{looked_in}
 use Rattle.pyc_known_answers.specs.WorldView.{held_by, interfaces_by}
 use Rattle.pyc_known_answers.specs.KnownAnswersView.{interfaces_of, IsOver}
 use Rattle.pyc_names.specs.Interfaces.{Interface}
-use Rattle.pyc_reading.specs.AnswerView.{answer_in}
 use Rattle.pyc_reading.specs.Keys.{Key}
 use Rattle.pyc_known_answers.proofs.KeyChangeLemmas.{changed_is}
 use Rattle.pyc_known_answers.proofs.changed_keys.compare.Goals as goal
@@ -27,9 +27,9 @@ returns-clause-value c =
     let id = c.args.id in
     let first = c.args.first.now in
     changed_is (answer_by (interfaces_by first)) (answer_by (interfaces_of c.args.second.now)) (held_by first id)
-    (answer_in c.in_ok-before.before.value) c.in_ok-same.same c.requires.held
+    (looked_in c.in_ok-before.before.value).answer c.in_ok-same.same c.requires.held
     (λ key at.
-    c.in_ok-before.ensures key (ap (λ (h : Numbering Key). h id) c.keys-keys.ensures ∙ at)
+    (c.in_ok-before.ensures key (ap (λ (h : Numbering Key). h id) c.keys-keys.ensures ∙ at)).answers
     ∙ ap (λ (s : List Interface). answer_by s key) c.answers.ensures.world)
     (λ key at. c.in_ok-same.ensures.value key (ap (λ (h : Numbering Key). h id) c.keys-keys.ensures ∙ at))
 

@@ -6,7 +6,7 @@ use Rattle.pyc_known_answers.specs.WorldView.{held_by}
 use Rattle.pyc_names.specs.Interfaces.{Interface}
 use Rattle.pyc_reading.specs.Keys.{Key}
 use Rattle.pyc_reuse.proofs.HoldLemmas.{keys_back}
-use Rattle.pyc_reuse.specs.Answering.{AnswerAs}
+use Rattle.pyc_reuse.specs.Answering.{StandFor}
 use Rattle.pyc_reuse.specs.declared.file_result.FileResult.{FileResult as FileResultOf}
 use Rattle.pyc_reuse.specs.Holding.{HoldsJust}
 use Rattle.pyc_reuse.specs.Revision.{file_results_among}
@@ -26,7 +26,7 @@ invariant_of-next c =
     let kept = c.in-Ok.done.kept in
     record {
       file_results_are = ∣ c.sweep.ensures.file_results ∙ c.in-Ok.ensures.file_results ∣₁;
-      answers_are = subst (λ (s : List Interface). AnswerAs s kept.files) (sym c.sweep.ensures.world) c.in-Ok.ensures.answers;
+      answers_are = subst (λ (s : List Interface). StandFor s kept.files) (sym c.sweep.ensures.world) c.in-Ok.ensures.answers;
       held = c.sweep.ensures.held;
     }
 
@@ -41,7 +41,7 @@ invariant_of-result c =
     record {
       file_results_are = subst (λ (h : Numbering Key). ∥ file_results_in h file_results ≡ file_results_among last.kept.options last.kept.files ∥₁) (sym is) last.file_results_are;
       answers_are =
-          subst (λ (s : List Interface). AnswerAs s last.kept.files) (sym (c.keep_only.ensures.world ∙ c.in-Err.ensures.same)) last.answers_are;
+          subst (λ (s : List Interface). StandFor s last.kept.files) (sym (c.keep_only.ensures.world ∙ c.in-Err.ensures.same)) last.answers_are;
       held = subst (λ (h : Numbering Key). HoldsJust h (reads_in file_results)) (sym is) last.held;
     }
 

@@ -5,14 +5,14 @@ use Rattle.pyc_known_answers.specs.WorldView.{held_by, interfaces_by}
 use Rattle.pyc_known_answers.specs.KnownAnswersView.{interfaces_of, known_at}
 use Rattle.pyc_names.specs.Interfaces.{Interface}
 use Rattle.pyc_reading.specs.Keys.{Key}
-use Rattle.pyc_reuse.specs.Answering.{AnswerAs}
+use Rattle.pyc_reuse.specs.Answering.{StandFor}
 use Rattle.pyc_reuse.proofs.completing.check_present.Goals as goal
 
 pub complete-requires-clause-answers : goal.complete-requires-clause-answers
 complete-requires-clause-answers c =
     let answers = rw c.in-Some.is at c.in_ok-list.ensures.answers in
-    subst (λ (interfaces : List Interface). AnswerAs interfaces c.args.present.now) (sym c.replace_world-before.ensures.world)
-    (subst (AnswerAs (interfaces_of c.in-Some.next)) c.files.ensures.all answers)
+    subst (λ (interfaces : List Interface). StandFor interfaces c.args.present.now) (sym c.replace_world-before.ensures.world)
+    (subst (StandFor (interfaces_of c.in-Some.next)) c.files.ensures.all answers)
 
 pub returns-in-Ok-clause-extends : goal.returns-in-Ok-clause-extends
 returns-in-Ok-clause-extends c =
@@ -33,7 +33,7 @@ returns-in-Some-clause-extends c =
 pub complete-requires-in-None-clause-answers : goal.complete-requires-in-None-clause-answers
 complete-requires-in-None-clause-answers c =
     let answers = rw c.in-None.is at c.in_ok-list.ensures.alike in
-    subst (AnswerAs (interfaces_by c.args.keys.now)) c.files.ensures.all answers
+    subst (StandFor (interfaces_by c.args.keys.now)) c.files.ensures.all answers
 
 pub returns-in-Ok-clause-held : goal.returns-in-Ok-clause-held
 returns-in-Ok-clause-held c = λ settled. c.in-Ok.ensures.held settled ∙ c.replace_world-before.ensures.held

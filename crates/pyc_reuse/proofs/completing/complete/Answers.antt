@@ -7,7 +7,7 @@ use Rattle.pyc_names.specs.Interfaces.{Interface}
 use Rattle.pyc_reuse.proofs.ExactLemmas.{exact_from}
 use Rattle.pyc_reuse.proofs.InPlaceLemmas.{same_reads}
 use Rattle.pyc_reuse.proofs.RowLemmas.{report_is}
-use Rattle.pyc_reuse.specs.Answering.{AnswerAs}
+use Rattle.pyc_reuse.specs.Answering.{StandFor}
 use Rattle.pyc_reuse.specs.declared.file_result.FileResult.{FileResult as FileResultOf}
 use Rattle.pyc_reuse.specs.Examined.{examined}
 use Rattle.pyc_reuse.specs.Revision.{file_result_among, file_results_among}
@@ -22,7 +22,7 @@ use Rattle.pyc_reuse.proofs.completing.complete.Goals as goal
 
 pub next_file_results-requires-clause-answers : goal.next_file_results-requires-clause-answers
 next_file_results-requires-clause-answers c =
-    subst (λ (files : List File). AnswerAs (interfaces_by c.args.keys.now) files) (sym c.requires.present) c.requires.answers
+    subst (λ (files : List File). StandFor (interfaces_by c.args.keys.now) files) (sym c.requires.present) c.requires.answers
 
 pub next_file_results-requires-clause-list : goal.next_file_results-requires-clause-list
 next_file_results-requires-clause-list c =
@@ -66,8 +66,8 @@ returns-clause-file_results c = c.in_ok-file_results.ensures.file_results ∙ ap
 
 pub returns-clause-answers : goal.returns-clause-answers
 returns-clause-answers c =
-    subst (λ (interfaces : List Interface). AnswerAs interfaces c.in_ok-files.files) (sym c.in_ok-file_results.ensures.world)
-    (subst (AnswerAs (interfaces_by c.args.keys.now)) (sym c.in_ok-files.ensures.same) c.requires.answers)
+    subst (λ (interfaces : List Interface). StandFor interfaces c.in_ok-files.files) (sym c.in_ok-file_results.ensures.world)
+    (subst (StandFor (interfaces_by c.args.keys.now)) (sym c.in_ok-files.ensures.same) c.requires.answers)
 
 pub returns-clause-held : goal.returns-clause-held
 returns-clause-held c =

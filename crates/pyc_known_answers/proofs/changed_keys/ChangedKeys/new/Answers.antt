@@ -1,8 +1,13 @@
-use Rattle.std.proofs.Common.{◌<◌, ◌≡◌, is_some, subst, true, ℕ}
+use Rattle.std.proofs.Common.{◌<◌, ◌≡◌, is_some, List, subst, sym, true, ℕ}
+use Rattle.std.proofs.Math.Logic.{∥∥₁_elim}
 use Rattle.pyc_iface.specs.Answers.{answer_by}
+use Rattle.pyc_iface.specs.CarryLaws.{AnswersStay}
+use Rattle.pyc_iface.specs.Flags.{is_flagged}
+use Rattle.pyc_iface.specs.PlainWorldView.{world_in}
 use Rattle.pyc_keys.specs.Numbering.{Numbering}
 use Rattle.pyc_known_answers.specs.WorldView.{held_by, interfaces_by}
 use Rattle.pyc_known_answers.specs.KnownAnswersView.{interfaces_of}
+use Rattle.pyc_names.specs.Interfaces.{Interface}
 use Rattle.pyc_reading.specs.Keys.{Key}
 use Rattle.pyc_known_answers.proofs.KeyChangeLemmas.{known_first}
 use Rattle.pyc_known_answers.proofs.changed_keys.ChangedKeys.new.Goals as goal
@@ -12,9 +17,12 @@ invariant_of-result c =
     let first = c.args.first.now in
     let count = c.bound.result in
     record {
-      second_over = c.new.ensures.over (held_by first);
+      second_over =
+          ∥∥₁_elim c.requires squash₁
+          (λ stay. c.in_ok-second.ensures.over (held_by first)
+          (subst (λ (w : List Interface). AnswersStay (is_flagged c.args.changed.now) w (world_in c.args.second.value)) (sym c.answers.ensures.world) stay) c.answers.ensures.over);
       are_known =
-          rw (c.new-2.ensures, c.in_ok-known.ensures)
-          (known_first (held_by first) (answer_by (interfaces_by first)) (answer_by (interfaces_of c.new.result)) count
+          rw (c.new.ensures, c.in_ok-known.ensures)
+          (known_first (held_by first) (answer_by (interfaces_by first)) (answer_by (interfaces_of c.in_ok-second.second)) count
           (subst (λ (h : Numbering Key). (i : ℕ) → is_some (h i) ≡ true → i < count) c.keys.ensures c.bound.ensures));
     }

@@ -1,7 +1,7 @@
 use Rattle.std.proofs.Common.{◌∙◌, ap, arith, if◌then◌else◌}
 use Rattle.pyc_keys.specs.KeyNumbers.{key_at}
 use Rattle.pyc_keys.specs.Numbering.{without}
-use Rattle.pyc_reading.specs.AnswerView.{answer_in}
+use Rattle.pyc_known_answers.specs.LookedAnswerView.{looked_in}
 use Rattle.pyc_known_answers.specs.KnownAnswersView.{interfaces_of, known_at}
 use Rattle.pyc_known_answers.specs.KnownAnswers.{restrict_to_held}
 use Rattle.pyc_known_answers.proofs.SlotLemmas.{passed_next, passed_whole}
@@ -20,7 +20,7 @@ loop-number-preserved c = record {
 
 pub returns-clause-known : goal.returns-clause-known
 returns-clause-known c =
-    passed_whole (λ shared. answer_in shared.value) (key_at c.args.keys.now) c.args.self.now.known.items c.loop-number.number (known_at c.loop-number.self) c.loop-number.invariant.passed
+    passed_whole (λ shared. looked_in shared.value) (key_at c.args.keys.now) c.args.self.now.known.items c.loop-number.number (known_at c.loop-number.self) c.loop-number.invariant.passed
     (omega (arith, c.loop-number-test.false, c.len-number-end.ensures, c.loop-number.auto.number-end))
 
 pub returns-clause-over : goal.returns-clause-over
@@ -30,6 +30,6 @@ returns-clause-over c =
     λ before fewer are.
     over_same (interfaces_of self) (interfaces_of c.loop-number.self) keys (restrict_to_held keys (known_at self)) (known_at c.loop-number.self)
     c.loop-number.invariant.world
-    (passed_whole (λ shared. answer_in shared.value) keys self.known.items c.loop-number.number (known_at c.loop-number.self) c.loop-number.invariant.passed
+    (passed_whole (λ shared. looked_in shared.value) keys self.known.items c.loop-number.number (known_at c.loop-number.self) c.loop-number.invariant.passed
     (omega (arith, c.loop-number-test.false, c.len-number-end.ensures, c.loop-number.auto.number-end)))
     (stay_with_fewer_keys (interfaces_of self) before keys (known_at self) fewer are)

@@ -11,7 +11,7 @@ use Rattle.pyc_reuse.proofs.ChangedLemmas.{check_at, check_within, checks_more, 
 use Rattle.pyc_reuse.proofs.HoldLemmas.{checks_still}
 use Rattle.pyc_reuse.proofs.ResultLemmas.{ok_both, on_ok}
 use Rattle.pyc_reuse.proofs.RowLemmas.{found_in_checks, kept_ids_are, file_result_is}
-use Rattle.pyc_reuse.specs.Answering.{AnswerAs}
+use Rattle.pyc_reuse.specs.Answering.{StandFor}
 use Rattle.pyc_reuse.specs.Examination.{last_in, options_in, present_in}
 use Rattle.pyc_reuse.specs.Examined.{reads_anew}
 use Rattle.pyc_reuse.specs.Revision.{FileResult}
@@ -62,7 +62,7 @@ next_check-requires-clause-flag c =
 
 pub next_check-requires-clause-answers : goal.next_check-requires-clause-answers
 next_check-requires-clause-answers c =
-    subst (λ (s : List Interface). AnswerAs s (present_in c.args.self.now)) (sym c.loop-index.invariant.world) c.requires.answers
+    subst (λ (s : List Interface). StandFor s (present_in c.args.self.now)) (sym c.loop-index.invariant.world) c.requires.answers
 
 pub loop-index-preserved : goal.loop-index-preserved
 loop-index-preserved c =

@@ -10,7 +10,7 @@ use Rattle.pyc_names.specs.SourceFileView.{source_in}
 use Rattle.pyc_reuse.proofs.ChangedLemmas.{checks_more, id_more}
 use Rattle.pyc_reuse.proofs.ResultLemmas.{ok_both, on_ok}
 use Rattle.pyc_reuse.proofs.RowLemmas.{found_in_checks, ids_are, file_result_is}
-use Rattle.pyc_reuse.specs.Answering.{AnswerAs}
+use Rattle.pyc_reuse.specs.Answering.{StandFor}
 use Rattle.pyc_reuse.specs.Examination.{options_in, present_in}
 use Rattle.pyc_reuse.specs.FileResultView.{reported_in}
 use Rattle.pyc_reuse.specs.SharedChecks.{checks_of, found_of}
@@ -20,7 +20,7 @@ use Rattle.pyc_reuse.proofs.examining.Examination.first_file_result.Goals as goa
 
 pub first_check-requires-clause-answers : goal.first_check-requires-clause-answers
 first_check-requires-clause-answers c =
-    subst (λ (s : List Interface). AnswerAs s (present_in c.args.self.now)) (sym c.loop-unit.invariant.world) c.requires.answers
+    subst (λ (s : List Interface). StandFor s (present_in c.args.self.now)) (sym c.loop-unit.invariant.world) c.requires.answers
 
 pub loop-unit-preserved : goal.loop-unit-preserved
 loop-unit-preserved c =

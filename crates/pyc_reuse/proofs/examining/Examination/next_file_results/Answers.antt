@@ -9,7 +9,7 @@ use Rattle.pyc_reuse.proofs.FileLemmas.{ids_more, file_results_more, work_there}
 use Rattle.pyc_reuse.proofs.HoldLemmas.{all_file_results_still}
 use Rattle.pyc_reuse.proofs.InPlaceLemmas.{in_place_at, in_place_length, item_at, rows_more}
 use Rattle.pyc_reuse.proofs.InterfaceLemmas.{file_is}
-use Rattle.pyc_reuse.specs.Answering.{AnswerAs}
+use Rattle.pyc_reuse.specs.Answering.{StandFor}
 use Rattle.pyc_reuse.specs.declared.file_result.FileResult.{FileResult as FileResultOf}
 use Rattle.pyc_reuse.specs.Examination.{last_in, options_in, present_in}
 use Rattle.pyc_reuse.specs.Examined.{examined, examined_in}
@@ -37,7 +37,7 @@ next_file_result-requires-clause-file_results c =
 
 pub next_file_result-requires-clause-answers : goal.next_file_result-requires-clause-answers
 next_file_result-requires-clause-answers c =
-    subst (λ (s : List Interface). AnswerAs s (present_in c.args.self.now)) (sym c.loop-index.invariant.world) c.requires.answers
+    subst (λ (s : List Interface). StandFor s (present_in c.args.self.now)) (sym c.loop-index.invariant.world) c.requires.answers
 
 pub loop-index-preserved : goal.loop-index-preserved
 loop-index-preserved c =

@@ -4,7 +4,7 @@ use Rattle.pyc_keys.specs.Numbering.{Numbering}
 use Rattle.pyc_names.specs.Interfaces.{Interface}
 use Rattle.pyc_reading.specs.Keys.{Key}
 use Rattle.pyc_reuse.proofs.FileStatusLemmas.{place_within, works_more}
-use Rattle.pyc_reuse.specs.Answering.{AnswerAs}
+use Rattle.pyc_reuse.specs.Answering.{StandFor}
 use Rattle.pyc_reuse.specs.Revision.{file_results_among}
 use Rattle.pyc_reuse.specs.RecheckView.{last_in, options_in, present_in}
 use Rattle.pyc_reuse.specs.FileResultView.{file_results_in}
@@ -23,11 +23,11 @@ compare_file-requires-clause-file_results c =
 
 pub compare_file-requires-clause-first : goal.compare_file-requires-clause-first
 compare_file-requires-clause-first c =
-    subst (λ (s : List Interface). AnswerAs s (last_in c.args.self.now)) (sym c.loop-place.invariant.first) c.requires.first
+    subst (λ (s : List Interface). StandFor s (last_in c.args.self.now)) (sym c.loop-place.invariant.first) c.requires.first
 
 pub compare_file-requires-clause-second : goal.compare_file-requires-clause-second
 compare_file-requires-clause-second c =
-    subst (λ (s : List Interface). AnswerAs s (present_in c.args.self.now)) (sym c.loop-place.invariant.second) c.requires.second
+    subst (λ (s : List Interface). StandFor s (present_in c.args.self.now)) (sym c.loop-place.invariant.second) c.requires.second
 
 pub loop-place-preserved : goal.loop-place-preserved
 loop-place-preserved c =

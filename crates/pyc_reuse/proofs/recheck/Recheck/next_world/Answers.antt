@@ -2,13 +2,13 @@ use Rattle.std.proofs.Common.{ap, refl, ◌∙◌}
 use Rattle.std.proofs.Math.Logic.{∥∥₁_elim}
 use Rattle.pyc_iface.specs.PlainWorldView.{world_in}
 use Rattle.pyc_names.specs.InterfaceView.{interfaces_in}
-use Rattle.pyc_reuse.proofs.InterfaceLemmas.{alike_where, as_files}
+use Rattle.pyc_reuse.proofs.InterfaceLemmas.{as_files}
 use Rattle.pyc_reuse.specs.RecheckView.{last_in, present_in}
 use Rattle.pyc_reuse.proofs.recheck.Recheck.next_world.Goals as goal
 
 pub returns-then-has_old_interfaces-clause-alike : goal.returns-then-has_old_interfaces-clause-alike
 returns-then-has_old_interfaces-clause-alike c =
-    alike_where (last_in c.args.self.now) (present_in c.args.self.now) (c.if-has_old_interfaces.ensures refl)
+    c.if-has_old_interfaces.ensures refl
 
 pub returns-clause-answers : goal.returns-clause-answers
 returns-clause-answers c =

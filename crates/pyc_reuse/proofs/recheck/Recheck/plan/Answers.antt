@@ -1,4 +1,8 @@
 use Rattle.std.proofs.Common.{◌≡◌, ap, List, map, subst, sym, ◌∙◌}
+use Rattle.pyc_iface.specs.CarryLaws.{AnswersStay}
+use Rattle.pyc_iface.specs.Flags.{is_flagged}
+use Rattle.pyc_iface.specs.PlainWorldView.{world_in}
+use Rattle.pyc_iface.specs.declared.world.PlainWorld.{PlainWorld}
 use Rattle.pyc_keys.specs.Numbering.{Numbering}
 use Rattle.pyc_known_answers.specs.WorldView.{interfaces_by}
 use Rattle.pyc_known_answers.specs.KnownAnswersView.{IsOver}
@@ -6,7 +10,7 @@ use Rattle.pyc_names.specs.Interfaces.{Interface}
 use Rattle.pyc_reading.specs.Keys.{Key}
 use Rattle.pyc_reuse.proofs.InterfaceLemmas.{as_present}
 use Rattle.pyc_reuse.proofs.FileStatusLemmas.{kept_file_statuses}
-use Rattle.pyc_reuse.specs.Answering.{AnswerAs}
+use Rattle.pyc_reuse.specs.Answering.{StandFor}
 use Rattle.pyc_reuse.specs.Revision.{file_results_among}
 use Rattle.pyc_reuse.specs.RecheckView.{last_in, options_in, present_in}
 use Rattle.pyc_reuse.specs.FileResultView.{file_results_in}
@@ -20,15 +24,15 @@ compare_files-requires-clause-file_results c =
 
 pub compare_files-requires-clause-first : goal.compare_files-requires-clause-first
 compare_files-requires-clause-first c =
-    subst (λ (s : List Interface). AnswerAs s (last_in c.args.self.now)) (sym c.in_ok-changed_keys-in-Some.ensures.first) c.requires.last
+    subst (λ (s : List Interface). StandFor s (last_in c.args.self.now)) (sym c.in_ok-changed_keys-in-Some.ensures.first) c.requires.last
 
 pub compare_files-requires-clause-second : goal.compare_files-requires-clause-second
 compare_files-requires-clause-second c =
-    subst (λ (s : List Interface). AnswerAs s (present_in c.args.self.now)) (sym c.in_ok-changed_keys-in-Some.ensures.second) (rw c.in-Some.is at c.in_ok-world.ensures.answers)
+    subst (λ (s : List Interface). StandFor s (present_in c.args.self.now)) (sym c.in_ok-changed_keys-in-Some.ensures.second) (rw c.in-Some.is at c.in_ok-world.ensures.answers)
 
 pub returns-in_ok-list-in-Some-clause-answers : goal.returns-in_ok-list-in-Some-clause-answers
 returns-in_ok-list-in-Some-clause-answers c =
-    subst (λ (s : List Interface). AnswerAs s (present_in c.args.self.now))
+    subst (λ (s : List Interface). StandFor s (present_in c.args.self.now))
     (sym (c.into_second.ensures.world ∙ c.in_ok-list-in-Some.ensures.second ∙ c.in_ok-changed_keys-in-Some.ensures.second)) (rw c.in-Some.is at c.in_ok-world.ensures.answers)
 
 pub returns-in_ok-list-in-Some-clause-over : goal.returns-in_ok-list-in-Some-clause-over
@@ -45,3 +49,12 @@ pub returns-in_ok-list-in-None-clause-alike : goal.returns-in_ok-list-in-None-cl
 returns-in_ok-list-in-None-clause-alike c =
     let self = c.args.self.now in
     as_present (interfaces_by c.args.keys.now) (last_in self) (present_in self) c.requires.last (rw c.in-None.is at c.in_ok-world.ensures.alike)
+
+pub new-requires : goal.new-requires
+new-requires c =
+    subst (λ (w : PlainWorld). ∥ AnswersStay (is_flagged c.in_ok-changed-in-Some.changed) (interfaces_by c.args.keys.now) (world_in w) ∥₁)
+    c.deref.ensures c.in_ok-changed-in-Some.ensures
+
+pub changed-requires-clause-next : goal.changed-requires-clause-next
+changed-requires-clause-next c =
+    subst (λ (w : PlainWorld). StandFor (world_in w) (present_in c.args.self.now)) (sym c.deref.ensures) (rw c.in-Some.is at c.in_ok-world.ensures.answers)
