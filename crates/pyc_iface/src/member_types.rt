@@ -11,6 +11,7 @@ ghost use Rattle.pyc_iface.specs.Members as spec;
 ghost use Rattle.pyc_iface.specs.PlainWorldView.{world_in};
 ghost use Rattle.pyc_members.specs.AttributeView.{attribute_of, attribute_form_of};
 ghost use Rattle.pyc_members.specs.ClassBodyView.{own_member_of};
+ghost use Rattle.pyc_members.specs.Methods.{method_kind};
 ghost use Rattle.pyc_names.specs.InterfaceView.{interface_in};
 ghost use Rattle.pyc_names.specs.NotedLooks.{with_looks};
 ghost use Rattle.pyc_names.specs.NotedLooksView.{noted_in};
@@ -89,10 +90,7 @@ impl PlainWorld {
             (look.form_member_looks (world_in self.now) (declared_at c.entry) (binding_form_of form.now))) }
     {
         match form {
-            BindingForm::Function(head) => {
-                let kind = method_kind(&head.decorators);
-                self.method_member(alloc, c, name, head, kind, looks)
-            }
+            BindingForm::Function(head) => self.method_member(alloc, c, name, head, looks),
             BindingForm::Annotated(found) => {
                 let ty = self
                     .declarations()
@@ -104,7 +102,7 @@ impl PlainWorld {
         }
     }
 
-    /// A method of this name and kind.
+    /// A method of this name, of the kind that its decorators give.
     #[tactic(auto, using(pyc_names::proofs::NotedLemmas::noting))]
     fn method_member(
         &self,
@@ -112,16 +110,16 @@ impl PlainWorld {
         c: Declared<'_>,
         name: &Text,
         head: &FunctionDefinition,
-        kind: MethodKind,
         looks: &mut Looks,
     ) -> Result<MemberAnswer, AllocError>
         ensures found { IfOk result (λ found. member_answer_of found
             ≡ spec.method_member (world_in self.now) (declared_at c.entry) name.now (function_of head.now)
-            kind) }
+            (method_kind (function_of head.now).decorators)) }
         ensures looks { IfOk result (λ found. noted_in looks.new ≡ with_looks (noted_in looks.old)
-            (look.method_looks (world_in self.now) (declared_at c.entry) (function_of head.now) kind)) }
+            (look.method_looks (world_in self.now) (declared_at c.entry) (function_of head.now)
+            (method_kind (function_of head.now).decorators))) }
     {
-        match kind {
+        match method_kind(&head.decorators) {
             MethodKind::Property => {
                 let ty = self.property_type(alloc, c, head, looks)?;
                 member_of(c, property_kind(c.body.is_settable(name)), ty)
