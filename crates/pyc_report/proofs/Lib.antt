@@ -1,3 +1,4 @@
+pub mod ApartLemmas
 pub mod FoundLemmas
 pub mod ListLemmas
 pub mod OrderLemmas

@@ -7,6 +7,7 @@ use Rattle.std.specs.Ordering.{nat_cmp, ordering_then}
 use Rattle.std.specs.Cmp.Lexicographic.{slice_cmp}
 use Rattle.pyc_report.specs.declared.checked.Found.{Found as DeclaredFound}
 use Rattle.pyc_report.specs.declared.reporting.Located.{Located as DeclaredLocated}
+use Rattle.pyc_report.specs.declared.reporting.Placed.{Placed as DeclaredPlaced}
 use Rattle.pyc_report.specs.declared.checked.Report.{Report as DeclaredReport}
 use Rattle.pyc_report.specs.Message.{Message, code_of, message_in}
 use Rattle.pyc_report.specs.Sort.{sorted}
@@ -132,6 +133,10 @@ located_in message =
       code = message.code.now;
       text = message.text.now;
     }
+
+-- a message with its path, borrowed, as plain values
+abbrev pub placed_in : DeclaredPlaced → Located
+placed_in message = located message.path.now (message_in message.message.now)
 
 -- what was found in a file, as plain values
 abbrev pub found_in : DeclaredFound → Found

@@ -1,17 +1,6 @@
-use Rattle.std.proofs.Common.{append_assoc}
-use Rattle.pyc_report.specs.Report.{printed_line}
+use Rattle.std.proofs.Common.{◌++◌, ◌∙◌, ap}
+use Rattle.pyc_report.specs.Report.{located_in, printed_line}
 use Rattle.pyc_report.proofs.reporting.printed_line.Goals as goal
 
 pub returns : goal.returns
-unfolding printed_line
-returns c =
-    rw (
-      c.in_ok-push_str-5.ensures.bytes,
-      c.in_ok-push_reported.ensures,
-      c.in_ok-push_str-4.ensures.bytes,
-      c.in_ok-push_str-3.ensures.bytes,
-      c.in_ok-push_str-2.ensures.bytes,
-      c.in_ok-push_str.ensures.bytes,
-      c.new-line.ensures.bytes,
-      c.format.ensures.text,
-    ) (simp append_assoc)
+returns c = c.in_ok-push_line.ensures ∙ ap (λ text. text ++ printed_line (located_in c.args.message.now)) c.new-line.ensures.bytes
