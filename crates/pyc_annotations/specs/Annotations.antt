@@ -292,6 +292,13 @@ unfoldable pub union_rule : Step Annotation → Step Annotation → Step Annotat
 union_rule left right = and_then left (λ l. and_then right (λ r. Done
     (annotation_of_type (union_of (l.ty ∷ r.ty ∷ [])))))
 
+-- what stands right of `|`, one after another, where what stands left of the first is read as this
+unfoldable pub more_unions : Annotation → List (Step Annotation) → Step Annotation
+more_unions left [] = Done left
+more_unions left (read ∷ rest) = and_then
+    (and_then read (λ right. Done (annotation_of_type (union_of (left.ty ∷ right.ty ∷ [])))))
+    (λ joined. more_unions joined rest)
+
 -- ---- the whole
 
 abbrev mutual

@@ -156,9 +156,14 @@ fn read_type<N: Ask>(
     match written {
         TypeExpr::None => Ok(annotation_of_type(Ty::None)),
         TypeExpr::Name { at, name } => read_name(alloc, recorder, file, *at, name),
-        TypeExpr::Union { left, right } => {
-            let left = read_type(alloc, recorder, file, left)?;
-            let union = read_right(alloc, recorder, file, right, &left.ty)?;
+        TypeExpr::Union {
+            first,
+            between,
+            last,
+        } => {
+            let first = read_type(alloc, recorder, file, first)?;
+            let left = read_rest(alloc, recorder, file, first, between)?;
+            let union = read_right(alloc, recorder, file, last, &left.ty)?;
             Ok(union)
         }
         TypeExpr::Subscript {
@@ -222,6 +227,28 @@ fn read_right<N: Ask>(
     let right = read_type(alloc, recorder, file, right)?;
     let union = pair_union(alloc, left, &right.ty)?;
     Ok(annotation_of_type(union))
+}
+
+/// What stands right of `|`, one after another, where what stands left of the first is read as this.
+#[cycle(reading)]
+#[tactic(auto, using(crate::proofs::Steps::performing), unfolding(crate::specs::Annotations::more_unions))]
+fn read_rest<N: Ask>(
+    alloc: Global,
+    recorder: &mut N,
+    file: &Interface,
+    first: Annotation,
+    rest: &[TypeExpr],
+) -> Result<Annotation, AllocError>
+    ensures { Performs annotation_in
+        (spec.more_unions (annotation_in first)
+        (spec.type_readings (interface_in file.now) (type_exprs (map type_expr_of rest.now))))
+        (N.trace recorder.old) result (N.trace recorder.new) }
+{
+    let mut left = first;
+    for right in rest {
+        left = read_right(alloc, recorder, file, right, &left.ty)?;
+    }
+    Ok(left)
 }
 
 /// A name with arguments.

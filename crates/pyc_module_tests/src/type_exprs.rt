@@ -76,14 +76,22 @@ fn write_argument(argument: &TypeArgument, shown: &mut String) -> Result<(), Fai
     Ok(())
 }
 
-/// Writes an annotation: a union with the heads of both sides, a name with its arguments, with `2` before them where it
+/// Writes an annotation: a union with the heads of its items, a name with its arguments, with `2` before them where it
 /// is subscripted more than once, or its head alone.
 fn write_form(written: &TypeExpr, shown: &mut String) -> Result<(), Fail> {
     match written {
-        TypeExpr::Union { left, right } => {
-            write_head(left, shown)?;
+        TypeExpr::Union {
+            first,
+            between,
+            last,
+        } => {
+            write_head(first, shown)?;
+            for written in between {
+                shown.push_str(" | ")?;
+                write_head(written, shown)?;
+            }
             shown.push_str(" | ")?;
-            write_head(right, shown)?;
+            write_head(last, shown)?;
         }
         TypeExpr::Subscript {
             name,
@@ -132,7 +140,7 @@ const WRITTEN: &[(&str, &str)] = &[
     ("None", "None"),
     ("a | None", "a | None"),
     ("a.b | (c | d)", "a.b | |"),
-    ("a | b[c] | d", "| | d"),
+    ("a | b[c] | d", "a | b[] | d"),
     ("list[a] | 1", "list[] | ?14"),
     ("1", "?4"),
     ("(a)()[b]", "?4"),

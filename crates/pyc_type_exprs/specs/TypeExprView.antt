@@ -8,6 +8,7 @@ use Rattle.pyc_type_exprs.specs.declared.forms.ArgumentShape.TheOpen.{ArgumentSh
 use Rattle.pyc_type_exprs.specs.declared.forms.ArgumentShape.TheOpen as layer
 use Rattle.pyc_type_exprs.specs.declared.forms.TypeExpr.{TypeExpr as TypeExprOf}
 use Rattle.pyc_type_exprs.specs.TypeExprs.{DottedName, TypeExpr, none_written, name_written, union_written}
+use Rattle.pyc_type_exprs.specs.TypeExprs.{unions_written}
 use Rattle.pyc_type_exprs.specs.TypeExprs.{subscript_written, wrong_written, TypeArgument, type_argument, ArgumentShape}
 use Rattle.pyc_type_exprs.specs.TypeExprs.{ellipsis_shape, list_shape, other_shape, type_exprs, type_arguments}
 
@@ -18,7 +19,7 @@ dotted_name_of name = record { at = name.at; names = name.names.items }
 abbrev pub type_expr_step : TypeExpr-F ArgumentShape TypeExpr TypeArgument → TypeExpr
 type_expr_step layer.None = none_written
 type_expr_step (layer.Name at name) = name_written at (dotted_name_of name)
-type_expr_step (layer.Union left right) = union_written left.value right.value
+type_expr_step (layer.Union first between last) = union_written (unions_written first.value between.items) last.value
 type_expr_step (layer.Subscript at name is_nested arguments) =
     subscript_written at (dotted_name_of name) is_nested (type_arguments arguments.items)
 type_expr_step (layer.Wrong at) = wrong_written at

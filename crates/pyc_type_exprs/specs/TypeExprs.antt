@@ -182,3 +182,8 @@ argument_of e = type_argument (type_expr e) (shape_of e)
 -- one expression in brackets as arguments
 abbrev pub item_arguments : Expr → List TypeArgument
 item_arguments e = items_or (argument_of e) (tuple_items e)
+
+-- `first | .. | last`, by the first and the others
+abbrev pub unions_written : TypeExpr → List TypeExpr → TypeExpr
+unions_written first [] = first
+unions_written first (next ∷ rest) = unions_written (union_written first next) rest

@@ -19,10 +19,11 @@ pub enum TypeExpr {
         at: Position,
         name: DottedName,
     },
-    /// `left | right`
+    /// `first | .. | last`, with what stands between them.
     Union {
-        left: Box<TypeExpr>,
-        right: Box<TypeExpr>,
+        first: Box<TypeExpr>,
+        between: Vec<TypeExpr>,
+        last: Box<TypeExpr>,
     },
     /// A name with arguments in brackets, and whether it is subscripted more than once.
     Subscript {
@@ -41,9 +42,14 @@ impl Drop for TypeExpr {
     fn drop(self) {
         match self {
             TypeExpr::Name { at: _, name } => drop(name),
-            TypeExpr::Union { left, right } => {
-                drop(left);
-                drop(right);
+            TypeExpr::Union {
+                first,
+                between,
+                last,
+            } => {
+                drop(first);
+                drop(between);
+                drop(last);
             }
             TypeExpr::Subscript {
                 at: _,

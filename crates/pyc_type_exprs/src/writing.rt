@@ -1,6 +1,6 @@
 //! What annotations are written as.
 
-ghost use Rattle.std.specs.Prelude.{◌≡◌, ◌++◌, ◌∷◌, [], IfOk, map, option_map};
+ghost use Rattle.std.specs.Prelude.{◌≡◌, ◌++◌, ◌∷◌, [], IfOk, map, option_map, reverse};
 ghost use Rattle.pyc_type_exprs.specs.TypeExprs as spec;
 ghost use Rattle.pyc_type_exprs.specs.TypeExprView.{type_expr_of, type_argument_of, shape_in};
 ghost use Rattle.pyc_ast.specs.ExprView.{expr_of, element_of, index_of};
@@ -104,15 +104,28 @@ fn subscript_or_wrong(
     }
 }
 
-/// `left | right`
-fn union_written(alloc: Global, left: TypeExpr, right: TypeExpr) -> Result<TypeExpr, AllocError>
+/// `first | .. | last`, by the first and the others.
+fn unions_written(
+    alloc: Global,
+    first: TypeExpr,
+    rest: Vec<TypeExpr>,
+) -> Result<TypeExpr, AllocError>
     ensures { IfOk result (λ written. type_expr_of written
-        ≡ spec.union_written (type_expr_of left) (type_expr_of right)) }
+        ≡ spec.unions_written (type_expr_of first) (map type_expr_of rest.items)) }
 {
-    Ok(TypeExpr::Union {
-        left: Box::new(alloc, left)?,
-        right: Box::new(alloc, right)?,
-    })
+    let mut between = rest;
+    match between.pop() {
+        Some(last) => {
+            let first = Box::new(alloc, first)?;
+            let last = Box::new(alloc, last)?;
+            Ok(TypeExpr::Union {
+                first,
+                between,
+                last,
+            })
+        }
+        None => Ok(first),
+    }
 }
 
 /// A name as an annotation.
@@ -170,34 +183,54 @@ fn subscript_written(
     Ok(subscript_or_wrong(at, head.inside, is_subscript(value), arguments, names))
 }
 
+/// What stands left of each `|` of a union as an annotation: the others go behind these, the last one first. A loop
+/// goes through what stands left of a `|`, so many take no more of the stack.
+#[cycle(writing)]
+fn first_written(
+    alloc: Global,
+    e: &Expr,
+    rights: &mut Vec<TypeExpr>,
+) -> Result<TypeExpr, AllocError>
+    ensures { IfOk result (λ written.
+        spec.unions_written (type_expr_of written) (map type_expr_of (reverse rights.new.items))
+        ≡ spec.unions_written (spec.type_expr (expr_of e.now))
+        (map type_expr_of (reverse rights.old.items))) }
+{
+    let mut left = e;
+    loop {
+        match &left.form {
+            Form::Binary {
+                operator,
+                left: before,
+                right,
+            } => {
+                if !is_bit_or(*operator) {
+                    return Ok(TypeExpr::Wrong(left.at));
+                }
+                rights.push(type_expr(alloc, right)?)?;
+                left = before;
+            }
+            Form::StringAnnotation(spelled) => left = spelled,
+            Form::Constant(constant) => return Ok(constant_written(left.at, *constant)),
+            Form::Name(_) | Form::Attribute { .. } => return name_written(alloc, left),
+            Form::Subscript { value, index } => {
+                let arguments = index_arguments(alloc, index)?;
+                return subscript_written(alloc, left.at, value, arguments);
+            }
+            _ => return Ok(TypeExpr::Wrong(left.at)),
+        }
+    }
+}
+
 /// An expression as an annotation. The only error is that memory runs out.
 #[cycle(writing)]
 pub fn type_expr(alloc: Global, e: &Expr) -> Result<TypeExpr, AllocError>
     ensures { IfOk result (λ written. type_expr_of written ≡ spec.type_expr (expr_of e.now)) }
 {
-    match &e.form {
-        Form::Constant(constant) => Ok(constant_written(e.at, *constant)),
-        Form::Name(_) | Form::Attribute { .. } => name_written(alloc, e),
-        Form::Binary {
-            operator,
-            left,
-            right,
-        } => {
-            if is_bit_or(*operator) {
-                let left = type_expr(alloc, left)?;
-                let right = type_expr(alloc, right)?;
-                union_written(alloc, left, right)
-            } else {
-                Ok(TypeExpr::Wrong(e.at))
-            }
-        }
-        Form::Subscript { value, index } => {
-            let arguments = index_arguments(alloc, index)?;
-            subscript_written(alloc, e.at, value, arguments)
-        }
-        Form::StringAnnotation(spelled) => type_expr(alloc, spelled),
-        _ => Ok(TypeExpr::Wrong(e.at)),
-    }
+    let mut rights = Vec::new(alloc);
+    let first = first_written(alloc, e, &mut rights)?;
+    rights.reverse();
+    unions_written(alloc, first, rights)
 }
 
 /// An expression as an argument.

@@ -2,10 +2,10 @@ use Rattle.std.proofs.lemmas.Grind.{common_steps}
 use Rattle.std.proofs.Common.{◌≡◌, ◌∷◌, ◌∙◌, [], ◌<◌, ◌≤◌, List, length, map, ap, sym, subst, arith, rules, true, false}
 use Rattle.std.proofs.lemmas.List.{map_push}
 use Rattle.pyc_annotations.proofs.Arguments.{readings_of, length_readings, form_taken, form_not_taken, callable_two, callable_other, tuple_other}
-use Rattle.pyc_annotations.proofs.Sizes.{arguments_below}
+use Rattle.pyc_annotations.proofs.Sizes.{arguments_below, union_below}
 use Rattle.pyc_annotations.proofs.Steps.{performs_same, performing}
-use Rattle.pyc_annotations.proofs.Turns.{argument_turn, type_turn}
-use Rattle.pyc_annotations.specs.Annotations.{Annotation, annotation_of_type, plain_callable, more_types, type_readings, read_type, callable_of, shape_reading, takes, subscripted_rule, union_rule, subscript_rule, built_rule, form_rule}
+use Rattle.pyc_annotations.proofs.Turns.{argument_turn, type_turn, union_turn, union_readings}
+use Rattle.pyc_annotations.specs.Annotations.{Annotation, annotation_of_type, plain_callable, more_types, more_unions, type_readings, read_type, callable_of, shape_reading, takes, subscripted_rule, union_rule, subscript_rule, built_rule, form_rule}
 use Rattle.pyc_annotations.specs.Views.{annotation_in, subscripted_of}
 use Rattle.pyc_names.specs.InterfaceView.{interface_in}
 use Rattle.pyc_reading.proofs.RunLemmas.{after, grown_trans}
@@ -13,7 +13,7 @@ use Rattle.pyc_reading.specs.Traces.{Step, run}
 use Rattle.pyc_reading.specs.Readings.{Done, and_then}
 use Rattle.pyc_type_exprs.specs.declared.forms.ArgumentShape.TheFolds.{the_lemmas}
 use Rattle.pyc_type_exprs.specs.declared.forms.ArgumentShape.TheViews.{size-TypeExpr, size-TypeArgument}
-use Rattle.pyc_type_exprs.specs.TypeExprs.{TypeExpr as Written, list_shape, other_shape, type_exprs, union_written}
+use Rattle.pyc_type_exprs.specs.TypeExprs.{TypeExpr as Written, list_shape, other_shape, type_exprs, union_written, unions_written}
 use Rattle.pyc_type_exprs.specs.TypeExprView.{type_expr_of, shape_in, dotted_name_of}
 use Rattle.pyc_type_forms.specs.declared.types.Ty.{Ty}
 use Rattle.pyc_type_forms.specs.TypeView.{ty_of}
@@ -99,33 +99,55 @@ read_tuple-returns-in_default g t c =
     ] in
     performs_same _ _ _ _ _ _ (tuple_other (readings_of file xs) (λ e. other (sym (length_readings file xs) ∙ e))) c.read_built-in_default.ensures
 
+pub read_rest-loop-right-preserved : goal.read_rest-loop-right-preserved
+read_rest-loop-right-preserved g t c =
+    record {
+      same =
+          union_turn (interface_in c.args.file.now) (annotation_in c.loop-right.left) _ c.args.rest.now c.loop-right.right-index _ _ _ c.loop-right-test.true c.right-item.is c.in_ok-left.ensures.done
+          ∙ c.loop-right.invariant.same;
+      grown = grown_trans c.loop-right.invariant.grown c.read_right.ensures.grown;
+    }
+
 pub read_type-returns-in_ok-union-in-Union : goal.read_type-returns-in_ok-union-in-Union
 unfolding union_rule
 read_type-returns-in_ok-union-in-Union g t c =
     let file = interface_in c.args.file.now in
     let trace = g.N.Ask.trace c.args.recorder.now in
-    let left = c.deref.result.now in
-    let right = c.deref-in-Union.result.now in
-    let written : type_expr_of c.args.written.now ≡ union_written (type_expr_of left) (type_expr_of right) = rw c.in-Union.is (search (rules, the_lemmas)) in
+    let first = type_expr_of c.deref.result.now in
+    let between = c.deref-in-Union.result.now in
+    let last = type_expr_of c.deref-in-Union-2.result.now in
+    let front = unions_written first (map type_expr_of between) in
+    let written : type_expr_of c.args.written.now ≡ union_written front last = rw c.in-Union.is (search (rules, the_lemmas)) in
+    let left =
+    union_readings file first between trace
+    ∙ after (read_type file first) (λ l. more_unions l (type_readings file (type_exprs (map type_expr_of between)))) trace _ _ _ _ c.in_ok-first-in-Union.ensures.done c.in_ok-left-in-Union.ensures.done in
     record {
       done =
           ap (λ (w : Written). run (read_type file w) trace) written
-          ∙ after (read_type file (type_expr_of left)) (λ l. and_then (read_type file (type_expr_of right)) (λ r. Done (annotation_of_type (union_of (l.ty ∷ r.ty ∷ []))))) trace _ _ _ _ c.in_ok-left-in-Union.ensures.done c.in_ok-union-in-Union.ensures.done;
-      grown = grown_trans c.read_type.ensures.grown c.read_right.ensures.grown;
+          ∙ after (read_type file front) (λ l. and_then (read_type file last) (λ r. Done (annotation_of_type (union_of (l.ty ∷ r.ty ∷ []))))) trace _ _ _ _ left c.in_ok-union-in-Union.ensures.done;
+      grown = grown_trans (grown_trans c.read_type.ensures.grown c.read_rest.ensures.grown) c.read_right.ensures.grown;
     }
+
+pub read_type-read_rest-requires : goal.read_type-read_rest-requires
+read_type-read_rest-requires g t c κs within =
+    let h : most size-TypeExpr c.deref-in-Union.result.now < size-TypeExpr c.args.written.now = rw (c.in-Union.is, c.deref-in-Union.ensures.value) (union_below _ _ _) in
+    (omega (arith, h, c.decreases), search rules)
 
 pub read_type-read_subscript-requires : goal.read_type-read_subscript-requires
 read_type-read_subscript-requires g t c κs within =
     let h : most size-TypeArgument c.deref-in-Subscript.result.now < size-TypeExpr c.args.written.now = rw (c.in-Subscript.is, c.deref-in-Subscript.ensures.value) (arguments_below _ _ _ _) in
     (omega (arith, h, c.decreases), search rules)
 
-pub read_type-returns-in_err-left-in-Union : goal.read_type-returns-in_err-left-in-Union
+pub read_type-returns-in_err-first-in-Union : goal.read_type-returns-in_err-first-in-Union
 unfolding union_rule
-read_type-returns-in_err-left-in-Union g t c = first_of (grind (arith, performing), search rules)
+read_type-returns-in_err-first-in-Union g t c = first_of (grind (arith, performing), search rules)
 
 pub read_type-returns-in_err-union-in-Union : goal.read_type-returns-in_err-union-in-Union
-unfolding union_rule
-read_type-returns-in_err-union-in-Union g t c = first_of (grind (arith, performing), search rules)
+read_type-returns-in_err-union-in-Union g t c =
+    record {
+      done = search rules;
+      grown = grown_trans (grown_trans c.read_type.ensures.grown c.read_rest.ensures.grown) c.read_right.ensures.grown;
+    }
 
 pub read_subscript-returns-in_err-meaning : goal.read_subscript-returns-in_err-meaning
 unfolding subscript_rule
@@ -134,15 +156,6 @@ read_subscript-returns-in_err-meaning g t c = first_of (grind (arith, performing
 pub read_subscript-returns : goal.read_subscript-returns
 unfolding subscript_rule
 read_subscript-returns g t c = first_of (grind (arith, performing), search rules)
-
-pub read_right-returns-in_err-right : goal.read_right-returns-in_err-right
-read_right-returns-in_err-right g t c = first_of (grind (arith, performing), search rules)
-
-pub read_right-returns-in_err-union : goal.read_right-returns-in_err-union
-read_right-returns-in_err-union g t c = first_of (grind (arith, performing), search rules)
-
-pub read_right-returns : goal.read_right-returns
-read_right-returns g t c = first_of (grind (arith, performing), search rules)
 
 pub read_built-returns-in_err-types : goal.read_built-returns-in_err-types
 unfolding built_rule
@@ -266,3 +279,28 @@ read_subscripted-returns-in_err-of_class-in-Class g t c = first_of (grind (arith
 pub read_subscripted-returns-in_ok-of_class-in-Class : goal.read_subscripted-returns-in_ok-of_class-in-Class
 unfolding subscripted_rule
 read_subscripted-returns-in_ok-of_class-in-Class g t c = first_of (grind (arith, common_steps), search rules)
+
+pub read_right-returns-in_err-right : goal.read_right-returns-in_err-right
+read_right-returns-in_err-right g t c = first_of (grind (arith, performing), search rules)
+
+pub read_right-returns-in_err-union : goal.read_right-returns-in_err-union
+read_right-returns-in_err-union g t c = first_of (grind (arith, performing), search rules)
+
+pub read_right-returns : goal.read_right-returns
+read_right-returns g t c = first_of (grind (arith, performing), search rules)
+
+pub read_rest-loop-right-init : goal.read_rest-loop-right-init
+unfolding more_unions
+read_rest-loop-right-init g t c = first_of (grind (arith, performing), search rules)
+
+pub read_rest-returns : goal.read_rest-returns
+unfolding more_unions
+read_rest-returns g t c = first_of (grind (arith, common_steps, performing), search rules)
+
+pub read_rest-returns-in_err-left : goal.read_rest-returns-in_err-left
+unfolding more_unions
+read_rest-returns-in_err-left g t c = first_of (grind (arith, performing), search rules)
+
+pub read_type-returns-in_err-left-in-Union : goal.read_type-returns-in_err-left-in-Union
+unfolding union_rule
+read_type-returns-in_err-left-in-Union g t c = first_of (grind (arith, performing), search rules)

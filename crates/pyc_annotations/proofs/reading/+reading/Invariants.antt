@@ -1,5 +1,6 @@
 use Rattle.std.proofs.Common.{map, drop, []}
-use Rattle.pyc_annotations.specs.Annotations.{more_types, argument_readings, type_readings}
+use Rattle.pyc_annotations.specs.Annotations.{more_types, more_unions, argument_readings, type_readings}
+use Rattle.pyc_annotations.specs.Views.{annotation_in}
 use Rattle.pyc_names.specs.InterfaceView.{interface_in}
 use Rattle.pyc_reading.specs.Traces.{Going}
 use Rattle.pyc_type_exprs.specs.TypeExprs.{type_arguments, type_exprs}
@@ -17,3 +18,8 @@ abbrev pub invariant-listed_types-loop-written : goal.invariant-listed_types-loo
 invariant-listed_types-loop-written g l =
     Going (more_types (map ty_of l.types.items) (type_readings (interface_in l.file) (type_exprs (map type_expr_of (drop l.written-index l.listed))))) (g.N.Ask.trace l.recorder)
     (more_types [] (type_readings (interface_in l.file) (type_exprs (map type_expr_of l.listed)))) (g.N.Ask.trace l.fn.recorder)
+
+abbrev pub invariant-read_rest-loop-right : goal.invariant-read_rest-loop-right
+invariant-read_rest-loop-right g l =
+    Going (more_unions (annotation_in l.left) (type_readings (interface_in l.file) (type_exprs (map type_expr_of (drop l.right-index l.rest))))) (g.N.Ask.trace l.recorder)
+    (more_unions (annotation_in l.fn.first) (type_readings (interface_in l.file) (type_exprs (map type_expr_of l.rest)))) (g.N.Ask.trace l.fn.recorder)

@@ -1,5 +1,11 @@
-use Rattle.std.proofs.Common.{arith, rules}
+use Rattle.std.proofs.Common.{◌∙◌, ◌<◌, arith, rules, ap, map}
 use Rattle.std.proofs.lemmas.Grind.{common_steps}
+use Rattle.pyc_ast.proofs.expr.Expr.TheLaws.{the_size}
+use Rattle.pyc_ast.proofs.expr.Index.TheLaws.{the_size as index_size}
+use Rattle.pyc_ast.specs.ExprView.{expr_of}
+use Rattle.pyc_type_exprs.specs.TypeExprs.{type_expr, unions_written}
+use Rattle.pyc_type_exprs.specs.TypeExprView.{type_expr_of}
+use Rattle.pyc_type_exprs.proofs.Unions.{sides_fall, index_falls, one_more}
 use Rattle.pyc_type_exprs.proofs.writing.+writing.Goals as goal
 
 pub argument_of-returns-in_err-shape : goal.argument_of-returns-in_err-shape
@@ -68,11 +74,12 @@ shape_of-returns-in_err-elements_written-in-List t c = first_of (grind (arith, c
 pub tuple_items-returns-in_err-element_arguments-in-Tuple : goal.tuple_items-returns-in_err-element_arguments-in-Tuple
 tuple_items-returns-in_err-element_arguments-in-Tuple t c = first_of (grind (arith, common_steps), search rules)
 
-pub type_expr-returns-in_err-arguments-in-Subscript : goal.type_expr-returns-in_err-arguments-in-Subscript
-type_expr-returns-in_err-arguments-in-Subscript t c = first_of (grind (arith, common_steps), search rules)
+pub first_written-type_expr-requires : goal.first_written-type_expr-requires
+first_written-type_expr-requires t c =
+    let h : the_size c.deref.result.now < the_size c.args.e.now = rw c.deref.ensures (sides_fall c.loop-left.left.now (the_size c.args.e.now) _ _ _ c.loop-left.invariant.0 c.in-Binary.is).1 in
+    (omega (arith, h, c.decreases), search rules)
 
-pub type_expr-returns-in_err-left-in-Binary : goal.type_expr-returns-in_err-left-in-Binary
-type_expr-returns-in_err-left-in-Binary t c = first_of (grind (arith, common_steps), search rules)
-
-pub type_expr-returns-in_err-right-in-Binary : goal.type_expr-returns-in_err-right-in-Binary
-type_expr-returns-in_err-right-in-Binary t c = first_of (grind (arith, common_steps), search rules)
+pub first_written-index_arguments-requires : goal.first_written-index_arguments-requires
+first_written-index_arguments-requires t c =
+    let h : index_size c.deref-in-Subscript.result.now < the_size c.args.e.now = rw c.deref-in-Subscript.ensures (index_falls c.loop-left.left.now (the_size c.args.e.now) _ _ c.loop-left.invariant.0 c.in-Subscript.is) in
+    (omega (arith, h, c.decreases), search rules)
