@@ -13,4 +13,4 @@ pub use meter::Meter;
 pub use numbering::{FileUnit, numbered_units};
 pub use pyc_recorder::Checked;
 pub use pyc_units::{Unit, UnitId, count_units, file_units, unit_definitions};
-pub use suppressing::{drop_ignored, push_copies, unsuppressed};
+pub use suppressing::unsuppressed;

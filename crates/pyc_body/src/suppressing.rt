@@ -30,7 +30,7 @@ pub fn unsuppressed(
 }
 
 /// Takes the messages away that the ignore comments of a file suppress. It takes no memory.
-pub fn drop_ignored(file: &SourceFile, messages: &mut Vec<Message>)
+fn drop_ignored(file: &SourceFile, messages: &mut Vec<Message>)
     ensures { map message_in messages.new.items
         ≡ without_ignored (source_in file.now).outcome (map message_in messages.old.items) }
 {
@@ -52,7 +52,7 @@ fn messages_of_checks(alloc: Global, checks: &[Checked]) -> Result<Vec<Message>,
 }
 
 /// Adds messages once more. The only error is that memory runs out.
-pub fn push_copies(messages: &mut Vec<Message>, more: &[Message]) -> Result<(), AllocError>
+fn push_copies(messages: &mut Vec<Message>, more: &[Message]) -> Result<(), AllocError>
     ensures { OnOk result (map message_in messages.new.items
         ≡ map message_in messages.old.items ++ map message_in more.now) }
 {

@@ -35,6 +35,15 @@ fn messages(
     Ok(messages)
 }
 
+/// These messages, borrowed. The only error is that memory runs out.
+fn borrowed(alloc: Global, messages: &[Message]) -> Result<Vec<&Message>, AllocError> {
+    let mut all = Vec::new(alloc);
+    for message in messages {
+        all.push(message)?;
+    }
+    Ok(all)
+}
+
 /// The error of a file with one.
 const ONE_ERROR: &[(usize, usize, MessageKind, &str)] = &[(
     1,
@@ -48,7 +57,7 @@ fn one_error_in_one_file(rt: HostRuntime) -> Result<(), Fail> {
     let messages = messages(rt.alloc(), ONE_ERROR)?;
     let found = Found {
         path: "a.py",
-        messages: &messages,
+        messages: borrowed(rt.alloc(), &messages)?,
     };
     let report = report(rt.alloc(), &[found])?;
     assert_eq!(rt;

@@ -140,7 +140,8 @@ placed_in message = located message.path.now (message_in message.message.now)
 
 -- what was found in a file, as plain values
 abbrev pub found_in : DeclaredFound → Found
-found_in found = record { path = found.path.now; messages = map message_in found.messages.now }
+found_in found =
+    record { path = found.path.now; messages = map (λ message. message_in message.now) found.messages.items }
 
 -- the report as plain values
 abbrev pub report_in : DeclaredReport → Report

@@ -2,11 +2,11 @@
 
 use crate::message::Message;
 
-/// What was found in one file: its path as it is printed, and its messages in any order, borrowed.
-#[derive(Clone, Copy, Debug)]
+/// What was found in one file: its path as it is printed, and its messages in any order, all borrowed.
+#[derive(Debug, Drop)]
 pub struct Found<'a> {
     pub path: &'a str,
-    pub messages: &'a [Message],
+    pub messages: Vec<&'a Message>,
 }
 
 /// What is printed for the files that were checked.

@@ -16,4 +16,4 @@ pub use message::{Code, Message, MessageKind, ObligationKind};
 pub use name_texts::push_names;
 pub use ordering::in_order;
 pub use reporting::report;
-pub use suppressing::drop_suppressed;
+pub use suppressing::{drop_suppressed, is_suppressed};

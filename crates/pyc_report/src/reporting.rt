@@ -170,10 +170,10 @@ fn push_messages<'a>(messages: &mut Vec<Placed<'a>>, found: &'a Found<'_>) -> Re
     ensures { OnOk result (map placed_in messages.new.items
         ≡ map placed_in messages.old.items ++ located_messages (found_in found.now)) }
 {
-    for message in found.messages {
+    for message in &found.messages {
         messages.push(Placed {
             path: found.path,
-            message,
+            message: *message,
         })?;
     }
     Ok(())
@@ -298,8 +298,8 @@ fn has_error(found: &Found<'_>) -> bool
     ensures { result ≡ spec.has_error (found_in found.now) }
 {
     found.messages.iter().any(
-        |message: &Message| -> bool
-            ensures { result ≡ spec.is_error (located found.entry.now.path.now (message_in message.now)) }
+        |message: &&Message| -> bool
+            ensures { result ≡ spec.is_error (located found.entry.now.path.now (message_in message.now.now)) }
         { is_error(&message_at(found.path, message)) },
     )
 }

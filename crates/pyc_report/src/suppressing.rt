@@ -21,9 +21,9 @@ pub fn drop_suppressed(tree: &Module, messages: &mut Vec<Message>)
     );
 }
 
-/// Whether a message is suppressed: by an ignore of the whole file, or by a comment on its line.
+/// Whether the ignore comments of a module suppress a message: one of the whole file, or one on its line.
 #[tactic(auto, unfolding(crate::specs::Suppressing::is_suppressed))]
-fn is_suppressed(tree: &Module, message: &Message) -> bool
+pub fn is_suppressed(tree: &Module, message: &Message) -> bool
     ensures { result ≡ spec.is_suppressed (module_of tree.now) (message_in message.now) }
 {
     is_suppressible(message.kind) && (tree.whole_file || is_ignored(&tree.ignores, message))

@@ -15,3 +15,4 @@ pub mod OnceLemmas
 pub mod ExactLemmas
 pub mod FileLemmas
 pub mod HoldLemmas
+pub mod ShownLemmas

@@ -12,3 +12,4 @@ pub mod Examination
 pub mod Reports
 pub mod ExaminedLaws
 pub mod Exact
+pub mod Shown

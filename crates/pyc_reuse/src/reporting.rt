@@ -40,17 +40,24 @@ fn reported_by<'a>(
 {
     let mut all = Vec::with_capacity(alloc, files.len())?;
     for index in 0..files.len() {
-        all.push(reported_of(&files[index], &file_results[index]))?;
+        let found = reported_of(alloc, &files[index], &file_results[index])?;
+        all.push(found)?;
     }
     Ok(all)
 }
 
 /// What is reported of a file.
-fn reported_of<'a>(file: &'a File, file_result: &'a FileResult) -> Found<'a>
-    ensures { found_in result ≡ record { path = (file_in file.now).path; messages = reported_in file_result.now } }
+fn reported_of<'a>(
+    alloc: Global,
+    file: &'a File,
+    file_result: &'a FileResult,
+) -> Result<Found<'a>, AllocError>
+    ensures { IfOk result (λ found. found_in found
+        ≡ record { path = (file_in file.now).path; messages = reported_in file_result.now }) }
 {
-    Found {
+    let messages = file_result.reported(alloc)?;
+    Ok(Found {
         path: file.path(),
-        messages: &file_result.messages,
-    }
+        messages,
+    })
 }

@@ -4,6 +4,7 @@ ghost use Rattle.std.specs.Prelude.{◌≡◌, IfOk, map, take, drop};
 ghost use Rattle.pyc_recorder.specs.CheckedView.{messages_of};
 ghost use Rattle.pyc_names.specs.Interfaces.{interface_of};
 ghost use Rattle.pyc_names.specs.InterfaceView.{interfaces_in};
+ghost use Rattle.pyc_report.specs.Message.{message_in};
 ghost use Rattle.pyc_report.specs.Report.{found_in, report_in, report_of};
 ghost use Rattle.pyc_workspace.specs.Files.{file_in, files_in};
 ghost use Rattle.pyc_workspace.specs.Fresh as spec;
@@ -100,10 +101,22 @@ fn found_of<'a>(alloc: Global, reported: &'a [Reported<'_>]) -> Result<Vec<Found
 {
     let mut all = Vec::with_capacity(alloc, reported.len())?;
     for one in reported {
+        let messages = borrowed(alloc, &one.messages)?;
         all.push(Found {
             path: one.path,
-            messages: &one.messages,
+            messages,
         })?;
+    }
+    Ok(all)
+}
+
+/// These messages, borrowed.
+fn borrowed(alloc: Global, messages: &[Message]) -> Result<Vec<&Message>, AllocError>
+    ensures { IfOk result (λ all. map (λ message. message_in message.now) all.items ≡ map message_in messages.now) }
+{
+    let mut all = Vec::with_capacity(alloc, messages.len())?;
+    for message in messages {
+        all.push(message)?;
     }
     Ok(all)
 }
