@@ -16,7 +16,7 @@ use std::alloc::Global;
 
 impl<F: Fn(Global, &mut Cursor<'_>, usize, u8) -> Result<Built, ParseError>> ExpressionRules<F> {
     /// An operator and its operand, both of this precedence.
-    #[tactic(auto, using(pyc_build::proofs::Steps::ReadsTokens_made), unfolding(pyc_tree::specs::Expressions::parse_unary))]
+    #[tactic(auto, unfolding(pyc_tree::specs::Expressions::parse_unary))]
     pub fn parse_unary(
         &self,
         tokens: &mut Cursor<'_>,
@@ -37,7 +37,7 @@ impl<F: Fn(Global, &mut Cursor<'_>, usize, u8) -> Result<Built, ParseError>> Exp
     }
 
     /// `if`, a test, `else` and another value, after a value.
-    #[tactic(auto, using(pyc_build::proofs::Steps::ReadsTokens_made), unfolding(pyc_tree::specs::Expressions::conditional))]
+    #[tactic(auto, unfolding(pyc_tree::specs::Expressions::conditional))]
     pub fn conditional(&self, tokens: &mut Cursor<'_>, left: Built) -> Result<Built, ParseError>
         requires { ReadsExpressions self.now.rules.depth (F.pre self.now.rules.expr) (F.post self.now.rules.expr) }
         ensures { ReadsTokens (λ b. tree_of b.expr.value)
@@ -52,7 +52,7 @@ impl<F: Fn(Global, &mut Cursor<'_>, usize, u8) -> Result<Built, ParseError>> Exp
     }
 
     /// `await` and its operand.
-    #[tactic(auto, using(pyc_build::proofs::Steps::ReadsTokens_made), unfolding(pyc_tree::specs::Expressions::await_expression))]
+    #[tactic(auto, unfolding(pyc_tree::specs::Expressions::await_expression))]
     pub fn await_expression(
         &self,
         tokens: &mut Cursor<'_>,
@@ -72,7 +72,7 @@ impl<F: Fn(Global, &mut Cursor<'_>, usize, u8) -> Result<Built, ParseError>> Exp
     }
 
     /// An operator and its right operand of this precedence, after the left one.
-    #[tactic(auto, using(pyc_build::proofs::Steps::ReadsTokens_made), unfolding(pyc_tree::specs::Expressions::parse_binary))]
+    #[tactic(auto, unfolding(pyc_tree::specs::Expressions::parse_binary))]
     pub fn parse_binary(
         &self,
         tokens: &mut Cursor<'_>,
@@ -91,7 +91,7 @@ impl<F: Fn(Global, &mut Cursor<'_>, usize, u8) -> Result<Built, ParseError>> Exp
     }
 
     /// `.` and a name, after an object.
-    #[tactic(auto, using(pyc_build::proofs::Steps::ReadsTokens_made), unfolding(pyc_tree::specs::Expressions::attribute))]
+    #[tactic(auto, unfolding(pyc_tree::specs::Expressions::attribute))]
     pub fn attribute(&self, tokens: &mut Cursor<'_>, object: Built) -> Result<Built, ParseError>
         ensures { ReadsTokens (λ b. tree_of b.expr.value)
             (spec.attribute (spec.expr self.now.rules.depth) (tree_of object.expr.value) tokens.old.rest.now) result
@@ -103,7 +103,7 @@ impl<F: Fn(Global, &mut Cursor<'_>, usize, u8) -> Result<Built, ParseError>> Exp
     }
 
     /// What an expression goes on with, by the next token.
-    #[tactic(auto, using(pyc_build::proofs::Steps::ReadsTokens_made), unfolding(pyc_tree::specs::Expressions::operation))]
+    #[tactic(auto, unfolding(pyc_tree::specs::Expressions::operation))]
     fn operation(&self, tokens: &mut Cursor<'_>, left: Built) -> Result<Built, ParseError>
         requires { ReadsExpressions self.now.rules.depth (F.pre self.now.rules.expr) (F.post self.now.rules.expr) }
         ensures { ReadsTokens (λ b. tree_of b.expr.value)
@@ -200,7 +200,7 @@ impl<F: Fn(Global, &mut Cursor<'_>, usize, u8) -> Result<Built, ParseError>> Exp
     }
 
     /// An operand and the operators after it.
-    #[tactic(auto, using(pyc_build::proofs::Steps::ReadsTokens_made), unfolding(pyc_tree::specs::Expressions::whole))]
+    #[tactic(auto, unfolding(pyc_tree::specs::Expressions::whole))]
     pub fn whole(&self, tokens: &mut Cursor<'_>, loosest: u8) -> Result<Built, ParseError>
         requires { ReadsExpressions self.now.rules.depth (F.pre self.now.rules.expr) (F.post self.now.rules.expr) }
         ensures { ReadsTokens (λ b. tree_of b.expr.value)

@@ -21,7 +21,7 @@ use std::alloc::Global;
 
 impl<F: Fn(Global, &mut Cursor<'_>, usize, u8) -> Result<Built, ParseError>> StatementRules<F> {
     /// An expression, a tuple without brackets or a `yield`.
-    #[tactic(auto, using(crate::proofs::ReadingSteps::reading), unfolding(pyc_tree::specs::SimpleStatements::value))]
+    #[tactic(auto, unfolding(pyc_tree::specs::SimpleStatements::value))]
     fn value(&self, tokens: &mut Cursor<'_>) -> Result<Built, ParseError>
         requires { ReadsExpressions self.now.rules.depth (F.pre self.now.rules.expr) (F.post self.now.rules.expr) }
         ensures { ReadsTokens (λ b. tree_of b.expr.value)
@@ -34,7 +34,7 @@ impl<F: Fn(Global, &mut Cursor<'_>, usize, u8) -> Result<Built, ParseError>> Sta
     }
 
     /// `=` and a value, if it comes next.
-    #[tactic(auto, using(crate::proofs::ReadingSteps::reading), unfolding(pyc_tree::specs::SimpleStatements::given))]
+    #[tactic(auto, unfolding(pyc_tree::specs::SimpleStatements::given))]
     fn given(&self, tokens: &mut Cursor<'_>) -> Result<BuiltTail, ParseError>
         requires { ReadsExpressions self.now.rules.depth (F.pre self.now.rules.expr) (F.post self.now.rules.expr) }
         ensures { ReadsTokens (λ b. tail_of b.tail)
@@ -82,7 +82,7 @@ impl<F: Fn(Global, &mut Cursor<'_>, usize, u8) -> Result<Built, ParseError>> Sta
     }
 
     /// An expression statement, or an assignment.
-    #[tactic(auto, using(crate::proofs::ReadingSteps::reading), unfolding(pyc_tree::specs::SimpleStatements::assigned))]
+    #[tactic(auto, unfolding(pyc_tree::specs::SimpleStatements::assigned))]
     fn assigned(
         &self,
         tokens: &mut Cursor<'_>,
@@ -98,7 +98,7 @@ impl<F: Fn(Global, &mut Cursor<'_>, usize, u8) -> Result<Built, ParseError>> Sta
     }
 
     /// `:`, an annotation, and perhaps a value, after a target.
-    #[tactic(auto, using(crate::proofs::ReadingSteps::reading), unfolding(pyc_tree::specs::SimpleStatements::annotated_target))]
+    #[tactic(auto, unfolding(pyc_tree::specs::SimpleStatements::annotated_target))]
     fn annotated_target(
         &self,
         tokens: &mut Cursor<'_>,
@@ -120,7 +120,7 @@ impl<F: Fn(Global, &mut Cursor<'_>, usize, u8) -> Result<Built, ParseError>> Sta
     }
 
     /// An operator as `+=` and a value, after a target.
-    #[tactic(auto, using(crate::proofs::ReadingSteps::reading), unfolding(pyc_tree::specs::SimpleStatements::augmented_assignment))]
+    #[tactic(auto, unfolding(pyc_tree::specs::SimpleStatements::augmented_assignment))]
     fn augmented_assignment(
         &self,
         tokens: &mut Cursor<'_>,
@@ -141,7 +141,7 @@ impl<F: Fn(Global, &mut Cursor<'_>, usize, u8) -> Result<Built, ParseError>> Sta
     }
 
     /// A statement that begins with an expression.
-    #[tactic(auto, using(crate::proofs::ReadingSteps::reading), unfolding(pyc_tree::specs::SimpleStatements::expression_or_assignment))]
+    #[tactic(auto, unfolding(pyc_tree::specs::SimpleStatements::expression_or_assignment))]
     fn expression_or_assignment(
         &self,
         tokens: &mut Cursor<'_>,
@@ -163,7 +163,7 @@ impl<F: Fn(Global, &mut Cursor<'_>, usize, u8) -> Result<Built, ParseError>> Sta
     }
 
     /// A statement that begins with `yield`.
-    #[tactic(auto, using(crate::proofs::ReadingSteps::reading), unfolding(pyc_tree::specs::SimpleStatements::yield_statement))]
+    #[tactic(auto, unfolding(pyc_tree::specs::SimpleStatements::yield_statement))]
     fn yield_statement(&self, tokens: &mut Cursor<'_>) -> Result<BuiltSimpleStatement, ParseError>
         requires { ReadsExpressions self.now.rules.depth (F.pre self.now.rules.expr) (F.post self.now.rules.expr) }
         ensures { ReadsTokens (λ b. statement_of b.statement)
@@ -175,7 +175,7 @@ impl<F: Fn(Global, &mut Cursor<'_>, usize, u8) -> Result<Built, ParseError>> Sta
     }
 
     /// `return`, perhaps with a value.
-    #[tactic(auto, using(crate::proofs::ReadingSteps::reading), unfolding(pyc_tree::specs::SimpleStatements::return_statement))]
+    #[tactic(auto, unfolding(pyc_tree::specs::SimpleStatements::return_statement))]
     fn return_statement(&self, tokens: &mut Cursor<'_>) -> Result<BuiltSimpleStatement, ParseError>
         requires { ReadsExpressions self.now.rules.depth (F.pre self.now.rules.expr) (F.post self.now.rules.expr) }
         ensures { ReadsTokens (λ b. statement_of b.statement)
@@ -191,7 +191,7 @@ impl<F: Fn(Global, &mut Cursor<'_>, usize, u8) -> Result<Built, ParseError>> Sta
     }
 
     /// `raise`, perhaps an exception, perhaps `from` and its cause.
-    #[tactic(auto, using(crate::proofs::ReadingSteps::reading), unfolding(pyc_tree::specs::SimpleStatements::raise_statement))]
+    #[tactic(auto, unfolding(pyc_tree::specs::SimpleStatements::raise_statement))]
     fn raise_statement(&self, tokens: &mut Cursor<'_>) -> Result<BuiltSimpleStatement, ParseError>
         requires { ReadsExpressions self.now.rules.depth (F.pre self.now.rules.expr) (F.post self.now.rules.expr) }
         ensures { ReadsTokens (λ b. statement_of b.statement)
@@ -208,7 +208,7 @@ impl<F: Fn(Global, &mut Cursor<'_>, usize, u8) -> Result<Built, ParseError>> Sta
     }
 
     /// `assert`, a test, and perhaps a message.
-    #[tactic(auto, using(crate::proofs::ReadingSteps::reading), unfolding(pyc_tree::specs::SimpleStatements::assert_statement))]
+    #[tactic(auto, unfolding(pyc_tree::specs::SimpleStatements::assert_statement))]
     fn assert_statement(&self, tokens: &mut Cursor<'_>) -> Result<BuiltSimpleStatement, ParseError>
         requires { ReadsExpressions self.now.rules.depth (F.pre self.now.rules.expr) (F.post self.now.rules.expr) }
         ensures { ReadsTokens (λ b. statement_of b.statement)
@@ -222,7 +222,7 @@ impl<F: Fn(Global, &mut Cursor<'_>, usize, u8) -> Result<Built, ParseError>> Sta
     }
 
     /// `del` and targets.
-    #[tactic(auto, using(crate::proofs::ReadingSteps::reading), unfolding(pyc_tree::specs::SimpleStatements::delete_statement))]
+    #[tactic(auto, unfolding(pyc_tree::specs::SimpleStatements::delete_statement))]
     fn delete_statement(&self, tokens: &mut Cursor<'_>) -> Result<BuiltSimpleStatement, ParseError>
         requires { ReadsExpressions self.now.rules.depth (F.pre self.now.rules.expr) (F.post self.now.rules.expr) }
         ensures { ReadsTokens (λ b. statement_of b.statement)
@@ -235,7 +235,7 @@ impl<F: Fn(Global, &mut Cursor<'_>, usize, u8) -> Result<Built, ParseError>> Sta
     }
 
     /// A simple statement, by its first token.
-    #[tactic(auto, using(crate::proofs::ReadingSteps::reading), unfolding(pyc_tree::specs::SimpleStatements::simple))]
+    #[tactic(auto, unfolding(pyc_tree::specs::SimpleStatements::simple))]
     pub fn simple(&self, tokens: &mut Cursor<'_>) -> Result<BuiltSimpleStatement, ParseError>
         requires { ReadsExpressions self.now.rules.depth (F.pre self.now.rules.expr) (F.post self.now.rules.expr) }
         ensures { ReadsTokens (λ b. statement_of b.statement)
