@@ -1,7 +1,7 @@
 use Rattle.pyc_calls.specs.Called.{infer_class_call}
 use Rattle.pyc_obligations.proofs.Steps.{performing}
 use Rattle.std.proofs.Common.{arith, rules}
-use Rattle.pyc_calls.proofs.plain_calls.infer_class_call.Goals as goal
+use Rattle.pyc_calls.proofs.caller.Caller.infer_class_call.Goals as goal
 
 pub returns-in_err-found : goal.returns-in_err-found
 unfolding infer_class_call

@@ -1,7 +1,7 @@
 use Rattle.pyc_calls.specs.Called.{report_refused}
 use Rattle.pyc_obligations.proofs.Steps.{performing}
 use Rattle.std.proofs.Common.{arith, rules}
-use Rattle.pyc_calls.proofs.plain_calls.report_refused.Goals as goal
+use Rattle.pyc_calls.proofs.caller.Caller.report_refused.Goals as goal
 
 pub returns-in_err-read_all : goal.returns-in_err-read_all
 unfolding report_refused

@@ -1,6 +1,6 @@
 use Rattle.pyc_obligations.proofs.Steps.{performing}
 use Rattle.std.proofs.Common.{arith, rules}
-use Rattle.pyc_calls.proofs.plain_calls.match_constructor.Goals as goal
+use Rattle.pyc_calls.proofs.caller.Caller.match_constructor.Goals as goal
 
 pub returns-in-Bare : goal.returns-in-Bare
 returns-in-Bare g c = first_of (grind (arith, performing), search rules)

@@ -1,7 +1,7 @@
 use Rattle.pyc_calls.specs.Called.{without_call}
 use Rattle.pyc_obligations.proofs.Steps.{performing}
 use Rattle.std.proofs.Common.{arith, rules}
-use Rattle.pyc_calls.proofs.plain_calls.without_call.Goals as goal
+use Rattle.pyc_calls.proofs.caller.Caller.without_call.Goals as goal
 
 pub returns-in_err-is_unknown : goal.returns-in_err-is_unknown
 unfolding without_call
