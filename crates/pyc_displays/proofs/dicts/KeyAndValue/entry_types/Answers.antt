@@ -1,7 +1,7 @@
 use Rattle.pyc_displays.specs.Displays.{entry_types}
 use Rattle.pyc_obligations.proofs.Steps.{performing}
 use Rattle.std.proofs.Common.{arith, rules}
-use Rattle.pyc_displays.proofs.dicts.entry_types.Goals as goal
+use Rattle.pyc_displays.proofs.dicts.KeyAndValue.entry_types.Goals as goal
 
 pub returns-in_err-key : goal.returns-in_err-key
 unfolding entry_types

@@ -1,7 +1,7 @@
 use Rattle.pyc_displays.specs.Displays.{check_pair_types}
 use Rattle.pyc_obligations.proofs.Steps.{performing}
 use Rattle.std.proofs.Common.{arith, rules}
-use Rattle.pyc_displays.proofs.dicts.check_pair_types.Goals as goal
+use Rattle.pyc_displays.proofs.dicts.KeyAndValue.check_pair_types.Goals as goal
 
 pub returns-in_err-got : goal.returns-in_err-got
 unfolding check_pair_types

@@ -1,7 +1,7 @@
 use Rattle.pyc_displays.specs.Displays.{free_pair}
 use Rattle.pyc_obligations.proofs.Steps.{performing}
 use Rattle.std.proofs.Common.{arith, rules}
-use Rattle.pyc_displays.proofs.dicts.free_pair.Goals as goal
+use Rattle.pyc_displays.proofs.dicts.KeyAndValue.free_pair.Goals as goal
 
 pub returns-in_err-found : goal.returns-in_err-found
 unfolding free_pair
