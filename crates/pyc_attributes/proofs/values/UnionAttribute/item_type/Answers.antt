@@ -1,6 +1,6 @@
 use Rattle.pyc_attributes.proofs.Steps.{performing}
 use Rattle.std.proofs.Common.{arith, rules}
-use Rattle.pyc_attributes.proofs.values.item_type.Goals as goal
+use Rattle.pyc_attributes.proofs.values.UnionAttribute.item_type.Goals as goal
 
 pub returns : goal.returns
 returns g c = first_of (grind (arith, performing), search rules)

@@ -1,7 +1,7 @@
 use Rattle.pyc_attributes.specs.AttributeValues.{union_item}
 use Rattle.pyc_attributes.proofs.Steps.{performing}
 use Rattle.std.proofs.Common.{arith, rules}
-use Rattle.pyc_attributes.proofs.values.union_item.Goals as goal
+use Rattle.pyc_attributes.proofs.values.UnionAttribute.union_item.Goals as goal
 
 pub returns-in_err-found : goal.returns-in_err-found
 unfolding union_item

@@ -5,14 +5,14 @@ use Rattle.std.proofs.lemmas.List.{map-append}
 use Rattle.pyc_attributes.specs.AttributeValues.{item_types, union_item}
 use Rattle.pyc_reading.proofs.RunLemmas.{one_turn, grown_trans}
 use Rattle.pyc_type_forms.specs.TypeView.{ty_of}
-use Rattle.pyc_attributes.proofs.values.item_types.Goals as goal
+use Rattle.pyc_attributes.proofs.values.UnionAttribute.item_types.Goals as goal
 
 pub loop-item-preserved : goal.loop-item-preserved
 unfolding item_types
 loop-item-preserved g c =
-    let at = c.args.at in
-    let whole = ty_of c.args.whole.now in
-    let name = c.args.name.now in
+    let at = c.args.self.now.at in
+    let whole = ty_of c.args.self.now.whole.now in
+    let name = c.args.self.now.name.now in
     let before = map ty_of c.loop-item.found.items in
     record {
       same =
