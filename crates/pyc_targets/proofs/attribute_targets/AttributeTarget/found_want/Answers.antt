@@ -1,6 +1,6 @@
 use Rattle.std.proofs.Common.{arith, rules}
 use Rattle.std.proofs.lemmas.Grind.{common_steps}
-use Rattle.pyc_targets.proofs.attribute_targets.found_want.Goals as goal
+use Rattle.pyc_targets.proofs.attribute_targets.AttributeTarget.found_want.Goals as goal
 
 pub returns-in-Absent : goal.returns-in-Absent
 returns-in-Absent g c = first_of (grind (arith, common_steps), search rules)

@@ -1,7 +1,7 @@
 use Rattle.pyc_targets.specs.ItemTargets.{item_target}
 use Rattle.pyc_obligations.proofs.Steps.{performing}
 use Rattle.std.proofs.Common.{arith, rules}
-use Rattle.pyc_targets.proofs.item_targets.item_target.Goals as goal
+use Rattle.pyc_targets.proofs.item_targets.IndexedTarget.item_target.Goals as goal
 
 pub returns : goal.returns
 unfolding item_target

@@ -9,15 +9,15 @@ use Rattle.pyc_reading.proofs.RunLemmas.{after, grown_trans}
 use Rattle.pyc_reading.specs.Readings.{Done, and_then}
 use Rattle.pyc_targets.specs.ItemTargets.{item_target}
 use Rattle.pyc_type_forms.specs.TypeView.{ty_of}
-use Rattle.pyc_assignments.proofs.singles.subscript_outcome.Goals as goal
+use Rattle.pyc_assignments.proofs.singles.SingleTarget.subscript_outcome.Goals as goal
 
 pub returns : goal.returns
 unfolding subscript_outcome
 returns g c =
-    let read = g.R.InferAssignment.reads c.args.reader.now in
-    let p = flow_state_in c.args.flow_state.now in
-    let at = c.args.at in
-    let inside = c.args.inside in
+    let read = g.R.InferAssignment.reads c.args.self.now.reader.now in
+    let p = flow_state_in c.args.self.now.flow_state.now in
+    let at = c.args.self.now.at in
+    let inside = c.args.self.now.inside in
     let brackets = index_of c.args.index.now in
     record {
       done =

@@ -5,15 +5,15 @@ use Rattle.pyc_targets.specs.AttributeTargets.{more_wants, item_want, with_want}
 use Rattle.pyc_targets.specs.Views.{wants_in}
 use Rattle.pyc_reading.proofs.RunLemmas.{one_turn, grown_trans}
 use Rattle.pyc_type_forms.specs.TypeView.{ty_of}
-use Rattle.pyc_targets.proofs.attribute_targets.all_wants.Goals as goal
+use Rattle.pyc_targets.proofs.attribute_targets.AttributeTarget.all_wants.Goals as goal
 
 pub loop-item-preserved : goal.loop-item-preserved
 unfolding more_wants
 loop-item-preserved g c =
-    let at = c.args.at in
-    let inside = c.args.inside in
-    let whole = ty_of c.args.whole.now in
-    let name = c.args.name.now in
+    let at = c.args.self.now.at in
+    let inside = c.args.self.now.inside in
+    let whole = ty_of c.args.self.now.whole.now in
+    let name = c.args.self.now.name.now in
     let before = wants_in c.loop-item.found in
     record {
       same =

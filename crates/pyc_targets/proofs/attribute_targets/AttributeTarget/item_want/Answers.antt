@@ -1,7 +1,7 @@
 use Rattle.pyc_targets.specs.AttributeTargets.{item_want}
 use Rattle.pyc_obligations.proofs.Steps.{performing}
 use Rattle.std.proofs.Common.{arith, rules}
-use Rattle.pyc_targets.proofs.attribute_targets.item_want.Goals as goal
+use Rattle.pyc_targets.proofs.attribute_targets.AttributeTarget.item_want.Goals as goal
 
 pub returns : goal.returns
 unfolding item_want

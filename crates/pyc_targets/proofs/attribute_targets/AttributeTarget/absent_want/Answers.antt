@@ -1,7 +1,7 @@
 use Rattle.pyc_targets.specs.AttributeTargets.{absent_want}
 use Rattle.pyc_obligations.proofs.Steps.{performing}
 use Rattle.std.proofs.Common.{arith, rules}
-use Rattle.pyc_targets.proofs.attribute_targets.absent_want.Goals as goal
+use Rattle.pyc_targets.proofs.attribute_targets.AttributeTarget.absent_want.Goals as goal
 
 pub returns : goal.returns
 unfolding absent_want

@@ -1,7 +1,7 @@
 use Rattle.pyc_assignments.specs.Storing.{target_type_stored}
 use Rattle.pyc_obligations.proofs.Steps.{performing}
 use Rattle.std.proofs.Common.{arith, rules}
-use Rattle.pyc_assignments.proofs.storing.target_type_stored.Goals as goal
+use Rattle.pyc_assignments.proofs.storing.AssignedValue.target_type_stored.Goals as goal
 
 pub returns-in_err-want_required : goal.returns-in_err-want_required
 unfolding target_type_stored

@@ -1,6 +1,6 @@
 use Rattle.std.proofs.Common.{arith, rules}
 use Rattle.std.proofs.lemmas.Grind.{common_steps}
-use Rattle.pyc_targets.proofs.members.member_want.Goals as goal
+use Rattle.pyc_targets.proofs.members.MemberTarget.member_want.Goals as goal
 
 pub returns-in-Property : goal.returns-in-Property
 returns-in-Property g c = first_of (grind (arith, common_steps), search rules)
