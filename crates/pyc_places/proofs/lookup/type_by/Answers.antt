@@ -1,6 +1,6 @@
 use Rattle.std.proofs.Common.{◌<◌, length, rules, ◌∙◌, Some, ap}
 use Rattle.pyc_type_forms.specs.TypeView.{ty_of}
-use Rattle.pyc_places.specs.declared.states.Narrowing.{Narrowing as NarrowingOf}
+use Rattle.pyc_places.specs.declared.narrowings.Narrowing.{Narrowing as NarrowingOf}
 use Rattle.pyc_places.proofs.LookupLemmas.{placed_within, type_never, type_placed}
 use Rattle.pyc_places.proofs.lookup.type_by.Goals as goal
 
