@@ -17,6 +17,12 @@ use itoa::Buffer;
 use std::alloc::{AllocError, Global};
 use std::cmp::Ordering;
 
+/// As many bytes as a summary has at most.
+const SUMMARY_ROOM: usize = 128;
+
+/// As many bytes as a line has at most beside its path, its code and its text, unless a file has more than 10^17 lines.
+const LINE_ROOM: usize = 32;
+
 /// A message with the path of its file, both borrowed.
 #[derive(Clone, Copy)]
 struct Placed<'a> {
@@ -30,6 +36,20 @@ impl<'a> Placed<'a> {
         ensures { located_in result ≡ placed_in self.entry }
     {
         message_at(self.path, self.message)
+    }
+
+    /// How many bytes the line for the message takes at most.
+    fn room(self) -> usize {
+        let Located {
+            path,
+            code,
+            text,
+            ..
+        } = self.located();
+        LINE_ROOM
+            .saturating_add(path.len())
+            .saturating_add(code.len())
+            .saturating_add(text.len())
     }
 }
 
@@ -95,6 +115,15 @@ fn print_lines(alloc: Global, found: &[Found<'_>]) -> Result<PrintedLines, Alloc
     lines_once(alloc, messages)
 }
 
+/// How many bytes the lines for messages and a summary take at most, so that their text is never moved as it grows.
+fn room_for(messages: &[Placed<'_>]) -> usize {
+    let mut room = SUMMARY_ROOM;
+    for message in messages {
+        room = room.saturating_add(message.room());
+    }
+    room
+}
+
 /// The lines for messages, repeats among them.
 fn all_lines(alloc: Global, mut messages: Vec<Placed<'_>>) -> Result<AllLines, AllocError>
     ensures text { IfOk result (λ all. string_bytes all.text
@@ -104,7 +133,7 @@ fn all_lines(alloc: Global, mut messages: Vec<Placed<'_>>) -> Result<AllLines, A
     ensures errors { IfOk result (λ all. all.errors
         ≡ length (filter spec.is_error (map placed_in messages.entry.items))) }
 {
-    let mut text = String::new(alloc);
+    let mut text = String::with_capacity(alloc, room_for(&messages))?;
     let mut lengths = Vec::with_capacity(alloc, messages.len())?;
     for message in &messages {
         let before = text.len();
