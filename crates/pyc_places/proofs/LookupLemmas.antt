@@ -101,3 +101,13 @@ stands_beyond [] p i beyond = refl
 stands_beyond (x ∷ narrowings) p zero beyond = absurd (omega arith)
 stands_beyond (x ∷ narrowings) p (suc i) beyond =
     let below : length narrowings ≤ i = omega arith in stands_beyond narrowings p i below
+
+-- the first place from an index on is there, or behind it
+pub first_from : (narrowings : List (Rc NarrowingOf Global)) (p : Place) (i : ℕ) (n : Rc NarrowingOf Global) → i < length narrowings → n ≡ get_or narrowings i n
+    → position_from (λ (n : Narrowing). same_place n.place p) i (map (λ n. narrowing_of n.value) (drop i narrowings))
+    ≡ cond (same_place n.value.place p) (Some i) (position_from (λ (n : Narrowing). same_place n.place p) (i + 1) (map (λ n. narrowing_of n.value) (drop (i + 1) narrowings)))
+first_from narrowings p i n within is =
+    let next : suc i ≡ i + 1 = omega arith in
+    let first : drop i narrowings ≡ n ∷ drop (i + 1) narrowings =
+    drop-cons narrowings i n within ∙ ap (λ x. x ∷ drop (suc i) narrowings) (sym is) ∙ ap (λ k. n ∷ drop k narrowings) next in
+    ap (λ l. position_from (λ (n : Narrowing). same_place n.place p) i (map (λ n. narrowing_of n.value) l)) first

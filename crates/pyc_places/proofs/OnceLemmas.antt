@@ -28,7 +28,7 @@ neither true b h = cc
 neither false b h = (refl, h)
 
 -- each place is narrowed once, as a fact for each
-AreOnce : List Narrowing → Type 0
+abbrev AreOnce : List Narrowing → Type 0
 AreOnce [] = Unit {0}
 AreOnce (n ∷ ns) = (is_narrowed ns n.place ≡ false) × AreOnce ns
 

@@ -1,5 +1,4 @@
 pub mod Places
-pub mod PlaceHash
 pub mod States
 pub mod NarrowingView
 pub mod StateView

@@ -91,14 +91,17 @@ fn add_on_both(
 }
 
 /// A place that is narrowed on two ways. It is shared where its types are one item.
+#[tactic(auto, using(crate::proofs::ItemLemmas::one_item))]
 fn narrowing_on_both(
     alloc: Global,
     narrowing: &Rc<Narrowing>,
     other: &Ty,
 ) -> Result<Rc<Narrowing>, AllocError>
     ensures { IfOk result (λ made. narrowing_of made.value
-        ≡ record { place = narrowing.now.value.place;
-        ty = union_of (ty_of narrowing.now.value.ty ∷ ty_of other.now ∷ []) }) }
+        ≡ record {
+          place = narrowing.now.value.place;
+          ty = union_of (ty_of narrowing.now.value.ty ∷ ty_of other.now ∷ []);
+        }) }
 {
     if is_one_item(&narrowing.ty, other) {
         return narrowing.clone();

@@ -57,6 +57,7 @@ impl Hints {
 }
 
 /// Whether a place stands at an index.
+#[tactic(auto, using(crate::proofs::LookupLemmas::stands_here, crate::proofs::LookupLemmas::stands_beyond))]
 fn stands_at(narrowings: &[Rc<Narrowing>], index: usize, place: &Place) -> bool
     ensures { result ≡ is_at (map (λ n. narrowing_of n.value) narrowings.now) index place.now }
 {
@@ -64,6 +65,7 @@ fn stands_at(narrowings: &[Rc<Narrowing>], index: usize, place: &Place) -> bool
 }
 
 /// Where a place stands first.
+#[tactic(auto, using(crate::proofs::LookupLemmas::first_from))]
 fn first_index(narrowings: &[Rc<Narrowing>], place: &Place) -> Option<usize>
     ensures { result ≡ first_place (map (λ n. narrowing_of n.value) narrowings.now) place.now }
 {

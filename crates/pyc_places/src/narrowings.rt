@@ -79,7 +79,11 @@ impl Narrowings {
     }
 
     /// These without those of some places and of all below them.
-    pub(crate) fn outside_all(&self, alloc: Global, places: &[Place]) -> Result<Narrowings, AllocError>
+    pub(crate) fn outside_all(
+        &self,
+        alloc: Global,
+        places: &[Place],
+    ) -> Result<Narrowings, AllocError>
         ensures { IfOk result (λ kept. narrowings_in kept
             ≡ filter (λ n. not (spec.is_among places.now n.place)) (narrowings_in self.now)) }
     {

@@ -100,9 +100,7 @@ impl State {
     {
         match self {
             State::Unreachable => Ok(State::Unreachable),
-            State::Reachable(narrowings) => Ok(State::Reachable(narrowings.outside(
-                alloc, place,
-            )?)),
+            State::Reachable(narrowings) => Ok(State::Reachable(narrowings.outside(alloc, place)?)),
         }
     }
 

@@ -5,7 +5,7 @@ use Rattle.pyc_places.proofs.narrowings.with_narrowing.Goals as goal
 pub returns : goal.returns
 returns c = first_of (grind (arith, common_steps), search rules)
 
-pub returns-in_err-items : goal.returns-in_err-kept
+pub returns-in_err-items : goal.returns-in_err-items
 returns-in_err-items c = first_of (grind (arith, common_steps), search rules)
 
 pub returns-in_err-new : goal.returns-in_err-new
