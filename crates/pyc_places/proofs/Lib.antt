@@ -1,3 +1,5 @@
 pub mod NameLemmas
 pub mod StateLemmas
+pub mod OnceLemmas
+pub mod ItemLemmas
 pub mod LookupLemmas

@@ -7,11 +7,11 @@ use Rattle.std.specs.declared.rc.Rc.{Rc}
 use Rattle.std.specs.List.{find, position_from}
 use Rattle.std.proofs.lemmas.List.{length-map}
 use Rattle.pyc_type_forms.specs.TypeView.{ty_of}
-use Rattle.pyc_places.specs.declared.states.Narrowing.{Narrowing as NarrowingOf}
-use Rattle.pyc_places.specs.Lookup.{first_place}
+use Rattle.pyc_places.specs.declared.narrowings.Narrowing.{Narrowing as NarrowingOf}
+use Rattle.pyc_places.specs.Lookup.{first_place, is_at}
 use Rattle.pyc_places.specs.Places.{Place, same_place}
 use Rattle.pyc_places.specs.States.{Narrowing, type_of}
-use Rattle.pyc_places.specs.StateView.{narrowing_of}
+use Rattle.pyc_places.specs.NarrowingView.{narrowing_of}
 
 -- ---- the first of a list that passes
 
@@ -54,25 +54,6 @@ place_within t n i (x ∷ xs) h = within_here t n i xs (t x) (place_within t (n 
 
 -- ---- narrowings
 
--- the first narrowing of each place, one narrowing more
-pub narrowing_more : (p : Place) (narrowings : List (Rc NarrowingOf Global)) (left : ℕ) (n : Rc NarrowingOf Global) (old new : Option ℕ) (key : Place)
-    → 0 < left → left ≤ length narrowings → n ≡ get_or narrowings (left - 1) n → key ≡ n.value.place
-    → new ≡ cond (same_place key p) (Some (left - 1)) old
-    → old ≡ position_from (λ (n : Narrowing). same_place n.place p) left (map (λ n. narrowing_of n.value) (drop left narrowings))
-    → new ≡ position_from (λ (n : Narrowing). same_place n.place p) (left - 1) (map (λ n. narrowing_of n.value) (drop (left - 1) narrowings))
-narrowing_more p narrowings left n old new key some within is named put before =
-    let t : Narrowing → Bool = λ n. same_place n.place p in
-    let below : left - 1 < length narrowings = omega arith in
-    let next : suc (left - 1) ≡ left = omega arith in
-    let onward : left - 1 + 1 ≡ left = omega arith in
-    let first : drop (left - 1) narrowings ≡ n ∷ drop left narrowings =
-    drop-cons narrowings (left - 1) n below ∙ ap (λ x. x ∷ drop (suc (left - 1)) narrowings) (sym is)
-    ∙ ap (λ i. n ∷ drop i narrowings) next in
-    put ∙ ap (λ k. cond (same_place k p) (Some (left - 1)) old) named
-    ∙ ap (cond (t (narrowing_of n.value)) (Some (left - 1)))
-    (before ∙ ap (λ i. position_from t i (map (λ n. narrowing_of n.value) (drop left narrowings))) (sym onward))
-    ∙ ap (λ l. position_from t (left - 1) (map (λ n. narrowing_of n.value) l)) (sym first)
-
 -- the plain narrowing of one is the plain one at its place
 narrowing_at : (narrowings : List (Rc NarrowingOf Global)) (i : ℕ) (n : Rc NarrowingOf Global) → i < length narrowings → n ≡ get_or narrowings i n
     → Some (narrowing_of n.value) ≡ slice_get (map (λ n. narrowing_of n.value) narrowings) i
@@ -102,3 +83,31 @@ module _ (narrowings : List (Rc NarrowingOf Global)) (p : Place) where
       ap (option_map (λ (n : Narrowing). n.ty))
       (narrowing_at narrowings i n (placed_within i placed) is ∙ ap (λ q. chosen q (map (λ n. narrowing_of n.value) narrowings)) placed
       ∙ sym (found_at (λ (n : Narrowing). same_place n.place p) [] (map (λ n. narrowing_of n.value) narrowings)))
+
+-- ---- at an index
+
+-- the place at an index, among those of the code
+pub stands_here : (narrowings : List (Rc NarrowingOf Global)) (p : Place) (i : ℕ) (n : Rc NarrowingOf Global) → i < length narrowings → n ≡ get_or narrowings i n
+    → same_place n.value.place p ≡ is_at (map (λ n. narrowing_of n.value) narrowings) i p
+stands_here [] p i n within is = absurd (omega arith)
+stands_here (x ∷ narrowings) p zero n within is = ap (λ (x : Rc NarrowingOf Global). same_place x.value.place p) is
+stands_here (x ∷ narrowings) p (suc i) n within is =
+    let below : i < length narrowings = omega arith in stands_here narrowings p i n below is
+
+-- no place stands behind the last
+pub stands_beyond : (narrowings : List (Rc NarrowingOf Global)) (p : Place) (i : ℕ) → length narrowings ≤ i
+    → false ≡ is_at (map (λ n. narrowing_of n.value) narrowings) i p
+stands_beyond [] p i beyond = refl
+stands_beyond (x ∷ narrowings) p zero beyond = absurd (omega arith)
+stands_beyond (x ∷ narrowings) p (suc i) beyond =
+    let below : length narrowings ≤ i = omega arith in stands_beyond narrowings p i below
+
+-- the first place from an index on is there, or behind it
+pub first_from : (narrowings : List (Rc NarrowingOf Global)) (p : Place) (i : ℕ) (n : Rc NarrowingOf Global) → i < length narrowings → n ≡ get_or narrowings i n
+    → position_from (λ (n : Narrowing). same_place n.place p) i (map (λ n. narrowing_of n.value) (drop i narrowings))
+    ≡ cond (same_place n.value.place p) (Some i) (position_from (λ (n : Narrowing). same_place n.place p) (i + 1) (map (λ n. narrowing_of n.value) (drop (i + 1) narrowings)))
+first_from narrowings p i n within is =
+    let next : suc i ≡ i + 1 = omega arith in
+    let first : drop i narrowings ≡ n ∷ drop (i + 1) narrowings =
+    drop-cons narrowings i n within ∙ ap (λ x. x ∷ drop (suc i) narrowings) (sym is) ∙ ap (λ k. n ∷ drop k narrowings) next in
+    ap (λ l. position_from (λ (n : Narrowing). same_place n.place p) i (map (λ n. narrowing_of n.value) l)) first

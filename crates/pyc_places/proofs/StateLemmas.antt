@@ -3,9 +3,9 @@ use Rattle.std.proofs.Common.{◌≡◌, List, [], ◌∷◌, map, refl, ap, ◌
 use Rattle.std.specs.declared.alloc.Global.{Global}
 use Rattle.std.specs.declared.rc.Rc.{Rc}
 use Rattle.std.specs.List.{AllZip}
-use Rattle.pyc_places.specs.declared.states.Narrowing.{Narrowing as NarrowingOf}
+use Rattle.pyc_places.specs.declared.narrowings.Narrowing.{Narrowing as NarrowingOf}
 use Rattle.pyc_places.specs.States.{Narrowing}
-use Rattle.pyc_places.specs.StateView.{narrowing_of}
+use Rattle.pyc_places.specs.NarrowingView.{narrowing_of}
 
 -- narrowings that are shared are the same
 pub shared_same : (xs ys : List (Rc NarrowingOf Global)) → AllZip (λ x y. y.value ≡ x.value) xs ys

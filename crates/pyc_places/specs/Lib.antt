@@ -1,6 +1,8 @@
 pub mod Places
-pub mod PlaceHash
 pub mod States
+pub mod NarrowingView
 pub mod StateView
 pub mod TargetPlaces
 pub mod Lookup
+pub mod Once
+pub mod Joining

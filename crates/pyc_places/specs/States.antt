@@ -1,7 +1,7 @@
 -- What is known of places at a point of a body (typing specification, "Type narrowing"; Python reference 3.13,
 -- "Boolean operations" and "The if statement"): that the point is never reached, or the types of some places.
 use Rattle.std.specs.Prelude.{Bool, true, false, not, List, [], ◌∷◌, ◌++◌, Option, None, Some, option_map, find, filter}
-use Rattle.std.specs.List.{flat_map}
+use Rattle.std.specs.List.{flat_map, list_any}
 use Rattle.pyc_ast.specs.Exprs.{Expr}
 use Rattle.pyc_places.specs.Places.{Place, place_of, same_place, is_place, is_at_or_below}
 use Rattle.pyc_type_forms.specs.Types.{Ty}
@@ -63,6 +63,15 @@ with_place place ty (reachable narrowings) =
 abbrev pub drop_place : Place → State → State
 drop_place place unreachable = unreachable
 drop_place place (reachable narrowings) = reachable (filter (λ n. not (is_at_or_below place n.place)) narrowings)
+
+-- whether a place is one of some places, or below one
+abbrev pub is_among : List Place → Place → Bool
+is_among places place = list_any (λ upper. is_at_or_below upper place) places
+
+-- a state without what is known of places and of all below them
+abbrev pub drop_places : List Place → State → State
+drop_places places unreachable = unreachable
+drop_places places (reachable narrowings) = reachable (filter (λ n. not (is_among places n.place)) narrowings)
 
 -- ---- where two ways meet
 

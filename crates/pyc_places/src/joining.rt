@@ -2,14 +2,17 @@
 
 ghost use Rattle.std.specs.Prelude.{◌≡◌, ◌++◌, ◌∷◌, [], IfOk, OnOk, map, option_map};
 ghost use Rattle.std.specs.List.{flat_map};
+ghost use Rattle.pyc_places.specs.Joining.{are_one_item};
+ghost use Rattle.pyc_places.specs.NarrowingView.{narrowing_of};
 ghost use Rattle.pyc_places.specs.States as spec;
-ghost use Rattle.pyc_places.specs.StateView.{narrowing_of, state_of};
+ghost use Rattle.pyc_places.specs.StateView.{narrowings_in, state_of};
 ghost use Rattle.pyc_type_forms.specs.TypeView.{ty_of};
 ghost use Rattle.pyc_type_forms.specs.Unions.{union_of};
 
-use crate::lookup::{places_of, type_by};
+use crate::lookup::{Hints, type_by};
+use crate::narrowings::{Narrowing, Narrowings};
 use crate::places::Place;
-use crate::states::{Narrowing, State, type_of};
+use crate::states::State;
 use pyc_type_forms::{Ty, union_of};
 use std::alloc::{AllocError, Global};
 use std::rc::Rc;
@@ -28,66 +31,40 @@ pub fn join(alloc: Global, state: &State, other: &State) -> Result<State, AllocE
     }
 }
 
-/// So many narrowings are walked for each place; among more, a place is looked up.
-const FEW: usize = 16;
-
 /// The narrowings of the places that both narrow.
 fn joined(
     alloc: Global,
-    narrowings: &[Rc<Narrowing>],
-    more: &[Rc<Narrowing>],
-) -> Result<Vec<Rc<Narrowing>>, AllocError>
-    ensures { IfOk result (λ joined. map (λ n. narrowing_of n.value) joined.items
-        ≡ flat_map (λ n. spec.on_both n (spec.type_of (map (λ n. narrowing_of n.value) more.now) n.place))
-        (map (λ n. narrowing_of n.value) narrowings.now)) }
+    narrowings: &Narrowings,
+    more: &Narrowings,
+) -> Result<Narrowings, AllocError>
+    ensures { IfOk result (λ joined. narrowings_in joined
+        ≡ flat_map (λ n. spec.on_both n (spec.type_of (narrowings_in more.now) n.place))
+        (narrowings_in narrowings.now)) }
 {
-    if more.len() <= FEW {
-        joined_few(alloc, narrowings, more)
-    } else {
-        joined_many(alloc, narrowings, more)
-    }
+    let items = joined_items(alloc, &narrowings.items, more)?;
+    Ok(Narrowings { items })
 }
 
-/// The narrowings of the places that both narrow, where there are few.
-fn joined_few(
+/// The narrowings of the places that both narrow, in the order of the first.
+fn joined_items(
     alloc: Global,
     narrowings: &[Rc<Narrowing>],
-    more: &[Rc<Narrowing>],
+    more: &Narrowings,
 ) -> Result<Vec<Rc<Narrowing>>, AllocError>
     ensures { IfOk result (λ joined. map (λ n. narrowing_of n.value) joined.items
-        ≡ flat_map (λ n. spec.on_both n (spec.type_of (map (λ n. narrowing_of n.value) more.now) n.place))
+        ≡ flat_map (λ n. spec.on_both n (spec.type_of (narrowings_in more.now) n.place))
         (map (λ n. narrowing_of n.value) narrowings.now)) }
 {
     let mut joined = Vec::new(alloc);
+    let mut hints = Hints::new();
     for narrowing in narrowings {
+        let found = hints.index_of(more, &narrowing.place);
+        hints = hints.after(found);
         add_on_both(
             alloc,
             &mut joined,
             narrowing,
-            type_of(more, &narrowing.place),
-        )?;
-    }
-    Ok(joined)
-}
-
-/// The narrowings of the places that both narrow, where there are many.
-fn joined_many(
-    alloc: Global,
-    narrowings: &[Rc<Narrowing>],
-    more: &[Rc<Narrowing>],
-) -> Result<Vec<Rc<Narrowing>>, AllocError>
-    ensures { IfOk result (λ joined. map (λ n. narrowing_of n.value) joined.items
-        ≡ flat_map (λ n. spec.on_both n (spec.type_of (map (λ n. narrowing_of n.value) more.now) n.place))
-        (map (λ n. narrowing_of n.value) narrowings.now)) }
-{
-    let places = places_of(alloc, more)?;
-    let mut joined = Vec::new(alloc);
-    for narrowing in narrowings {
-        add_on_both(
-            alloc,
-            &mut joined,
-            narrowing,
-            type_by(&places, more, &narrowing.place),
+            type_by(&more.items, &narrowing.place, found),
         )?;
     }
     Ok(joined)
@@ -97,20 +74,51 @@ fn joined_many(
 fn add_on_both(
     alloc: Global,
     joined: &mut Vec<Rc<Narrowing>>,
-    narrowing: &Narrowing,
+    narrowing: &Rc<Narrowing>,
     other: Option<&Ty>,
 ) -> Result<(), AllocError>
     ensures { OnOk result (map (λ n. narrowing_of n.value) joined.new.items
         ≡ map (λ n. narrowing_of n.value) joined.old.items
-        ++ spec.on_both (narrowing_of narrowing.now) (option_map (λ ty. ty_of ty.now) other.entry)) }
+        ++ spec.on_both (narrowing_of narrowing.now.value) (option_map (λ ty. ty_of ty.now) other.entry)) }
 {
     match other {
         Some(ty) => {
-            let union = union_of_two(alloc, &narrowing.ty, ty)?;
-            joined.push(share_narrowing(alloc, &narrowing.place, union)?)?;
+            joined.push(narrowing_on_both(alloc, narrowing, ty)?)?;
             Ok(())
         }
         None => Ok(()),
+    }
+}
+
+/// A place that is narrowed on two ways. It is shared where its types are one item.
+#[tactic(auto, using(crate::proofs::ItemLemmas::one_item))]
+fn narrowing_on_both(
+    alloc: Global,
+    narrowing: &Rc<Narrowing>,
+    other: &Ty,
+) -> Result<Rc<Narrowing>, AllocError>
+    ensures { IfOk result (λ made. narrowing_of made.value
+        ≡ record {
+          place = narrowing.now.value.place;
+          ty = union_of (ty_of narrowing.now.value.ty ∷ ty_of other.now ∷ []);
+        }) }
+{
+    if is_one_item(&narrowing.ty, other) {
+        return narrowing.clone();
+    }
+    let union = union_of_two(alloc, &narrowing.ty, other)?;
+    share_narrowing(alloc, &narrowing.place, union)
+}
+
+/// Whether two types are one that is its own union with itself: Any, None, or the instances of a class.
+fn is_one_item(ty: &Ty, other: &Ty) -> bool
+    ensures { result ≡ are_one_item (ty_of ty.now) (ty_of other.now) }
+{
+    match ty {
+        Ty::Any => matches!(other, Ty::Any),
+        Ty::None => matches!(other, Ty::None),
+        Ty::Instance(class) => matches!(other, Ty::Instance(own) if class == own),
+        _ => false,
     }
 }
 

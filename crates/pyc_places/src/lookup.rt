@@ -1,50 +1,94 @@
-//! The types of places, looked up.
+//! Where places stand among narrowings.
 
-ghost use Rattle.std.specs.Prelude.{◌≡◌, IfOk, List, ℕ, map, option_map};
-ghost use Rattle.indexmap.specs.IndexMap.{get_by};
-ghost use Rattle.pyc_places.specs.Lookup.{first_place};
-ghost use Rattle.pyc_places.specs.Places.{same_place};
+ghost use Rattle.std.specs.Prelude.{◌≡◌, map, option_map};
+ghost use Rattle.pyc_places.specs.Lookup.{first_place, is_at};
 ghost use Rattle.pyc_places.specs.States as spec;
-ghost use Rattle.pyc_places.specs.StateView.{narrowing_of};
+ghost use Rattle.pyc_places.specs.StateView.{narrowings_in};
+ghost use Rattle.pyc_places.specs.NarrowingView.{narrowing_of};
 ghost use Rattle.pyc_type_forms.specs.TypeView.{ty_of};
 
+use crate::narrowings::{Narrowing, Narrowings};
 use crate::places::Place;
-use crate::states::Narrowing;
-use indexmap::IndexMap;
 use pyc_type_forms::Ty;
-use std::alloc::{AllocError, Global};
 use std::rc::Rc;
 
-/// Where each place is narrowed first among narrowings. The only error is that memory runs out.
-pub(crate) fn places_of(
-    alloc: Global,
-    narrowings: &[Rc<Narrowing>],
-) -> Result<IndexMap<Place, usize>, AllocError>
-    ensures { IfOk result (λ places. (p : List (List ℕ)) → get_by (same_place p) places
-        ≡ first_place (map (λ n. narrowing_of n.value) narrowings.now) p) }
-{
-    let mut places = IndexMap::new(alloc);
-    let mut left = narrowings.len();
-    while left > 0 {
-        left -= 1;
-        places.insert(narrowings[left].place.clone()?, left)?;
-    }
-    Ok(places)
+/// Where a place is looked for first: states that are joined come of one, and have most places in one order.
+#[derive(Clone, Copy)]
+pub(crate) struct Hints {
+    /// Behind the place that was found last.
+    next: usize,
+    /// Where the one before was looked for first.
+    other: usize,
 }
 
-/// The type of the first of some narrowings of a place, where these are the first of each. It takes no memory.
+impl Hints {
+    /// Nothing was looked for.
+    pub(crate) fn new() -> Hints {
+        Hints { next: 0, other: 0 }
+    }
+
+    /// Where a place stands among some narrowings. It takes no memory.
+    pub(crate) fn index_of(self, narrowings: &Narrowings, place: &Place) -> Option<usize>
+        ensures { result ≡ first_place (narrowings_in narrowings.now) place.now }
+    {
+        if stands_at(&narrowings.items, self.next, place) {
+            return Some(self.next);
+        }
+        if stands_at(&narrowings.items, self.other, place) {
+            return Some(self.other);
+        }
+        first_index(&narrowings.items, place)
+    }
+
+    /// The hints after a place was found there, or was not.
+    pub(crate) fn after(self, found: Option<usize>) -> Hints {
+        match found {
+            Some(index) if index == self.next => Hints {
+                next: index.wrapping_add(1),
+                other: self.other,
+            },
+            Some(index) => Hints {
+                next: index.wrapping_add(1),
+                other: self.next,
+            },
+            None => self,
+        }
+    }
+}
+
+/// Whether a place stands at an index.
+#[tactic(auto, using(crate::proofs::LookupLemmas::stands_here, crate::proofs::LookupLemmas::stands_beyond))]
+fn stands_at(narrowings: &[Rc<Narrowing>], index: usize, place: &Place) -> bool
+    ensures { result ≡ is_at (map (λ n. narrowing_of n.value) narrowings.now) index place.now }
+{
+    index < narrowings.len() && narrowings[index].place == *place
+}
+
+/// Where a place stands first.
+#[tactic(auto, using(crate::proofs::LookupLemmas::first_from))]
+fn first_index(narrowings: &[Rc<Narrowing>], place: &Place) -> Option<usize>
+    ensures { result ≡ first_place (map (λ n. narrowing_of n.value) narrowings.now) place.now }
+{
+    for index in 0..narrowings.len() {
+        if narrowings[index].place == *place {
+            return Some(index);
+        }
+    }
+    None
+}
+
+/// The type of a place that stands there first, if it stands anywhere. It takes no memory.
 pub(crate) fn type_by<'a>(
-    places: &IndexMap<Place, usize>,
     narrowings: &'a [Rc<Narrowing>],
     place: &Place,
+    found: Option<usize>,
 ) -> Option<&'a Ty>
-    requires { (p : List (List ℕ)) → get_by (same_place p) places.now
-        ≡ first_place (map (λ n. narrowing_of n.value) narrowings.now) p }
+    requires { found ≡ first_place (map (λ n. narrowing_of n.value) narrowings.now) place.now }
     ensures { option_map (λ ty. ty_of ty.now) result
         ≡ spec.type_of (map (λ n. narrowing_of n.value) narrowings.now) place.now }
 {
-    match places.get(place) {
-        Some(index) => Some(&narrowings[*index].ty),
+    match found {
+        Some(index) => Some(&narrowings[index].ty),
         None => None,
     }
 }

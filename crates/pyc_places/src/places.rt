@@ -6,7 +6,6 @@ ghost use Rattle.pyc_places.specs.Places as spec;
 
 use pyc_ast::{Expr, Form, Text};
 use std::alloc::{AllocError, Global};
-use std::hash::{Hash, Hasher};
 use std::marker::Model;
 
 /// A place: a name, and attributes after it. Contracts see the names.
@@ -54,18 +53,6 @@ impl Eq for Place {
     ghost use Rattle.std.proofs.Common.{rules};
 
     ghost laws = { Prim.search (comparing, rules) };
-}
-
-impl Hash for Place {
-    ghost use Rattle.pyc_places.specs.PlaceHash.{hash_input, same_place_fed};
-
-    ghost hash_input = { hash_input };
-
-    ghost respects_eq = { same_place_fed };
-
-    fn hash<H: Hasher>(&self, state: &mut H) {
-        self.names.as_slice().hash(state);
-    }
 }
 
 /// The place that an expression is: a name, or an attribute of a place; other expressions are none. The only error is

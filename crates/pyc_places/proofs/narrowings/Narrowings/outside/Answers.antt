@@ -1,0 +1,15 @@
+use Rattle.std.proofs.Common.{◌≡◌, List, map, true, sym, subst, not}
+use Rattle.std.specs.declared.alloc.Global.{Global}
+use Rattle.std.specs.declared.rc.Rc.{Rc}
+use Rattle.pyc_places.proofs.OnceLemmas.{once_kept}
+use Rattle.pyc_places.specs.declared.narrowings.Narrowing.{Narrowing as NarrowingOf}
+use Rattle.pyc_places.specs.NarrowingView.{narrowing_of}
+use Rattle.pyc_places.specs.Once.{are_once}
+use Rattle.pyc_places.specs.Places.{is_at_or_below}
+use Rattle.pyc_places.proofs.narrowings.Narrowings.outside.Goals as goal
+
+pub invariant_of-result : goal.invariant_of-result
+invariant_of-result c =
+    let once : are_once (map (λ n. narrowing_of n.value) c.deref.result.now) ≡ true =
+    subst (λ (l : List (Rc NarrowingOf Global)). are_once (map (λ n. narrowing_of n.value) l) ≡ true) (sym c.deref.ensures.value) c.args.self.now.once in
+    record { once = rw c.in_ok-items.ensures (once_kept (λ n. not (is_at_or_below c.args.place.now n.place)) (map (λ n. narrowing_of n.value) c.deref.result.now) once); }
