@@ -117,16 +117,14 @@ fn same_class_heads(
 }
 
 /// Whether two classes have heads that count alike: the name, the arguments, and whether there is a `__call__`.
-fn same_class_head(
-    alloc: Global,
-    c: &DeclaredClass,
-    d: &DeclaredClass,
-) -> Result<bool, AllocError>
+fn same_class_head(alloc: Global, c: &DeclaredClass, d: &DeclaredClass) -> Result<bool, AllocError>
     ensures { IfOk result (λ same. same
         ≡ spec.same_class_head (declared_class_of c.now) (declared_class_of d.now)) }
 {
     let call = Text::new(alloc, "__call__")?;
-    Ok(c.name == d.name
-        && same_arguments(&c.head.arguments, &d.head.arguments)
-        && c.body.own_member(&call).is_some() == d.body.own_member(&call).is_some())
+    Ok(
+        c.name == d.name
+            && same_arguments(&c.head.arguments, &d.head.arguments)
+            && c.body.own_member(&call).is_some() == d.body.own_member(&call).is_some(),
+    )
 }
