@@ -88,7 +88,9 @@ impl<F: OverFiles> Ask for Recorder<'_, F> {
         Ok(copy)
     }
 
-    fn report(&mut self, message: Message) -> Result<(), AllocError> {
+    fn report(&mut self, mut message: Message) -> Result<(), AllocError> {
+        // (the copy has no more room than it takes; a text that was formed piece by piece has up to twice as much)
+        message.text = message.text.clone()?;
         self.messages.push(message)?;
         Ok(())
     }

@@ -1,8 +1,15 @@
--- Messages whose flags are set: of some and of those after them, and by a test.
-use Rattle.std.proofs.Common.{◌≡◌, Bool, true, false, not, cond, List, [], ◌∷◌, ◌++◌, drop, filter, length, map, refl, sym, ap, ◌∙◌}
+-- Messages whose flags are set: of some and of those after them, one more of them, and by a test.
+use Rattle.std.proofs.Common.{◌≡◌, ℕ, ◌+◌, ◌<◌, Bool, true, false, not, cond, List, [], ◌∷◌, ◌++◌, drop, filter, get_or, length, map, refl, sym, ap, ◌∙◌, append_assoc, append-nil}
+use Rattle.std.proofs.lemmas.List.{drop_more, length-map}
+use Rattle.std.specs.declared.alloc.Global.{Global}
+use Rattle.std.specs.declared.rc.Rc.{Rc}
 use Rattle.pyc_ast.specs.Modules.{Outcome, tree, fault}
 use Rattle.pyc_body.specs.FoundMessages.{without_ignored}
-use Rattle.pyc_report.specs.Message.{Message}
+use Rattle.pyc_recorder.specs.CheckedView.{messages_of}
+use Rattle.pyc_recorder.specs.declared.checked.Checked.{Checked as CheckedOf}
+use Rattle.pyc_report.specs.Message.{Message, message_in}
+use Rattle.pyc_report.specs.declared.message.Message.{Message as MessageOf}
+use Rattle.pyc_reuse.specs.SharedChecks.{found_of}
 use Rattle.pyc_reuse.specs.Shown.{flagged, is_shown}
 
 -- none is flagged where there is no flag
@@ -20,6 +27,55 @@ flagged-append (message ∷ messages) more (flag ∷ flags) =
       | true ↦ ap (λ ms. message ∷ ms) (flagged-append messages more flags)
       | false ↦ flagged-append messages more flags
     ]
+
+-- where none is left, all are there
+pub flagged-end : (seen left all : List Message) → left ≡ [] → seen ++ left ≡ all → seen ≡ all
+flagged-end seen left all none are = sym (append-nil seen) ∙ ap (λ ms. seen ++ ms) (sym none) ∙ are
+
+-- at a message, whose flag is the first of those that are left
+module _ (messages : List MessageOf) (i : ℕ) (message : MessageOf) (within : i < length messages) (is : message ≡ get_or messages i message) (flag : Bool) (flags more : List Bool) (first : flags ≡ flag ∷ more) where
+  at_message : drop i messages ≡ message ∷ drop (i + 1) messages
+  at_message = drop_more messages i message within ∙ ap (λ m. m ∷ drop (i + 1) messages) (sym is)
+
+  abbrev left : List Message
+  left = flagged (map message_in (drop (i + 1) messages)) more
+
+  flagged-left : flagged (map message_in (drop i messages)) flags ≡ cond flag (message_in message ∷ left) left
+  flagged-left = rw (at_message, first) refl
+
+  -- one whose flag is set is the next
+  pub flagged-set : (seen seen' all : List Message) → flag ≡ true → seen' ≡ seen ++ message_in message ∷ [] → seen ++ flagged (map message_in (drop i messages)) flags ≡ all
+      → seen' ++ flagged (map message_in (drop (i + 1) messages)) more ≡ all
+  flagged-set seen seen' all set added are =
+      ap (λ ms. ms ++ left) added ∙ append_assoc seen (message_in message ∷ []) left
+      ∙ ap (λ b. seen ++ cond b (message_in message ∷ left) left) (sym set) ∙ ap (λ ms. seen ++ ms) (sym flagged-left) ∙ are
+
+  -- another is left out
+  pub flagged-unset : (seen all : List Message) → flag ≡ false → seen ++ flagged (map message_in (drop i messages)) flags ≡ all
+      → seen ++ flagged (map message_in (drop (i + 1) messages)) more ≡ all
+  flagged-unset seen all unset are =
+      ap (λ b. seen ++ cond b (message_in message ∷ left) left) (sym unset) ∙ ap (λ ms. seen ++ ms) (sym flagged-left) ∙ are
+
+  -- and after all that are left the same flags follow
+  pub flags-after : (after : List Bool) → drop (length (drop i messages)) flags ≡ after → drop (length (drop (i + 1) messages)) more ≡ after
+  flags-after after are =
+      let step : drop (length (drop i messages)) flags ≡ drop (length (drop (i + 1) messages)) more = rw (at_message, first) refl in
+      sym step ∙ are
+
+-- at a check, whose messages have the first flags of those that are left
+pub flagged-check : (checks : List (Rc CheckedOf Global)) (i : ℕ) (check : Rc CheckedOf Global) → i < length checks → check ≡ get_or checks i check
+    → (messages : List MessageOf) → map message_in messages ≡ messages_of check.value → (seen seen' all : List Message) (flags flags' : List Bool)
+    → seen' ≡ seen ++ flagged (map message_in messages) flags → flags' ≡ drop (length messages) flags → seen ++ flagged (found_of (drop i checks)) flags ≡ all
+    → seen' ++ flagged (found_of (drop (i + 1) checks)) flags' ≡ all
+flagged-check checks i check within is messages own seen seen' all flags flags' added after are =
+    let rest = found_of (drop (i + 1) checks) in
+    let mine = map message_in messages in
+    let ahead : mine ++ rest ≡ found_of (drop i checks) =
+    ap (λ ms. ms ++ rest) own ∙ ap (λ one. messages_of one.value ++ rest) is ∙ sym (ap found_of (drop_more checks i check within)) in
+    ap (λ ms. ms ++ flagged rest flags') added
+    ∙ append_assoc seen (flagged mine flags) (flagged rest flags')
+    ∙ ap (λ fs. seen ++ (flagged mine flags ++ flagged rest fs)) (after ∙ ap (λ n. drop n flags) (sym (length-map messages message_in)))
+    ∙ ap (λ ms. seen ++ ms) (sym (flagged-append mine rest flags)) ∙ ap (λ ms. seen ++ flagged ms flags) ahead ∙ are
 
 -- by the flags of a test, those that pass it
 pub flagged-by : (test : Message → Bool) (messages : List Message) → flagged messages (map test messages) ≡ filter test messages
