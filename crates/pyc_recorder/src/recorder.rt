@@ -89,7 +89,7 @@ impl<F: OverFiles> Ask for Recorder<'_, F> {
     }
 
     fn report(&mut self, mut message: Message) -> Result<(), AllocError> {
-        // (the copy has no more room than it takes; a text that was formed piece by piece has up to twice as much)
+        // a copy has the room that it takes; a text that was formed piece by piece has up to twice as much
         message.text = message.text.clone()?;
         self.messages.push(message)?;
         Ok(())
