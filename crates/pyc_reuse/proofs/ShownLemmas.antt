@@ -1,5 +1,5 @@
--- Messages whose flags are set: of some and of those after them, one more of them, and by a test.
-use Rattle.std.proofs.Common.{◌≡◌, ℕ, ◌+◌, ◌<◌, Bool, true, false, not, cond, List, [], ◌∷◌, ◌++◌, drop, filter, get_or, length, map, refl, sym, ap, ◌∙◌, append_assoc, append-nil}
+-- Messages whose flags are set: of some and of those after them, those of one check more, and by a test.
+use Rattle.std.proofs.Common.{◌≡◌, ℕ, ◌+◌, ◌<◌, Bool, true, false, not, cond, List, [], ◌∷◌, ◌++◌, drop, filter, get_or, length, map, refl, sym, ap, ◌∙◌, append_assoc}
 use Rattle.std.proofs.lemmas.List.{drop_more, length-map}
 use Rattle.std.specs.declared.alloc.Global.{Global}
 use Rattle.std.specs.declared.rc.Rc.{Rc}
@@ -27,40 +27,6 @@ flagged-append (message ∷ messages) more (flag ∷ flags) =
       | true ↦ ap (λ ms. message ∷ ms) (flagged-append messages more flags)
       | false ↦ flagged-append messages more flags
     ]
-
--- where none is left, all are there
-pub flagged-end : (seen left all : List Message) → left ≡ [] → seen ++ left ≡ all → seen ≡ all
-flagged-end seen left all none are = sym (append-nil seen) ∙ ap (λ ms. seen ++ ms) (sym none) ∙ are
-
--- at a message, whose flag is the first of those that are left
-module _ (messages : List MessageOf) (i : ℕ) (message : MessageOf) (within : i < length messages) (is : message ≡ get_or messages i message) (flag : Bool) (flags more : List Bool) (first : flags ≡ flag ∷ more) where
-  at_message : drop i messages ≡ message ∷ drop (i + 1) messages
-  at_message = drop_more messages i message within ∙ ap (λ m. m ∷ drop (i + 1) messages) (sym is)
-
-  abbrev left : List Message
-  left = flagged (map message_in (drop (i + 1) messages)) more
-
-  flagged-left : flagged (map message_in (drop i messages)) flags ≡ cond flag (message_in message ∷ left) left
-  flagged-left = rw (at_message, first) refl
-
-  -- one whose flag is set is the next
-  pub flagged-set : (seen seen' all : List Message) → flag ≡ true → seen' ≡ seen ++ message_in message ∷ [] → seen ++ flagged (map message_in (drop i messages)) flags ≡ all
-      → seen' ++ flagged (map message_in (drop (i + 1) messages)) more ≡ all
-  flagged-set seen seen' all set added are =
-      ap (λ ms. ms ++ left) added ∙ append_assoc seen (message_in message ∷ []) left
-      ∙ ap (λ b. seen ++ cond b (message_in message ∷ left) left) (sym set) ∙ ap (λ ms. seen ++ ms) (sym flagged-left) ∙ are
-
-  -- another is left out
-  pub flagged-unset : (seen all : List Message) → flag ≡ false → seen ++ flagged (map message_in (drop i messages)) flags ≡ all
-      → seen ++ flagged (map message_in (drop (i + 1) messages)) more ≡ all
-  flagged-unset seen all unset are =
-      ap (λ b. seen ++ cond b (message_in message ∷ left) left) (sym unset) ∙ ap (λ ms. seen ++ ms) (sym flagged-left) ∙ are
-
-  -- and after all that are left the same flags follow
-  pub flags-after : (after : List Bool) → drop (length (drop i messages)) flags ≡ after → drop (length (drop (i + 1) messages)) more ≡ after
-  flags-after after are =
-      let step : drop (length (drop i messages)) flags ≡ drop (length (drop (i + 1) messages)) more = rw (at_message, first) refl in
-      sym step ∙ are
 
 -- at a check, whose messages have the first flags of those that are left
 pub flagged-check : (checks : List (Rc CheckedOf Global)) (i : ℕ) (check : Rc CheckedOf Global) → i < length checks → check ≡ get_or checks i check

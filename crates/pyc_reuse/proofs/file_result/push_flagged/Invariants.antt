@@ -1,4 +1,4 @@
-use Rattle.std.proofs.Common.{◌≡◌, ◌++◌, ◌×◌, Bor, drop, length, map}
+use Rattle.std.proofs.Common.{◌≡◌, ◌++◌, Bor, drop, length, map}
 use Rattle.pyc_report.specs.declared.message.Message.{Message as MessageOf}
 use Rattle.pyc_report.specs.Message.{message_in}
 use Rattle.pyc_reuse.specs.Shown.{flagged}
