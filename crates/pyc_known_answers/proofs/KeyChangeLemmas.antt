@@ -1,11 +1,15 @@
 -- Verdicts by number.
-use Rattle.std.proofs.Common.{◌≡◌, ◌∙◌, ap, sym, refl, arith, add-one, ℕ, zero, suc, ◌+◌, ◌<◌, ◌≤◌, Bool, true, false, not, ◌||◌, true≢false}
-use Rattle.std.proofs.Common.{List, [], ◌∷◌, ◌++◌, length, map, drop, drop-cons, get_or, Option, Some, None, is_some}
+use Rattle.std.proofs.Common.{◌≡◌, ◌∙◌, ap, sym, refl, subst, arith, add-one, ℕ, zero, suc, ◌+◌, ◌<◌, ◌≤◌, ◌==◌, Bool, true, false, not, ◌||◌, true≢false, if◌then◌else◌}
+use Rattle.std.proofs.Common.{List, [], ◌∷◌, ◌++◌, length, map, drop, drop-cons, get_or, slice_set, length-set, Option, Some, None, is_some}
 use Rattle.std.specs.List.{list_all, list_any}
-use Rattle.std.proofs.lemmas.Bool.{and_parts}
+use Rattle.std.proofs.lemmas.Bool.{and_parts, eqb-true}
+use lib.Dec.{eqb-zero-suc, eqb-suc-zero, eqb-suc-suc}
+use Rattle.pyc_iface.specs.Answers.{answer_by}
+use Rattle.pyc_keys.specs.Marks.{is_in}
 use Rattle.pyc_keys.specs.Numbering.{Numbering}
 use Rattle.pyc_reading.specs.Answers.{Answer}
 use Rattle.pyc_reading.specs.Keys.{Key}
+use Rattle.pyc_names.specs.Interfaces.{Interface}
 use Rattle.pyc_known_answers.specs.SameAnswers.{same_answer}
 use Rattle.pyc_known_answers.specs.Changes.{AreKnown, has_changed, unknowns, key_change_at, with_number, with_numbers}
 
@@ -83,3 +87,49 @@ drop_past [] zero l = refl
 drop_past [] (suc n) l = refl
 drop_past (x ∷ xs) zero l = absurd (omega (arith, l))
 drop_past (x ∷ xs) (suc n) l = drop_past xs n (omega (arith, l))
+
+-- ---- one number more
+
+change_set : (changes : List (Option Bool)) (i j : ℕ) (x : Option Bool) → i < length changes
+    → key_change_at (slice_set changes i x) j ≡ (if i == j then x else key_change_at changes j)
+change_set [] i j x l = absurd (omega (arith, l))
+change_set (c ∷ cs) zero zero x l = refl
+change_set (c ∷ cs) zero (suc j) x l = ap (λ b. if b then x else key_change_at cs j) (sym (eqb-zero-suc j))
+change_set (c ∷ cs) (suc i) zero x l = ap (λ b. if b then x else c) (sym (eqb-suc-zero i))
+change_set (c ∷ cs) (suc i) (suc j) x l = change_set cs i j x (omega (arith, l)) ∙ ap (λ b. if b then x else key_change_at cs j) (sym (eqb-suc-suc i j))
+
+in_more : (compared : List ℕ) (i j : ℕ) → is_in (compared ++ i ∷ []) j ≡ (is_in compared j || i == j)
+in_more [] i j = or_end (i == j)
+in_more (c ∷ cs) i j = ap (λ b. (c == j) || b) (in_more cs i j) ∙ sym (or_step (c == j) (is_in cs j) (i == j))
+
+true_end : (b : Bool) → true ≡ (b || true)
+true_end true = refl
+true_end false = refl
+
+known_there : (held : Numbering Key) (before now : Key → Answer) (compared : List ℕ) (changes : List (Option Bool)) (i : ℕ) (changed : Bool)
+    → AreKnown held before now compared changes → changed ≡ has_changed before now (held i) → (j : ℕ) (b : Bool) → (i == j) ≡ b
+    → (if b then Some changed else key_change_at changes j) ≡ (if is_in compared j || b then Some (has_changed before now (held j)) else None)
+known_there held before now compared changes i changed are is j true e =
+    ap (λ b. Some b) (is ∙ ap (λ n. has_changed before now (held n)) (eqb-true i j e))
+    ∙ ap (λ b. if b then Some (has_changed before now (held j)) else None) (true_end (is_in compared j))
+known_there held before now compared changes i changed are is j false e =
+    are.known j ∙ ap (λ b. if b then Some (has_changed before now (held j)) else None) (sym (or_end (is_in compared j)))
+
+pub known_more : (held : Numbering Key) (before : Key → Answer) (world next : List Interface) (compared items : List ℕ) (changes : List (Option Bool))
+    (i number : ℕ) (changed : Bool) → AreKnown held before (answer_by world) compared changes → next ≡ world → items ≡ compared ++ i ∷ []
+    → number ≡ i → is_some (held i) ≡ true → changed ≡ has_changed before (answer_by world) (held i)
+    → AreKnown held before (answer_by next) items (slice_set changes number (Some changed))
+known_more held before world next compared items changes i number changed are same more here held_i is =
+    let below = are.room i held_i in
+    let within : number < length changes = omega (arith, below, here) in
+    subst (λ w. AreKnown held before (answer_by w) items (slice_set changes number (Some changed))) (sym same)
+    (subst (λ l. AreKnown held before (answer_by world) l (slice_set changes number (Some changed))) (sym more)
+    (subst (λ n. AreKnown held before (answer_by world) (compared ++ n ∷ []) (slice_set changes number (Some changed))) here
+    record {
+      room = λ j held_j. let below = are.room j held_j in let long = length-set changes number (Some changed) in omega (arith, below, long);
+      known = λ j.
+          change_set changes number j (Some changed) within
+          ∙ known_there held before (answer_by world) compared changes number changed are
+          (is ∙ ap (λ n. has_changed before (answer_by world) (held n)) (sym here)) j (number == j) refl
+          ∙ ap (λ b. if b then Some (has_changed before (answer_by world) (held j)) else None) (sym (in_more compared number j));
+    }))
