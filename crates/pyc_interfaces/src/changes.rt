@@ -44,7 +44,8 @@ impl Tables<'_> {
             (modules_between common.front common.back (table_in self.now.old.now) (table_in self.now.new.now))) }
     {
         self.note_files(common.between(self.old.files()), looks)?;
-        self.note_files(common.between(self.new.files()), looks)
+        self.note_files(common.between(self.new.files()), looks)?;
+        Ok(())
     }
 
     /// Whether the classes that the files between declare have heads that count alike.
@@ -56,7 +57,8 @@ impl Tables<'_> {
     {
         let files = common.between(self.old.files());
         let others = common.between(self.new.files());
-        self.have_same_heads(alloc, files, others)
+        let same = self.have_same_heads(alloc, files, others)?;
+        Ok(same)
     }
 }
 
@@ -73,7 +75,8 @@ impl Worlds<'_> {
             (orders_between common.front common.back (world_in self.now.old.now) (world_in self.now.new.now))) }
     {
         self.note_orders(alloc, self.old.table().files(), looks)?;
-        self.note_orders(alloc, common.between(self.new.table().files()), looks)
+        self.note_orders(alloc, common.between(self.new.table().files()), looks)?;
+        Ok(())
     }
 }
 
@@ -106,9 +109,14 @@ pub fn revised_world(
     let mut looks = Looks::new(alloc);
     tables.note_changes(common, &mut looks)?;
     let flags = Flags::of_looks(alloc, &looks)?;
-    if tables.have_same_heads_between(alloc, common)? && !old.is_any_class_flagged(&flags) {
-        let world = Rc::new(alloc, old.with_table(table)?)?;
-        return Ok(RevisedWorld { world, flags });
+    let same = tables.have_same_heads_between(alloc, common)?;
+    if same && !old.is_any_class_flagged(&flags) {
+        let world = old.with_table(table)?;
+        let shared = Rc::new(alloc, world)?;
+        return Ok(RevisedWorld {
+            world: shared,
+            flags,
+        });
     }
     with_other_orders(alloc, old, table, common, looks)
 }
@@ -128,9 +136,13 @@ fn with_other_orders(
     ensures stay { IfOk result (λ revised.
         ∥ AnswersStay (is_flagged revised.flags) (world_in old.now) (world_in revised.world.value) ∥₁) }
 {
-    let world = Rc::new(alloc, PlainWorld::of_table(alloc, table)?)?;
+    let world = PlainWorld::of_table(alloc, table)?;
     let mut all = looks;
     Worlds { old, new: &world }.note_order_changes(alloc, common, &mut all)?;
     let flags = Flags::of_looks(alloc, &all)?;
-    Ok(RevisedWorld { world, flags })
+    let shared = Rc::new(alloc, world)?;
+    Ok(RevisedWorld {
+        world: shared,
+        flags,
+    })
 }

@@ -69,7 +69,7 @@ impl Tables<'_> {
             ≡ spec.same_file_heads (table_in self.now.old.now) (table_in self.now.new.now)
             (interface_in file.now) (interface_in other.now)) }
     {
-        if file.classes().is_empty() && other.classes().is_empty() {
+        if declares_none(file) && declares_none(other) {
             return Ok(true);
         }
         if file.name() == other.name() && is_own(self.old, file) && is_own(self.new, other) {
@@ -93,7 +93,19 @@ fn is_own(table: &Table, file: &Interface) -> bool
 fn declare_none(files: &[Rc<Interface>]) -> bool
     ensures { result ≡ list_all spec.declares_none (interfaces_in files.now) }
 {
-    files.iter().all(|file| file.classes().is_empty())
+    for file in files {
+        if !declares_none(file) {
+            return false;
+        }
+    }
+    true
+}
+
+/// Whether a file declares no classes.
+fn declares_none(file: &Interface) -> bool
+    ensures { result ≡ spec.declares_none (interface_in file.now) }
+{
+    file.classes().is_empty()
 }
 
 /// Whether two rows of classes have heads that count alike.
@@ -122,9 +134,8 @@ fn same_class_head(alloc: Global, c: &DeclaredClass, d: &DeclaredClass) -> Resul
         ≡ spec.same_class_head (declared_class_of c.now) (declared_class_of d.now)) }
 {
     let call = Text::new(alloc, "__call__")?;
-    Ok(
-        c.name == d.name
-            && same_arguments(&c.head.arguments, &d.head.arguments)
-            && c.body.own_member(&call).is_some() == d.body.own_member(&call).is_some(),
-    )
+    let same = c.name == d.name
+        && same_arguments(&c.head.arguments, &d.head.arguments)
+        && c.body.own_member(&call).is_some() == d.body.own_member(&call).is_some();
+    Ok(same)
 }

@@ -59,7 +59,8 @@ impl Recheck<'_> {
             (StandFor (interfaces_by keys.now) (present_in self.now))) }
     {
         match self.next_world(keys, places)? {
-            Some(RevisedWorld { world, flags }) => {
+            Some(revised) => {
+                let RevisedWorld { world, flags } = revised;
                 let mut changed_keys = ChangedKeys::new(self.alloc, keys, world, &flags)?;
                 let list = self.compare_files(places, &mut changed_keys)?;
                 let next = Some(changed_keys.into_second());

@@ -35,8 +35,12 @@ impl Recheck<'_> {
             return Ok(None);
         }
         let interfaces = interfaces_of(self.alloc, self.present)?;
-        let last = keys.answers().world();
-        let revised = revised_world(self.alloc, last, &interfaces, self.common(places))?;
+        let revised = revised_world(
+            self.alloc,
+            keys.answers().world(),
+            &interfaces,
+            self.common(places),
+        )?;
         Ok(Some(revised))
     }
 

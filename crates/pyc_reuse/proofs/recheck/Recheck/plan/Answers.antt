@@ -1,8 +1,4 @@
 use Rattle.std.proofs.Common.{◌≡◌, ap, List, map, subst, sym, ◌∙◌}
-use Rattle.pyc_iface.specs.CarryLaws.{AnswersStay}
-use Rattle.pyc_iface.specs.Flags.{is_flagged}
-use Rattle.pyc_iface.specs.PlainWorldView.{world_in}
-use Rattle.pyc_iface.specs.declared.world.PlainWorld.{PlainWorld}
 use Rattle.pyc_keys.specs.Numbering.{Numbering}
 use Rattle.pyc_known_answers.specs.WorldView.{interfaces_by}
 use Rattle.pyc_known_answers.specs.KnownAnswersView.{IsOver}
@@ -28,12 +24,12 @@ compare_files-requires-clause-first c =
 
 pub compare_files-requires-clause-second : goal.compare_files-requires-clause-second
 compare_files-requires-clause-second c =
-    subst (λ (s : List Interface). StandFor s (present_in c.args.self.now)) (sym c.in_ok-changed_keys-in-Some.ensures.second) (rw c.in-Some.is at c.in_ok-world.ensures.answers)
+    subst (λ (s : List Interface). StandFor s (present_in c.args.self.now)) (sym c.in_ok-changed_keys-in-Some.ensures.second) (rw c.in-Some.is at c.in_ok-revised.ensures.answers)
 
 pub returns-in_ok-list-in-Some-clause-answers : goal.returns-in_ok-list-in-Some-clause-answers
 returns-in_ok-list-in-Some-clause-answers c =
     subst (λ (s : List Interface). StandFor s (present_in c.args.self.now))
-    (sym (c.into_second.ensures.world ∙ c.in_ok-list-in-Some.ensures.second ∙ c.in_ok-changed_keys-in-Some.ensures.second)) (rw c.in-Some.is at c.in_ok-world.ensures.answers)
+    (sym (c.into_second.ensures.world ∙ c.in_ok-list-in-Some.ensures.second ∙ c.in_ok-changed_keys-in-Some.ensures.second)) (rw c.in-Some.is at c.in_ok-revised.ensures.answers)
 
 pub returns-in_ok-list-in-Some-clause-over : goal.returns-in_ok-list-in-Some-clause-over
 returns-in_ok-list-in-Some-clause-over c =
@@ -43,18 +39,12 @@ pub returns-in_ok-list-in-None-clause-list : goal.returns-in_ok-list-in-None-cla
 returns-in_ok-list-in-None-clause-list c =
     let self = c.args.self.now in
     c.in_ok-list-in-None.ensures ∙ ap (map kept_file_status) c.requires.places
-    ∙ kept_file_statuses (options_in self) (last_in self) (present_in self) (rw c.in-None.is at c.in_ok-world.ensures.alike) (present_in self)
+    ∙ kept_file_statuses (options_in self) (last_in self) (present_in self) (rw c.in-None.is at c.in_ok-revised.ensures.alike) (present_in self)
 
 pub returns-in_ok-list-in-None-clause-alike : goal.returns-in_ok-list-in-None-clause-alike
 returns-in_ok-list-in-None-clause-alike c =
     let self = c.args.self.now in
-    as_present (interfaces_by c.args.keys.now) (last_in self) (present_in self) c.requires.last (rw c.in-None.is at c.in_ok-world.ensures.alike)
+    as_present (interfaces_by c.args.keys.now) (last_in self) (present_in self) c.requires.last (rw c.in-None.is at c.in_ok-revised.ensures.alike)
 
 pub new-requires : goal.new-requires
-new-requires c =
-    subst (λ (w : PlainWorld). ∥ AnswersStay (is_flagged c.in_ok-changed-in-Some.changed) (interfaces_by c.args.keys.now) (world_in w) ∥₁)
-    c.deref.ensures c.in_ok-changed-in-Some.ensures
-
-pub changed-requires-clause-next : goal.changed-requires-clause-next
-changed-requires-clause-next c =
-    subst (λ (w : PlainWorld). StandFor (world_in w) (present_in c.args.self.now)) (sym c.deref.ensures) (rw c.in-Some.is at c.in_ok-world.ensures.answers)
+new-requires c = rw c.in-Some.is at c.in_ok-revised.ensures.stay
