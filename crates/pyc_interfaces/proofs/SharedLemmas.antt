@@ -17,7 +17,7 @@ use Rattle.pyc_class_ids.specs.BuiltinClasses.{number_of}
 use Rattle.pyc_class_ids.specs.Class.{Id, builtin, user, same_class}
 use Rattle.pyc_class_ids.specs.Mro.{Mro, MroTable}
 use Rattle.pyc_class_table.specs.declared.class_entry.WrittenBase.{WrittenBase}
-use Rattle.pyc_class_table.specs.ClassMros.{orders_of}
+use Rattle.pyc_class_table.specs.ClassMros.{orders_of as orders_of_entries}
 use Rattle.pyc_class_table.specs.Entries.{Entry}
 use Rattle.pyc_declarations.proofs.CarriedLemmas.{AreTwins, bases-carried}
 use Rattle.pyc_declarations.proofs.CarryLemmas.{TwinFiles, same_both, reading_carries, good_holds, bind_alike, fixed_alike, declared_carries, own_found_clear}
@@ -363,7 +363,7 @@ shared_carry differs front back files others common all same clear =
     let alike = names_alike differs front back files others common all in
     let others_alike = but_for_orders differs front back files others common all in
     let one = entries_carry differs files others alike others_alike.fixed front back common same (ap (list_any differs) (entries_looks-bare files) ∙ clear) in
-    let orders : orders_by (map bare_interface files) ≡ orders_by (map bare_interface others) = ap orders_of one.0 in
+    let orders : orders_by (map bare_interface files) ≡ orders_by (map bare_interface others) = ap orders_of_entries one.0 in
     record {
       orders = sym (orders-bare files) ∙ orders ∙ orders-bare others;
       looks = λ t. ap (list_any t) (sym (entries_looks-bare files)) ∙ one.1 t ∙ ap (list_any t) (entries_looks-bare others);
