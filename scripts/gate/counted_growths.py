@@ -132,7 +132,8 @@ HOLDING = [
     Comparison("parameters of a function, another body that names it", parameters, READER_EDITED + CHECK),
     Comparison("lines that are examined", examined, CHECK, MOST_EXAMINED),
 ]
-# after an edit of an interface the tables of files and classes are made anew; a report is at each check
+# after an edit of an interface the table of files is made anew, and what each file's units read is gone through; a report is
+# at each check
 LATER = [
     *compared("messages of an unchanged file", messages, EDITS),
     *compared("unchanged files", files, INTERFACES),
