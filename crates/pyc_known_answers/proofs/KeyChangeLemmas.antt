@@ -1,13 +1,24 @@
 -- Verdicts by number.
-use Rattle.std.proofs.Common.{◌≡◌, ◌∙◌, ap, sym, refl, arith, add-one, ℕ, zero, suc, ◌+◌, ◌<◌, ◌≤◌, Bool, true, false, not, ◌||◌, true≢false}
+use Rattle.std.proofs.Common.{◌≡◌, ◌∙◌, ap, sym, refl, arith, add-one, ℕ, zero, suc, ◌+◌, ◌<◌, ◌≤◌, ◌==◌, Bool, true, false, not, ◌||◌, true≢false, if◌then◌else◌}
 use Rattle.std.proofs.Common.{List, [], ◌∷◌, ◌++◌, length, map, drop, drop-cons, get_or, Option, Some, None, is_some}
 use Rattle.std.specs.List.{list_all, list_any}
 use Rattle.std.proofs.lemmas.Bool.{and_parts}
+use Rattle.std.proofs.lemmas.List.Folds.{list_any-append}
+use Rattle.pyc_iface.specs.Answers.{answer_by}
+use Rattle.pyc_iface.specs.Flags.{flag_at}
+use Rattle.pyc_keys.proofs.NumberingLemmas.{none_some}
+use Rattle.pyc_keys.specs.Marks.{is_in}
 use Rattle.pyc_keys.specs.Numbering.{Numbering}
+use Rattle.pyc_names.specs.Interfaces.{Interface}
 use Rattle.pyc_reading.specs.Answers.{Answer}
 use Rattle.pyc_reading.specs.Keys.{Key}
+use Rattle.pyc_known_answers.proofs.EqualityLemmas.{answers_decide}
+use Rattle.pyc_known_answers.proofs.KnownLemmas.{known_to}
+use Rattle.pyc_known_answers.specs.CarryLaws.{carried}
+use Rattle.pyc_known_answers.specs.KnownAnswers.{AreKnownOf}
+use Rattle.pyc_known_answers.specs.LookedAnswers.{LookedAnswer}
 use Rattle.pyc_known_answers.specs.SameAnswers.{same_answer}
-use Rattle.pyc_known_answers.specs.Changes.{AreKnown, has_changed, unknowns, key_change_at, with_number, with_numbers}
+use Rattle.pyc_known_answers.specs.Changes.{AreKnown, UncomparedStay, has_changed, unknowns, key_change_at, with_number, with_numbers}
 
 -- ---- where nothing was compared
 
@@ -83,3 +94,52 @@ drop_past [] zero l = refl
 drop_past [] (suc n) l = refl
 drop_past (x ∷ xs) zero l = absurd (omega (arith, l))
 drop_past (x ∷ xs) (suc n) l = drop_past xs n (omega (arith, l))
+
+-- ---- what was not compared
+
+one_answer : (first second : Key → Answer) (key : Key) (answer : Answer) → answer ≡ first key → answer ≡ second key
+    → has_changed first second (Some key) ≡ false
+one_answer first second key answer was is = ap not ((answers_decide (first key) (second key)).1 (sym was ∙ is))
+
+was_known : (flags : List Bool) (known : Option LookedAnswer) (looked : LookedAnswer) → carried flags known ≡ Some looked
+    → known ≡ Some looked
+was_known flags None looked h = absurd (none_some h)
+was_known flags (Some x) looked h = by (x.looks (flag_at flags)) h
+  where
+    by : (b : Bool) → (if b then None else Some x) ≡ Some looked → Some x ≡ Some looked
+    by true h = absurd (none_some h)
+    by false h = h
+
+-- what stays known is no other answer
+pub carried_stay : (flags : List Bool) (files others : List Interface) (keys : Numbering Key) (known new : Numbering LookedAnswer)
+    → AreKnownOf files keys known → AreKnownOf others keys new → new ≡ (λ i. carried flags (known i))
+    → UncomparedStay keys (answer_by files) (answer_by others) [] new
+carried_stay flags files others keys known new were are is = λ i none some. by i (new i) refl some (keys i) refl
+  where
+    by : (i : ℕ) (x : Option LookedAnswer) → new i ≡ x → is_some x ≡ true → (key : Option Key) → keys i ≡ key
+        → has_changed (answer_by files) (answer_by others) key ≡ false
+    by i None e some key held = absurd (true≢false (sym some))
+    by i (Some looked) e some None held = refl
+    by i (Some looked) e some (Some key) held =
+        let was : known i ≡ Some looked = was_known flags (known i) looked (sym (ap (λ f. f i) is) ∙ e) in
+        one_answer (answer_by files) (answer_by others) key looked.answer (known_to files keys known i looked key were held was).answers
+        (known_to others keys new i looked key are held e).answers
+
+neither : (a b : Bool) → (a || b) ≡ false → (a ≡ false) × (b ≡ false)
+neither true b h = absurd (true≢false h)
+neither false b h = (refl, h)
+
+-- one more was compared, and no other answer came to be known
+pub stay_more : (held : Numbering Key) (before now : Key → Answer) (compared next : List ℕ) (known later : Numbering LookedAnswer) (i : ℕ)
+    → next ≡ compared ++ i ∷ [] → ((j : ℕ) → (i == j) ≡ false → later j ≡ known j) → UncomparedStay held before now compared known
+    → UncomparedStay held before now next later
+stay_more held before now compared next known later i made others stay j out here =
+    let whole : (is_in compared j || ((i == j) || false)) ≡ false =
+    sym (list_any-append (λ k. k == j) compared (i ∷ [])) ∙ sym (ap (λ l. is_in l j) made) ∙ out in
+    let parts = neither (is_in compared j) ((i == j) || false) whole in
+    stay j parts.0 (sym (ap is_some (others j (sym (or_end (i == j)) ∙ parts.1))) ∙ here)
+
+-- no other answer came to be known
+pub stay_same : (held : Numbering Key) (before now : Key → Answer) (compared : List ℕ) (known later : Numbering LookedAnswer)
+    → later ≡ known → UncomparedStay held before now compared known → UncomparedStay held before now compared later
+stay_same held before now compared known later same stay j out here = stay j out (sym (ap (λ f. is_some (f j)) same) ∙ here)

@@ -5,6 +5,7 @@ use Rattle.pyc_keys.specs.Marks.{is_in}
 use Rattle.pyc_keys.specs.Numbering.{Numbering}
 use Rattle.pyc_reading.specs.Answers.{Answer}
 use Rattle.pyc_reading.specs.Keys.{Key}
+use Rattle.pyc_known_answers.specs.LookedAnswers.{LookedAnswer}
 use Rattle.pyc_known_answers.specs.SameAnswers.{same_answer}
 
 -- whether a key has another answer among those of now than among those of before
@@ -41,3 +42,8 @@ pub record AreKnown (held : Numbering Key) (before now : Key → Answer) (compar
   pub room : (i : ℕ) → is_some (held i) ≡ true → i < length changed_keys
   pub known : (i : ℕ) → key_change_at changed_keys i
       ≡ (if is_in compared i then Some (has_changed before now (held i)) else None)
+
+-- a key that was not compared, and whose answer is known among those of now, has no other answer than before
+abbrev pub UncomparedStay : Numbering Key → (before now : Key → Answer) → List ℕ → Numbering LookedAnswer → Type 0
+UncomparedStay held before now compared known =
+    (i : ℕ) → is_in compared i ≡ false → is_some (known i) ≡ true → has_changed before now (held i) ≡ false

@@ -1,14 +1,16 @@
 //! Whether keys have other answers in one world than in another.
 
-ghost use Rattle.std.specs.Prelude.{◌≡◌, ◌||◌, [], true, false, length, is_some, map, None, IfOk, OnOk};
+ghost use Rattle.std.specs.Prelude.{◌≡◌, ◌==◌, ◌||◌, [], ℕ, true, false, length, is_some, map, None};
+ghost use Rattle.std.specs.Prelude.{IfOk, OnOk, OnErr};
 ghost use Rattle.std.specs.List.{list_all, list_any};
 ghost use Rattle.pyc_iface.specs.Answers.{answer_by};
 ghost use Rattle.pyc_iface.specs.CarryLaws.{AnswersStay};
 ghost use Rattle.pyc_iface.specs.Flags.{is_flagged};
 ghost use Rattle.pyc_iface.specs.PlainWorldView.{world_in};
 ghost use Rattle.pyc_known_answers.specs.WorldView.{held_by, interfaces_by};
-ghost use Rattle.pyc_known_answers.specs.KnownAnswersView.{interfaces_of, IsOver};
-ghost use Rattle.pyc_known_answers.specs.Changes.{AreKnown, has_changed, unknowns, with_number, with_numbers};
+ghost use Rattle.pyc_known_answers.specs.KnownAnswersView.{interfaces_of, known_at, IsOver};
+ghost use Rattle.pyc_known_answers.specs.Changes.{AreKnown, UncomparedStay, has_changed, unknowns, with_number};
+ghost use Rattle.pyc_known_answers.specs.Changes.{with_numbers};
 
 use crate::compared::Compared;
 use crate::known_answers::KnownAnswers;
@@ -30,6 +32,8 @@ pub struct ChangedKeys<'a> {
     ghost second_over: { IsOver (held_by first.now) second },
     ghost are_known: { AreKnown (held_by first.now) (answer_by (interfaces_by first.now))
         (answer_by (interfaces_of second)) compared known.items },
+    ghost uncompared_stay: { UncomparedStay (held_by first.now) (answer_by (interfaces_by first.now))
+        (answer_by (interfaces_of second)) compared (known_at second) },
 }
 
 impl<'a> ChangedKeys<'a> {
@@ -107,23 +111,33 @@ impl<'a> ChangedKeys<'a> {
         if let Some(changed) = self.known[id.number()] {
             return Ok(changed);
         }
+        self.compared.numbers.reserve(1)?;
         let changed = compare(self.first, &mut self.second, id)?;
-        self.compared.numbers.push(id)?;
+        self.compared.numbers.push_reserved(id);
         self.known[id.number()] = Some(changed);
         Ok(changed)
     }
 }
 
-/// Whether the second world answers the key of a number otherwise than the first.
+/// Whether the second world answers the key of a number otherwise than the first. Where its answer is known in the
+/// second, it is taken from the first: then nothing is asked and no answers are compared.
 fn compare(first: &World, second: &mut KnownAnswers, id: KeyId) -> Result<bool, AllocError>
     requires held { is_some (held_by first.now id) ≡ true }
     requires over { IsOver (held_by first.now) second.old }
+    requires stays { is_some (known_at second.old id) ≡ true
+        → has_changed (answer_by (interfaces_by first.now)) (answer_by (interfaces_of second.old))
+        (held_by first.now id) ≡ false }
     ensures value { IfOk result (λ found. found
         ≡ has_changed (answer_by (interfaces_by first.now)) (answer_by (interfaces_of second.old))
         (held_by first.now id)) }
     ensures over { IsOver (held_by first.now) second.new }
     ensures world { interfaces_of second.new ≡ interfaces_of second.old }
+    ensures others { (i : ℕ) → (id == i) ≡ false → known_at second.new i ≡ known_at second.old i }
+    ensures same { OnErr result (known_at second.new ≡ known_at second.old) }
 {
+    if second.find(id).is_some() {
+        return Ok(false);
+    }
     let keys = first.keys();
     let before = first.answers().find_or_form(keys, id)?;
     let same = second.is_answered_by(keys, id, &before)?;

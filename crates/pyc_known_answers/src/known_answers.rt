@@ -1,7 +1,7 @@
 //! The answers of a world by number.
 
-ghost use Rattle.std.specs.Prelude.{◌≡◌, ℕ, List, Some, None, true, is_some, map, if◌then◌else◌, option_map};
-ghost use Rattle.std.specs.Prelude.{IfSome, IfNone, IfOk, OnOk, OnErr};
+ghost use Rattle.std.specs.Prelude.{◌≡◌, ◌==◌, ℕ, List, Some, None, true, false, is_some, map, if◌then◌else◌};
+ghost use Rattle.std.specs.Prelude.{option_map, IfSome, IfNone, IfOk, OnOk, OnErr};
 ghost use Rattle.pyc_iface.specs.Answers.{answer_by};
 ghost use Rattle.pyc_iface.specs.CarryLaws.{AnswersStay};
 ghost use Rattle.pyc_iface.specs.Flags.{is_flagged};
@@ -109,6 +109,8 @@ impl KnownAnswers {
             ≡ same_answer (looked_in given.now.value).answer (answer_by (interfaces_of self.old) key)) }
         ensures over { IsOver (key_at keys.now) self.new }
         ensures world { interfaces_of self.new ≡ interfaces_of self.old }
+        ensures others { (i : ℕ) → (id == i) ≡ false → known_at self.new i ≡ known_at self.old i }
+        ensures same { OnErr result (known_at self.new ≡ known_at self.old) }
     {
         if let Some(known) = self.find(id) {
             return Ok(is_same(given.answer(), known.answer()));
