@@ -106,7 +106,7 @@ fn compared_keys_have_answers(rt: HostRuntime) -> Result<(), Fail> {
     for id in reads {
         let _ = changed_keys.is_any_changed(&[*id])?;
     }
-    let known = changed_keys.into_second();
+    let (known, _) = changed_keys.into_parts();
     for id in reads {
         assert!(rt; known.find(*id).is_some());
     }
@@ -119,7 +119,7 @@ fn compared_keys_have_answers(rt: HostRuntime) -> Result<(), Fail> {
 fn answers_are_carried_over(rt: HostRuntime) -> Result<(), Fail> {
     let (keys, checks) = checked(rt.alloc(), "x: int = 1\ny: int = 1\n")?;
     let second = world_of(rt.alloc(), "x: int = 1\ny: str = \"\"\n")?;
-    let known = changed_in(rt.alloc(), &keys, second)?.into_second();
+    let (known, _) = changed_in(rt.alloc(), &keys, second)?.into_parts();
     for id in checks[1].reads() {
         let before = keys.answers().find(*id);
         assert!(rt;
@@ -129,7 +129,7 @@ fn answers_are_carried_over(rt: HostRuntime) -> Result<(), Fail> {
         );
     }
     let third = world_of(rt.alloc(), "x: str = \"\"\ny: int = 1\n")?;
-    let known = changed_in(rt.alloc(), &keys, third)?.into_second();
+    let (known, _) = changed_in(rt.alloc(), &keys, third)?.into_parts();
     assert!(rt; checks[1].reads().iter().any(|id| known.find(*id).is_none()));
     Ok(())
 }

@@ -70,12 +70,14 @@ impl<'a> ChangedKeys<'a> {
         &self.compared
     }
 
-    /// What the second world answers, by itself: the answers of the keys that were compared are known.
-    pub fn into_second(self) -> KnownAnswers
-        ensures world { interfaces_of result ≡ second_in self.entry }
-        ensures over { IsOver (held_in self.entry) result }
+    /// What the second world answers, by itself: the answers of the keys that were compared are known; and which keys
+    /// were.
+    pub fn into_parts(self) -> (KnownAnswers, Compared)
+        ensures world { interfaces_of result.0 ≡ second_in self.entry }
+        ensures over { IsOver (held_in self.entry) result.0 }
+        ensures compared { result.1 ≡ compared_in self.entry }
     {
-        self.second
+        (self.second, self.compared)
     }
 
     /// Whether one of the keys of these numbers has another answer in the second world. All of them are compared, but

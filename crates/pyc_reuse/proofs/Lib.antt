@@ -16,3 +16,5 @@ pub mod ExactLemmas
 pub mod FileLemmas
 pub mod HoldLemmas
 pub mod ShownLemmas
+pub mod ComparedLemmas
+pub mod EachOnceLemmas

@@ -13,3 +13,6 @@ pub mod Reports
 pub mod ExaminedLaws
 pub mod Exact
 pub mod Shown
+pub mod Compared
+pub mod ComparedView
+pub mod ComparedLaws

@@ -1,6 +1,6 @@
 //! The work list: which units are to be examined, over which answers.
 
-ghost use Rattle.std.specs.Prelude.{◌≡◌, true, is_some, map, IfOk, IfSome, IfNone};
+ghost use Rattle.std.specs.Prelude.{◌≡◌, [], true, is_some, map, IfOk, IfSome, IfNone, OnOk};
 ghost use Rattle.std.specs.List.{list_all, list_any};
 ghost use Rattle.pyc_iface.specs.Answers.{answer_by};
 ghost use Rattle.pyc_iface.specs.CarryLaws.{AnswersStay};
@@ -9,11 +9,12 @@ ghost use Rattle.pyc_iface.specs.PlainWorldView.{world_in};
 ghost use Rattle.pyc_known_answers.specs.WorldView.{held_by, interfaces_by};
 ghost use Rattle.pyc_known_answers.specs.KnownAnswersView.{interfaces_of, IsOver};
 ghost use Rattle.pyc_reuse.specs.Answering.{StandFor};
+ghost use Rattle.pyc_reuse.specs.ComparedView.{numbers_of, reads_at, reads_from};
 ghost use Rattle.pyc_reuse.specs.Revision.{file_results_among};
 ghost use Rattle.pyc_reuse.specs.Places.{IsPlace, place_in};
 ghost use Rattle.pyc_reuse.specs.RecheckView.{last_in, options_in, present_in};
-ghost use Rattle.pyc_reuse.specs.FileResultView.{file_results_in};
-ghost use Rattle.pyc_reuse.specs.SharedChecks.{checks_of};
+ghost use Rattle.pyc_reuse.specs.FileResultView.{file_results_in, reads_in};
+ghost use Rattle.pyc_reuse.specs.SharedChecks.{checks_of, reads_of};
 ghost use Rattle.pyc_reuse.specs.FileStatuses.{
   status_by_flags,
   is_any,
@@ -22,9 +23,10 @@ ghost use Rattle.pyc_reuse.specs.FileStatuses.{
   file_status_in,
   file_status_of,
 };
-ghost use Rattle.pyc_known_answers.specs.Changes.{has_changed};
-ghost use Rattle.pyc_known_answers.specs.ChangedKeysView.{first_in, held_in, second_in};
+ghost use Rattle.pyc_known_answers.specs.Changes.{has_changed, with_numbers};
+ghost use Rattle.pyc_known_answers.specs.ChangedKeysView.{compared_in, first_in, held_in, second_in};
 
+use crate::compared_keys::ComparedKeys;
 use crate::file_result::FileResult;
 use crate::file_status::FileStatus;
 use crate::recheck::Recheck;
@@ -33,13 +35,15 @@ use pyc_interfaces::changed_looks;
 use pyc_keys::ReadSet;
 use pyc_known_answers::{ChangedKeys, KnownAnswers, World};
 use std::alloc::AllocError;
+use std::rc::Rc;
 
-/// What is to be done for each file that is present, and the answers of their world, unless it is known to answer as
-/// the last one.
+/// What is to be done for each file that is present, the answers of their world, unless it is known to answer as the
+/// last one, and which keys were compared.
 #[derive(Drop)]
 pub(crate) struct RecheckPlan {
     pub(crate) list: Vec<FileStatus>,
     pub(crate) next: Option<KnownAnswers>,
+    pub(crate) compared: ComparedKeys,
 }
 
 impl Recheck<'_> {
@@ -61,18 +65,29 @@ impl Recheck<'_> {
         ensures over { IfOk result (λ plan. IfSome plan.next (λ next. IsOver (held_by keys.now) next)) }
         ensures alike { IfOk result (λ plan. IfNone plan.next
             (StandFor (interfaces_by keys.now) (present_in self.now))) }
+        ensures compared { IfOk result (λ plan. numbers_of plan.compared
+            ≡ with_numbers [] (reads_from self.now.last.now.file_results.items places.now)) }
     {
         match self.next_world(places)? {
             Some(world) => {
                 let changed = self.changed(keys, &world, places)?;
                 let mut changed_keys = ChangedKeys::new(self.alloc, keys, world, &changed)?;
                 let list = self.compare_files(places, &mut changed_keys)?;
-                let next = Some(changed_keys.into_second());
-                Ok(RecheckPlan { list, next })
+                let (second, compared) = changed_keys.into_parts();
+                Ok(RecheckPlan {
+                    list,
+                    next: Some(second),
+                    compared: ComparedKeys::Listed(compared),
+                })
             }
             None => {
                 let list = self.new_files(places)?;
-                Ok(RecheckPlan { list, next: None })
+                let compared = ComparedKeys::ReadIn(self.old_file_results(places)?);
+                Ok(RecheckPlan {
+                    list,
+                    next: None,
+                    compared,
+                })
             }
         }
     }
@@ -112,6 +127,32 @@ impl Recheck<'_> {
         Ok(list)
     }
 
+    /// The rows that stood at these places.
+    fn old_file_results(
+        &self,
+        places: &[Option<usize>],
+    ) -> Result<Vec<Rc<FileResult>>, AllocError>
+        ensures { IfOk result (λ file_results. reads_in file_results.items
+            ≡ reads_from self.now.last.now.file_results.items places.now) }
+    {
+        let mut file_results = Vec::with_capacity(self.alloc, places.len())?;
+        for place in places {
+            if let Some(file_result) = self.old_file_result(*place) {
+                file_results.push(file_result.clone()?)?;
+            }
+        }
+        Ok(file_results)
+    }
+
+    /// The row that stood at a place, if one did.
+    fn old_file_result(&self, place: Option<usize>) -> Option<&Rc<FileResult>>
+        ensures reads { IfSome result (λ file_result. file_result.now.value.reads.items
+            ≡ reads_at self.now.last.now.file_results.items place) }
+        ensures none { IfNone result (reads_at self.now.last.now.file_results.items place ≡ []) }
+    {
+        self.last.file_results.get(place?)
+    }
+
     /// What is to be done for each file, by the keys that its units read.
     fn compare_files(
         &self,
@@ -128,6 +169,8 @@ impl Recheck<'_> {
             (present_in self.now)) }
         ensures held { held_in changed_keys.new ≡ held_in changed_keys.old }
         ensures second { second_in changed_keys.new ≡ second_in changed_keys.old }
+        ensures compared { OnOk result (compared_in changed_keys.new ≡ with_numbers (compared_in changed_keys.old)
+            (reads_from self.now.last.now.file_results.items places.now)) }
     {
         let mut list = Vec::with_capacity(self.alloc, places.len())?;
         for place in places {
@@ -153,6 +196,8 @@ impl Recheck<'_> {
         ensures held { held_in changed_keys.new ≡ held_in changed_keys.old }
         ensures first { first_in changed_keys.new ≡ first_in changed_keys.old }
         ensures second { second_in changed_keys.new ≡ second_in changed_keys.old }
+        ensures compared { OnOk result (compared_in changed_keys.new ≡ with_numbers (compared_in changed_keys.old)
+            (reads_at self.now.last.now.file_results.items place)) }
     {
         let Some(place) = place else {
             return Ok(FileStatus::All);
@@ -176,6 +221,8 @@ impl Recheck<'_> {
         ensures held { held_in changed_keys.new ≡ held_in changed_keys.old }
         ensures first { first_in changed_keys.new ≡ first_in changed_keys.old }
         ensures second { second_in changed_keys.new ≡ second_in changed_keys.old }
+        ensures compared { OnOk result (compared_in changed_keys.new ≡ with_numbers (compared_in changed_keys.old)
+            (reads_of file_result.now.checks.items)) }
     {
         let mut flags = Vec::with_capacity(self.alloc, file_result.checks.len())?;
         for check in &file_result.checks {

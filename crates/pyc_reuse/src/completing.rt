@@ -5,6 +5,8 @@ ghost use Rattle.pyc_keys.specs.Numbering.{Extends};
 ghost use Rattle.pyc_known_answers.specs.WorldView.{held_by, interfaces_by};
 ghost use Rattle.pyc_report.specs.Report.{report_in};
 ghost use Rattle.pyc_reuse.specs.Answering.{StandFor};
+ghost use Rattle.pyc_reuse.specs.Compared.{AreEachOnce, kept_reads};
+ghost use Rattle.pyc_reuse.specs.ComparedView.{compared_in, numbers_of};
 ghost use Rattle.pyc_reuse.specs.Exact.{IsExact};
 ghost use Rattle.pyc_reuse.specs.Holding.{HoldsJust};
 ghost use Rattle.pyc_reuse.specs.Revision.{file_results_among};
@@ -16,6 +18,7 @@ ghost use Rattle.pyc_reuse.specs.FileStatuses.{file_status_in, file_status_of};
 ghost use Rattle.pyc_workspace.specs.Files.{files_in};
 ghost use Rattle.pyc_workspace.specs.Fresh.{fresh, units_of};
 
+use crate::compared_keys::ComparedKeys;
 use crate::comparing::RecheckPlan;
 use crate::examining::Examination;
 use crate::file_status::{FileStatus, are_in_place};
@@ -43,7 +46,7 @@ struct Completed {
 /// Checks the files that are present, after the last check; `touched` has the paths of those that were put since then.
 /// First the keys that the units of unchanged files read are compared, then the units are examined that are to be. What
 /// is left comes with the report. After a check that is completed the keys are held that the units have read, and no
-/// others. The only error is that memory runs out; then what was left is as before, and just those keys are held that
+/// others; and the keys were compared that the units of unchanged files had read, each once. The only error is that memory runs out; then what was left is as before, and just those keys are held that
 /// were.
 pub fn check_again(
     alloc: Global,
@@ -57,7 +60,10 @@ pub fn check_again(
     ensures exact { IfOk result.1 (λ report. IsExact (revision_in last).options (revision_in last).files present.now
         (report_in report) (revision_in result.0).examined) }
     ensures held { HoldsJust (keys_in result.0) (reads_kept result.0) }
+    ensures compared { OnOk result.1 (AreEachOnce (keys_in last) (compared_in result.0)
+        (kept_reads (revision_in last).options (revision_in last).files present.now)) }
     ensures same { OnErr result.1 (revision_in result.0 ≡ revision_in last) }
+    ensures same_compared { OnErr result.1 (compared_in result.0 ≡ compared_in last) }
     ensures same_keys { OnErr result.1 (keys_in result.0 ≡ keys_in last) }
 {
     let LastCheck { kept, mut keys } = last;
@@ -120,6 +126,8 @@ fn check_present<'a>(
     ensures held { IfOk result (λ done. IsTrue done.is_settled → held_by keys.new ≡ held_by keys.old) }
     ensures reads { IfOk result (λ done. IsTrue done.is_settled
         → reads_in done.kept.file_results.items ≡ reads_in last.now.file_results.items) }
+    ensures compared { IfOk result (λ done. AreEachOnce (held_by keys.old) (numbers_of done.kept.compared)
+        (kept_reads last.now.options last.now.files present.now)) }
     ensures same { OnErr result (interfaces_by keys.new ≡ interfaces_by keys.old) }
 {
     let recheck = Recheck {
@@ -129,11 +137,15 @@ fn check_present<'a>(
         touched,
     };
     let places = recheck.places()?;
-    let RecheckPlan { list, next } = recheck.plan(keys, &places)?;
+    let RecheckPlan {
+        list,
+        next,
+        compared,
+    } = recheck.plan(keys, &places)?;
     match next {
         Some(next) => {
             let before = keys.replace_world(next);
-            match complete(recheck, keys, present, &list) {
+            match complete(recheck, keys, present, &list, compared) {
                 Ok(done) => Ok(done),
                 Err(error) => {
                     keys.replace_world(before);
@@ -141,16 +153,18 @@ fn check_present<'a>(
                 }
             }
         }
-        None => complete(recheck, keys, present, &list),
+        None => complete(recheck, keys, present, &list, compared),
     }
 }
 
-/// A check of the files that are present, by what is to be done for each, over what their world answers.
+/// A check of the files that are present, by what is to be done for each, over what their world answers; these keys were
+/// compared for it.
 fn complete(
     recheck: Recheck<'_>,
     keys: &mut World,
     present: &Files,
     list: &[FileStatus],
+    compared: ComparedKeys,
 ) -> Result<Completed, AllocError>
     requires present { present_in recheck ≡ present.now }
     requires file_results { ∥ file_results_in (held_by keys.old) recheck.last.now.file_results.items
@@ -170,6 +184,7 @@ fn complete(
     ensures held { IfOk result (λ done. IsTrue done.is_settled → held_by keys.new ≡ held_by keys.old) }
     ensures reads { IfOk result (λ done. IsTrue done.is_settled
         → reads_in done.kept.file_results.items ≡ reads_in recheck.entry.last.now.file_results.items) }
+    ensures compared { IfOk result (λ done. numbers_of done.kept.compared ≡ numbers_of compared.entry) }
     ensures world { interfaces_by keys.new ≡ interfaces_by keys.old }
 {
     let alloc = recheck.alloc;
@@ -192,6 +207,7 @@ fn complete(
             file_results,
             meter,
             bodies,
+            compared,
         },
         is_settled,
     })

@@ -3,6 +3,7 @@
 ghost use Rattle.std.specs.Prelude.{◌≡◌, length};
 ghost use Rattle.pyc_workspace.specs.Fresh.{units_of};
 
+use crate::compared_keys::ComparedKeys;
 use crate::file_result::FileResult;
 use pyc_body::Meter;
 use pyc_iface::Options;
@@ -10,7 +11,7 @@ use pyc_workspace::Files;
 use std::rc::Rc;
 
 /// What a completed check leaves, but for the keys and their answers: the options, the files that it checked, what came
-/// of the units of each file, which units it examined, and how many units there are.
+/// of the units of each file, which units it examined, how many units there are, and which keys it compared.
 #[derive(Drop)]
 pub(crate) struct KeptResults {
     pub(crate) options: Options,
@@ -18,5 +19,6 @@ pub(crate) struct KeptResults {
     pub(crate) file_results: Vec<Rc<FileResult>>,
     pub(crate) meter: Meter,
     pub(crate) bodies: usize,
+    pub(crate) compared: ComparedKeys,
     ghost bodies_are: { bodies ≡ length (units_of files) },
 }

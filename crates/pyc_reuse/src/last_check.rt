@@ -8,6 +8,7 @@ ghost use Rattle.pyc_reuse.specs.Revision.{file_results_among};
 ghost use Rattle.pyc_reuse.specs.FileResultView.{reads_in, file_results_in};
 ghost use Rattle.pyc_workspace.specs.Fresh.{units_of};
 
+use crate::compared_keys::ComparedKeys;
 use crate::kept_results::KeptResults;
 use pyc_body::Meter;
 use pyc_iface::{Options, PlainWorld};
@@ -45,6 +46,7 @@ impl LastCheck {
                 file_results: Vec::new(alloc),
                 meter: Meter::new(alloc),
                 bodies: 0,
+                compared: ComparedKeys::ReadIn(Vec::new(alloc)),
             },
             keys: World::new(alloc, shared),
         })

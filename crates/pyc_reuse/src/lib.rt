@@ -17,6 +17,7 @@
 //! Where memory runs out, the last world takes its place again, the keys that came are let go, and all is as it was.
 #![tactic(auto)]
 
+mod compared_keys;
 mod comparing;
 mod completing;
 mod examining;

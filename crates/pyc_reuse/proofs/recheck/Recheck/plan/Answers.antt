@@ -1,4 +1,4 @@
-use Rattle.std.proofs.Common.{◌≡◌, ap, List, map, subst, sym, ◌∙◌}
+use Rattle.std.proofs.Common.{◌≡◌, ap, List, ℕ, map, subst, sym, ◌∙◌}
 use Rattle.pyc_iface.specs.CarryLaws.{AnswersStay}
 use Rattle.pyc_iface.specs.Flags.{is_flagged}
 use Rattle.pyc_iface.specs.PlainWorldView.{world_in}
@@ -10,7 +10,9 @@ use Rattle.pyc_names.specs.Interfaces.{Interface}
 use Rattle.pyc_reading.specs.Keys.{Key}
 use Rattle.pyc_reuse.proofs.InterfaceLemmas.{as_present}
 use Rattle.pyc_reuse.proofs.FileStatusLemmas.{kept_file_statuses}
+use Rattle.pyc_known_answers.specs.Changes.{with_numbers}
 use Rattle.pyc_reuse.specs.Answering.{StandFor}
+use Rattle.pyc_reuse.specs.ComparedView.{reads_from}
 use Rattle.pyc_reuse.specs.Revision.{file_results_among}
 use Rattle.pyc_reuse.specs.RecheckView.{last_in, options_in, present_in}
 use Rattle.pyc_reuse.specs.FileResultView.{file_results_in}
@@ -33,11 +35,11 @@ compare_files-requires-clause-second c =
 pub returns-in_ok-list-in-Some-clause-answers : goal.returns-in_ok-list-in-Some-clause-answers
 returns-in_ok-list-in-Some-clause-answers c =
     subst (λ (s : List Interface). StandFor s (present_in c.args.self.now))
-    (sym (c.into_second.ensures.world ∙ c.in_ok-list-in-Some.ensures.second ∙ c.in_ok-changed_keys-in-Some.ensures.second)) (rw c.in-Some.is at c.in_ok-world.ensures.answers)
+    (sym (c.into_parts-second.ensures.world ∙ c.in_ok-list-in-Some.ensures.second ∙ c.in_ok-changed_keys-in-Some.ensures.second)) (rw c.in-Some.is at c.in_ok-world.ensures.answers)
 
 pub returns-in_ok-list-in-Some-clause-over : goal.returns-in_ok-list-in-Some-clause-over
 returns-in_ok-list-in-Some-clause-over c =
-    subst (λ (held : Numbering Key). IsOver held c.into_second.result) (c.in_ok-list-in-Some.ensures.held ∙ c.in_ok-changed_keys-in-Some.ensures.held) c.into_second.ensures.over
+    subst (λ (held : Numbering Key). IsOver held c.into_parts-second.result.0) (c.in_ok-list-in-Some.ensures.held ∙ c.in_ok-changed_keys-in-Some.ensures.held) c.into_parts-second.ensures.over
 
 pub returns-in_ok-list-in-None-clause-list : goal.returns-in_ok-list-in-None-clause-list
 returns-in_ok-list-in-None-clause-list c =
@@ -58,3 +60,9 @@ new-requires c =
 pub changed-requires-clause-next : goal.changed-requires-clause-next
 changed-requires-clause-next c =
     subst (λ (w : PlainWorld). StandFor (world_in w) (present_in c.args.self.now)) (sym c.deref.ensures) (rw c.in-Some.is at c.in_ok-world.ensures.answers)
+
+pub returns-in_ok-list-in-Some-clause-compared : goal.returns-in_ok-list-in-Some-clause-compared
+returns-in_ok-list-in-Some-clause-compared c =
+    let rows = c.args.self.now.last.now.file_results.items in
+    c.into_parts-second.ensures.compared ∙ c.in_ok-list-in-Some.ensures.compared
+    ∙ ap (λ (numbers : List ℕ). with_numbers numbers (reads_from rows c.args.places.now)) c.in_ok-changed_keys-in-Some.ensures.compared
