@@ -57,7 +57,6 @@ check_more checks i x first before next read within is are was more =
 
 -- ---- rows at places
 
-
 -- the row at a place
 pub reads_there : (rows : List (Rc FileResultOf Global)) (i : ℕ) (x : Rc FileResultOf Global) (at : FileResultOf) → i < length rows
     → x ≡ get_or rows i x → at ≡ x.value → reads_at rows (Some i) ≡ reads_of at.checks.items
@@ -117,6 +116,7 @@ module _ (held : Numbering Key) (options : Options) (last : List File) where
     one_stands file None e =
         let new : is_unchanged last file ≡ false = sym (unchanged_place last file) ∙ ap is_some e in
         sym (ap (λ b. map (λ key. Some key) (if b then keys_of file else [])) new)
+
     unfolding file_results_among
     one_stands file (Some i) e =
         let found = stands last file i e in

@@ -128,10 +128,7 @@ impl Recheck<'_> {
     }
 
     /// The rows that stood at these places.
-    fn old_file_results(
-        &self,
-        places: &[Option<usize>],
-    ) -> Result<Vec<Rc<FileResult>>, AllocError>
+    fn old_file_results(&self, places: &[Option<usize>]) -> Result<Vec<Rc<FileResult>>, AllocError>
         ensures { IfOk result (λ file_results. reads_in file_results.items
             ≡ reads_from self.now.last.now.file_results.items places.now) }
     {
