@@ -1,5 +1,5 @@
 -- The keys that are compared.
-use Rattle.std.proofs.Common.{◌≡◌, ℕ, zero, suc, ◌+◌, ◌<◌, Bool, true, false, List, [], ◌∷◌, ◌++◌, map, flat_map, take, length, get_or, Option, None, Some, is_some, if◌then◌else◌, refl, sym, ap, ◌∙◌, arith, append-nil}
+use Rattle.std.proofs.Common.{◌≡◌, ℕ, zero, suc, ◌+◌, ◌<◌, Bool, true, false, List, [], ◌∷◌, ◌++◌, map, flat_map, take, length, get_or, Option, None, Some, is_some, if◌then◌else◌, Result, Ok, Err, IfOk, refl, sym, ap, subst, ◌∙◌, arith, append-nil}
 use Rattle.std.proofs.Math.Logic.{∥∥₁_elim}
 use Rattle.std.proofs.Props.{props}
 use Rattle.std.proofs.lemmas.List.{get_or-map, map-append, take_more}
@@ -142,3 +142,9 @@ module _ (held : Numbering Key) (options : Options) (last : List File) where
       stand = ap (λ ps. map held (reads_from rows ps)) is ∙ all_stand present;
       once = made;
     }
+
+-- so they are where a call completes a check over them
+pub if_compared : {A E : Type 0} (held : Numbering Key) (keys : List Key) (f : A → List ℕ) (result : Result A E) (numbers : List ℕ)
+    → IfOk result (λ a. f a ≡ numbers) → AreEachOnce held numbers keys → IfOk result (λ a. AreEachOnce held (f a) keys)
+if_compared held keys f (Ok a) numbers is are = subst (λ ns. AreEachOnce held ns keys) (sym is) are
+if_compared held keys f (Err e) numbers is are = tt
