@@ -157,8 +157,8 @@ fn check_present<'a>(
     }
 }
 
-/// A check of the files that are present, by what is to be done for each, over what their world answers; these keys were
-/// compared for it.
+/// A check of the files that are present, by what is to be done for each, over what their world answers; these keys
+/// were compared for it.
 fn complete(
     recheck: Recheck<'_>,
     keys: &mut World,
