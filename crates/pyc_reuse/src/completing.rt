@@ -46,8 +46,8 @@ struct Completed {
 /// Checks the files that are present, after the last check; `touched` has the paths of those that were put since then.
 /// First the keys that the units of unchanged files read are compared, then the units are examined that are to be. What
 /// is left comes with the report. After a check that is completed the keys are held that the units have read, and no
-/// others; and the keys were compared that the units of unchanged files had read, each once. The only error is that memory runs out; then what was left is as before, and just those keys are held that
-/// were.
+/// others; and the keys were compared that the units of unchanged files had read, each once. The only error is that
+/// memory runs out; then what was left is as before, and just those keys are held that were.
 pub fn check_again(
     alloc: Global,
     last: LastCheck,
