@@ -79,13 +79,19 @@ def sources_of(lines):
     return sources
 
 
-def session_of(text):
-    """The session of a row with this text: its commands, what is printed, and the options of the program."""
+def parts_of(text):
+    """The parts of a row with this text: its files, what is printed where they are checked, and the options of the program."""
     *lines, rest = text.split("\n")
     if rest:
         raise NoRow("the last line has no end")
     options = lines.pop(0).removeprefix(FLAGS).split() if text.startswith(FLAGS) else []
     sources = sources_of(lines)
     messages = [it for source in sorted(sources, key=lambda it: it.path) for it in source.messages]
+    return sources, report(messages, len(sources)), tuple(options)
+
+
+def session_of(text):
+    """The session of a row with this text: its commands, what is printed, and the options of the program."""
+    sources, printed, options = parts_of(text)
     session = b"".join(add(it.path, it.text()) for it in sources) + b"check\nstop\n"
-    return session, OK * len(sources) + report(messages, len(sources)) + OK, tuple(options)
+    return session, OK * len(sources) + printed + OK, options

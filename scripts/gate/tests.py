@@ -9,6 +9,9 @@ the crates that it tests and took a sixth of the gate's time.
 All crates of tests run as the modules of one crate, made in a folder that is removed at the end: each run reads all crates
 below its own anew, which takes longer than the tests.
 
+The rows of the gate that have sources are run by `pyc_daemon_tests` over both kinds of worlds: there row_tables.py puts them
+in place of the two that the crate has itself.
+
 Crates with functions that meet a refused growth run a second time, with the tests that refused_in_tests.py makes of these in
 place of their own.
 
@@ -26,6 +29,7 @@ from pathlib import Path
 from judging import Tally
 from refused_in_tests import REFUSED, are_growths_refused, judge_tests, make_tests
 from repository import libraries
+from row_tables import CRATE, FILE, with_all_rows
 
 ROOT = Path(__file__).resolve().parents[2]
 RESULT = re.compile(r"(?m)^test result: \w+\. (\d+) passed; (\d+) failed;")
@@ -44,6 +48,8 @@ def join(names, known, room):
         folder = ROOT / "crates" / name / "src"
         for file in sorted(folder.glob("**/*.rt")):
             text = file.read_text(encoding="utf-8").replace("#![tactic(auto)]\n", "").replace("crate::", f"crate::{name}::")
+            if (name, file.name) == (CRATE, FILE):
+                text = with_all_rows(text)
             to = source / (f"{name}.rt" if file == folder / "lib.rt" else f"{name}/{file.relative_to(folder)}")
             to.parent.mkdir(parents=True, exist_ok=True)
             to.write_text(text, encoding="utf-8")

@@ -9,7 +9,6 @@ ghost use Rattle.pyc_body.specs.FoundMessages as spec;
 ghost use Rattle.pyc_recorder.specs.CheckedView.{checked_in};
 ghost use Rattle.pyc_recorder.specs.UnitTraceView.{asked_in, reported_in, AreAnswered};
 ghost use Rattle.pyc_keys.specs.Numbering.{Extends};
-ghost use Rattle.pyc_known_answers.specs.WorldView.{held_by, interfaces_by};
 ghost use Rattle.pyc_iface.specs.Answers.{answer_by};
 ghost use Rattle.pyc_reading.specs.Readings.{asked, reported};
 ghost use Rattle.pyc_reading.specs.Traces.{with_keys};
@@ -18,7 +17,7 @@ use crate::meter::Meter;
 use crate::numbering::FileUnit;
 use crate::unit_reading::{IsRead, UnitToRead};
 use pyc_iface::Options;
-use pyc_known_answers::World;
+use pyc_known_answers::{AnswersKeys, NumbersKeys};
 use pyc_recorder::{Checked, OverFiles, Recorder, UnitTrace};
 use std::alloc::{AllocError, Global};
 use std::marker::Brand;
@@ -42,58 +41,58 @@ impl Checker {
     /// code and text once, its diagnostics and the obligations that it requires and that do not hold; and its reads,
     /// the keys that were asked for that, by number, each once and in the order in which they were first asked. The
     /// only error is that memory runs out; then the meter is as before, and each number stands for what it did.
-    pub fn check_unit(
+    pub fn check_unit<W: NumbersKeys>(
         &self,
         meter: &mut Meter,
-        keys: &mut World,
+        world: &mut W,
         unit: &FileUnit<'_>,
     ) -> Result<Checked, AllocError>
-        ensures checked { IfOk result (λ checked. checked_in (held_by keys.new) checked
-            ≡ spec.checked_by (options_in self.now) (interfaces_by keys.old) (file_unit_in unit.now)) }
+        ensures checked { IfOk result (λ checked. checked_in (W.held world.new) checked
+            ≡ spec.checked_by (options_in self.now) (W.interfaces world.old) (file_unit_in unit.now)) }
         ensures metered { OnOk result (meter.new ≡ meter.old ++ (id_of (file_unit_in unit.now) ∷ [])) }
-        ensures extends { Extends (held_by keys.old) (held_by keys.new) }
-        ensures world { interfaces_by keys.new ≡ interfaces_by keys.old }
+        ensures extends { Extends (W.held world.old) (W.held world.new) }
+        ensures world { W.interfaces world.new ≡ W.interfaces world.old }
         ensures same_meter { OnErr result (meter.new ≡ meter.old) }
-        ensures same_keys { OnErr result (held_by keys.new ≡ held_by keys.old) }
+        ensures same_keys { OnErr result (W.held world.new ≡ W.held world.old) }
     {
-        let unit_trace = self.read(keys, unit)?;
+        let unit_trace = self.read(world, unit)?;
         let counted = unit.metered()?;
         meter.units.reserve(1)?;
-        let checked = unit_trace.into_checked(self.alloc, keys)?;
+        let checked = unit_trace.into_checked(self.alloc, world)?;
         meter.units.push_reserved(counted);
         Ok(checked)
     }
 
     /// What was asked, answered and reported where a unit was read.
-    fn read(&self, keys: &World, unit: &FileUnit<'_>) -> Result<UnitTrace, AllocError>
+    fn read<W: AnswersKeys>(&self, world: &W, unit: &FileUnit<'_>) -> Result<UnitTrace, AllocError>
         ensures keys { IfOk result (λ unit_trace. asked_in unit_trace
-            ≡ (spec.trace_by (options_in self.now) (interfaces_by keys.now) (file_unit_in unit.now)).keys) }
+            ≡ (spec.trace_by (options_in self.now) (W.interfaces world.now) (file_unit_in unit.now)).keys) }
         ensures messages { IfOk result (λ unit_trace. reported_in unit_trace
-            ≡ (spec.trace_by (options_in self.now) (interfaces_by keys.now) (file_unit_in unit.now)).messages) }
-        ensures answers { IfOk result (λ unit_trace. AreAnswered (interfaces_by keys.now) unit_trace) }
+            ≡ (spec.trace_by (options_in self.now) (W.interfaces world.now) (file_unit_in unit.now)).messages) }
+        ensures answers { IfOk result (λ unit_trace. AreAnswered (W.interfaces world.now) unit_trace) }
     {
         let read = UnitToRead {
             alloc: self.alloc,
             options: self.options,
             unit,
         };
-        self.read_over::<UnitToRead<'_>, Brand>(keys, &read)
+        self.read_over::<W, UnitToRead<'_>, Brand>(world, &read)
     }
 
     /// What was asked, answered and reported where something was read over these files.
-    fn read_over<R: IsRead, F: OverFiles>(
+    fn read_over<W: AnswersKeys, R: IsRead, F: OverFiles>(
         &self,
-        keys: &World,
+        world: &W,
         read: &R,
     ) -> Result<UnitTrace, AllocError>
-        requires { interfaces_by keys.now ≡ F.files }
+        requires { W.interfaces world.now ≡ F.files }
         ensures keys { IfOk result (λ unit_trace. asked_in unit_trace
-            ≡ with_keys [] (asked (answer_by (interfaces_by keys.now)) (R.reading read.now))) }
+            ≡ with_keys [] (asked (answer_by (W.interfaces world.now)) (R.reading read.now))) }
         ensures messages { IfOk result (λ unit_trace. reported_in unit_trace
-            ≡ reported (answer_by (interfaces_by keys.now)) (R.reading read.now)) }
+            ≡ reported (answer_by (W.interfaces world.now)) (R.reading read.now)) }
         ensures answers { IfOk result (λ unit_trace. AreAnswered F.files unit_trace) }
     {
-        let mut recorder: Recorder<'_, F> = Recorder::new(self.alloc, keys);
+        let mut recorder: Recorder<'_, W, F> = Recorder::new(self.alloc, world);
         read.read(&mut recorder)?;
         Ok(recorder.into_unit_trace())
     }

@@ -1,9 +1,9 @@
-//! Keys and names by number.
+//! Keys by number.
 
 use crate::sources::class_of;
 use pyc_ast::Text;
 use pyc_iface::{Key, MemberName};
-use pyc_keys::{KeyId, Keys, Names};
+use pyc_keys::{KeyId, Keys};
 use pyc_names::{ModuleName, QualifiedName};
 use std::alloc::{AllocError, Global};
 use std::rc::Rc;
@@ -123,21 +123,5 @@ fn what_nobody_reads_is_let_go(rt: HostRuntime) -> Result<(), Fail> {
         held(alloc, &keys, &asked)?.as_slice(),
         [false; 6].as_slice()
     );
-    Ok(())
-}
-
-/// A text has its own number however often it is interned.
-#[test]
-fn names_have_numbers(rt: HostRuntime) -> Result<(), Fail> {
-    let mut names = Names::new(rt.alloc());
-    assert!(rt; names.find("x").is_none());
-    let x = names.intern("x")?;
-    let y = names.intern("y")?;
-    assert!(rt; x != y);
-    assert!(rt; names.intern("x")? == x);
-    assert!(rt; names.find("y") == Some(y));
-    assert!(rt; names.text(x) == "x");
-    assert!(rt; names.text(y) == "y");
-    assert!(rt; x.number() == 0);
     Ok(())
 }

@@ -4,7 +4,7 @@ use crate::keys::keys_of;
 use crate::sources::world_of;
 use pyc_iface::{Key, PlainWorld};
 use pyc_keys::KeyId;
-use pyc_known_answers::{KnownAnswers, LookedAnswer, World, is_same};
+use pyc_known_answers::{AnswersKeys, KnownAnswers, LookedAnswer, World, is_same};
 use std::alloc::{AllocError, Global};
 use std::rc::Rc;
 use std::test::Fail;
@@ -31,7 +31,7 @@ fn answers_to(
 ) -> Result<Vec<Rc<LookedAnswer>>, AllocError> {
     let mut answers = Vec::new(alloc);
     for key in keys {
-        answers.push(answered.answer(key)?)?;
+        answers.push(answered.ask(alloc, key)?)?;
     }
     Ok(answers)
 }
@@ -65,14 +65,14 @@ fn answers_are_kept_with_keys(rt: HostRuntime) -> Result<(), Fail> {
     let alloc = rt.alloc();
     let mut answered = no_keys(alloc)?;
     let keys = keys_of(alloc, "m.py", "C")?;
-    let first = answered.answer(&keys[3])?;
-    assert!(rt; !Rc::ptr_eq(&first, &answered.answer(&keys[3])?));
+    let first = answered.ask(alloc, &keys[3])?;
+    assert!(rt; !Rc::ptr_eq(&first, &answered.ask(alloc, &keys[3])?));
     let ids = kept(alloc, &mut answered, &keys)?;
     assert!(rt; right(alloc, &answered, &keys)? == 6);
-    let known = answered.answer(&keys[3])?;
-    assert!(rt; Rc::ptr_eq(&known, &answered.answer(&keys[3])?));
+    let known = answered.ask(alloc, &keys[3])?;
+    assert!(rt; Rc::ptr_eq(&known, &answered.ask(alloc, &keys[3])?));
     assert!(rt; kept(alloc, &mut answered, &keys)?.as_slice() == ids.as_slice());
-    assert!(rt; Rc::ptr_eq(&known, &answered.answer(&keys[3])?));
+    assert!(rt; Rc::ptr_eq(&known, &answered.ask(alloc, &keys[3])?));
     let more = keys_of(alloc, "m.py", "D")?;
     let _ = kept(alloc, &mut answered, &more)?;
     assert!(rt; right(alloc, &answered, &more)? == 6);
@@ -87,12 +87,12 @@ fn answers_go_with_their_keys(rt: HostRuntime) -> Result<(), Fail> {
     let mut answered = no_keys(alloc)?;
     let keys = keys_of(alloc, "m.py", "C")?;
     let mut ids = kept(alloc, &mut answered, &keys)?;
-    let known = answered.answer(&keys[1])?;
+    let known = answered.ask(alloc, &keys[1])?;
     ids.truncate(2);
     answered.keep_only(&[ids]);
     assert!(rt; right(alloc, &answered, &keys)? == 2);
     assert!(rt; answered.keys().find(&keys[2]).is_none());
-    assert!(rt; Rc::ptr_eq(&known, &answered.answer(&keys[1])?));
+    assert!(rt; Rc::ptr_eq(&known, &answered.ask(alloc, &keys[1])?));
     let more = keys_of(alloc, "m.py", "D")?;
     let _ = kept(alloc, &mut answered, &more)?;
     assert!(rt; right(alloc, &answered, &more)? == 6);
@@ -107,19 +107,19 @@ fn answers_are_exchanged(rt: HostRuntime) -> Result<(), Fail> {
     let mut answered = no_keys(alloc)?;
     let keys = keys_of(alloc, "m.py", "C")?;
     let ids = kept(alloc, &mut answered, &keys)?;
-    let first = answered.answer(&keys[4])?;
+    let first = answered.ask(alloc, &keys[4])?;
     let other = shared_world(alloc, "class C(int):\n    C: str\n")?;
     let mut second = KnownAnswers::new(alloc, other);
     let now = second.find_or_form(answered.keys(), ids[4])?;
     second.keep(ids[4], now.clone()?)?;
     assert!(rt; !is_same(first.answer(), now.answer()));
     let before = answered.replace_world(second);
-    assert!(rt; Rc::ptr_eq(&now, &answered.answer(&keys[4])?));
+    assert!(rt; Rc::ptr_eq(&now, &answered.ask(alloc, &keys[4])?));
     assert!(rt; right(alloc, &answered, &keys)? == 1);
     let _ = kept(alloc, &mut answered, &keys)?;
     assert!(rt; right(alloc, &answered, &keys)? == 6);
     let _ = answered.replace_world(before);
-    assert!(rt; Rc::ptr_eq(&first, &answered.answer(&keys[4])?));
+    assert!(rt; Rc::ptr_eq(&first, &answered.ask(alloc, &keys[4])?));
     assert!(rt; right(alloc, &answered, &keys)? == 6);
     Ok(())
 }

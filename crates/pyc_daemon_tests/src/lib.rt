@@ -1,6 +1,6 @@
-//! Tests of sessions with their replies, over readers, writers and sources of their own, of calls below a session, and
-//! of what the program does with its command line, its files and its streams; in a crate of their own: a crate with
-//! tests is proved a second time with them.
+//! Tests of sessions with their replies, over readers, writers and sources of their own, of calls below a session, of
+//! the rows of the gate over both kinds of worlds, and of what the program does with its command line, its files and
+//! its streams; in a crate of their own: a crate with tests is proved a second time with them.
 #![tactic(auto)]
 
 #[cfg(test)]
@@ -16,6 +16,8 @@ mod ending;
 #[cfg(test)]
 mod fakes;
 #[cfg(test)]
+mod gate_rows;
+#[cfg(test)]
 mod memory_source;
 #[cfg(test)]
 mod replies;
@@ -23,6 +25,8 @@ mod replies;
 mod reports;
 #[cfg(test)]
 mod reuse;
+#[cfg(test)]
+mod rows;
 #[cfg(test)]
 mod session;
 #[cfg(test)]

@@ -1,9 +1,9 @@
-//! Keys and names that are to have numbers, where a growth is refused.
+//! Keys that are to have numbers, where a growth is refused.
 
 use crate::files::keys_of;
 use crate::spending::spend;
 use pyc_iface::Key;
-use pyc_keys::{KeyId, Keys, Names};
+use pyc_keys::{KeyId, Keys};
 use std::alloc::{AllocError, Global};
 use std::process::Abort;
 use std::test::Fail;
@@ -77,27 +77,9 @@ pub(crate) fn interning_all(rt: &impl Abort, alloc: Global, spent: usize) -> Res
     Ok(is_refused)
 }
 
-/// Interns a text. A refused text has no number, and another text the number from before.
-// growths: 1 to 20
-pub(crate) fn interning_texts(rt: &impl Abort, alloc: Global, spent: usize) -> Result<bool, Fail> {
-    let mut names = Names::new(alloc);
-    let x = names.intern("x")?;
-    spend(alloc, spent);
-    let is_refused = names.intern("y").is_err();
-    if is_refused {
-        assert!(rt; names.find("y").is_none());
-    }
-    let y = names.intern("y")?;
-    assert!(rt; names.find("x") == Some(x) && names.text(x) == "x");
-    assert!(rt; names.find("y") == Some(y) && names.text(y) == "y");
-    assert!(rt; x != y);
-    Ok(is_refused)
-}
-
 #[test]
 fn numbers_without_a_refusal(rt: HostRuntime) -> Result<(), Fail> {
     assert!(rt; !interning(&rt, rt.alloc(), 0)?);
     assert!(rt; !interning_all(&rt, rt.alloc(), 0)?);
-    assert!(rt; !interning_texts(&rt, rt.alloc(), 0)?);
     Ok(())
 }

@@ -4,7 +4,7 @@ use crate::files::{keys_of, two_files, world_of};
 use crate::spending::spend;
 use pyc_iface::{Answer, Key, NameKind, PlainWorld, Presence};
 use pyc_keys::{KeyId, Keys};
-use pyc_known_answers::{KnownAnswers, LookedAnswer, World};
+use pyc_known_answers::{AnswersKeys, KnownAnswers, LookedAnswer, World};
 use pyc_workspace::interfaces_of;
 use std::alloc::{AllocError, Global};
 use std::process::Abort;
@@ -58,11 +58,11 @@ pub(crate) fn answering(rt: &impl Abort, alloc: Global, spent: usize) -> Result<
     let mut is_refused = false;
     spend(alloc, spent);
     for key in &keys {
-        let first = world.answer(key);
+        let first = world.ask(alloc, key);
         is_refused |= first.is_err();
         let answer = match first {
             Ok(answer) => answer,
-            Err(_) => world.answer(key)?,
+            Err(_) => world.ask(alloc, key)?,
         };
         assert!(rt; is_right(key, answer.answer()));
         assert!(rt; world.keys().bound() == 0);
@@ -78,7 +78,7 @@ fn answers_to(
 ) -> Result<Vec<Rc<LookedAnswer>>, AllocError> {
     let mut answers = Vec::with_capacity(alloc, keys.len())?;
     for key in keys {
-        answers.push(world.answer(key)?)?;
+        answers.push(world.ask(alloc, key)?)?;
     }
     Ok(answers)
 }

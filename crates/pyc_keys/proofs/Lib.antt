@@ -1,4 +1,3 @@
 pub mod NumberingLemmas
 pub mod TableLemmas
 pub mod MarkLemmas
-pub mod NameLemmas

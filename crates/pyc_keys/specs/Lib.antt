@@ -7,5 +7,3 @@ pub mod KeyNumbers
 pub mod Inverse
 pub mod KeyTableView
 pub mod KeysInside
-pub mod NameNumbers
-pub mod NamesInside

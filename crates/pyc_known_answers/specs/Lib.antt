@@ -4,6 +4,7 @@ pub mod KnownAnswers
 pub mod KnownAnswersView
 pub mod KnownAnswersLaws
 pub mod WorldView
+pub mod KeyedPlainWorldView
 pub mod SameAnswers
 pub mod Changes
 pub mod ChangedKeysView

@@ -16,11 +16,10 @@ ghost use Rattle.pyc_reading.specs.KeyView.{key_of};
 ghost use Rattle.pyc_reading.specs.Keys.{Key as PlainKey};
 ghost use Rattle.pyc_known_answers.specs.SameAnswers.{same_answer};
 
-use crate::looked_answer::LookedAnswer;
+use crate::looked_answer::{LookedAnswer, form};
 use crate::same_answers::is_same;
 use pyc_iface::{Flags, PlainWorld};
 use pyc_keys::{KeyId, Keys};
-use pyc_names::Looks;
 use pyc_reading::Key;
 use std::alloc::{AllocError, Global};
 use std::rc::Rc;
@@ -208,15 +207,11 @@ impl KnownAnswers {
     }
 
     /// Forms the answer to a key, which is not kept. The only error is that memory runs out.
-    #[tactic(auto, using(crate::proofs::CarryLemmas::formed))]
     pub fn form(&self, key: &Key) -> Result<Rc<LookedAnswer>, AllocError>
         ensures { IfOk result (λ answer.
             IsAnswerOf (interfaces_of self.now) (key_of key.now) (looked_in answer.value)) }
     {
-        let mut looks = Looks::new(self.alloc);
-        let answer = self.world.ask_noted(self.alloc, key, &mut looks)?;
-        let shared = Rc::new(self.alloc, LookedAnswer::new(answer, looks))?;
-        Ok(shared)
+        form(self.alloc, &self.world, key)
     }
 
     /// Forgets the answer of a number, unless the number is held.

@@ -6,10 +6,11 @@ ghost use Rattle.pyc_iface.specs.PlainWorldView.{world_in};
 ghost use Rattle.pyc_keys.specs.KeyNumbers.{key_at};
 ghost use Rattle.pyc_keys.specs.Numbering.{only, AreOf, Extends};
 ghost use Rattle.pyc_known_answers.specs.KnownAnswersView.{interfaces_of, IsOver};
-ghost use Rattle.pyc_known_answers.specs.LookedAnswers.{AreAnswersOf, IsAnswerOf};
+ghost use Rattle.pyc_known_answers.specs.LookedAnswers.{AreAnswersOf};
 ghost use Rattle.pyc_known_answers.specs.LookedAnswerView.{looked_in};
 ghost use Rattle.pyc_reading.specs.KeyView.{key_of};
 
+use crate::answers_keys::{AnswersKeys, NumbersKeys};
 use crate::known_answers::KnownAnswers;
 use crate::looked_answer::LookedAnswer;
 use pyc_class_ids::{ClassId, Lin, Lins};
@@ -40,6 +41,39 @@ impl Lins for World {
     }
 }
 
+impl AnswersKeys for World {
+    ghost use Rattle.std.specs.Prelude.{refl};
+    ghost use Rattle.pyc_known_answers.specs.WorldView.{interfaces_by};
+
+    ghost interfaces = { interfaces_by };
+
+    ghost orders_are = { λ answered c. refl };
+
+    /// The answer that is known, or one that is formed and not kept.
+    fn ask(&self, _: Global, key: &Key) -> Result<Rc<LookedAnswer>, AllocError> {
+        match self.keys.find(key) {
+            Some(id) => self.answers.find_or_form(&self.keys, id),
+            None => self.answers.form(key),
+        }
+    }
+}
+
+impl NumbersKeys for World {
+    ghost use Rattle.pyc_known_answers.specs.WorldView.{held_by};
+
+    ghost held = { held_by };
+
+    /// The answers are known from then on.
+    fn number_keys(
+        &mut self,
+        alloc: Global,
+        keys: &[Key],
+        answers: Vec<Rc<LookedAnswer>>,
+    ) -> Result<Vec<KeyId>, AllocError> {
+        self.keep_all(alloc, keys, answers)
+    }
+}
+
 impl World {
     ghost use Rattle.pyc_known_answers.specs.WorldView.{held_by, interfaces_by, known_by};
 
@@ -67,18 +101,6 @@ impl World {
         ensures over { IsOver (held_by self.now) result.now }
     {
         &self.answers
-    }
-
-    /// The world's answer to a key: the known one, or one that is formed and not kept. The only error is that memory
-    /// runs out.
-    pub fn answer(&self, key: &Key) -> Result<Rc<LookedAnswer>, AllocError>
-        ensures { IfOk result (λ answer.
-            IsAnswerOf (interfaces_by self.now) (key_of key.now) (looked_in answer.value)) }
-    {
-        match self.keys.find(key) {
-            Some(id) => self.answers.find_or_form(&self.keys, id),
-            None => self.answers.form(key),
-        }
     }
 
     /// The numbers of keys, one after another, whose answers are known from then on. The only error is that memory runs

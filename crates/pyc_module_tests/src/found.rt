@@ -3,7 +3,7 @@
 use crate::sources::file_of;
 use pyc_body::{Checked, Checker, Meter, numbered_units, unsuppressed};
 use pyc_iface::{Options, PlainWorld};
-use pyc_known_answers::World;
+use pyc_known_answers::{KeyedPlainWorld, NumbersKeys, World};
 use pyc_names::SourceFile;
 use pyc_report::Message;
 use std::alloc::{AllocError, Global};
@@ -48,22 +48,52 @@ fn write_checks(checks: &[Checked], shown: &mut String) -> Result<(), Fail> {
     Ok(())
 }
 
-/// Checks of the units of a file that is the only one there is.
-fn checks_alone(alloc: Global, file: &Rc<SourceFile>) -> Result<Vec<Checked>, AllocError> {
-    let world = PlainWorld::build(alloc, slice::from_ref(file.shared_interface()))?;
+/// Checks of the units of a file over a world.
+fn checks_over<W: NumbersKeys>(
+    alloc: Global,
+    world: &mut W,
+    file: &Rc<SourceFile>,
+) -> Result<Vec<Checked>, AllocError> {
     let mut meter = Meter::new(alloc);
-    let mut keys = World::new(alloc, Rc::new(alloc, world)?);
     let checker = Checker::new(alloc, OPTIONS);
     let mut checks = Vec::new(alloc);
     for unit in &numbered_units(alloc, file)? {
-        checks.push(checker.check_unit(&mut meter, &mut keys, unit)?)?;
+        checks.push(checker.check_unit(&mut meter, world, unit)?)?;
     }
     Ok(checks)
 }
 
+/// The kinds of worlds.
+#[derive(Clone, Copy)]
+enum WorldKind {
+    /// It forms each answer anew.
+    Plain,
+    /// It keeps its answers by number.
+    Keeping,
+}
+
+/// Checks of the units of a file that is the only one there is.
+fn checks_alone(
+    alloc: Global,
+    kind: WorldKind,
+    file: &Rc<SourceFile>,
+) -> Result<Vec<Checked>, AllocError> {
+    let world = PlainWorld::build(alloc, slice::from_ref(file.shared_interface()))?;
+    let shared = Rc::new(alloc, world)?;
+    match kind {
+        WorldKind::Plain => checks_over(alloc, &mut KeyedPlainWorld::new(alloc, shared), file),
+        WorldKind::Keeping => checks_over(alloc, &mut World::new(alloc, shared), file),
+    }
+}
+
 /// The lines of what is reported of a file that is the only one there is, or what is found in its units.
-fn shown_alone(alloc: Global, file: &Rc<SourceFile>, is_reported: bool) -> Result<String, Fail> {
-    let checks = checks_alone(alloc, file)?;
+fn shown_alone(
+    alloc: Global,
+    kind: WorldKind,
+    file: &Rc<SourceFile>,
+    is_reported: bool,
+) -> Result<String, Fail> {
+    let checks = checks_alone(alloc, kind, file)?;
     let mut shown = String::new(alloc);
     if is_reported {
         write_lines(&unsuppressed(alloc, file, &checks)?, &mut shown)?;
@@ -74,9 +104,9 @@ fn shown_alone(alloc: Global, file: &Rc<SourceFile>, is_reported: bool) -> Resul
 }
 
 /// The lines of what is reported of a file of this source that is the only one there is, or what is found in its units.
-fn shown(alloc: Global, source: &[u8], is_reported: bool) -> Result<String, Fail> {
+fn shown(alloc: Global, kind: WorldKind, source: &[u8], is_reported: bool) -> Result<String, Fail> {
     let file = Rc::new(alloc, file_of(alloc, "a.py", source)?)?;
-    shown_alone(alloc, &file, is_reported)
+    shown_alone(alloc, kind, &file, is_reported)
 }
 
 /// Sources with annotated values, and sources that have no tree, with what is found in them.
@@ -149,13 +179,23 @@ const IGNORED: &[(&[u8], &str)] = &[
 /// These tables, with whether what is reported is looked at, or what is found.
 const TABLES: &[(bool, &[(&[u8], &str)])] = &[(false, SOURCES), (true, IGNORED)];
 
-#[test]
-fn what_is_found_and_reported(rt: HostRuntime) -> Result<(), Fail> {
+/// Asserts what is found and reported of each source, over worlds of a kind.
+fn assert_tables(rt: &HostRuntime, kind: WorldKind) -> Result<(), Fail> {
     for (is_reported, sources) in TABLES {
         for (source, want) in *sources {
-            let shown = shown(rt.alloc(), source, *is_reported)?;
+            let shown = shown(rt.alloc(), kind, source, *is_reported)?;
             assert_eq!(rt; shown.as_str(), *want);
         }
     }
     Ok(())
+}
+
+#[test]
+fn what_is_found_and_reported(rt: HostRuntime) -> Result<(), Fail> {
+    assert_tables(&rt, WorldKind::Keeping)
+}
+
+#[test]
+fn what_is_found_and_reported_by_plain_worlds(rt: HostRuntime) -> Result<(), Fail> {
+    assert_tables(&rt, WorldKind::Plain)
 }

@@ -2,11 +2,11 @@
 
 use crate::sources::file_of;
 use pyc_ast::Text;
-use pyc_body::{Checker, Meter, numbered_units};
+use pyc_body::{Checked, Checker, Meter, numbered_units};
 use pyc_iface::{Key, Options, PlainWorld};
-use pyc_keys::ReadSet;
-use pyc_known_answers::World;
-use pyc_names::QualifiedName;
+use pyc_keys::{Keys, ReadSet};
+use pyc_known_answers::{KeyedPlainWorld, NumbersKeys, World};
+use pyc_names::{QualifiedName, SourceFile};
 use std::alloc::{AllocError, Global};
 use std::rc::Rc;
 use std::slice;
@@ -97,30 +97,64 @@ fn push_key(key: &Key, shown: &mut String) -> Result<(), AllocError> {
     }
 }
 
-/// The reads of a unit of the only file there is.
-fn reads_shown(alloc: Global, source: &[u8], number: usize) -> Result<String, Fail> {
-    let file = Rc::new(alloc, file_of(alloc, "a.py", source)?)?;
-    let world = PlainWorld::build(alloc, slice::from_ref(file.shared_interface()))?;
+/// Checks a unit of a file over a world, if there is one of this number.
+fn check_over<W: NumbersKeys>(
+    alloc: Global,
+    world: &mut W,
+    file: &Rc<SourceFile>,
+    number: usize,
+) -> Result<Option<Checked>, AllocError> {
     let checker = Checker::new(alloc, OPTIONS);
     let mut meter = Meter::new(alloc);
-    let mut keys = World::new(alloc, Rc::new(alloc, world)?);
-    let units = numbered_units(alloc, &file)?;
+    match numbered_units(alloc, file)?.get(number) {
+        Some(unit) => Ok(Some(checker.check_unit(&mut meter, world, unit)?)),
+        None => Ok(None),
+    }
+}
+
+/// Writes the reads of a unit, if there is one.
+fn reads_shown(
+    alloc: Global,
+    keys: &Keys,
+    checked: &Option<Checked>,
+) -> Result<String, AllocError> {
     let mut shown = String::new(alloc);
-    if let Some(unit) = units.get(number) {
-        let checked = checker.check_unit(&mut meter, &mut keys, unit)?;
+    if let Some(checked) = checked {
         for id in checked.reads() {
-            push_key(keys.keys().key(*id), &mut shown)?;
+            push_key(keys.key(*id), &mut shown)?;
             shown.push_str("; ")?;
         }
     }
     Ok(shown)
 }
 
+/// The world of a file that is the only one there is.
+fn world_alone(alloc: Global, file: &Rc<SourceFile>) -> Result<Rc<PlainWorld>, AllocError> {
+    let world = PlainWorld::build(alloc, slice::from_ref(file.shared_interface()))?;
+    Ok(Rc::new(alloc, world)?)
+}
+
 #[test]
 fn units_have_their_reads(rt: HostRuntime) -> Result<(), Fail> {
+    let alloc = rt.alloc();
     for (source, number, want) in READS {
-        let shown = reads_shown(rt.alloc(), source, *number)?;
-        assert_eq!(rt; shown.as_str(), *want);
+        let file = Rc::new(alloc, file_of(alloc, "a.py", source)?)?;
+        let mut world = World::new(alloc, world_alone(alloc, &file)?);
+        let checked = check_over(alloc, &mut world, &file, *number)?;
+        assert_eq!(rt; reads_shown(alloc, world.keys(), &checked)?.as_str(), *want);
+    }
+    Ok(())
+}
+
+/// So it is where each answer is formed anew.
+#[test]
+fn units_have_their_reads_over_plain_worlds(rt: HostRuntime) -> Result<(), Fail> {
+    let alloc = rt.alloc();
+    for (source, number, want) in READS {
+        let file = Rc::new(alloc, file_of(alloc, "a.py", source)?)?;
+        let mut world = KeyedPlainWorld::new(alloc, world_alone(alloc, &file)?);
+        let checked = check_over(alloc, &mut world, &file, *number)?;
+        assert_eq!(rt; reads_shown(alloc, world.keys(), &checked)?.as_str(), *want);
     }
     Ok(())
 }

@@ -2,3 +2,4 @@ mod TypeTokens
 pub mod AnswerSets
 pub mod KeptLemmas
 pub mod ReadListLemmas
+pub mod OrderLemmas

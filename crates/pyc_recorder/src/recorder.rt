@@ -3,7 +3,6 @@
 ghost use Rattle.std.specs.Prelude.{◌≡◌, []};
 ghost use Rattle.pyc_recorder.specs.KeptAnswers.{AreAnswers};
 ghost use Rattle.pyc_iface.specs.Answers.{answer_by};
-ghost use Rattle.pyc_known_answers.specs.WorldView.{interfaces_by};
 
 use crate::asked_key::AskedKey;
 use crate::copies::copy_of;
@@ -11,7 +10,7 @@ use crate::kept::keep;
 use crate::unit_trace::UnitTrace;
 use indexmap::IndexMap;
 use pyc_class_ids::{ClassId, Lin, Lins};
-use pyc_known_answers::{LookedAnswer, World};
+use pyc_known_answers::{AnswersKeys, LookedAnswer};
 use pyc_obligations::AskTypes;
 use pyc_reading::{Answer, Ask, Key};
 use pyc_report::Message;
@@ -36,26 +35,26 @@ impl OverFiles for Brand {
 /// The examiner performs readings over what a world answers, and keeps the keys that were asked, each once with its
 /// answer, in the order in which they were first asked, and the messages that were reported.
 #[derive(Drop)]
-pub struct Recorder<'a, F: OverFiles> {
-    keys: &'a World,
+pub struct Recorder<'a, W: AnswersKeys, F: OverFiles> {
+    world: &'a W,
     answers: IndexMap<AskedKey, Rc<LookedAnswer>>,
     messages: Vec<Message>,
     files: PhantomData<F>,
-    ghost files_are: { ∥ interfaces_by keys.now ≡ F.files ∥₁ },
+    ghost files_are: { ∥ W.interfaces world.now ≡ F.files ∥₁ },
     ghost answers_are: { ∥ AreAnswers F.files answers.entries ∥₁ },
 }
 
-impl<'a, F: OverFiles> Recorder<'a, F> {
+impl<'a, W: AnswersKeys, F: OverFiles> Recorder<'a, W, F> {
     ghost use Rattle.pyc_recorder.specs.RecorderView.{trace_of};
     ghost use Rattle.pyc_recorder.specs.UnitTraceView.{asked_in, reported_in, AreAnswered};
 
     /// An examiner over what a world answers, at which nothing was asked or reported. It takes no memory.
-    pub fn new(alloc: Global, keys: &'a World) -> Recorder<'a, F>
-        requires { interfaces_by keys.now ≡ F.files }
-        ensures { trace_of result ≡ record { answers = answer_by (interfaces_by keys.now); keys = []; messages = [] } }
+    pub fn new(alloc: Global, world: &'a W) -> Recorder<'a, W, F>
+        requires { W.interfaces world.now ≡ F.files }
+        ensures { trace_of result ≡ record { answers = answer_by (W.interfaces world.now); keys = []; messages = [] } }
     {
         Recorder {
-            keys,
+            world,
             answers: IndexMap::new(alloc),
             messages: Vec::new(alloc),
             files: PhantomData,
@@ -72,17 +71,17 @@ impl<'a, F: OverFiles> Recorder<'a, F> {
     }
 }
 
-impl<F: OverFiles> Ask for Recorder<'_, F> {
+impl<W: AnswersKeys, F: OverFiles> Ask for Recorder<'_, W, F> {
     ghost use Rattle.pyc_recorder.specs.RecorderView.{trace_of};
 
     ghost trace = { trace_of };
 
-    fn ask(&mut self, _: Global, key: Key) -> Result<Answer, AllocError> {
+    fn ask(&mut self, alloc: Global, key: Key) -> Result<Answer, AllocError> {
         let asked = AskedKey::new(key);
         if let Some(answer) = self.answers.get(&asked) {
             return copy_of(answer.answer());
         }
-        let answer = self.keys.answer(asked.key())?;
+        let answer = self.world.ask(alloc, asked.key())?;
         let copy = copy_of(answer.answer())?;
         keep(&mut self.answers, asked, answer)?;
         Ok(copy)
@@ -94,9 +93,9 @@ impl<F: OverFiles> Ask for Recorder<'_, F> {
     }
 }
 
-impl<F: OverFiles> AskTypes for Recorder<'_, F> {
+impl<W: AnswersKeys, F: OverFiles> AskTypes for Recorder<'_, W, F> {
     fn lin(&self, class: &ClassId) -> Lin<'_> {
-        self.keys.lin(class)
+        self.world.lin(class)
     }
 
     fn reported_count(&self) -> usize {

@@ -6,14 +6,13 @@ ghost use Rattle.pyc_recorder.specs.KeptAnswers.{AreAnswers};
 ghost use Rattle.pyc_report.specs.FoundOrder.{in_order};
 ghost use Rattle.pyc_keys.specs.Numbering.{AreOf, Extends};
 ghost use Rattle.pyc_known_answers.specs.LookedAnswerView.{looked_in};
-ghost use Rattle.pyc_known_answers.specs.WorldView.{held_by, interfaces_by};
 ghost use Rattle.pyc_reading.specs.KeyView.{key_of};
 ghost use Rattle.pyc_report.specs.Message.{message_in};
 
 use crate::asked_key::AskedKey;
 use crate::checked::Checked;
 use indexmap::IndexMap;
-use pyc_known_answers::{LookedAnswer, World};
+use pyc_known_answers::{LookedAnswer, NumbersKeys};
 use pyc_reading::Key;
 use pyc_report::{Message, in_order};
 use std::alloc::{AllocError, Global};
@@ -50,20 +49,24 @@ impl UnitTrace {
         self.messages
     }
 
-    /// What was asked, by number, and what was reported in order, each line, code and text once; the answers are kept.
-    /// The only error is that memory runs out; then each number stands for what it did before.
-    pub fn into_checked(self, alloc: Global, keys: &mut World) -> Result<Checked, AllocError>
-        requires { AreAnswered (interfaces_by keys.old) self }
-        ensures reads { IfOk result (λ checked. AreOf (held_by keys.new) (numbers_in checked) (asked_in self)) }
+    /// What was asked, by number, and what was reported in order, each line, code and text once; the world is given the
+    /// answers. The only error is that memory runs out; then each number stands for what it did before.
+    pub fn into_checked<W: NumbersKeys>(
+        self,
+        alloc: Global,
+        world: &mut W,
+    ) -> Result<Checked, AllocError>
+        requires { AreAnswered (W.interfaces world.old) self }
+        ensures reads { IfOk result (λ checked. AreOf (W.held world.new) (numbers_in checked) (asked_in self)) }
         ensures messages { IfOk result (λ checked. messages_of checked ≡ in_order (reported_in self)) }
-        ensures extends { Extends (held_by keys.old) (held_by keys.new) }
-        ensures world { interfaces_by keys.new ≡ interfaces_by keys.old }
-        ensures same { OnErr result (held_by keys.new ≡ held_by keys.old) }
+        ensures extends { Extends (W.held world.old) (W.held world.new) }
+        ensures world { W.interfaces world.new ≡ W.interfaces world.old }
+        ensures same { OnErr result (W.held world.new ≡ W.held world.old) }
     {
         let answers = answers_in_order(alloc, &self.answers)?;
         let asked = listed(alloc, self.answers)?;
         let messages = in_order(alloc, self.messages)?;
-        let reads = keys.keep_all(alloc, &asked, answers)?;
+        let reads = world.number_keys(alloc, &asked, answers)?;
         Ok(Checked::new(reads, messages))
     }
 }
