@@ -42,6 +42,6 @@ returns g c =
     (key_of c.args.key) c.in_ok-answer.answer c.in_ok-copy.copy
     (ap (λ k. lookup (is_asked k) self.answers.entries) (sym c.new-asked.ensures) ∙ sym c.in_default.ensures.value)
     (c.in_ok-answer.ensures.answers ∙ ap (answer_by (g.W.AnswersKeys.interfaces self.world.now)) (c.key.ensures ∙ c.new-asked.ensures))
-    (c.in_ok-copy.ensures ∙ c.answer-3.ensures ∙ ap (λ (l : LookedAnswer). (looked_in l).answer) c.deref-2.ensures)
+    (c.in_ok-copy.ensures ∙ c.answer-2.ensures ∙ ap (λ (l : LookedAnswer). (looked_in l).answer) c.deref-2.ensures)
     (c.in_ok-keep.ensures.done
     ∙ ap (λ k. insert_entry is_asked self.answers.entries k c.in_ok-answer.answer) c.new-asked.ensures)

@@ -12,6 +12,6 @@ returns-clause-checked c =
     let self = c.args.self.now in
     let files = interfaces_by c.args.keys.now in
     let unit = file_unit_in c.args.unit.now in
-    ap (checked_in (held_by c.check_unit.new.keys)) c.in_ok-shared.ensures.ok ∙ c.in_ok-checked.ensures.checked
+    ap (checked_in (held_by c.check_unit.new.world)) c.in_ok-shared.ensures.ok ∙ c.in_ok-checked.ensures.checked
     ∙ ap (λ options. checked_by options files unit) c.requires.options
     ∙ check_over (options_in self) (last_in self) (present_in self) files unit c.requires.answers
