@@ -1,7 +1,7 @@
 #!/usr/bin/env python3
 """Has the built program check the deepest inputs that the limits allow, with 2,048 KiB of stack.
 
-    scripts/gate/deep_inputs.py [--program PROGRAM] [--stack KIBIBYTES] [--only NAME] [--all] [--least]
+    scripts/gate/deep_inputs.py [--program PROGRAM] [--stack KIBIBYTES] [--only NAME] [--least]
 
 deep_sources.py makes the inputs, each with the messages on it by the written rules: trees of 1,000 nodes, 64 brackets and
 64 indents, strings in annotations, types of 1,000 types, and these inside one another; a thousand classes and modules;
@@ -9,9 +9,8 @@ parameters by the thousand. A session adds the files, checks them, gives each a 
 interface is compared; gives one of them a name more and checks again, so that answers are; and removes them. Every check
 reports the same, and the last nothing.
 
-With `--all` those inputs are run as well that take more stack yet: nearly the highest unions in strings in annotations, inside
-one another. Each input is one judgement. With `--least` nothing is judged: the smallest stack is printed, in steps of 16 KiB,
-under which the program answers so. Ends with the line `deep inputs: P passed, F failed`, and with status 0 or 1.
+Each input is one judgement. With `--least` nothing is judged: the smallest stack is printed, in steps of 16 KiB, under which the
+program answers so. Ends with the line `deep inputs: P passed, F failed`, and with status 0 or 1.
 """
 
 import argparse
@@ -20,7 +19,7 @@ import subprocess
 import sys
 from pathlib import Path
 
-from deep_sources import DEEPEST, LATER
+from deep_sources import DEEPEST
 from judging import PROGRAM, Tally
 from replies import OK, add, report
 
@@ -97,11 +96,10 @@ def main():
     words.add_argument("--program", type=Path, default=PROGRAM, help="another program")
     words.add_argument("--stack", type=int, default=STACK, help="how much stack there is, in KiB")
     words.add_argument("--only", help="the inputs whose names begin so")
-    words.add_argument("--all", action="store_true", help="run those as well that take more stack yet")
     words.add_argument("--least", action="store_true", help="print the smallest stack for each input, and judge nothing")
     given = words.parse_args()
     tally, program = Tally("deep inputs"), given.program.resolve()
-    for deep in DEEPEST + LATER * given.all:
+    for deep in DEEPEST:
         if not deep.name.startswith(given.only or ""):
             continue
         if given.least:

@@ -249,11 +249,9 @@ ANNOTATIONS = [
 ]
 
 # in each string a tree stands that is nearly as high as the whole line may be
-HIGH_UNIONS = [
+HIGH_STRINGS = [
     parameter("unions in strings", quoted(union_of, "str"), "str | int"),
     parameter("unions of lists in strings", quoted(lists_or_ints_around, "str"), SHOWN_LISTS_OR_INTS),
-]
-HIGH_STRINGS = [
     parameter("subscripts in strings", quoted(subscripts_around, "int"), "A"),
     no_type("dictionaries in strings", "{1: ", "}"),
     no_type("lists in strings that are no types", "[", "]"),
@@ -579,5 +577,3 @@ ROWS = [
 ]
 
 DEEPEST = [*HIGH_TREES, *ANNOTATIONS, *HIGH_STRINGS, *IN_BLOCKS, *LARGE_TYPES, *MANY_CLASSES, *MANY_MODULES, *MANY_PARAMETERS, *ROWS]
-# these take more stack yet: an annotation is read with the trees of the strings in it, up to five high unions in one
-LATER = HIGH_UNIONS

@@ -11,7 +11,7 @@ ghost use Rattle.pyc_type_forms.specs.TypeView.{ty_of};
 
 use crate::reading::InferAssignment;
 use crate::singles::outcome;
-use crate::storing::store_in_target;
+use crate::storing::AssignedValue;
 use crate::unpacking::{Shares, has_starred, share_at, shares_of, target_count};
 use pyc_ast::{Position, Target, TargetElement, TargetForm};
 use pyc_locals::FlowState;
@@ -70,9 +70,13 @@ impl<N: AskTypes, R: InferAssignment<N>> Assigner<'_, N, R> {
             (N.trace recorder.old) result (N.trace recorder.new) }
     {
         let found = outcome(self.alloc, recorder, self.reader, flow_state, target)?;
-        store_in_target(
-            self.alloc, recorder, self.at, target, &found, ty, flow_state,
-        )
+        let assigned = AssignedValue {
+            alloc: self.alloc,
+            at: self.at,
+            target,
+            got: ty,
+        };
+        assigned.store_in_target(recorder, &found, flow_state)
     }
 
     /// Unpacks a value of type `ty` to targets.

@@ -12,7 +12,7 @@ ghost use Rattle.pyc_type_forms.specs.TypeView.{ty_of};
 use crate::assigning::Assigner;
 use crate::reading::{AssignmentOutcome, InferAssignment, infer_type_at};
 use crate::singles::{is_unpacking, outcome};
-use crate::storing::store_in_target;
+use crate::storing::AssignedValue;
 use pyc_ast::{Expr, Target};
 use pyc_locals::FlowState;
 use pyc_obligations::AskTypes;
@@ -164,8 +164,13 @@ impl<N: AskTypes, R: InferAssignment<N>> TargetsInTurn<'_, N, R> {
             (flow_state_in flow_state.old)) (N.trace recorder.old) result (N.trace recorder.new) }
     {
         if is_first {
-            let Assigner { alloc, at, .. } = self.assigner;
-            store_in_target(alloc, recorder, at, target, self.found, ty, flow_state)
+            let assigned = AssignedValue {
+                alloc: self.assigner.alloc,
+                at: self.assigner.at,
+                target,
+                got: ty,
+            };
+            assigned.store_in_target(recorder, self.found, flow_state)
         } else {
             self.assigner
                 .assign_target(recorder, target, ty, flow_state)

@@ -15,4 +15,4 @@ pub use assigning::Assigner;
 pub use assignments::assignment;
 pub use reading::{AssignmentOutcome, InferAssignment};
 pub use singles::outcome;
-pub use storing::{assignment_required, store_in_target};
+pub use storing::{AssignedValue, assignment_required};

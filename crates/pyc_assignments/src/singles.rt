@@ -14,8 +14,9 @@ use crate::reading::{AssignmentOutcome, InferAssignment, infer_type_at};
 use pyc_ast::{Expr, Index, Position, Target, TargetForm, Text};
 use pyc_locals::FlowState;
 use pyc_obligations::AskTypes;
-use pyc_targets::{TargetType, attribute_want, item_target};
+use pyc_targets::{IndexedTarget, TargetType, attribute_want};
 use std::alloc::{AllocError, Global};
+use std::marker::PhantomData;
 
 /// What an assignment to `target` meets, whose parts are read at `flow_state`. A tuple or a list of targets takes
 /// anything as a whole. The only error is that memory runs out.
@@ -31,66 +32,89 @@ pub fn outcome<N: AskTypes, R: InferAssignment<N>>(
         (target_of target.now))
         (N.trace recorder.old) result (N.trace recorder.new) }
 {
-    let at = target.at;
-    let inside = target.inside;
+    let single = SingleTarget {
+        alloc,
+        reader,
+        flow_state,
+        at: target.at,
+        inside: target.inside,
+        of: PhantomData,
+    };
     match &target.form {
         TargetForm::Name(name) => reader.outcome(alloc, recorder, flow_state, name),
-        TargetForm::Attribute { value, name } => {
-            attribute_outcome(alloc, recorder, reader, flow_state, at, inside, value, name)
-        }
-        TargetForm::Subscript { value, index } => {
-            subscript_outcome(
-                alloc, recorder, reader, flow_state, at, inside, value, index,
-            )
-        }
+        TargetForm::Attribute { value, name } => single.attribute_outcome(recorder, value, name),
+        TargetForm::Subscript { value, index } => single.subscript_outcome(recorder, value, index),
         TargetForm::Unpacking(_) => Ok(AssignmentOutcome::free()),
     }
 }
 
-/// What an assignment to an attribute meets.
-#[tactic(auto, using(pyc_obligations::proofs::Steps::performing), unfolding(crate::specs::Singles::attribute_outcome))]
-fn attribute_outcome<N: AskTypes, R: InferAssignment<N>>(
+/// A target that begins at `at`, and at `inside` within its parentheses, and what reads its parts at a state.
+#[derive(Clone, Copy)]
+struct SingleTarget<'a, N, R> {
     alloc: Global,
-    recorder: &mut N,
-    reader: &R,
-    flow_state: &FlowState,
+    reader: &'a R,
+    flow_state: &'a FlowState,
     at: Position,
     inside: Position,
-    part: &Expr,
-    name: &Text,
-) -> Result<AssignmentOutcome, AllocError>
-    requires { R.ready reader.now }
-    ensures { Performs outcome_in
-        (spec.attribute_outcome (R.reads reader.now) (flow_state_in flow_state.now) at inside (expr_of part.now)
-        name.now)
-        (N.trace recorder.old) result (N.trace recorder.new) }
-{
-    let owner = reader.value(alloc, recorder, flow_state, part, None)?;
-    let want = attribute_want(alloc, recorder, at, inside, &owner, name)?;
-    Ok(AssignmentOutcome::TargetType(TargetType::plain(want)))
+    of: PhantomData<N>,
 }
 
-/// What an assignment to an item of a subscript meets.
-#[tactic(auto, using(pyc_obligations::proofs::Steps::performing), unfolding(crate::specs::Singles::subscript_outcome))]
-fn subscript_outcome<N: AskTypes, R: InferAssignment<N>>(
-    alloc: Global,
-    recorder: &mut N,
-    reader: &R,
-    flow_state: &FlowState,
-    at: Position,
-    inside: Position,
-    part: &Expr,
-    index: &Index,
-) -> Result<AssignmentOutcome, AllocError>
-    requires { R.ready reader.now }
-    ensures { Performs outcome_in
-        (spec.subscript_outcome (R.reads reader.now) (flow_state_in flow_state.now) at inside (expr_of part.now)
-        (index_of index.now)) (N.trace recorder.old) result (N.trace recorder.new) }
-{
-    let ty = infer_type_at(alloc, recorder, reader, flow_state, part, None)?;
-    let got = reader.index(alloc, recorder, flow_state, index)?;
-    let target_type = item_target(alloc, recorder, at, inside, index, &got, &ty)?;
-    Ok(AssignmentOutcome::TargetType(target_type))
+impl<N: AskTypes, R: InferAssignment<N>> SingleTarget<'_, N, R> {
+    /// What an assignment to an attribute meets.
+    #[tactic(auto, using(pyc_obligations::proofs::Steps::performing), unfolding(crate::specs::Singles::attribute_outcome))]
+    fn attribute_outcome(
+        &self,
+        recorder: &mut N,
+        part: &Expr,
+        name: &Text,
+    ) -> Result<AssignmentOutcome, AllocError>
+        requires { R.ready self.now.reader.now }
+        ensures { Performs outcome_in
+            (spec.attribute_outcome (R.reads self.now.reader.now) (flow_state_in self.now.flow_state.now) self.now.at
+            self.now.inside (expr_of part.now) name.now) (N.trace recorder.old) result (N.trace recorder.new) }
+    {
+        let owner = self
+            .reader
+            .value(self.alloc, recorder, self.flow_state, part, None)?;
+        let want = attribute_want(self.alloc, recorder, self.at, self.inside, &owner, name)?;
+        Ok(AssignmentOutcome::TargetType(TargetType::plain(want)))
+    }
+
+    /// What an assignment to an item of a subscript meets.
+    #[tactic(auto, using(pyc_obligations::proofs::Steps::performing), unfolding(crate::specs::Singles::subscript_outcome))]
+    fn subscript_outcome(
+        &self,
+        recorder: &mut N,
+        part: &Expr,
+        index: &Index,
+    ) -> Result<AssignmentOutcome, AllocError>
+        requires { R.ready self.now.reader.now }
+        ensures { Performs outcome_in
+            (spec.subscript_outcome (R.reads self.now.reader.now) (flow_state_in self.now.flow_state.now) self.now.at
+            self.now.inside (expr_of part.now) (index_of index.now)) (N.trace recorder.old) result
+            (N.trace recorder.new) }
+    {
+        let ty = infer_type_at(
+            self.alloc,
+            recorder,
+            self.reader,
+            self.flow_state,
+            part,
+            None,
+        )?;
+        let got = self
+            .reader
+            .index(self.alloc, recorder, self.flow_state, index)?;
+        let indexed = IndexedTarget {
+            alloc: self.alloc,
+            at: self.at,
+            inside: self.inside,
+            index,
+            got: &got,
+        };
+        let target_type = indexed.item_target(recorder, &ty)?;
+        Ok(AssignmentOutcome::TargetType(target_type))
+    }
 }
 
 /// Whether a target is a tuple or a list of targets.

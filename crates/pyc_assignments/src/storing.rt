@@ -21,70 +21,71 @@ use pyc_targets::TargetType;
 use pyc_type_forms::Ty;
 use std::alloc::{AllocError, Global};
 
-/// Assigns a value of type `got`, which begins at `at`, to a target that meets `outcome`, and leaves `flow_state` as it
-/// is after that. Reports the obligation, if there is one and it does not hold. The only error is that memory runs out.
-pub fn store_in_target<N: AskTypes>(
-    alloc: Global,
-    recorder: &mut N,
-    at: Position,
-    target: &Target,
-    outcome: &AssignmentOutcome,
-    got: &Ty,
-    flow_state: &mut FlowState,
-) -> Result<(), AllocError>
-    ensures { Performs (λ u. flow_state_in flow_state.new)
-        (spec.store_in_target at (target_of target.now) (outcome_in outcome.now) (ty_of got.now)
-        (flow_state_in flow_state.old))
-        (N.trace recorder.old) result (N.trace recorder.new) }
-{
-    match outcome {
-        AssignmentOutcome::TargetType(target_type) => target_type_stored(
-            alloc,
-            recorder,
-            at,
-            target,
-            target_type,
-            got,
-            flow_state,
-        ),
-        AssignmentOutcome::NewLocal(name) => store_local(alloc, name, got, flow_state),
-    }
+/// A value of type `got`, which begins at `at`, and the target that it is assigned to.
+#[derive(Clone, Copy)]
+pub struct AssignedValue<'a> {
+    pub alloc: Global,
+    pub at: Position,
+    pub target: &'a Target,
+    pub got: &'a Ty,
 }
 
-/// Assigns a value of type `got` to a target that takes what `target_type` says.
-#[tactic(auto, using(pyc_obligations::proofs::Steps::performing), unfolding(crate::specs::Storing::target_type_stored))]
-fn target_type_stored<N: AskTypes>(
-    alloc: Global,
-    recorder: &mut N,
-    at: Position,
-    target: &Target,
-    target_type: &TargetType,
-    got: &Ty,
-    flow_state: &mut FlowState,
-) -> Result<(), AllocError>
-    ensures { Performs (λ u. flow_state_in flow_state.new)
-        (spec.target_type_stored at (target_of target.now) (target_type_of target_type.now) (ty_of got.now)
-        (flow_state_in flow_state.old))
-        (N.trace recorder.old) result (N.trace recorder.new) }
-{
-    want_required(
-        alloc,
-        recorder,
-        at,
-        target_type.is_item,
-        got,
-        target_type.want.as_ref(),
-    )?;
-    let state = renarrow(
-        alloc,
-        recorder,
-        target,
-        target_type.want.as_ref(),
-        got,
-        &flow_state.state,
-    )?;
-    flow_state.set_state(state);
-    Ok(())
+impl AssignedValue<'_> {
+    /// Assigns the value to the target, which meets `outcome`, and leaves `flow_state` as it is after that. Reports the
+    /// obligation, if there is one and it does not hold. The only error is that memory runs out.
+    pub fn store_in_target<N: AskTypes>(
+        &self,
+        recorder: &mut N,
+        outcome: &AssignmentOutcome,
+        flow_state: &mut FlowState,
+    ) -> Result<(), AllocError>
+        ensures { Performs (λ u. flow_state_in flow_state.new)
+            (spec.store_in_target self.now.at (target_of self.now.target.now) (outcome_in outcome.now)
+            (ty_of self.now.got.now) (flow_state_in flow_state.old)) (N.trace recorder.old) result
+            (N.trace recorder.new) }
+    {
+        match outcome {
+            AssignmentOutcome::TargetType(target_type) => {
+                self.target_type_stored(recorder, target_type, flow_state)
+            }
+            AssignmentOutcome::NewLocal(name) => {
+                store_local(self.alloc, name, self.got, flow_state)
+            }
+        }
+    }
+
+    /// Assigns the value to the target, which takes what `target_type` says.
+    #[tactic(auto, using(pyc_obligations::proofs::Steps::performing), unfolding(crate::specs::Storing::target_type_stored))]
+    fn target_type_stored<N: AskTypes>(
+        &self,
+        recorder: &mut N,
+        target_type: &TargetType,
+        flow_state: &mut FlowState,
+    ) -> Result<(), AllocError>
+        ensures { Performs (λ u. flow_state_in flow_state.new)
+            (spec.target_type_stored self.now.at (target_of self.now.target.now) (target_type_of target_type.now)
+            (ty_of self.now.got.now) (flow_state_in flow_state.old)) (N.trace recorder.old) result
+            (N.trace recorder.new) }
+    {
+        want_required(
+            self.alloc,
+            recorder,
+            self.at,
+            target_type.is_item,
+            self.got,
+            target_type.want.as_ref(),
+        )?;
+        let state = renarrow(
+            self.alloc,
+            recorder,
+            self.target,
+            target_type.want.as_ref(),
+            self.got,
+            &flow_state.state,
+        )?;
+        flow_state.set_state(state);
+        Ok(())
+    }
 }
 
 /// Declares a local by a value of type `got`. Nothing that was known of it and of all below it stays known.

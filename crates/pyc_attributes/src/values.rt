@@ -116,68 +116,71 @@ fn union_attribute<N: AskTypes>(
         result (N.trace recorder.new) }
 {
     let items = items_of(alloc, whole)?;
-    let found = item_types(alloc, recorder, at, whole, name, &items)?;
+    let attribute = UnionAttribute {
+        alloc,
+        at,
+        whole,
+        name,
+    };
+    let found = attribute.item_types(recorder, &items)?;
     let union = union_of(alloc, &found)?;
     Ok(Value::plain(union))
 }
 
-/// The types of the attribute of items, in turn.
-#[tactic(auto, using(crate::proofs::Steps::performing), unfolding(crate::specs::AttributeValues::item_types))]
-fn item_types<N: AskTypes>(
+/// The attribute of the items of a union, in an expression that begins at `at`.
+#[derive(Clone, Copy)]
+struct UnionAttribute<'a> {
     alloc: Global,
-    recorder: &mut N,
     at: Position,
-    whole: &Ty,
-    name: &str,
-    items: &[Ty],
-) -> Result<Vec<Ty>, AllocError>
-    ensures { Performs (λ (found : Vec Ty Global). map ty_of found.items)
-        (spec.item_types at (ty_of whole.now) name.now [] (map ty_of items.now)) (N.trace recorder.old) result
-        (N.trace recorder.new) }
-{
-    let mut found = Vec::with_capacity(alloc, items.len())?;
-    for item in items {
-        let ty = union_item(alloc, recorder, at, whole, name, item)?;
-        found.push(ty)?;
+    whole: &'a Ty,
+    name: &'a str,
+}
+
+impl UnionAttribute<'_> {
+    /// The types of the attribute of items, in turn.
+    #[tactic(auto, using(crate::proofs::Steps::performing), unfolding(crate::specs::AttributeValues::item_types))]
+    fn item_types<N: AskTypes>(&self, recorder: &mut N, items: &[Ty]) -> Result<Vec<Ty>, AllocError>
+        ensures { Performs (λ (found : Vec Ty Global). map ty_of found.items)
+            (spec.item_types self.now.at (ty_of self.now.whole.now) self.now.name.now [] (map ty_of items.now))
+            (N.trace recorder.old) result (N.trace recorder.new) }
+    {
+        let mut found = Vec::with_capacity(self.alloc, items.len())?;
+        for item in items {
+            let ty = self.union_item(recorder, item)?;
+            found.push(ty)?;
+        }
+        Ok(found)
     }
-    Ok(found)
-}
 
-/// The attribute of an item of a union.
-#[tactic(auto, using(crate::proofs::Steps::performing), unfolding(crate::specs::AttributeValues::union_item))]
-fn union_item<N: AskTypes>(
-    alloc: Global,
-    recorder: &mut N,
-    at: Position,
-    whole: &Ty,
-    name: &str,
-    item: &Ty,
-) -> Result<Ty, AllocError>
-    ensures { Performs ty_of (spec.union_item at (ty_of whole.now) name.now (ty_of item.now)) (N.trace recorder.old)
-        result
-        (N.trace recorder.new) }
-{
-    let found = item_attribute(alloc, recorder, item, name)?;
-    item_type(alloc, recorder, at, whole, item, name, found)
-}
+    /// The attribute of an item of a union.
+    #[tactic(auto, using(crate::proofs::Steps::performing), unfolding(crate::specs::AttributeValues::union_item))]
+    fn union_item<N: AskTypes>(&self, recorder: &mut N, item: &Ty) -> Result<Ty, AllocError>
+        ensures { Performs ty_of
+            (spec.union_item self.now.at (ty_of self.now.whole.now) self.now.name.now (ty_of item.now))
+            (N.trace recorder.old) result (N.trace recorder.new) }
+    {
+        let found = item_attribute(self.alloc, recorder, item, self.name)?;
+        self.item_type(recorder, item, found)
+    }
 
-/// The type of what was found in an item of a union.
-fn item_type<N: AskTypes>(
-    alloc: Global,
-    recorder: &mut N,
-    at: Position,
-    whole: &Ty,
-    item: &Ty,
-    name: &str,
-    found: FoundAttribute,
-) -> Result<Ty, AllocError>
-    ensures { Performs ty_of (spec.item_type at (ty_of whole.now) (ty_of item.now) name.now (found_in found))
-        (N.trace recorder.old) result (N.trace recorder.new) }
-{
-    match found {
-        FoundAttribute::Absent => no_item_attribute(alloc, recorder, at, whole, item, name),
-        FoundAttribute::Known(found) => Ok(found),
-        FoundAttribute::Member(_, _, found) => Ok(found),
-        FoundAttribute::Name(found) => Ok(found.ty),
+    /// The type of what was found in an item of a union.
+    fn item_type<N: AskTypes>(
+        &self,
+        recorder: &mut N,
+        item: &Ty,
+        found: FoundAttribute,
+    ) -> Result<Ty, AllocError>
+        ensures { Performs ty_of
+            (spec.item_type self.now.at (ty_of self.now.whole.now) (ty_of item.now) self.now.name.now (found_in found))
+            (N.trace recorder.old) result (N.trace recorder.new) }
+    {
+        match found {
+            FoundAttribute::Absent => no_item_attribute(
+                self.alloc, recorder, self.at, self.whole, item, self.name,
+            ),
+            FoundAttribute::Known(found) => Ok(found),
+            FoundAttribute::Member(_, _, found) => Ok(found),
+            FoundAttribute::Name(found) => Ok(found.ty),
+        }
     }
 }

@@ -13,9 +13,6 @@ ghost use Rattle.pyc_reading.specs.Traces.{Performs};
 ghost use Rattle.pyc_type_forms.specs.Types as plain;
 ghost use Rattle.pyc_type_forms.specs.TypeView.{ty_of};
 
-use crate::plain_calls::{
-    infer_given_call, infer_plain_call, report_refused_instance, without_call,
-};
 use crate::remembered::{Memory, Progress, begin, nothing_met, progress_of};
 use crate::walks::{CallOutcome, Standing, Walk, standing_met};
 use pyc_arguments::{Arguments, Call, ReadArgument, read_once};
@@ -90,14 +87,7 @@ impl<N: AskTypes, R: InferType<N>> Caller<'_, N, R> {
             (args_in (R.reads self.now.reader.now) self.now.arguments.now) (ty_of callee.now)))
             (N.trace recorder.old) result (N.trace recorder.new) }
     {
-        let ty = infer_plain_call(
-            self.alloc,
-            recorder,
-            self.reader,
-            self.call,
-            self.arguments,
-            callee,
-        )?;
+        let ty = self.infer_plain_call(recorder, callee)?;
         Ok(CallOutcome::Came(ty))
     }
 
@@ -129,14 +119,7 @@ impl<N: AskTypes, R: InferType<N>> Caller<'_, N, R> {
             (args_in (R.reads self.now.reader.now) self.now.arguments.now) (plain.instance class.now)))
             (N.trace recorder.old) result (N.trace recorder.new) }
     {
-        let ty = report_refused_instance(
-            self.alloc,
-            recorder,
-            self.reader,
-            self.call,
-            self.arguments,
-            class,
-        )?;
+        let ty = self.report_refused_instance(recorder, class)?;
         Ok(CallOutcome::Came(ty))
     }
 
@@ -219,7 +202,7 @@ impl<N: AskTypes, R: InferType<N>> Caller<'_, N, R> {
             (ty_of given)))
             (N.trace recorder.old) result (N.trace recorder.new) }
     {
-        let ty = infer_given_call(self.alloc, recorder, self.reader, self.arguments, given)?;
+        let ty = self.infer_given_call(recorder, given)?;
         Ok(CallOutcome::Came(ty))
     }
 
@@ -236,14 +219,7 @@ impl<N: AskTypes, R: InferType<N>> Caller<'_, N, R> {
             (args_in (R.reads self.now.reader.now) self.now.arguments.now) class.now))
             (N.trace recorder.old) result (N.trace recorder.new) }
     {
-        let ty = without_call(
-            self.alloc,
-            recorder,
-            self.reader,
-            self.call,
-            self.arguments,
-            class,
-        )?;
+        let ty = self.without_call(recorder, class)?;
         Ok(CallOutcome::Came(ty))
     }
 

@@ -15,26 +15,37 @@ use pyc_type_forms::Ty;
 use std::alloc::{AllocError, Global};
 use std::marker::PhantomData;
 
-/// The type of a call that begins at a position, of something of a type that messages show so, with these arguments:
-/// they are read, and where they do not fit, or where it cannot be called, that is reported. The only error is that
-/// memory runs out.
-pub fn call<N: AskTypes, R: InferType<N>>(
-    alloc: Global,
-    recorder: &mut N,
-    reader: &R,
-    shown: CalleeName<'_>,
-    at: Position,
-    arguments: &[Argument],
-    callee: &Ty,
-) -> Result<Ty, AllocError>
-    requires { R.ready reader.now }
-    ensures { Performs ty_of
-        (spec.call (R.reads reader.now) (shown_in shown.entry) at (map argument_of arguments.now) (ty_of callee.now))
-        (N.trace recorder.old) result (N.trace recorder.new) }
-{
-    let call = Call { at, shown };
-    let arguments = Arguments::Unread(arguments);
-    call_result(alloc, recorder, reader, &call, &arguments, callee)
+/// A call that begins at `at` of what messages show as `shown`, and what reads its arguments.
+#[derive(Clone, Copy)]
+pub struct UnreadCall<'a, N, R> {
+    pub alloc: Global,
+    pub reader: &'a R,
+    pub shown: CalleeName<'a>,
+    pub at: Position,
+    pub of: PhantomData<N>,
+}
+
+impl<N: AskTypes, R: InferType<N>> UnreadCall<'_, N, R> {
+    /// The type of a call of something of a type with these arguments: they are read, and where they do not fit, or
+    /// where it cannot be called, that is reported. The only error is that memory runs out.
+    pub fn call(
+        &self,
+        recorder: &mut N,
+        arguments: &[Argument],
+        callee: &Ty,
+    ) -> Result<Ty, AllocError>
+        requires { R.ready self.now.reader.now }
+        ensures { Performs ty_of
+            (spec.call (R.reads self.now.reader.now) (shown_in self.now.shown) self.now.at
+            (map argument_of arguments.now) (ty_of callee.now)) (N.trace recorder.old) result (N.trace recorder.new) }
+    {
+        let call = Call {
+            at: self.at,
+            shown: self.shown,
+        };
+        let arguments = Arguments::Unread(arguments);
+        call_result(self.alloc, recorder, self.reader, &call, &arguments, callee)
+    }
 }
 
 /// The type of a call of something of a type with these arguments. The only error is that memory runs out.

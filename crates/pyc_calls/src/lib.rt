@@ -11,5 +11,5 @@ mod refusals;
 mod remembered;
 mod walks;
 
-pub use calls::call;
+pub use calls::UnreadCall;
 pub use methods::infer_method_call;

@@ -2,7 +2,7 @@
 
 use pyc_body::{Checked, Checker, Meter, numbered_units};
 use pyc_iface::{Options, PlainWorld};
-use pyc_interfaces::{Common, changed_looks};
+use pyc_interfaces::{Common, RevisedWorld, revised_world};
 use pyc_keys::ReadSet;
 use pyc_known_answers::{ChangedKeys, World};
 use pyc_names::ModuleName;
@@ -52,22 +52,23 @@ fn checked(alloc: Global, text: &str) -> Result<(World, Vec<Checked>), AllocErro
     Ok((keys, checks))
 }
 
-/// Verdicts on none of the keys, of which a second world answers some otherwise.
-fn changed_in(
+/// Verdicts on none of the keys, of which a second world, in which `a.py` has this text, answers some otherwise.
+fn changed_in<'a>(
     alloc: Global,
-    keys: &World,
-    second: Rc<PlainWorld>,
-) -> Result<ChangedKeys<'_>, AllocError> {
+    keys: &'a World,
+    text: &str,
+) -> Result<ChangedKeys<'a>, AllocError> {
     let nothing = Common { front: 0, back: 0 };
-    let changed = changed_looks(alloc, keys.answers().world(), &second, nothing)?;
-    ChangedKeys::new(alloc, keys, second, &changed)
+    let interfaces = interfaces_of(alloc, &files_of(alloc, text)?)?;
+    let last = keys.answers().world();
+    let RevisedWorld { world, flags } = revised_world(alloc, last, &interfaces, nothing)?;
+    ChangedKeys::new(alloc, keys, world, &flags)
 }
 
 #[test]
 fn other_type_is_another_answer(rt: HostRuntime) -> Result<(), Fail> {
     let (keys, checks) = checked(rt.alloc(), "x: int = 1\n")?;
-    let second = world_of(rt.alloc(), "x: str = \"\"\n")?;
-    let mut changed_keys = changed_in(rt.alloc(), &keys, second)?;
+    let mut changed_keys = changed_in(rt.alloc(), &keys, "x: str = \"\"\n")?;
     assert!(rt; !changed_keys.is_any_changed(checks[0].reads())?);
     assert!(rt; changed_keys.is_any_changed(checks[1].reads())?);
     Ok(())
@@ -76,8 +77,7 @@ fn other_type_is_another_answer(rt: HostRuntime) -> Result<(), Fail> {
 #[test]
 fn other_value_is_no_other_answer(rt: HostRuntime) -> Result<(), Fail> {
     let (keys, checks) = checked(rt.alloc(), "x: int = 1\n")?;
-    let second = world_of(rt.alloc(), "x: int = 2\n")?;
-    let mut changed_keys = changed_in(rt.alloc(), &keys, second)?;
+    let mut changed_keys = changed_in(rt.alloc(), &keys, "x: int = 2\n")?;
     assert!(rt; !changed_keys.is_any_changed(checks[0].reads())?);
     assert!(rt; !changed_keys.is_any_changed(checks[1].reads())?);
     Ok(())
@@ -86,8 +86,7 @@ fn other_value_is_no_other_answer(rt: HostRuntime) -> Result<(), Fail> {
 #[test]
 fn keys_are_compared_once(rt: HostRuntime) -> Result<(), Fail> {
     let (keys, checks) = checked(rt.alloc(), "x: int = 1\n")?;
-    let second = world_of(rt.alloc(), "x: str = \"\"\n")?;
-    let mut changed_keys = changed_in(rt.alloc(), &keys, second)?;
+    let mut changed_keys = changed_in(rt.alloc(), &keys, "x: str = \"\"\n")?;
     let count = checks[1].reads().len();
     assert!(rt; count > 0);
     for _ in 0..2 {
@@ -100,8 +99,7 @@ fn keys_are_compared_once(rt: HostRuntime) -> Result<(), Fail> {
 #[test]
 fn compared_keys_have_answers(rt: HostRuntime) -> Result<(), Fail> {
     let (keys, checks) = checked(rt.alloc(), "x: int = 1\n")?;
-    let second = world_of(rt.alloc(), "x: str = \"\"\n")?;
-    let mut changed_keys = changed_in(rt.alloc(), &keys, second)?;
+    let mut changed_keys = changed_in(rt.alloc(), &keys, "x: str = \"\"\n")?;
     let reads = checks[1].reads();
     for id in reads {
         let _ = changed_keys.is_any_changed(&[*id])?;
@@ -118,8 +116,7 @@ fn compared_keys_have_answers(rt: HostRuntime) -> Result<(), Fail> {
 #[test]
 fn answers_are_carried_over(rt: HostRuntime) -> Result<(), Fail> {
     let (keys, checks) = checked(rt.alloc(), "x: int = 1\ny: int = 1\n")?;
-    let second = world_of(rt.alloc(), "x: int = 1\ny: str = \"\"\n")?;
-    let known = changed_in(rt.alloc(), &keys, second)?.into_second();
+    let known = changed_in(rt.alloc(), &keys, "x: int = 1\ny: str = \"\"\n")?.into_second();
     for id in checks[1].reads() {
         let before = keys.answers().find(*id);
         assert!(rt;
@@ -128,8 +125,7 @@ fn answers_are_carried_over(rt: HostRuntime) -> Result<(), Fail> {
                 .is_some_and(|now| before.is_some_and(|own| Rc::ptr_eq(own, now)))
         );
     }
-    let third = world_of(rt.alloc(), "x: str = \"\"\ny: int = 1\n")?;
-    let known = changed_in(rt.alloc(), &keys, third)?.into_second();
+    let known = changed_in(rt.alloc(), &keys, "x: str = \"\"\ny: int = 1\n")?.into_second();
     assert!(rt; checks[1].reads().iter().any(|id| known.find(*id).is_none()));
     Ok(())
 }

@@ -18,6 +18,7 @@ use pyc_ast::{DictItem, Expr};
 use pyc_obligations::{AskTypes, InferType, require_row};
 use pyc_type_forms::{DictTypes, Ty};
 use std::alloc::{AllocError, Global};
+use std::marker::PhantomData;
 
 /// The types of the keys and the values of entries.
 #[derive(Drop)]
@@ -159,27 +160,80 @@ fn free_entry<N: AskTypes, R: InferType<N>>(
         (N.trace recorder.old) result (N.trace recorder.new) }
 {
     match item {
-        DictItem::Entry { key, value } => free_pair(alloc, recorder, reader, key, value),
+        DictItem::Entry { key, value } => {
+            let entry = KeyAndValue {
+                alloc,
+                reader,
+                key,
+                value,
+                of: PhantomData,
+            };
+            entry.free_pair(recorder)
+        }
         DictItem::Unpacking(part) => free_unpacking(alloc, recorder, reader, part),
     }
 }
 
-/// The types of a key and its value of which nothing is expected.
-#[tactic(auto, using(pyc_obligations::proofs::Steps::performing), unfolding(crate::specs::Displays::free_pair))]
-fn free_pair<N: AskTypes, R: InferType<N>>(
+/// A key and its value, and what reads them.
+#[derive(Clone, Copy)]
+struct KeyAndValue<'a, N, R> {
     alloc: Global,
-    recorder: &mut N,
-    reader: &R,
-    key: &Expr,
-    value: &Expr,
-) -> Result<Option<DictTypes>, AllocError>
-    requires { R.ready reader.now }
-    ensures { Performs (option_map entry_in)
-        (spec.free_pair (R.reads reader.now) (expr_of key.now) (expr_of value.now)) (N.trace recorder.old) result
-        (N.trace recorder.new) }
-{
-    let found = entry_types(alloc, recorder, reader, key, value, None, None)?;
-    Ok(Some(found))
+    reader: &'a R,
+    key: &'a Expr,
+    value: &'a Expr,
+    of: PhantomData<N>,
+}
+
+impl<N: AskTypes, R: InferType<N>> KeyAndValue<'_, N, R> {
+    /// The types of the key and the value, of which nothing is expected.
+    #[tactic(auto, using(pyc_obligations::proofs::Steps::performing), unfolding(crate::specs::Displays::free_pair))]
+    fn free_pair(&self, recorder: &mut N) -> Result<Option<DictTypes>, AllocError>
+        requires { R.ready self.now.reader.now }
+        ensures { Performs (option_map entry_in)
+            (spec.free_pair (R.reads self.now.reader.now) (expr_of self.now.key.now) (expr_of self.now.value.now))
+            (N.trace recorder.old) result (N.trace recorder.new) }
+    {
+        let found = self.entry_types(recorder, None, None)?;
+        Ok(Some(found))
+    }
+
+    /// The types of the key and the value, with what is expected of each.
+    #[tactic(auto, using(pyc_obligations::proofs::Steps::performing), unfolding(crate::specs::Displays::entry_types))]
+    fn entry_types(
+        &self,
+        recorder: &mut N,
+        want_key: Option<&Ty>,
+        want_value: Option<&Ty>,
+    ) -> Result<DictTypes, AllocError>
+        requires { R.ready self.now.reader.now }
+        ensures { Performs entry_in
+            (spec.entry_types (R.reads self.now.reader.now) (expr_of self.now.key.now) (expr_of self.now.value.now)
+            (option_map (λ ty. ty_of ty.now) want_key.entry) (option_map (λ ty. ty_of ty.now) want_value.entry))
+            (N.trace recorder.old) result (N.trace recorder.new) }
+    {
+        let key = self.reader.read(self.alloc, recorder, self.key, want_key)?;
+        let value = self
+            .reader
+            .read(self.alloc, recorder, self.value, want_value)?;
+        Ok(DictTypes { key, value })
+    }
+
+    /// The key and the value must be of these types.
+    #[tactic(auto, using(pyc_obligations::proofs::Steps::performing), unfolding(crate::specs::Displays::check_pair_types))]
+    fn check_pair_types(
+        &self,
+        recorder: &mut N,
+        want: &DictTypes,
+        index: usize,
+    ) -> Result<(), AllocError>
+        requires { R.ready self.now.reader.now }
+        ensures { Performs (λ u. u)
+            (spec.check_pair_types (R.reads self.now.reader.now) (entry_in want.now) index (expr_of self.now.key.now)
+            (expr_of self.now.value.now)) (N.trace recorder.old) result (N.trace recorder.new) }
+    {
+        let got = self.entry_types(recorder, Some(&want.key), Some(&want.value))?;
+        require_entry(self.alloc, recorder, self.key, index, &got, want)
+    }
 }
 
 /// What stands after `**` is read alone.
@@ -196,28 +250,6 @@ fn free_unpacking<N: AskTypes, R: InferType<N>>(
 {
     infer_freely(alloc, recorder, reader, part)?;
     Ok(None)
-}
-
-/// The types of a key and its value, with what is expected of each.
-#[tactic(auto, using(pyc_obligations::proofs::Steps::performing), unfolding(crate::specs::Displays::entry_types))]
-fn entry_types<N: AskTypes, R: InferType<N>>(
-    alloc: Global,
-    recorder: &mut N,
-    reader: &R,
-    key: &Expr,
-    value: &Expr,
-    want_key: Option<&Ty>,
-    want_value: Option<&Ty>,
-) -> Result<DictTypes, AllocError>
-    requires { R.ready reader.now }
-    ensures { Performs entry_in
-        (spec.entry_types (R.reads reader.now) (expr_of key.now) (expr_of value.now)
-        (option_map (λ ty. ty_of ty.now) want_key.entry) (option_map (λ ty. ty_of ty.now) want_value.entry))
-        (N.trace recorder.old) result (N.trace recorder.new) }
-{
-    let key = reader.read(alloc, recorder, key, want_key)?;
-    let value = reader.read(alloc, recorder, value, want_value)?;
-    Ok(DictTypes { key, value })
 }
 
 /// A dict display whose entries must be of these types.
@@ -273,39 +305,18 @@ fn check_entry_types<N: AskTypes, R: InferType<N>>(
         result (N.trace recorder.new) }
 {
     match item {
-        DictItem::Entry { key, value } => check_pair_types(
-            alloc, recorder, reader, want, index, key, value,
-        ),
+        DictItem::Entry { key, value } => {
+            let entry = KeyAndValue {
+                alloc,
+                reader,
+                key,
+                value,
+                of: PhantomData,
+            };
+            entry.check_pair_types(recorder, want, index)
+        }
         DictItem::Unpacking(part) => infer_freely(alloc, recorder, reader, part),
     }
-}
-
-/// A key and its value that must be of these types.
-#[tactic(auto, using(pyc_obligations::proofs::Steps::performing), unfolding(crate::specs::Displays::check_pair_types))]
-fn check_pair_types<N: AskTypes, R: InferType<N>>(
-    alloc: Global,
-    recorder: &mut N,
-    reader: &R,
-    want: &DictTypes,
-    index: usize,
-    key: &Expr,
-    value: &Expr,
-) -> Result<(), AllocError>
-    requires { R.ready reader.now }
-    ensures { Performs (λ u. u)
-        (spec.check_pair_types (R.reads reader.now) (entry_in want.now) index (expr_of key.now) (expr_of value.now))
-        (N.trace recorder.old) result (N.trace recorder.new) }
-{
-    let got = entry_types(
-        alloc,
-        recorder,
-        reader,
-        key,
-        value,
-        Some(&want.key),
-        Some(&want.value),
-    )?;
-    require_entry(alloc, recorder, key, index, &got, want)
 }
 
 /// Requires that the key and the value of an entry are of the types that are expected.

@@ -17,12 +17,13 @@ use crate::parts::{InState, InferValue};
 use crate::revealing::{cast_to, is_positional, reveal_part};
 use pyc_arguments::{CalleeName, owner_name};
 use pyc_ast::{Argument, Expr, Form, Position, Text};
-use pyc_calls::call;
+use pyc_calls::UnreadCall;
 use pyc_names::FixedName;
 use pyc_obligations::{AskTypes, SpecialForm, Value};
 use pyc_places::State;
 use pyc_type_forms::Ty;
 use std::alloc::{AllocError, Global};
+use std::marker::PhantomData;
 
 /// The type of a call, by the form of what is called. The only error is that memory runs out.
 pub fn call_type<N: AskTypes, C: Context<N>, P: InferValue<N>>(
@@ -214,7 +215,14 @@ fn infer_other_call<N: AskTypes, P: InferValue<N>>(
         (map argument_of arguments.now) (ty_of callee.now)) (N.trace recorder.old) result (N.trace recorder.new) }
 {
     let reader = InState { parts, state };
-    call(alloc, recorder, &reader, shown, at, arguments, callee)
+    let call = UnreadCall {
+        alloc,
+        reader: &reader,
+        shown,
+        at,
+        of: PhantomData,
+    };
+    call.call(recorder, arguments, callee)
 }
 
 /// A call of `reveal_type`: with other arguments than one it is a call like others.

@@ -14,10 +14,11 @@ use crate::parts::{InferValue, type_in};
 use pyc_ast::{Comparison, Expr, Operator, Position, UnaryOperator};
 use pyc_class_ids::{BuiltinClass, ClassId};
 use pyc_obligations::AskTypes;
-use pyc_operators::{binary, check_comparison, unary};
+use pyc_operators::{BinaryOperands, unary};
 use pyc_places::State;
 use pyc_type_forms::Ty;
 use std::alloc::{AllocError, Global};
+use std::marker::PhantomData;
 
 /// The type of a unary operator with its operand. The only error is that memory runs out.
 #[tactic(auto, using(pyc_obligations::proofs::Steps::performing), unfolding(crate::specs::Operations::unary_type))]
@@ -79,7 +80,15 @@ fn infer_with_right<N: AskTypes, P: InferValue<N>>(
         (N.trace recorder.old) result (N.trace recorder.new) }
 {
     let right = type_in(alloc, recorder, parts, state, right, None)?;
-    binary(alloc, recorder, &MethodCaller, at, operator, left, &right)
+    let operands = BinaryOperands {
+        alloc,
+        caller: &MethodCaller,
+        at,
+        left,
+        right: &right,
+        of: PhantomData,
+    };
+    operands.binary(recorder, operator)
 }
 
 /// The type of a chain of comparisons. The only error is that memory runs out.
@@ -169,14 +178,14 @@ fn infer_comparison<N: AskTypes, P: InferValue<N>>(
         (N.trace recorder.old) result (N.trace recorder.new) }
 {
     let right = type_in(alloc, recorder, parts, state, &link.right, None)?;
-    check_comparison(
+    let operands = BinaryOperands {
         alloc,
-        recorder,
-        &MethodCaller,
+        caller: &MethodCaller,
         at,
-        link.operator,
         left,
-        &right,
-    )?;
+        right: &right,
+        of: PhantomData,
+    };
+    operands.check_comparison(recorder, link.operator)?;
     Ok(right)
 }

@@ -5,6 +5,7 @@ use Rattle.std.proofs.lemmas.List.{set_past}
 use Rattle.std.proofs.lemmas.Nat.{mod_below}
 use Rattle.std.specs.List.{list_any}
 use Rattle.pyc_iface.specs.Flags.{flag_at, is_flagged, is_noted}
+use Rattle.pyc_names.specs.CarryLaws.{SameLooks}
 use Rattle.pyc_names.specs.LookNumbers.{number_of, with_bytes, with_text, with_texts, with_name}
 use Rattle.pyc_names.specs.Looks.{Look, of_name, of_module, of_member, of_order}
 use Rattle.pyc_names.specs.NotedLooks.{Noted, nothing_noted, everything_noted, numbers_noted, with_looks}
@@ -69,13 +70,38 @@ flagged_where_unkept flags looks none kept look =
 
 -- ---- lists of looks
 
+-- a test of numbers is one of looks
+pub any_of_numbers : (test : ℕ → Bool) (looks : List Look) → list_any test (map number_of looks) ≡ list_any (λ look. test (number_of look)) looks
+any_of_numbers test [] = refl
+any_of_numbers test (look ∷ looks) = ap (λ b. test (number_of look) || b) (any_of_numbers test looks)
+
 -- what is flagged of a list of looks: those whose number is that of one in the list
 pub flagged_of_list : (noted : Noted) (looks : List Look) (look : Look) → noted ≡ with_looks nothing_noted looks
     → is_noted noted (number_of look) ≡ list_any (λ other. number_of other == number_of look) looks
 unfolding with_looks nothing_noted
 flagged_of_list noted looks look is =
     ap (λ noted'. is_noted noted' (number_of look)) is ∙ any_of_numbers (λ number. number == number_of look) looks
-  where
-    any_of_numbers : (test : ℕ → Bool) (looks : List Look) → list_any test (map number_of looks) ≡ list_any (λ look. test (number_of look)) looks
-    any_of_numbers test [] = refl
-    any_of_numbers test (look ∷ looks) = ap (λ b. test (number_of look) || b) (any_of_numbers test looks)
+
+-- whether some of all that was noted is flagged
+pub any_flagged : (flags : List Bool) (noted : Noted) (looks : List Look) → noted ≡ with_looks nothing_noted looks
+    → noted (flag_at flags) ≡ list_any (is_flagged flags) looks
+unfolding with_looks nothing_noted
+any_flagged flags noted looks is = ap (λ noted'. noted' (flag_at flags)) is ∙ any_of_numbers (flag_at flags) looks
+
+-- of looks that are the same set the same was noted
+pub same_noted : (noted : Noted) (looks others : List Look) → SameLooks looks others → with_looks noted looks ≡ with_looks noted others
+unfolding with_looks
+same_noted noted looks others same =
+    λ i test. ap (λ b. noted test || b)
+    (any_of_numbers test looks ∙ same (λ look. test (number_of look)) ∙ sym (any_of_numbers test others)) i
+
+-- ---- by the code
+
+pub noted_numbers : (noted : LooksOf) (numbers : List ℕ) (test : ℕ → Bool) → Some numbers ≡ kept_numbers noted
+    → list_any test numbers ≡ noted_in noted test
+unfolding noted_in numbers_noted
+noted_numbers noted numbers test are = ap (λ kept. noted_by kept test) are
+
+pub noted_all : (noted : LooksOf) (test : ℕ → Bool) → None ≡ kept_numbers noted → true ≡ noted_in noted test
+unfolding noted_in everything_noted
+noted_all noted test are = ap (λ kept. noted_by kept test) are

@@ -4,6 +4,7 @@
 mod declared;
 mod flags;
 pub mod laws;
+mod looked_classes;
 mod member_types;
 mod members;
 mod options;

@@ -39,7 +39,7 @@ impl PlainWorld {
             (look.member_looks (world_in self.now) (orders_by (world_in self.now)) (member_name_of q.now))) }
     {
         note_order_of(&q.class, looks)?;
-        let lin = self.classes.lin(&q.class);
+        let lin = self.lin(&q.class);
         match self.first_declared(alloc, lin.classes, &q.name, looks)? {
             Some(found) => Ok(Some(found)),
             None => self.first_assigned(alloc, lin.classes, &q.name, looks),

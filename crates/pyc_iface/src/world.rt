@@ -1,35 +1,41 @@
 //! The interfaces of the files of a workspace as they answer keys.
 
 ghost use Rattle.std.specs.Prelude.{◌≡◌, IfOk};
+ghost use Rattle.std.specs.List.{list_any};
 ghost use Rattle.pyc_class_ids.specs.Class.{Id};
 ghost use Rattle.pyc_class_table.specs.MroView.{orders_in};
 ghost use Rattle.pyc_iface.specs.Answers as spec;
 ghost use Rattle.pyc_iface.specs.Answers.{orders_by};
+ghost use Rattle.pyc_iface.specs.Flags.{is_flagged};
 ghost use Rattle.pyc_iface.specs.Looks.{answer_looks};
 ghost use Rattle.pyc_declarations.specs.KindsView.{declarations_in};
+ghost use Rattle.pyc_declarations.specs.Looks.{entries_looks};
+ghost use Rattle.pyc_names.specs.CarryLaws.{SameLooks};
 ghost use Rattle.pyc_names.specs.InterfaceView.{interfaces_in};
-ghost use Rattle.pyc_names.specs.NotedLooks.{with_looks};
+ghost use Rattle.pyc_names.specs.NotedLooks.{nothing_noted, with_looks};
 ghost use Rattle.pyc_names.specs.NotedLooksView.{noted_in};
 ghost use Rattle.pyc_names.specs.TableView.{table_in};
 ghost use Rattle.pyc_reading.specs.AnswerView.{answer_in, class_order_of};
 ghost use Rattle.pyc_reading.specs.KeyView.{key_of};
 
+use crate::flags::Flags;
+use crate::looked_classes::LookedClasses;
 use crate::members::note_order_of;
 use pyc_class_ids::{ClassId, Lin, Lins};
-use pyc_class_table::ClassTable;
 use pyc_declarations::{Answers, Declarations};
 use pyc_names::{Interface, Looks, Table};
 use pyc_reading::{Answer, Key, MroAnswer};
 use std::alloc::{AllocError, Global};
 use std::rc::Rc;
 
-/// The interfaces of the files of a workspace as they answer keys: the order of each class is made once, and each other
-/// answer is looked up anew.
+/// The interfaces of the files of a workspace as they answer keys: the order of each class is made once, and may be
+/// shared with a world whose classes have the same orders; each other answer is looked up anew.
 #[derive(Drop)]
 pub struct PlainWorld {
     pub(crate) table: Table,
-    pub(crate) classes: ClassTable,
-    ghost classes_are: { (c : Id) → orders_in classes c ≡ orders_by (table_in table) c },
+    classes: Rc<LookedClasses>,
+    ghost classes_are: { (c : Id) → orders_in classes.value.table c ≡ orders_by (table_in table) c },
+    ghost looks_are: { noted_in classes.value.looks ≡ with_looks nothing_noted (entries_looks (table_in table)) },
 }
 
 /// The answers of a world.
@@ -55,7 +61,7 @@ impl Lins for PlainWorld {
     ghost orders = { λ world. orders_by (world_in world) };
 
     fn lin(&self, class: &ClassId) -> Lin<'_> {
-        self.classes.lin(class)
+        self.classes.table.lin(class)
     }
 }
 
@@ -67,8 +73,37 @@ impl PlainWorld {
         ensures { IfOk result (λ world. world_in world ≡ interfaces_in files.now) }
     {
         let table = Table::build(alloc, files)?;
-        let classes = class_table(alloc, &table)?;
+        PlainWorld::of_table(alloc, table)
+    }
+
+    /// The world of the files of a table. The only error is that memory runs out.
+    pub fn of_table(alloc: Global, table: Table) -> Result<PlainWorld, AllocError>
+        ensures { IfOk result (λ world. world_in world ≡ table_in table) }
+    {
+        let classes = LookedClasses::build(alloc, &table)?;
+        let shared = Rc::new(alloc, classes)?;
+        Ok(PlainWorld {
+            table,
+            classes: shared,
+        })
+    }
+
+    /// The world of the files of a table whose classes have the orders of these, for which the same is looked at: it
+    /// shares them. The only error is that no number is large enough for the shares.
+    pub fn with_table(&self, table: Table) -> Result<PlainWorld, AllocError>
+        requires orders { orders_by (world_in self.now) ≡ orders_by (table_in table) }
+        requires looks { SameLooks (entries_looks (world_in self.now)) (entries_looks (table_in table)) }
+        ensures { IfOk result (λ world. world_in world ≡ table_in table) }
+    {
+        let classes = self.classes.clone()?;
         Ok(PlainWorld { table, classes })
+    }
+
+    /// Whether something flagged is looked at for the classes that the files declare.
+    pub fn is_any_class_flagged(&self, flags: &Flags) -> bool
+        ensures { result ≡ list_any (is_flagged flags.now) (entries_looks (world_in self.now)) }
+    {
+        self.classes.is_flagged(flags)
     }
 
     /// The interfaces of the files, by name.
@@ -127,22 +162,13 @@ impl PlainWorld {
     fn class_order(&self, alloc: Global, class: &ClassId) -> Result<MroAnswer, AllocError>
         ensures { IfOk result (λ order. class_order_of order ≡ orders_by (world_in self.now) class.now) }
     {
-        let lin = self.classes.lin(class);
+        let lin = self.lin(class);
         Ok(MroAnswer {
             classes: copy_classes(alloc, lin.classes)?,
             unknown: lin.unknown,
             has_call: lin.has_call,
         })
     }
-}
-
-/// The classes that the files of a table declare, with their orders.
-#[tactic(auto, unfolding(crate::specs::Answers::orders_by))]
-fn class_table(alloc: Global, table: &Table) -> Result<ClassTable, AllocError>
-    ensures { IfOk result (λ classes. (c : Id) → orders_in classes c ≡ orders_by (table_in table.now) c) }
-{
-    let entries = Declarations::new(table).class_entries(alloc, &mut Looks::unkept(alloc))?;
-    ClassTable::build(alloc, entries)
 }
 
 /// These classes once more.

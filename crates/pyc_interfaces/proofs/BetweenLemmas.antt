@@ -2,7 +2,7 @@
 use Rattle.std.proofs.Common.{◌≡◌, ℕ, ◌+◌, ◌-◌, ◌≤◌, List, length, map, take, drop, sym, ap, ap₂, ◌∙◌, arith}
 use Rattle.std.proofs.lemmas.List.{take-map, drop-map, drop-take, length-map}
 use Rattle.pyc_interfaces.proofs.NotedSteps.{both_noted}
-use Rattle.pyc_interfaces.specs.ChangedBetween.{between, changes_of, orders_of, changed_between}
+use Rattle.pyc_interfaces.specs.ChangedBetween.{between, changes_of, orders_of, modules_between, orders_between}
 use Rattle.pyc_names.specs.Interfaces.{Interface}
 use Rattle.pyc_names.specs.NotedLooks.{Noted, with_looks}
 
@@ -17,23 +17,22 @@ between_rows f front back xs fit =
     ∙ (ap (drop front) (sym (take-map f (length xs - back) xs))
     ∙ ap (λ n. drop front (take (n - back) (map f xs))) (sym (length-map xs f)))))
 
--- all that differs is noted, in turn
-pub changed_noted : (front back : ℕ) (files others firsts seconds second_files added first_files walked order_files : List Interface)
-    (old one two three four : Noted) → firsts ≡ files → seconds ≡ others → second_files ≡ seconds
-    → added ≡ between front back second_files → first_files ≡ firsts → walked ≡ between front back first_files
-    → order_files ≡ firsts → one ≡ with_looks old (changes_of firsts seconds walked)
-    → two ≡ with_looks one (changes_of firsts seconds added) → three ≡ with_looks two (orders_of files others order_files)
-    → four ≡ with_looks three (orders_of files others added) → four ≡ with_looks old (changed_between front back files others)
-unfolding changed_between
-changed_noted front back files others firsts seconds second_files added first_files walked order_files old one two three four firsts_are seconds_are second_files_are added_are first_files_are walked_are order_files_are one_is two_is three_is four_is =
-    let walked_lie : walked ≡ between front back files = walked_are ∙ ap (between front back) (first_files_are ∙ firsts_are) in
-    let added_lie : added ≡ between front back others = added_are ∙ ap (between front back) (second_files_are ∙ seconds_are) in
-    both_noted old one four (changes_of files others (between front back files)) _
-    (one_is ∙ (ap (λ (l : List Interface). with_looks old (changes_of firsts seconds l)) walked_lie
-    ∙ ap₂ (λ (f s : List Interface). with_looks old (changes_of f s (between front back files))) firsts_are seconds_are))
-    (both_noted one two four (changes_of files others (between front back others)) _
-    (two_is ∙ (ap (λ (l : List Interface). with_looks one (changes_of firsts seconds l)) added_lie
-    ∙ ap₂ (λ (f s : List Interface). with_looks one (changes_of f s (between front back others))) firsts_are seconds_are))
-    (both_noted two three four (orders_of files others files) (orders_of files others (between front back others))
-    (three_is ∙ ap (λ (l : List Interface). with_looks two (orders_of files others l)) (order_files_are ∙ firsts_are))
-    (four_is ∙ ap (λ (l : List Interface). with_looks three (orders_of files others l)) added_lie)))
+-- what differs in modules is noted, in turn
+pub modules_noted : (front back : ℕ) (files others first_files walked second_files added : List Interface) (old one two : Noted)
+    → first_files ≡ files → walked ≡ between front back first_files → second_files ≡ others → added ≡ between front back second_files
+    → one ≡ with_looks old (changes_of files others walked) → two ≡ with_looks one (changes_of files others added)
+    → two ≡ with_looks old (modules_between front back files others)
+modules_noted front back files others first_files walked second_files added old one two first_are walked_are second_are added_are one_is two_is =
+    both_noted old one two (changes_of files others (between front back files)) (changes_of files others (between front back others))
+    (one_is ∙ ap (λ (l : List Interface). with_looks old (changes_of files others l)) (walked_are ∙ ap (between front back) first_are))
+    (two_is ∙ ap (λ (l : List Interface). with_looks one (changes_of files others l)) (added_are ∙ ap (between front back) second_are))
+
+-- and what differs in orders
+pub orders_noted : (front back : ℕ) (files others firsts first_files seconds second_files added : List Interface) (old one two : Noted)
+    → firsts ≡ files → first_files ≡ firsts → seconds ≡ others → second_files ≡ seconds → added ≡ between front back second_files
+    → one ≡ with_looks old (orders_of files others first_files) → two ≡ with_looks one (orders_of files others added)
+    → two ≡ with_looks old (orders_between front back files others)
+orders_noted front back files others firsts first_files seconds second_files added old one two firsts_are first_are seconds_are second_are added_are one_is two_is =
+    both_noted old one two (orders_of files others files) (orders_of files others (between front back others))
+    (one_is ∙ ap (λ (l : List Interface). with_looks old (orders_of files others l)) (first_are ∙ firsts_are))
+    (two_is ∙ ap (λ (l : List Interface). with_looks one (orders_of files others l)) (added_are ∙ ap (between front back) (second_are ∙ seconds_are)))

@@ -31,7 +31,7 @@ use Rattle.pyc_interfaces.proofs.SameLemmas.{flags_are, bindings_are, attributes
 use Rattle.pyc_interfaces.proofs.WorldLemmas.{orders-bare}
 use Rattle.pyc_interfaces.specs.BareInterfaces.{bare_binding, bare_attribute, bare_body, bare_declared, bare_interface}
 use Rattle.pyc_interfaces.specs.CarryLaws.{AllDiffer, ChangedLooksAreAll}
-use Rattle.pyc_interfaces.specs.ChangedBetween.{end_of, between, HaveInCommon, changes_of, orders_of, changed_between}
+use Rattle.pyc_interfaces.specs.ChangedBetween.{end_of, between, HaveInCommon, changes_of, orders_of, modules_between, orders_between, changed_between}
 use Rattle.pyc_interfaces.specs.ChangedLooks.{looks_alone, binding_name, attribute_name, binding_changes, attribute_changes, body_looks, body_changes, class_looks, class_changes, unless_named, classes_changes, name_look, name_looks, same_head, name_changes, same_as_module, module_change, file_changes, presence_change, presence_changes, file_looks, found_changes, module_changes, same_reason, same_order, order_change, order_changes}
 use Rattle.pyc_interfaces.specs.SameInterfaces.{same_binding, same_attribute, same_interface}
 use Rattle.pyc_members.specs.Attributes.{SelfAttribute}
@@ -460,7 +460,7 @@ reasons_are (Some reason.Cycle) (Some reason.Cycle) same = refl
 reasons_are (Some reason.Merge) (Some reason.Merge) same = refl
 reasons_are _ _ same = absurd (false≢true same)
 
-orders_are : (a b : Mro) → same_order a b ≡ true → a ≡ b
+pub orders_are : (a b : Mro) → same_order a b ≡ true → a ≡ b
 orders_are a b same =
     let made : List Id → Option UnknownMro → Bool → Mro = λ classes unknown has_call. record { classes = classes; unknown = unknown; has_call = has_call } in
     let p = and_parts (pointwise same_class a.classes b.classes) (same_reason a.unknown b.unknown && beq a.has_call b.has_call) same in
@@ -494,6 +494,13 @@ split_at front back xs fit =
     sym (take-append-drop k xs)
     ∙ ap (λ l. l ++ drop k xs) (sym (take-append-drop front (take k xs)) ∙ ap (λ l. l ++ drop front (take k xs)) (take-take front k xs (omega arith)))
     ∙ append_assoc (take front xs) (drop front (take k xs)) (drop k xs)
+
+-- without positions
+pub bare_split : (front back : ℕ) (some : List Interface) → front + back ≤ length some
+    → map bare_interface some ≡ map bare_interface (take front some) ++ (map bare_interface (between front back some) ++ map bare_interface (end_of back some))
+bare_split front back some fit =
+    ap (map bare_interface) (split_at front back some fit) ∙ mapped_both bare_interface (take front some) (between front back some ++ end_of back some)
+    ∙ ap (λ l. map bare_interface (take front some) ++ l) (mapped_both bare_interface (between front back some) (end_of back some))
 
 -- what is found where nothing between is
 found_outside : (m : List (List ℕ)) (xs ys zs : List Interface) → file_of ys m ≡ None
@@ -606,30 +613,26 @@ module _ (differs : Look → Bool) (front back : ℕ) (files others : List Inter
     -- the others stand in the first list too
     second_compared : EachOf Compared (map bare_interface others)
     second_compared =
-        let bare_split : (some : List Interface) → front + back ≤ length some → map bare_interface some ≡ map bare_interface (take front some) ++ (map bare_interface (between front back some) ++ map bare_interface (end_of back some)) =
-        λ some fit.
-        ap (map bare_interface) (split_at front back some fit) ∙ mapped_both bare_interface (take front some) (between front back some ++ end_of back some)
-        ∙ ap (λ l. map bare_interface (take front some) ++ l) (mapped_both bare_interface (between front back some) (end_of back some)) in
         let firsts = each_of_both Compared (map bare_interface (take front files)) (map bare_interface firsts_between ++ map bare_interface (end_of back files))
-        (subst (EachOf Compared) (bare_split files common.fit) first_compared) in
+        (subst (EachOf Compared) (bare_split front back files common.fit) first_compared) in
         let ends = each_of_both Compared (map bare_interface firsts_between) (map bare_interface (end_of back files)) firsts.1 in
-        subst (EachOf Compared) (sym (bare_split others common.fit_others))
+        subst (EachOf Compared) (sym (bare_split front back others common.fit_others))
         (each_in_both Compared (map bare_interface (take front others)) (map bare_interface seconds_between ++ map bare_interface (end_of back others)) (subst (EachOf Compared) common.first firsts.0)
         (each_in_both Compared (map bare_interface seconds_between) (map bare_interface (end_of back others)) between_compared (subst (EachOf Compared) common.last ends.1)))
 
-  changes_compared : AllDiffer differs (changed_between front back files others) → AreCompared differs (map bare_interface files) (map bare_interface others)
+  pub changes_compared : AllDiffer differs (changed_between front back files others) → AreCompared differs (map bare_interface files) (map bare_interface others)
   unfolding changed_between
   changes_compared all =
-      let a = each_of_both (λ l. differs l ≡ true) (changes_of files others firsts_between) (changes_of files others seconds_between ++ (orders_of files others files ++ orders_of files others seconds_between)) all in
-      let b = each_of_both (λ l. differs l ≡ true) (changes_of files others seconds_between) (orders_of files others files ++ orders_of files others seconds_between) a.1 in
-      let c = each_of_both (λ l. differs l ≡ true) (orders_of files others files) (orders_of files others seconds_between) b.1 in
+      let both = each_of_both (λ l. differs l ≡ true) (modules_between front back files others) (orders_between front back files others) all in
+      let modules = each_of_both (λ l. differs l ≡ true) (changes_of files others firsts_between) (changes_of files others seconds_between) both.0 in
+      let orders = each_of_both (λ l. differs l ≡ true) (orders_of files others files) (orders_of files others seconds_between) both.1 in
       let changed : (some : List Interface) → AllDiffer differs (changes_of files others some) → EachOf (λ (file : Interface). Changes file.name) some =
       each_of_flat (λ l. differs l ≡ true) (λ (file : Interface). module_changes files others file.name) in
       let ordered : (some : List Interface) → AllDiffer differs (orders_of files others some) → EachOf (λ file. AllDiffer differs (order_changes files others file)) some =
       each_of_flat (λ l. differs l ≡ true) (order_changes files others) in
       record {
-        first = first_compared (changed firsts_between a.0) (changed seconds_between b.0) (ordered files c.0) (ordered seconds_between c.1);
-        second = second_compared (changed firsts_between a.0) (changed seconds_between b.0) (ordered files c.0) (ordered seconds_between c.1);
+        first = first_compared (changed firsts_between modules.0) (changed seconds_between modules.1) (ordered files orders.0) (ordered seconds_between orders.1);
+        second = second_compared (changed firsts_between modules.0) (changed seconds_between modules.1) (ordered files orders.0) (ordered seconds_between orders.1);
       }
 
 -- ---- the law

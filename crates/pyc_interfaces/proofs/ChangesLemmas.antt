@@ -23,6 +23,10 @@ pub each_of_flat : {X Y : Type 0} (P : Y → Type 0) (f : X → List Y) (xs : Li
 each_of_flat P f [] all = tt
 each_of_flat P f (x ∷ xs) all = let parts = each_of_both P (f x) (flat_map f xs) all in (parts.0, each_of_flat P f xs parts.1)
 
+pub each_into_flat : {X Y : Type 0} (P : Y → Type 0) (f : X → List Y) → ((x : X) → EachOf P (f x)) → (xs : List X) → EachOf P (flat_map f xs)
+each_into_flat P f all [] = tt
+each_into_flat P f all (x ∷ xs) = each_in_both P (f x) (flat_map f xs) (all x) (each_into_flat P f all xs)
+
 pub each_found : {X : Type 0} (P : X → Type 0) (test : X → Bool) (xs : List X) (x : X) → EachOf P xs → find test xs ≡ Some x → P x
 each_found P test [] x all found = absurd (none-some x found)
 each_found P test (y ∷ xs) x all found = elim (cases_Bool (test y)) [

@@ -12,3 +12,4 @@ pub mod ChangedLemmas
 pub mod NotedChanges
 pub mod NotedSteps
 pub mod BetweenLemmas
+pub mod SharedLemmas

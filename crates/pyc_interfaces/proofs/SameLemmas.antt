@@ -448,7 +448,7 @@ argument_kinds_are argument_kind.DoubleStarred argument_kind.Starred same = absu
 argument_kinds_are argument_kind.DoubleStarred (argument_kind.Keyword n) same = absurd (false≢true same)
 argument_kinds_are argument_kind.DoubleStarred argument_kind.DoubleStarred same = refl
 
-arguments_are : (x y : Argument) → same_argument x y ≡ true → bare_argument x ≡ bare_argument y
+pub arguments_are : (x y : Argument) → same_argument x y ≡ true → bare_argument x ≡ bare_argument y
 arguments_are (argument at kind x) (argument there second y) same =
     let parts = and_parts (same_argument_kind kind second) (same_expr x y) same in ap₂ (argument nowhere) (argument_kinds_are kind second parts.0) (exprs_are x y parts.1)
 

@@ -96,7 +96,7 @@ in_body-bare body n =
     ap₂ own.or_else (ap (option_map own.bound) (declaration-bare body.bindings n) ∙ map-bound (declaration body.bindings n)) (annotated_through-bare body n)
     ∙ own_or-bare (option_map own.bound (declaration body.bindings n)) (annotated_through_self body n)
 
-own_member-bare : (body : ClassBody) (n : List ℕ) → own_member (bare_body body) n ≡ option_map bare_own (own_member body n)
+pub own_member-bare : (body : ClassBody) (n : List ℕ) → own_member (bare_body body) n ≡ option_map bare_own (own_member body n)
 own_member-bare body n = ap₂ own.or_else (in_body-bare body n) (assigned_through-bare body n) ∙ own_or-bare (in_body_or_annotated body n) (assigned_through_self body n)
 
 is_setter-bare : (form : BindingForm) → is_setter (bare_form form) ≡ is_setter form

@@ -1,11 +1,15 @@
 -- Where what files answer is the same among other files, whatever their positions.
-use Rattle.std.specs.Prelude.{◌≡◌, ℕ, Bool, true, List, map}
+use Rattle.std.specs.Prelude.{◌≡◌, ℕ, Bool, true, false, List, map}
+use Rattle.std.specs.List.{list_any}
 use Rattle.pyc_declarations.specs.Looks.{entries_looks}
+use Rattle.pyc_iface.specs.Answers.{orders_by}
 use Rattle.pyc_iface.specs.CarryLaws.{AnswersStay, AreAllAlike}
 use Rattle.pyc_iface.specs.ComparedLaws.{EachOf}
 use Rattle.pyc_iface.specs.Looks.{answer_looks}
 use Rattle.pyc_interfaces.specs.BareInterfaces.{bare_interface}
-use Rattle.pyc_interfaces.specs.ChangedBetween.{HaveInCommon, changed_between}
+use Rattle.pyc_interfaces.specs.ChangedBetween.{HaveInCommon, changed_between, modules_between}
+use Rattle.pyc_interfaces.specs.ClassHeads.{same_heads_between}
+use Rattle.pyc_names.specs.CarryLaws.{SameLooks}
 use Rattle.pyc_names.specs.Interfaces.{Interface}
 use Rattle.pyc_names.specs.Looks.{Look}
 use Rattle.pyc_reading.specs.Keys.{Key}
@@ -38,3 +42,17 @@ abbrev pub ChangedLooksAreAll : Type 0
 ChangedLooksAreAll =
     (differs : Look → Bool) (front back : ℕ) (files others : List Interface) → HaveInCommon front back files others
     → AllDiffer differs (changed_between front back files others) → AnswersStay differs files others
+
+-- later files whose classes have the orders of the earlier ones
+pub record SharesClasses (differs : Look → Bool) (files others : List Interface) : Type 0 where
+  pub orders : orders_by files ≡ orders_by others
+  pub looks : SameLooks (entries_looks files) (entries_looks others)
+  pub answers : AnswersStay differs files others
+
+-- so it is where nothing differs that is looked at for the classes, where all differs that is listed of modules and
+-- the heads of the classes between count alike
+abbrev pub SharedClassesCarryOver : Type 0
+SharedClassesCarryOver =
+    (differs : Look → Bool) (front back : ℕ) (files others : List Interface) → HaveInCommon front back files others
+    → AllDiffer differs (modules_between front back files others) → same_heads_between front back files others ≡ true
+    → list_any differs (entries_looks files) ≡ false → SharesClasses differs files others

@@ -30,10 +30,16 @@ module _ (files others : List Interface) where
   abbrev pub orders_of : List Interface → List Look
   orders_of walked = flat_map (order_changes files others) walked
 
--- what differs in the modules that the files between name, in the orders of the classes of the first list, and in those
--- of the files between of the second
+-- what differs in the modules that the files between name
+abbrev pub modules_between : ℕ → ℕ → List Interface → List Interface → List Look
+modules_between front back files others =
+    changes_of files others (between front back files) ++ changes_of files others (between front back others)
+
+-- what differs in the orders of the classes of the first list, and of the files between of the second
+abbrev pub orders_between : ℕ → ℕ → List Interface → List Interface → List Look
+orders_between front back files others =
+    orders_of files others files ++ orders_of files others (between front back others)
+
 unfoldable pub changed_between : ℕ → ℕ → List Interface → List Interface → List Look
 changed_between front back files others =
-    changes_of files others (between front back files)
-    ++ (changes_of files others (between front back others)
-    ++ (orders_of files others files ++ orders_of files others (between front back others)))
+    modules_between front back files others ++ orders_between front back files others

@@ -5,5 +5,6 @@ pub mod SameInterfaces
 pub mod InterfaceLaws
 pub mod ChangedLooks
 pub mod ChangedBetween
+pub mod ClassHeads
 pub mod CarryLaws
 pub mod HomeView

@@ -1,7 +1,7 @@
 //! Laws of interfaces, proved for all files.
 
 ghost use Rattle.pyc_interfaces.specs.CarryLaws.{ChangedLooksAreAll, FilesCarryOver, PositionsChangeNoEntry};
-ghost use Rattle.pyc_interfaces.specs.CarryLaws.{PositionsChangeNoLook};
+ghost use Rattle.pyc_interfaces.specs.CarryLaws.{PositionsChangeNoLook, SharedClassesCarryOver};
 ghost use Rattle.pyc_interfaces.specs.InterfaceLaws.{AlikeFilesAnswerAlike, PositionsChangeNoAnswer};
 
 /// Interfaces answer each key as they do without positions, and without what else no answer looks at.
@@ -23,7 +23,9 @@ pub fn carry_over()
 {}
 
 /// An answer is the same among later files, and the same is looked at, where nothing is looked at for it of what is
-/// listed between the files and the later ones.
+/// listed between the files and the later ones. All orders are the same where nothing is looked at for the classes of
+/// what is listed of modules, and the heads of the classes count alike.
 pub fn changed_looks_are_all()
-    ensures { ChangedLooksAreAll }
+    ensures all { ChangedLooksAreAll }
+    ensures shared { SharedClassesCarryOver }
 {}

@@ -3,6 +3,7 @@
 
 mod changes;
 mod class_changes;
+mod class_heads;
 mod file_changes;
 mod home;
 pub mod laws;
@@ -15,5 +16,5 @@ mod same_expressions;
 mod same_heads;
 mod sameness;
 
-pub use changes::{Common, changed_looks};
+pub use changes::{Common, RevisedWorld, revised_world};
 pub use sameness::same_interface;

@@ -84,7 +84,7 @@ pub(crate) fn same_function(f: &FunctionDefinition, g: &FunctionDefinition) -> b
 }
 
 /// Whether two rows of arguments are one.
-fn same_arguments(xs: &[Argument], ys: &[Argument]) -> bool
+pub(crate) fn same_arguments(xs: &[Argument], ys: &[Argument]) -> bool
     ensures { result ≡ pointwise same_argument (map argument_of xs.now) (map argument_of ys.now) }
 {
     if xs.len() != ys.len() {

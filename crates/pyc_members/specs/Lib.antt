@@ -6,3 +6,4 @@ pub mod ClassBodies
 pub mod ClassBodyView
 pub mod DeclaredClasses
 pub mod DeclaredClassView
+pub mod AttributePlaces

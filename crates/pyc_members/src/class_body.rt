@@ -1,25 +1,48 @@
 //! What a class statement binds, and what decides of a name in it.
 
-ghost use Rattle.std.specs.Prelude.{◌≡◌, map, IfOk, option_map};
+ghost use Rattle.std.specs.Prelude.{◌≡◌, ℕ, List, bytes_eq, map, true, false, IfOk, option_map};
+ghost use Rattle.indexmap.specs.IndexMap.{get_by};
+ghost use Rattle.indexmap.specs.IndexSet.{contains_by};
 ghost use Rattle.pyc_ast.specs.Statements.{stmts};
 ghost use Rattle.pyc_ast.specs.StatementView.{stmt_of};
 ghost use Rattle.pyc_bindings.specs.BindingView.{binding_of, binding_form_of};
+ghost use Rattle.pyc_bindings.specs.FirstBindings.{declaration_place};
 ghost use Rattle.pyc_members.specs.AttributeView.{attribute_of, attribute_form_of};
+ghost use Rattle.pyc_members.specs.AttributePlaces.{attribute_place};
 ghost use Rattle.pyc_members.specs.ClassBodies as spec;
-ghost use Rattle.pyc_members.specs.ClassBodyView.{class_body_of, own_member_of};
 
-use crate::attribute::{AttributeForm, SelfAttribute};
+use crate::attribute::SelfAttribute;
+use crate::attribute_places::{attribute_at, attribute_places};
 use crate::attributes::self_attributes;
+use indexmap::{IndexMap, IndexSet};
 use pyc_ast::{Stmt, Text};
-use pyc_bindings::{Binding, BindingForm, declaration, has_setter, scope_bindings};
+use pyc_bindings::{
+    Binding, BindingForm, declaration_at, first_places, has_setter, scope_bindings,
+};
 use std::alloc::{AllocError, Global};
 
 /// What a class statement binds: the bindings of its body, and the attributes that its methods give its instances, both
-/// in text order.
+/// in text order. To look a name up takes a step, however many names there are.
 #[derive(Drop)]
 pub struct ClassBody {
     pub bindings: Vec<Binding>,
     pub attributes: Vec<SelfAttribute>,
+    /// The place of the first binding of each name.
+    bound: IndexMap<Text, usize>,
+    /// The place of the first attribute of each name that is annotated.
+    annotated: IndexMap<Text, usize>,
+    /// The place of the first attribute of each name that is not.
+    assigned: IndexMap<Text, usize>,
+    /// The names of the properties that have a setter.
+    settable: IndexSet<Text>,
+    ghost bound_are: { (n : List ℕ) → get_by (bytes_eq n) bound
+        ≡ declaration_place (map binding_of bindings.items) n },
+    ghost annotated_are: { (n : List ℕ) → get_by (bytes_eq n) annotated
+        ≡ attribute_place true (map attribute_of attributes.items) n },
+    ghost assigned_are: { (n : List ℕ) → get_by (bytes_eq n) assigned
+        ≡ attribute_place false (map attribute_of attributes.items) n },
+    ghost settable_are: { (n : List ℕ) → contains_by (bytes_eq n) settable
+        ≡ spec.has_setter_of (map binding_of bindings.items) n },
 }
 
 /// What decides of a name in one class.
@@ -34,14 +57,38 @@ pub enum OwnMember<'a> {
 }
 
 impl ClassBody {
+    ghost use Rattle.pyc_members.specs.ClassBodyView.{class_body_of, own_member_of};
+
     /// What a class statement with this body binds. The only error is that memory runs out.
     #[tactic(auto, unfolding(crate::specs::ClassBodies::class_body))]
     pub fn read(alloc: Global, body: &[Stmt]) -> Result<ClassBody, AllocError>
         ensures { IfOk result (λ found. class_body_of found ≡ spec.class_body (stmts (map stmt_of body.now))) }
     {
+        let bindings = scope_bindings(alloc, body)?;
+        let attributes = self_attributes(alloc, body)?;
+        ClassBody::of_parts(alloc, bindings, attributes)
+    }
+
+    /// The class that binds this. The only error is that memory runs out.
+    fn of_parts(
+        alloc: Global,
+        bindings: Vec<Binding>,
+        attributes: Vec<SelfAttribute>,
+    ) -> Result<ClassBody, AllocError>
+        ensures bindings { IfOk result (λ found. found.bindings.items ≡ bindings.items) }
+        ensures attributes { IfOk result (λ found. found.attributes.items ≡ attributes.items) }
+    {
+        let bound = first_places(alloc, &bindings)?;
+        let annotated = attribute_places(alloc, &attributes, true)?;
+        let assigned = attribute_places(alloc, &attributes, false)?;
+        let settable = setters(alloc, &bindings)?;
         Ok(ClassBody {
-            bindings: scope_bindings(alloc, body)?,
-            attributes: self_attributes(alloc, body)?,
+            bindings,
+            attributes,
+            bound,
+            annotated,
+            assigned,
+            settable,
         })
     }
 
@@ -61,7 +108,7 @@ impl ClassBody {
     pub fn in_body_or_annotated(&self, name: &Text) -> Option<OwnMember<'_>>
         ensures { option_map own_member_of result ≡ spec.in_body_or_annotated (class_body_of self.now) name.now }
     {
-        match declaration(&self.bindings, name) {
+        match declaration_at(&self.bound, &self.bindings, name) {
             Some(found) => Some(OwnMember::Bound(found)),
             None => self.annotated_through_self(name),
         }
@@ -71,7 +118,7 @@ impl ClassBody {
     fn annotated_through_self(&self, name: &Text) -> Option<OwnMember<'_>>
         ensures { option_map own_member_of result ≡ spec.annotated_through_self (class_body_of self.now) name.now }
     {
-        match first_annotated(&self.attributes, name) {
+        match attribute_at(&self.annotated, &self.attributes, true, name) {
             Some(found) => Some(OwnMember::Annotated(found)),
             None => None,
         }
@@ -81,7 +128,7 @@ impl ClassBody {
     pub fn assigned_through_self(&self, name: &Text) -> Option<OwnMember<'_>>
         ensures { option_map own_member_of result ≡ spec.assigned_through_self (class_body_of self.now) name.now }
     {
-        match first_assigned(&self.attributes, name) {
+        match attribute_at(&self.assigned, &self.attributes, false, name) {
             Some(found) => Some(OwnMember::Assigned(found)),
             None => None,
         }
@@ -92,53 +139,22 @@ impl ClassBody {
     pub fn is_settable(&self, name: &Text) -> bool
         ensures { result ≡ spec.is_settable (class_body_of self.now) name.now }
     {
-        has_setter_of(&self.bindings, name)
+        self.settable.contains(name)
     }
 }
 
-/// The first of these attributes with this name that is annotated.
-fn first_annotated<'a>(attributes: &'a [SelfAttribute], name: &Text) -> Option<&'a SelfAttribute>
-    ensures { option_map (λ found. attribute_of found.now) result
-        ≡ spec.first_annotated (map attribute_of attributes.now) name.now }
+/// The names of the properties that have a setter among these bindings.
+fn setters(alloc: Global, bindings: &[Binding]) -> Result<IndexSet<Text>, AllocError>
+    ensures { IfOk result (λ names. (n : List ℕ) → contains_by (bytes_eq n) names
+        ≡ spec.has_setter_of (map binding_of bindings.now) n) }
 {
-    for attribute in attributes {
-        if attribute.name == *name && is_annotated(&attribute.form) {
-            return Some(attribute);
-        }
-    }
-    None
-}
-
-/// The first of these attributes with this name that is not annotated.
-fn first_assigned<'a>(attributes: &'a [SelfAttribute], name: &Text) -> Option<&'a SelfAttribute>
-    ensures { option_map (λ found. attribute_of found.now) result
-        ≡ spec.first_assigned (map attribute_of attributes.now) name.now }
-{
-    for attribute in attributes {
-        if attribute.name == *name && !is_annotated(&attribute.form) {
-            return Some(attribute);
-        }
-    }
-    None
-}
-
-/// Whether an attribute of this form is annotated.
-fn is_annotated(form: &AttributeForm) -> bool
-    ensures { result ≡ spec.is_annotated (attribute_form_of form.now) }
-{
-    matches!(form, AttributeForm::Annotated(_))
-}
-
-/// Whether one of these bindings is the setter of the property with this name.
-fn has_setter_of(bindings: &[Binding], name: &Text) -> bool
-    ensures { result ≡ spec.has_setter_of (map binding_of bindings.now) name.now }
-{
+    let mut names = IndexSet::new(alloc);
     for binding in bindings {
-        if binding.name == *name && is_setter(&binding.form) {
-            return true;
+        if is_setter(&binding.form) {
+            names.insert(binding.name.clone()?)?;
         }
     }
-    false
+    Ok(names)
 }
 
 /// Whether a binding of this form is the setter of a property.

@@ -2,6 +2,7 @@
 #![tactic(auto)]
 
 mod attribute;
+mod attribute_places;
 mod attributes;
 mod class_body;
 mod declared_class;

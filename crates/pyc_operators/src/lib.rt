@@ -13,7 +13,7 @@ mod sorts;
 mod table;
 mod unary_operator;
 
-pub use binary_operator::{binary, check_comparison};
+pub use binary_operator::BinaryOperands;
 pub use methods::CallsMethods;
 pub use operation::in_place_method;
 pub use unary_operator::unary;

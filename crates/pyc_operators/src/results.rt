@@ -8,10 +8,11 @@ ghost use Rattle.pyc_type_forms.specs.TypeView.{ty_of};
 
 use crate::methods::CallsMethods;
 use crate::operation::Operation;
-use crate::pairs::infer_pair;
+use crate::pairs::Pair;
 use pyc_obligations::AskTypes;
 use pyc_type_forms::Ty;
 use std::alloc::{AllocError, Global};
+use std::marker::PhantomData;
 
 /// What the pairs give that were read so far: the types, and whether there is no such operation for one of them.
 #[derive(Debug, Drop)]
@@ -45,47 +46,62 @@ impl Results {
     }
 }
 
-/// What an operation gives on each pair of these operands. The only error is that memory runs out.
-#[tactic(auto, using(crate::proofs::Steps::performing), unfolding(crate::specs::Results::pairs_of))]
-pub(crate) fn pairs_of<N: AskTypes, C: CallsMethods<N>>(
-    alloc: Global,
-    recorder: &mut N,
-    caller: &C,
-    operation: Operation,
-    lefts: &[Ty],
-    rights: &[Ty],
-) -> Result<Results, AllocError>
-    ensures { Performs results_of
-        (spec.pairs_of (C.caller caller.now) operation spec.no_results (map ty_of lefts.now) (map ty_of rights.now))
-        (N.trace recorder.old) result (N.trace recorder.new) }
-{
-    let mut results = Results::new(alloc);
-    for left in lefts {
-        results = pairs_of_left(alloc, recorder, caller, operation, results, left, rights)?;
-    }
-    Ok(results)
+/// An operation on the pairs of two operands, and what calls the methods of their classes.
+#[derive(Clone, Copy)]
+pub(crate) struct Pairs<'a, N, C> {
+    pub(crate) alloc: Global,
+    pub(crate) caller: &'a C,
+    pub(crate) operation: Operation,
+    pub(crate) of: PhantomData<N>,
 }
 
-/// What an operation gives on each pair of an operand and one of these, after what was given before.
-#[tactic(auto, using(crate::proofs::Steps::performing), unfolding(crate::specs::Results::pairs_of_left))]
-fn pairs_of_left<N: AskTypes, C: CallsMethods<N>>(
-    alloc: Global,
-    recorder: &mut N,
-    caller: &C,
-    operation: Operation,
-    before: Results,
-    left: &Ty,
-    rights: &[Ty],
-) -> Result<Results, AllocError>
-    ensures { Performs results_of
-        (spec.pairs_of_left (C.caller caller.now) operation (results_of before) (ty_of left.now)
-        (map ty_of rights.now))
-        (N.trace recorder.old) result (N.trace recorder.new) }
-{
-    let mut results = before;
-    for right in rights {
-        let found = infer_pair(alloc, recorder, caller, operation, left, right)?;
-        results = results.with(found)?;
+impl<N: AskTypes, C: CallsMethods<N>> Pairs<'_, N, C> {
+    /// What the operation gives on each pair of these operands. The only error is that memory runs out.
+    #[tactic(auto, using(crate::proofs::Steps::performing), unfolding(crate::specs::Results::pairs_of))]
+    pub(crate) fn pairs_of(
+        &self,
+        recorder: &mut N,
+        lefts: &[Ty],
+        rights: &[Ty],
+    ) -> Result<Results, AllocError>
+        ensures { Performs results_of
+            (spec.pairs_of (C.caller self.now.caller.now) self.now.operation spec.no_results (map ty_of lefts.now)
+            (map ty_of rights.now)) (N.trace recorder.old) result (N.trace recorder.new) }
+    {
+        let mut results = Results::new(self.alloc);
+        for left in lefts {
+            results = self.pairs_of_left(recorder, results, left, rights)?;
+        }
+        Ok(results)
     }
-    Ok(results)
+
+    /// What the operation gives on each pair of an operand and one of these, after what was given before.
+    #[tactic(auto, using(crate::proofs::Steps::performing), unfolding(crate::specs::Results::pairs_of_left))]
+    fn pairs_of_left(
+        &self,
+        recorder: &mut N,
+        before: Results,
+        left: &Ty,
+        rights: &[Ty],
+    ) -> Result<Results, AllocError>
+        ensures { Performs results_of
+            (spec.pairs_of_left (C.caller self.now.caller.now) self.now.operation (results_of before) (ty_of left.now)
+            (map ty_of rights.now))
+            (N.trace recorder.old) result (N.trace recorder.new) }
+    {
+        let mut results = before;
+        for right in rights {
+            let pair = Pair {
+                alloc: self.alloc,
+                caller: self.caller,
+                operation: self.operation,
+                left,
+                right,
+                of: self.of,
+            };
+            let found = pair.infer_pair(recorder)?;
+            results = results.with(found)?;
+        }
+        Ok(results)
+    }
 }

@@ -21,6 +21,7 @@ use pyc_obligations::AskTypes;
 use pyc_reading::MemberAnswer;
 use pyc_type_forms::{Ty, items_of, union_of};
 use std::alloc::{AllocError, Global};
+use std::marker::PhantomData;
 
 /// The type of a unary operation on an operand of this type: where there is no such operation, that is reported, and it
 /// is Any; `not` asks nothing. The only error is that memory runs out.
@@ -70,119 +71,118 @@ fn infer_operation<N: AskTypes, C: CallsMethods<N>>(
     ensures { Performs ty_of (spec.infer_operation (C.caller caller.now) at operation (ty_of operand.now))
         (N.trace recorder.old) result (N.trace recorder.new) }
 {
-    let results = items(alloc, recorder, caller, operation, operand)?;
+    let reader = UnaryReader {
+        alloc,
+        caller,
+        operation,
+        of: PhantomData,
+    };
+    let results = reader.items(recorder, operand)?;
     finish_union(alloc, recorder, at, operation, operand, results)
 }
 
-/// What a unary operation gives on each item of its operand.
-fn items<N: AskTypes, C: CallsMethods<N>>(
+/// A unary operation, and what calls the methods of its operands' classes.
+#[derive(Clone, Copy)]
+struct UnaryReader<'a, N, C> {
     alloc: Global,
-    recorder: &mut N,
-    caller: &C,
+    caller: &'a C,
     operation: UnaryOperation,
-    operand: &Ty,
-) -> Result<Results, AllocError>
-    ensures { Performs results_of (spec.items (C.caller caller.now) operation (ty_of operand.now))
-        (N.trace recorder.old)
-        result (N.trace recorder.new) }
-{
-    let operands = items_of(alloc, operand)?;
-    each_item(alloc, recorder, caller, operation, &operands)
+    of: PhantomData<N>,
 }
 
-/// What a unary operation gives on each of these operands.
-#[tactic(auto, using(crate::proofs::Steps::performing), unfolding(crate::specs::Unary::each_item))]
-fn each_item<N: AskTypes, C: CallsMethods<N>>(
-    alloc: Global,
-    recorder: &mut N,
-    caller: &C,
-    operation: UnaryOperation,
-    operands: &[Ty],
-) -> Result<Results, AllocError>
-    ensures { Performs results_of
-        (spec.each_item (C.caller caller.now) operation no_results (map ty_of operands.now)) (N.trace recorder.old)
-        result
-        (N.trace recorder.new) }
-{
-    let mut results = Results::new(alloc);
-    for operand in operands {
-        let found = one_item(alloc, recorder, caller, operation, operand)?;
-        results = results.with(found)?;
+impl<N: AskTypes, C: CallsMethods<N>> UnaryReader<'_, N, C> {
+    /// What the operation gives on each item of its operand.
+    fn items(&self, recorder: &mut N, operand: &Ty) -> Result<Results, AllocError>
+        ensures { Performs results_of (spec.items (C.caller self.now.caller.now) self.now.operation (ty_of operand.now))
+            (N.trace recorder.old)
+            result (N.trace recorder.new) }
+    {
+        let operands = items_of(self.alloc, operand)?;
+        self.each_item(recorder, &operands)
     }
-    Ok(results)
-}
 
-/// What a unary operation gives on an operand that is no union.
-#[tactic(auto, using(crate::proofs::Steps::performing), unfolding(crate::specs::Unary::one_item))]
-fn one_item<N: AskTypes, C: CallsMethods<N>>(
-    alloc: Global,
-    recorder: &mut N,
-    caller: &C,
-    operation: UnaryOperation,
-    operand: &Ty,
-) -> Result<Option<Ty>, AllocError>
-    ensures { Performs (option_map ty_of) (spec.one_item (C.caller caller.now) operation (ty_of operand.now))
-        (N.trace recorder.old) result (N.trace recorder.new) }
-{
-    let sort = operand_sort(alloc, recorder, operand)?;
-    infer_by_sort(alloc, recorder, caller, operation, operand, sort)
-}
-
-/// What `operation` gives on an operand of the sort `sort` that is no union; none where there is no such operation.
-#[tactic(auto, using(crate::proofs::Steps::performing), unfolding(crate::specs::Unary::infer_by_sort))]
-fn infer_by_sort<N: AskTypes, C: CallsMethods<N>>(
-    alloc: Global,
-    recorder: &mut N,
-    caller: &C,
-    operation: UnaryOperation,
-    operand: &Ty,
-    sort: Sort,
-) -> Result<Option<Ty>, AllocError>
-    ensures { Performs (option_map ty_of)
-        (spec.infer_by_sort (C.caller caller.now) operation (ty_of operand.now) sort) (N.trace recorder.old) result
-        (N.trace recorder.new) }
-{
-    if is_any(sort) {
-        return Ok(Some(Ty::Any));
+    /// What the operation gives on each of these operands.
+    #[tactic(auto, using(crate::proofs::Steps::performing), unfolding(crate::specs::Unary::each_item))]
+    fn each_item(&self, recorder: &mut N, operands: &[Ty]) -> Result<Results, AllocError>
+        ensures { Performs results_of
+            (spec.each_item (C.caller self.now.caller.now) self.now.operation no_results (map ty_of operands.now))
+            (N.trace recorder.old) result (N.trace recorder.new) }
+    {
+        let mut results = Results::new(self.alloc);
+        for operand in operands {
+            let found = self.one_item(recorder, operand)?;
+            results = results.with(found)?;
+        }
+        Ok(results)
     }
-    let method = method_of(alloc, recorder, operand, unary_method(operation))?;
-    infer_by_method(alloc, recorder, caller, operation, operand, sort, method)
-}
 
-/// What the operand's method gives, or what is given without one.
-#[tactic(auto, unfolding(crate::specs::Unary::infer_by_method))]
-fn infer_by_method<N: AskTypes, C: CallsMethods<N>>(
-    alloc: Global,
-    recorder: &mut N,
-    caller: &C,
-    operation: UnaryOperation,
-    operand: &Ty,
-    sort: Sort,
-    method: Option<MemberAnswer>,
-) -> Result<Option<Ty>, AllocError>
-    ensures { Performs (option_map ty_of)
-        (spec.infer_by_method (C.caller caller.now) operation (ty_of operand.now) sort
-        (option_map member_answer_of method))
-        (N.trace recorder.old) result (N.trace recorder.new) }
-{
-    match method {
-        Some(method) => infer_operator_call(alloc, recorder, caller, method),
-        None => made(alloc, unary_given(operation, sort), operand, operand),
+    /// What the operation gives on an operand that is no union.
+    #[tactic(auto, using(crate::proofs::Steps::performing), unfolding(crate::specs::Unary::one_item))]
+    fn one_item(&self, recorder: &mut N, operand: &Ty) -> Result<Option<Ty>, AllocError>
+        ensures { Performs (option_map ty_of)
+            (spec.one_item (C.caller self.now.caller.now) self.now.operation (ty_of operand.now)) (N.trace recorder.old)
+            result (N.trace recorder.new) }
+    {
+        let sort = operand_sort(self.alloc, recorder, operand)?;
+        self.infer_by_sort(recorder, operand, sort)
     }
-}
 
-/// What a method gives that is called with nothing.
-fn infer_operator_call<N: AskTypes, C: CallsMethods<N>>(
-    alloc: Global,
-    recorder: &mut N,
-    caller: &C,
-    method: MemberAnswer,
-) -> Result<Option<Ty>, AllocError>
-    ensures { Performs (option_map ty_of) (C.caller caller.now (member_answer_of method) []) (N.trace recorder.old)
-        result
-        (N.trace recorder.new) }
-{
-    caller.call_method(alloc, recorder, method, &[])
+    /// What the operation gives on an operand of the sort `sort` that is no union; none where there is no such
+    /// operation.
+    #[tactic(auto, using(crate::proofs::Steps::performing), unfolding(crate::specs::Unary::infer_by_sort))]
+    fn infer_by_sort(
+        &self,
+        recorder: &mut N,
+        operand: &Ty,
+        sort: Sort,
+    ) -> Result<Option<Ty>, AllocError>
+        ensures { Performs (option_map ty_of)
+            (spec.infer_by_sort (C.caller self.now.caller.now) self.now.operation (ty_of operand.now) sort)
+            (N.trace recorder.old) result (N.trace recorder.new) }
+    {
+        if is_any(sort) {
+            return Ok(Some(Ty::Any));
+        }
+        let method = method_of(self.alloc, recorder, operand, unary_method(self.operation))?;
+        self.infer_by_method(recorder, operand, sort, method)
+    }
+
+    /// What the operand's method gives, or what is given without one.
+    #[tactic(auto, unfolding(crate::specs::Unary::infer_by_method))]
+    fn infer_by_method(
+        &self,
+        recorder: &mut N,
+        operand: &Ty,
+        sort: Sort,
+        method: Option<MemberAnswer>,
+    ) -> Result<Option<Ty>, AllocError>
+        ensures { Performs (option_map ty_of)
+            (spec.infer_by_method (C.caller self.now.caller.now) self.now.operation (ty_of operand.now) sort
+            (option_map member_answer_of method))
+            (N.trace recorder.old) result (N.trace recorder.new) }
+    {
+        match method {
+            Some(method) => self.infer_operator_call(recorder, method),
+            None => made(
+                self.alloc,
+                unary_given(self.operation, sort),
+                operand,
+                operand,
+            ),
+        }
+    }
+
+    /// What a method gives that is called with nothing.
+    fn infer_operator_call(
+        &self,
+        recorder: &mut N,
+        method: MemberAnswer,
+    ) -> Result<Option<Ty>, AllocError>
+        ensures { Performs (option_map ty_of) (C.caller self.now.caller.now (member_answer_of method) [])
+            (N.trace recorder.old) result (N.trace recorder.new) }
+    {
+        self.caller.call_method(self.alloc, recorder, method, &[])
+    }
 }
 
 /// The union of what the items give, or what is reported where one of them gives nothing.

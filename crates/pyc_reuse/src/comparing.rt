@@ -3,9 +3,6 @@
 ghost use Rattle.std.specs.Prelude.{◌≡◌, true, is_some, map, IfOk, IfSome, IfNone};
 ghost use Rattle.std.specs.List.{list_all, list_any};
 ghost use Rattle.pyc_iface.specs.Answers.{answer_by};
-ghost use Rattle.pyc_iface.specs.CarryLaws.{AnswersStay};
-ghost use Rattle.pyc_iface.specs.Flags.{is_flagged};
-ghost use Rattle.pyc_iface.specs.PlainWorldView.{world_in};
 ghost use Rattle.pyc_known_answers.specs.WorldView.{held_by, interfaces_by};
 ghost use Rattle.pyc_known_answers.specs.KnownAnswersView.{interfaces_of, IsOver};
 ghost use Rattle.pyc_reuse.specs.Answering.{StandFor};
@@ -28,8 +25,7 @@ ghost use Rattle.pyc_known_answers.specs.ChangedKeysView.{first_in, held_in, sec
 use crate::file_result::FileResult;
 use crate::file_status::FileStatus;
 use crate::recheck::Recheck;
-use pyc_iface::{Flags, PlainWorld};
-use pyc_interfaces::changed_looks;
+use pyc_interfaces::RevisedWorld;
 use pyc_keys::ReadSet;
 use pyc_known_answers::{ChangedKeys, KnownAnswers, World};
 use std::alloc::AllocError;
@@ -62,10 +58,9 @@ impl Recheck<'_> {
         ensures alike { IfOk result (λ plan. IfNone plan.next
             (StandFor (interfaces_by keys.now) (present_in self.now))) }
     {
-        match self.next_world(places)? {
-            Some(world) => {
-                let changed = self.changed(keys, &world, places)?;
-                let mut changed_keys = ChangedKeys::new(self.alloc, keys, world, &changed)?;
+        match self.next_world(keys, places)? {
+            Some(RevisedWorld { world, flags }) => {
+                let mut changed_keys = ChangedKeys::new(self.alloc, keys, world, &flags)?;
                 let list = self.compare_files(places, &mut changed_keys)?;
                 let next = Some(changed_keys.into_second());
                 Ok(RecheckPlan { list, next })
@@ -75,27 +70,6 @@ impl Recheck<'_> {
                 Ok(RecheckPlan { list, next: None })
             }
         }
-    }
-
-    /// What differs between the last world and this one, that of the files that are present, by the numbers of looks.
-    fn changed(
-        &self,
-        keys: &World,
-        world: &PlainWorld,
-        places: &[Option<usize>],
-    ) -> Result<Flags, AllocError>
-        requires places { places.now ≡ map (place_in (last_in self.now)) (present_in self.now) }
-        requires last { StandFor (interfaces_by keys.now) (last_in self.now) }
-        requires next { StandFor (world_in world.now) (present_in self.now) }
-        ensures { IfOk result (λ flags.
-            ∥ AnswersStay (is_flagged flags) (interfaces_by keys.now) (world_in world.now) ∥₁) }
-    {
-        changed_looks(
-            self.alloc,
-            keys.answers().world(),
-            world,
-            self.common(places),
-        )
     }
 
     /// What is to be done where no key has another answer.

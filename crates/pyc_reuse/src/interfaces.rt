@@ -1,37 +1,43 @@
 //! The world of the files that are present: the last one, where no interface is another one.
 
 ghost use Rattle.std.specs.Prelude.{◌≡◌, ◌<◌, ◌≤◌, ◌+◌, IsTrue, length, map, IfOk, IfSome, IfNone};
+ghost use Rattle.pyc_iface.specs.CarryLaws.{AnswersStay};
+ghost use Rattle.pyc_iface.specs.Flags.{is_flagged};
 ghost use Rattle.pyc_iface.specs.PlainWorldView.{world_in};
+ghost use Rattle.pyc_known_answers.specs.WorldView.{interfaces_by};
 ghost use Rattle.pyc_reuse.specs.Answering.{AreAlike, AreAlikeFirst, AreAlikeLast, StandFor};
 ghost use Rattle.pyc_reuse.specs.Places.{bare_of, file_at, place_in};
 ghost use Rattle.pyc_reuse.specs.RecheckView.{last_in, present_in};
 
 use crate::recheck::Recheck;
-use pyc_iface::PlainWorld;
-use pyc_interfaces::{Common, same_interface};
+use pyc_interfaces::{Common, RevisedWorld, revised_world, same_interface};
+use pyc_known_answers::World;
 use pyc_workspace::interfaces_of;
 use std::alloc::AllocError;
-use std::rc::Rc;
 
 impl Recheck<'_> {
-    /// The world of the files that are present, where these stood at the last check; none where it is known to answer
-    /// as the last one.
+    /// The world of the files that are present, where these stood at the last check, and what differs between the last
+    /// world and this, by the numbers of looks; none where it is known to answer as the last one.
     pub(crate) fn next_world(
         &self,
+        keys: &World,
         places: &[Option<usize>],
-    ) -> Result<Option<Rc<PlainWorld>>, AllocError>
-        requires { places.now ≡ map (place_in (last_in self.now)) (present_in self.now) }
-        ensures answers { IfOk result (λ next. IfSome next (λ world.
-            StandFor (world_in world.value) (present_in self.now))) }
+    ) -> Result<Option<RevisedWorld>, AllocError>
+        requires places { places.now ≡ map (place_in (last_in self.now)) (present_in self.now) }
+        requires last { StandFor (interfaces_by keys.now) (last_in self.now) }
+        ensures answers { IfOk result (λ next. IfSome next (λ revised.
+            StandFor (world_in revised.world.value) (present_in self.now))) }
+        ensures stay { IfOk result (λ next. IfSome next (λ revised. ∥ AnswersStay (is_flagged revised.flags)
+            (interfaces_by keys.now) (world_in revised.world.value) ∥₁)) }
         ensures alike { IfOk result (λ next. IfNone next (AreAlike (last_in self.now) (present_in self.now))) }
     {
         if self.has_old_interfaces(places) {
             return Ok(None);
         }
         let interfaces = interfaces_of(self.alloc, self.present)?;
-        let world = PlainWorld::build(self.alloc, &interfaces)?;
-        let shared = Rc::new(self.alloc, world)?;
-        Ok(Some(shared))
+        let last = keys.answers().world();
+        let revised = revised_world(self.alloc, last, &interfaces, self.common(places))?;
+        Ok(Some(revised))
     }
 
     /// Whether the files that are present have the interfaces of those of the last check, one by one.
@@ -51,7 +57,7 @@ impl Recheck<'_> {
     }
 
     /// How many of the first files, and how many of the last, have the interfaces of those of the last check.
-    pub(crate) fn common(&self, places: &[Option<usize>]) -> Common
+    fn common(&self, places: &[Option<usize>]) -> Common
         requires { places.now ≡ map (place_in (last_in self.now)) (present_in self.now) }
         ensures fit_last { result.front + result.back ≤ length (last_in self.now) }
         ensures fit_present { result.front + result.back ≤ length (present_in self.now) }

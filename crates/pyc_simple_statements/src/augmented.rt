@@ -15,9 +15,10 @@ use pyc_class_ids::ClassId;
 use pyc_expr_forms::MethodCaller;
 use pyc_locals::FlowState;
 use pyc_obligations::{AskTypes, ask_member, is_unknown_class};
-use pyc_operators::{binary, in_place_method};
+use pyc_operators::{BinaryOperands, in_place_method};
 use pyc_type_forms::Ty;
 use std::alloc::AllocError;
+use std::marker::PhantomData;
 
 /// The types of the target and of the right side of an augmented assignment.
 #[derive(Drop)]
@@ -110,15 +111,15 @@ impl StatementReader<'_> {
         ensures { Performs ty_of (spec.operation_type (augmented_of found.now) (operands_in operands.now))
             (N.trace recorder.old) result (N.trace recorder.new) }
     {
-        binary(
-            self.alloc,
-            recorder,
-            &MethodCaller,
-            found.target.at,
-            found.operator,
-            &operands.left,
-            &operands.right,
-        )
+        let operands = BinaryOperands {
+            alloc: self.alloc,
+            caller: &MethodCaller,
+            at: found.target.at,
+            left: &operands.left,
+            right: &operands.right,
+            of: PhantomData,
+        };
+        operands.binary(recorder, found.operator)
     }
 
     /// Whether an augmented assignment changes a target of some type in place: `+=` does a list, and each operator an

@@ -53,15 +53,13 @@ fn dict_item<N: AskTypes>(
         (spec.required_item (chosen.at_of (index_of index.now)) (ty_of got.now) (ty_of whole.now) (ty_of types.now.key)
         (ty_of types.now.value)) (N.trace recorder.old) result (N.trace recorder.new) }
 {
-    required_item(
-        alloc,
-        recorder,
-        index.at,
+    let required = RequiredIndex {
+        at: index.at,
         got,
         whole,
-        &types.key,
-        &types.value,
-    )
+        want: &types.key,
+    };
+    required_item(alloc, recorder, &required, &types.value)
 }
 
 /// An int, or a slice, of a sequence.
@@ -80,7 +78,14 @@ fn sequence_item<N: AskTypes>(
     if is_slice(index) {
         Ok(Some(whole.clone()?))
     } else {
-        required_item(alloc, recorder, index.at, got, whole, &int(), given)
+        let int = int();
+        let required = RequiredIndex {
+            at: index.at,
+            got,
+            whole,
+            want: &int,
+        };
+        required_item(alloc, recorder, &required, given)
     }
 }
 
@@ -140,29 +145,19 @@ fn bytes_item<N: AskTypes>(
     sequence_item(alloc, recorder, index, got, &text, &int())
 }
 
-/// An item that an index of a wanted type gives.
+/// An item of the type `given`, which an index of a wanted type gives.
 #[tactic(auto, using(crate::proofs::Steps::performing), unfolding(crate::specs::Subscripts::required_item))]
 fn required_item<N: AskTypes>(
     alloc: Global,
     recorder: &mut N,
-    at: Position,
-    got: &Ty,
-    whole: &Ty,
-    want: &Ty,
+    required: &RequiredIndex<'_>,
     given: &Ty,
 ) -> Result<Option<Ty>, AllocError>
     ensures { Performs (option_map ty_of)
-        (spec.required_item at (ty_of got.now) (ty_of whole.now) (ty_of want.now) (ty_of given.now))
-        (N.trace recorder.old)
-        result (N.trace recorder.new) }
+        (spec.required_item required.now.at (ty_of required.now.got.now) (ty_of required.now.whole.now)
+        (ty_of required.now.want.now) (ty_of given.now)) (N.trace recorder.old) result (N.trace recorder.new) }
 {
-    let required = RequiredIndex {
-        at,
-        got,
-        whole,
-        want,
-    };
-    require(alloc, recorder, &required)?;
+    require(alloc, recorder, required)?;
     Ok(Some(given.clone()?))
 }
 

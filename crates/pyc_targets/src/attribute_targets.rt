@@ -9,7 +9,7 @@ ghost use Rattle.pyc_targets.specs.AttributeTargets as spec;
 ghost use Rattle.pyc_targets.specs.Views.{wants_in};
 ghost use Rattle.pyc_type_forms.specs.TypeView.{ty_of};
 
-use crate::members::{is_builtin_method, member_want};
+use crate::members::{MemberTarget, is_builtin_method};
 use pyc_ast::{Position, Text};
 use pyc_attributes::{FoundAttribute, item_attribute, no_attribute, no_item_attribute};
 use pyc_obligations::{AskTypes, Value};
@@ -56,35 +56,119 @@ fn type_want<N: AskTypes>(
         (N.trace recorder.new) }
 {
     let items = items_of(alloc, ty)?;
-    let found = all_wants(alloc, recorder, at, inside, ty, name, &items)?;
+    let target = AttributeTarget {
+        alloc,
+        at,
+        inside,
+        whole: ty,
+        name,
+    };
+    let found = target.all_wants(recorder, &items)?;
     want_of(alloc, &found)
 }
 
-/// What an attribute of items takes, in turn.
-#[tactic(auto, using(pyc_obligations::proofs::Steps::performing), unfolding(crate::specs::AttributeTargets::more_wants))]
-fn all_wants<N: AskTypes>(
+/// An attribute as a target: the target begins at `at`, and at `inside` within its parentheses.
+#[derive(Clone, Copy)]
+struct AttributeTarget<'a> {
     alloc: Global,
-    recorder: &mut N,
     at: Position,
     inside: Position,
-    whole: &Ty,
-    name: &str,
-    items: &[Ty],
-) -> Result<Wants, AllocError>
-    ensures { Performs wants_in
-        (spec.more_wants at inside (ty_of whole.now) name.now spec.no_wants (map ty_of items.now))
-        (N.trace recorder.old)
-        result (N.trace recorder.new) }
-{
-    let mut found = Wants {
-        types: Vec::with_capacity(alloc, items.len())?,
-        is_free: false,
-    };
-    for item in items {
-        let want = item_want(alloc, recorder, at, inside, whole, name, item)?;
-        push_want(&mut found, want)?;
+    /// The type of what stands before the name.
+    whole: &'a Ty,
+    name: &'a str,
+}
+
+impl AttributeTarget<'_> {
+    /// What the attribute of items takes, in turn.
+    #[tactic(auto, using(pyc_obligations::proofs::Steps::performing), unfolding(crate::specs::AttributeTargets::more_wants))]
+    fn all_wants<N: AskTypes>(&self, recorder: &mut N, items: &[Ty]) -> Result<Wants, AllocError>
+        ensures { Performs wants_in
+            (spec.more_wants self.now.at self.now.inside (ty_of self.now.whole.now) self.now.name.now spec.no_wants
+            (map ty_of items.now)) (N.trace recorder.old) result (N.trace recorder.new) }
+    {
+        let mut found = Wants {
+            types: Vec::with_capacity(self.alloc, items.len())?,
+            is_free: false,
+        };
+        for item in items {
+            let want = self.item_want(recorder, item)?;
+            push_want(&mut found, want)?;
+        }
+        Ok(found)
     }
-    Ok(found)
+
+    /// What the attribute of an item takes.
+    #[tactic(auto, using(pyc_obligations::proofs::Steps::performing), unfolding(crate::specs::AttributeTargets::item_want))]
+    fn item_want<N: AskTypes>(&self, recorder: &mut N, item: &Ty) -> Result<Option<Ty>, AllocError>
+        ensures { Performs (option_map ty_of)
+            (spec.item_want self.now.at self.now.inside (ty_of self.now.whole.now) self.now.name.now (ty_of item.now))
+            (N.trace recorder.old) result (N.trace recorder.new) }
+    {
+        let found = item_attribute(self.alloc, recorder, item, self.name)?;
+        self.found_want(recorder, item, found)
+    }
+
+    /// What was found under the name of an item takes.
+    fn found_want<N: AskTypes>(
+        &self,
+        recorder: &mut N,
+        item: &Ty,
+        found: FoundAttribute,
+    ) -> Result<Option<Ty>, AllocError>
+        ensures { Performs (option_map ty_of)
+            (spec.found_want self.now.at self.now.inside (ty_of self.now.whole.now) (ty_of item.now) self.now.name.now
+            (found_in found)) (N.trace recorder.old) result (N.trace recorder.new) }
+    {
+        match found {
+            FoundAttribute::Absent => self.absent_want(recorder, item),
+            FoundAttribute::Known(ty) => Ok(known_want(is_builtin_method(item, self.name), ty)),
+            FoundAttribute::Member(class, kind, ty) => {
+                let member = MemberTarget {
+                    alloc: self.alloc,
+                    at: self.at,
+                    owner: item,
+                    name: self.name,
+                    class: &class,
+                };
+                member.member_want(recorder, kind, ty)
+            }
+            FoundAttribute::Name(found) => Ok(name_want(found)),
+        }
+    }
+
+    /// What the attribute takes where it is not there.
+    #[tactic(auto, using(pyc_obligations::proofs::Steps::performing), unfolding(crate::specs::AttributeTargets::absent_want))]
+    fn absent_want<N: AskTypes>(
+        &self,
+        recorder: &mut N,
+        item: &Ty,
+    ) -> Result<Option<Ty>, AllocError>
+        ensures { Performs (option_map ty_of)
+            (spec.absent_want self.now.inside (ty_of self.now.whole.now) (ty_of item.now) self.now.name.now)
+            (N.trace recorder.old) result (N.trace recorder.new) }
+    {
+        let ty = self.absent(recorder, item)?;
+        Ok(Some(ty))
+    }
+
+    /// Reports that the attribute is not there, of an item where the whole is a union.
+    fn absent<N: AskTypes>(&self, recorder: &mut N, item: &Ty) -> Result<Ty, AllocError>
+        ensures { Performs ty_of
+            (spec.absent_reported self.now.inside (ty_of self.now.whole.now) (ty_of item.now) self.now.name.now)
+            (N.trace recorder.old) result (N.trace recorder.new) }
+    {
+        match self.whole {
+            Ty::Union(_) => no_item_attribute(
+                self.alloc,
+                recorder,
+                self.inside,
+                self.whole,
+                item,
+                self.name,
+            ),
+            _ => no_attribute(self.alloc, recorder, self.inside, self.whole, self.name),
+        }
+    }
 }
 
 /// Adds what an item takes.
@@ -109,50 +193,6 @@ fn want_of(alloc: Global, found: &Wants) -> Result<Option<Ty>, AllocError>
     }
 }
 
-/// What an attribute of an item takes.
-#[tactic(auto, using(pyc_obligations::proofs::Steps::performing), unfolding(crate::specs::AttributeTargets::item_want))]
-fn item_want<N: AskTypes>(
-    alloc: Global,
-    recorder: &mut N,
-    at: Position,
-    inside: Position,
-    whole: &Ty,
-    name: &str,
-    item: &Ty,
-) -> Result<Option<Ty>, AllocError>
-    ensures { Performs (option_map ty_of)
-        (spec.item_want at inside (ty_of whole.now) name.now (ty_of item.now)) (N.trace recorder.old) result
-        (N.trace recorder.new) }
-{
-    let found = item_attribute(alloc, recorder, item, name)?;
-    found_want(alloc, recorder, at, inside, whole, item, name, found)
-}
-
-/// What was found under a name of an item takes.
-fn found_want<N: AskTypes>(
-    alloc: Global,
-    recorder: &mut N,
-    at: Position,
-    inside: Position,
-    whole: &Ty,
-    item: &Ty,
-    name: &str,
-    found: FoundAttribute,
-) -> Result<Option<Ty>, AllocError>
-    ensures { Performs (option_map ty_of)
-        (spec.found_want at inside (ty_of whole.now) (ty_of item.now) name.now (found_in found)) (N.trace recorder.old)
-        result (N.trace recorder.new) }
-{
-    match found {
-        FoundAttribute::Absent => absent_want(alloc, recorder, inside, whole, item, name),
-        FoundAttribute::Known(ty) => Ok(known_want(is_builtin_method(item, name), ty)),
-        FoundAttribute::Member(module_path, kind, ty) => {
-            member_want(alloc, recorder, at, item, name, &module_path, kind, ty)
-        }
-        FoundAttribute::Name(found) => Ok(name_want(found)),
-    }
-}
-
 /// What was found without its class takes.
 fn known_want(is_method: bool, ty: Ty) -> Option<Ty>
     ensures { option_map ty_of result ≡ spec.known_want is_method (ty_of ty) }
@@ -169,42 +209,5 @@ fn name_want(found: NameAnswer) -> Option<Ty>
         NameKind::Class => None,
         NameKind::Module(_) => None,
         _ => Some(found.ty),
-    }
-}
-
-/// What an attribute takes that is not there.
-#[tactic(auto, using(pyc_obligations::proofs::Steps::performing), unfolding(crate::specs::AttributeTargets::absent_want))]
-fn absent_want<N: AskTypes>(
-    alloc: Global,
-    recorder: &mut N,
-    at: Position,
-    whole: &Ty,
-    item: &Ty,
-    name: &str,
-) -> Result<Option<Ty>, AllocError>
-    ensures { Performs (option_map ty_of)
-        (spec.absent_want at (ty_of whole.now) (ty_of item.now) name.now) (N.trace recorder.old) result
-        (N.trace recorder.new) }
-{
-    let ty = absent(alloc, recorder, at, whole, item, name)?;
-    Ok(Some(ty))
-}
-
-/// Reports that an attribute is not there, of an item where the whole is a union.
-fn absent<N: AskTypes>(
-    alloc: Global,
-    recorder: &mut N,
-    at: Position,
-    whole: &Ty,
-    item: &Ty,
-    name: &str,
-) -> Result<Ty, AllocError>
-    ensures { Performs ty_of (spec.absent_reported at (ty_of whole.now) (ty_of item.now) name.now)
-        (N.trace recorder.old)
-        result (N.trace recorder.new) }
-{
-    match whole {
-        Ty::Union(_) => no_item_attribute(alloc, recorder, at, whole, item, name),
-        _ => no_attribute(alloc, recorder, at, whole, name),
     }
 }

@@ -38,25 +38,41 @@ pub(crate) struct ItemTargets {
     pub(crate) is_unsupported: bool,
 }
 
-/// What an item of a value of a type takes, by an index of a type. The target begins at `at`, and at `inside` within
-/// its parentheses. An index of another type than is wanted, and a value whose items cannot be assigned to, is
-/// reported. The only error is that memory runs out.
-#[tactic(auto, using(pyc_obligations::proofs::Steps::performing), unfolding(crate::specs::ItemTargets::item_target))]
-pub fn item_target<N: AskTypes>(
-    alloc: Global,
-    recorder: &mut N,
-    at: Position,
-    inside: Position,
-    index: &Index,
-    got: &Ty,
-    ty: &Ty,
-) -> Result<TargetType, AllocError>
-    ensures { Performs target_type_of (spec.item_target at inside (index_of index.now) (ty_of got.now) (ty_of ty.now))
-        (N.trace recorder.old) result (N.trace recorder.new) }
-{
-    let types = items_of(alloc, ty)?;
-    let found = all_targets(alloc, recorder, inside, index, got, &types)?;
-    conclude(alloc, recorder, at, ty, &found)
+/// An item of a subscript as a target, by an index of the type `got`: the target begins at `at`, and at `inside` within
+/// its parentheses.
+#[derive(Clone, Copy)]
+pub struct IndexedTarget<'a> {
+    pub alloc: Global,
+    pub at: Position,
+    pub inside: Position,
+    pub index: &'a Index,
+    pub got: &'a Ty,
+}
+
+impl IndexedTarget<'_> {
+    /// What an item of a value of a type takes. An index of another type than is wanted, and a value whose items cannot
+    /// be assigned to, is reported. The only error is that memory runs out.
+    #[tactic(auto, using(pyc_obligations::proofs::Steps::performing), unfolding(crate::specs::ItemTargets::item_target))]
+    pub fn item_target<N: AskTypes>(
+        &self,
+        recorder: &mut N,
+        ty: &Ty,
+    ) -> Result<TargetType, AllocError>
+        ensures { Performs target_type_of
+            (spec.item_target self.now.at self.now.inside (index_of self.now.index.now) (ty_of self.now.got.now)
+            (ty_of ty.now)) (N.trace recorder.old) result (N.trace recorder.new) }
+    {
+        let types = items_of(self.alloc, ty)?;
+        let found = all_targets(
+            self.alloc,
+            recorder,
+            self.inside,
+            self.index,
+            self.got,
+            &types,
+        )?;
+        conclude(self.alloc, recorder, self.at, ty, &found)
+    }
 }
 
 /// What the items of types take, in turn.

@@ -9,6 +9,6 @@ mod name_targets;
 mod target_type;
 
 pub use attribute_targets::attribute_want;
-pub use item_targets::item_target;
+pub use item_targets::IndexedTarget;
 pub use name_targets::{declared_type, declares_at};
 pub use target_type::TargetType;

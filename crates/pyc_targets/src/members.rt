@@ -67,45 +67,45 @@ fn is_method_member(member: Member) -> bool
     }
 }
 
-/// What a member of a kind and type takes, which this class declares, through a value of a type.
-pub(crate) fn member_want<N: AskTypes>(
-    alloc: Global,
-    recorder: &mut N,
-    at: Position,
-    owner: &Ty,
-    name: &str,
-    module_path: &ClassId,
-    kind: MemberKind,
-    ty: Ty,
-) -> Result<Option<Ty>, AllocError>
-    ensures { Performs (option_map ty_of)
-        (spec.member_want at (ty_of owner.now) name.now module_path.now kind (ty_of ty)) (N.trace recorder.old) result
-        (N.trace recorder.new) }
-{
-    match kind {
-        MemberKind::Variable => Ok(Some(ty)),
-        MemberKind::SettableProperty => Ok(Some(ty)),
-        MemberKind::Property => property_want(alloc, recorder, at, owner, name, module_path, ty),
-        _ => Ok(None),
-    }
+/// A member that a class declares, as a target that begins at `at`, through a value of a type.
+#[derive(Clone, Copy)]
+pub(crate) struct MemberTarget<'a> {
+    pub(crate) alloc: Global,
+    pub(crate) at: Position,
+    pub(crate) owner: &'a Ty,
+    pub(crate) name: &'a str,
+    pub(crate) class: &'a ClassId,
 }
 
-/// What a property takes that has no setter.
-fn property_want<N: AskTypes>(
-    alloc: Global,
-    recorder: &mut N,
-    at: Position,
-    owner: &Ty,
-    name: &str,
-    module_path: &ClassId,
-    ty: Ty,
-) -> Result<Option<Ty>, AllocError>
-    ensures { Performs (option_map ty_of)
-        (spec.property_want at (ty_of owner.now) name.now module_path.now (ty_of ty)) (N.trace recorder.old) result
-        (N.trace recorder.new) }
-{
-    match owner {
-        Ty::Class(_) => Ok(Some(ty)),
-        _ => read_only(alloc, recorder, at, name, module_path),
+impl MemberTarget<'_> {
+    /// What the member takes, of a kind and a type.
+    pub(crate) fn member_want<N: AskTypes>(
+        &self,
+        recorder: &mut N,
+        kind: MemberKind,
+        ty: Ty,
+    ) -> Result<Option<Ty>, AllocError>
+        ensures { Performs (option_map ty_of)
+            (spec.member_want self.now.at (ty_of self.now.owner.now) self.now.name.now self.now.class.now kind
+            (ty_of ty)) (N.trace recorder.old) result (N.trace recorder.new) }
+    {
+        match kind {
+            MemberKind::Variable => Ok(Some(ty)),
+            MemberKind::SettableProperty => Ok(Some(ty)),
+            MemberKind::Property => self.property_want(recorder, ty),
+            _ => Ok(None),
+        }
+    }
+
+    /// What the member takes where it is a property of a type that has no setter.
+    fn property_want<N: AskTypes>(&self, recorder: &mut N, ty: Ty) -> Result<Option<Ty>, AllocError>
+        ensures { Performs (option_map ty_of)
+            (spec.property_want self.now.at (ty_of self.now.owner.now) self.now.name.now self.now.class.now (ty_of ty))
+            (N.trace recorder.old) result (N.trace recorder.new) }
+    {
+        match self.owner {
+            Ty::Class(_) => Ok(Some(ty)),
+            _ => read_only(self.alloc, recorder, self.at, self.name, self.class),
+        }
     }
 }

@@ -16,7 +16,7 @@ returns-in-Some-clause-looks c =
     let x = c.args.q.now.name in
     let some : first_declared files c.lin-lin.result.classes.now x ≡ Some (member_answer_of c.in-Some.found) =
     sym c.in_ok-found.ensures.found ∙ ap (option_map member_answer_of) c.in-Some.is in
-    let order = c.lin-lin.ensures ∙ c.args.self.now.classes_are class in
+    let order = c.lin-lin.ensures in
     declared-found files x c.lin-lin.result.classes.now (orders_by files class).classes (noted_in c.args.looks.now) (noted_in c.note_order_of.new.looks)
     (noted_in c.first_declared.new.looks) (order_looks class) (first_assigned_looks files (orders_by files class).classes x) (member_answer_of c.in-Some.found)
     c.in_ok-note_order_of.ensures c.in_ok-found.ensures.looks some (ap (λ (o : Mro). o.classes) order)

@@ -7,10 +7,10 @@ pub returns : goal.returns
 unfolding class_body
 returns c = first_of (grind (arith, common_steps), search rules)
 
-pub returns-in_err-scope_bindings : goal.returns-in_err-scope_bindings
+pub returns-in_err-bindings : goal.returns-in_err-bindings
 unfolding class_body
-returns-in_err-scope_bindings c = first_of (grind (arith, common_steps), search rules)
+returns-in_err-bindings c = first_of (grind (arith, common_steps), search rules)
 
-pub returns-in_err-self_attributes : goal.returns-in_err-self_attributes
+pub returns-in_err-attributes : goal.returns-in_err-attributes
 unfolding class_body
-returns-in_err-self_attributes c = first_of (grind (arith, common_steps), search rules)
+returns-in_err-attributes c = first_of (grind (arith, common_steps), search rules)
