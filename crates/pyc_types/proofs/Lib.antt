@@ -15,3 +15,4 @@ pub mod ItselfLemmas
 pub mod ClassLemmas
 pub mod ThroughLemmas
 pub mod BuiltinMroLemmas
+pub mod PlacedLemmas

@@ -7,3 +7,4 @@ pub mod Going
 pub mod Slots
 pub mod Laws
 pub mod MroLaws
+pub mod PlacedRows

@@ -1,9 +1,10 @@
 //! Which parameter of one callable serves one of another, and whether all fit. Types are left out here.
 
-ghost use Rattle.std.specs.Prelude.{◌≡◌, length, option_map};
-ghost use Rattle.std.specs.List.{position_from};
+ghost use Rattle.std.specs.Prelude.{◌≡◌, length, true, option_map};
+ghost use Rattle.std.specs.List.{list_all, position_from};
 ghost use Rattle.pyc_type_forms.specs.TypeView.{param_of};
 ghost use Rattle.pyc_types.specs.Parameters as spec;
+ghost use Rattle.pyc_types.specs.PlacedRows as placed;
 ghost use Rattle.pyc_types.specs.Slots.{slot_of, slots_in};
 
 use pyc_ast::Text;
@@ -14,7 +15,62 @@ use pyc_type_forms::{Param, ParamKind};
 pub(crate) fn fits(gots: &[Param], wants: &[Param]) -> bool
     ensures { result ≡ spec.fits (slots_in gots.now) (slots_in wants.now) }
 {
+    if is_all_plain(gots) && is_all_plain(wants) {
+        return fits_by_place(gots, wants);
+    }
     is_all_served(gots, wants) && is_all_used(gots, wants)
+}
+
+/// Whether each of a row of parameters is filled by place: then each serves the one at its own place.
+pub(crate) fn is_all_plain(params: &[Param]) -> bool
+    ensures { result ≡ list_all spec.is_plain (slots_in params.now) }
+{
+    for param in params {
+        if !is_plain(param) {
+            return false;
+        }
+    }
+    true
+}
+
+/// Whether two rows fit whose parameters are all filled by place.
+fn fits_by_place(gots: &[Param], wants: &[Param]) -> bool
+    requires gots { list_all spec.is_plain (slots_in gots.now) ≡ true }
+    requires wants { list_all spec.is_plain (slots_in wants.now) ≡ true }
+    ensures { result ≡ spec.fits (slots_in gots.now) (slots_in wants.now) }
+{
+    is_all_kept(gots, wants) && is_rest_free(gots, wants.len())
+}
+
+/// Whether at the place of each wanted parameter there is one, and it stays optional where it is.
+fn is_all_kept(gots: &[Param], wants: &[Param]) -> bool
+    ensures { result ≡ spec.all_below (length wants.now) (placed.is_kept (slots_in gots.now) (slots_in wants.now)) }
+{
+    for j in 0..wants.len() {
+        if !keeps_optional(wants.get(j), gots.get(j)) {
+            return false;
+        }
+    }
+    true
+}
+
+/// Whether each parameter after so many of the first may be left out.
+fn is_rest_free(params: &[Param], count: usize) -> bool
+    ensures { result ≡ spec.all_below (length params.now) (placed.is_early_or_free (slots_in params.now) count) }
+{
+    for i in 0..params.len() {
+        if !is_early_or_free(params, count, i) {
+            return false;
+        }
+    }
+    true
+}
+
+/// Whether a parameter is among so many of the first, or may be left out.
+fn is_early_or_free(params: &[Param], count: usize, i: usize) -> bool
+    ensures { result ≡ placed.is_early_or_free (slots_in params.now) count i }
+{
+    i < count || is_free(params.get(i))
 }
 
 /// Whether each wanted parameter is served.

@@ -1,14 +1,16 @@
 //! The parameters of two callables: the ways between their types.
 
-ghost use Rattle.std.specs.Prelude.{◌≡◌};
+ghost use Rattle.std.specs.Prelude.{◌≡◌, ◌&&◌, ◌<◌, length, true};
+ghost use Rattle.std.specs.List.{list_all};
 ghost use Rattle.pyc_type_forms.specs.TypeView.{ty_of, params_of, param_row};
 ghost use Rattle.pyc_types.specs.Assignable.{slots_of};
 ghost use Rattle.pyc_types.specs.Pairs as spec;
+ghost use Rattle.pyc_types.specs.Parameters.{is_plain};
 ghost use Rattle.pyc_types.specs.Slots.{slots_in};
 ghost use Rattle.pyc_types.specs.Ways.{ways, params_ways, params_ways_of, listed_ways_of};
 
 use super::walk;
-use crate::fitting::{fits, serves};
+use crate::fitting::{fits, is_all_plain, serves};
 use crate::ways::Ways;
 use pyc_class_ids::Lins;
 use pyc_type_forms::{Param, Params};
@@ -52,25 +54,60 @@ fn rows_ways<L: Lins>(lins: &L, gots: &[Param], wants: &[Param]) -> Ways
     ensures { result ≡ spec.rows_ways (spec.pair_ways (slots_in gots.now) (slots_in wants.now)) 0
         (listed_ways_of (L.orders lins.now) (param_row gots.now)) (param_row wants.now) }
 {
+    let are_plain = is_all_plain(gots) && is_all_plain(wants);
     let mut all = Ways::each();
     for (i, got) in gots.iter().enumerate() {
-        all = all.meet(row_ways(lins, gots, wants, i, got));
+        all = all.meet(row_ways(lins, gots, wants, are_plain, i, got));
     }
     all
 }
 
-/// What the pairs of got's i-th parameter ask.
+/// What the pairs of got's i-th parameter ask. Where all parameters are filled by place, only the pair with the wanted
+/// one at its place asks something.
 #[cycle(walk)]
 #[tactic(auto, using(crate::proofs::WalkLemmas::joins))]
-fn row_ways<L: Lins>(lins: &L, gots: &[Param], wants: &[Param], i: usize, got: &Param) -> Ways
+fn row_ways<L: Lins>(
+    lins: &L,
+    gots: &[Param],
+    wants: &[Param],
+    are_plain: bool,
+    i: usize,
+    got: &Param,
+) -> Ways
+    requires plain { are_plain ≡ (list_all is_plain (slots_in gots.now) && list_all is_plain (slots_in wants.now)) }
+    requires within { i < length gots.now }
     ensures { result ≡ spec.row_ways (spec.pair_ways (slots_in gots.now) (slots_in wants.now) i) 0
         (ways (L.orders lins.now) (ty_of got.now.ty)) (param_row wants.now) }
 {
+    if are_plain {
+        return place_ways(lins, gots, wants, i, got);
+    }
     let mut all = Ways::each();
     for (j, want) in wants.iter().enumerate() {
         all = all.meet(pair_ways(lins, gots, wants, i, j, got, want));
     }
     all
+}
+
+/// What the pairs of got's i-th parameter ask, where all parameters are filled by place.
+#[cycle(walk)]
+fn place_ways<L: Lins>(lins: &L, gots: &[Param], wants: &[Param], i: usize, got: &Param) -> Ways
+    requires gots { list_all is_plain (slots_in gots.now) ≡ true }
+    requires wants { list_all is_plain (slots_in wants.now) ≡ true }
+    requires within { i < length gots.now }
+    ensures { result ≡ spec.row_ways (spec.pair_ways (slots_in gots.now) (slots_in wants.now) i) 0
+        (ways (L.orders lins.now) (ty_of got.now.ty)) (param_row wants.now) }
+{
+    match wants.get(i) {
+        Some(want) => {
+            let ways = walk(lins, &got.ty, &want.ty);
+            Ways {
+                there: ways.back,
+                back: ways.there,
+            }
+        }
+        None => Ways::each(),
+    }
 }
 
 /// What the pair of got's i-th and the wanted j-th parameter asks of their types.

@@ -71,6 +71,9 @@ decreases-parameters::rows_ways g l = 8 * (listed_size (param_row l.gots.now) + 
 abbrev pub decreases-parameters::pair_ways : goal.decreases-parameters::pair_ways
 decreases-parameters::pair_ways g l = 8 * (size (ty_of l.got.now.ty) + size (ty_of l.want.now.ty)) + 4
 
+abbrev pub decreases-parameters::place_ways : goal.decreases-parameters::place_ways
+decreases-parameters::place_ways g l = 8 * (size (ty_of l.got.now.ty) + listed_size (param_row l.wants.now)) + 4
+
 abbrev pub decreases-parameters::row_ways : goal.decreases-parameters::row_ways
 decreases-parameters::row_ways g l = 8 * (size (ty_of l.got.now.ty) + listed_size (param_row l.wants.now)) + 5
 

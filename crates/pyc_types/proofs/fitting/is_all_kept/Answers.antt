@@ -1,0 +1,10 @@
+use Rattle.std.proofs.Common.{◌≡◌, false, length, sym, rules, arith}
+use Rattle.pyc_types.specs.PlacedRows.{is_kept}
+use Rattle.pyc_types.specs.Slots.{slots_in}
+use Rattle.pyc_types.proofs.PlaceLemmas.{below_fails}
+use Rattle.pyc_types.proofs.fitting.is_all_kept.Goals as goal
+
+pub returns-then-not-keeps_optional : goal.returns-then-not-keeps_optional
+returns-then-not-keeps_optional c =
+    let h : is_kept (slots_in c.args.gots.now) (slots_in c.args.wants.now) c.loop-j.j ≡ false = search rules in
+    sym (below_fails (length c.args.wants.now) (is_kept (slots_in c.args.gots.now) (slots_in c.args.wants.now)) c.loop-j.j (omega arith) h)
