@@ -171,6 +171,20 @@ module _ (gots wants : List Slot) (pg : list_all is_plain gots ≡ true) (pw : l
       ∙ ap (λ b. all_below (length wants) (is_served gots wants) && b)
       (below_same (length gots) (is_early_or_free gots (length wants)) (is_used gots wants) used_there)
 
+-- the parameters of such rows fit where both hold
+pub places_fit : (gots wants : List Param) → list_all is_plain (slots_in gots) ≡ true → list_all is_plain (slots_in wants) ≡ true
+    → (count : ℕ) (kept rest : Bool) → kept ≡ all_below (length wants) (is_kept (slots_in gots) (slots_in wants))
+    → rest ≡ all_below (length gots) (is_early_or_free (slots_in gots) count) → count ≡ length wants
+    → (kept && rest) ≡ fits (slots_in gots) (slots_in wants)
+places_fit gots wants pg pw count kept rest kept-is rest-is many =
+    let g = slots_in gots in
+    let w = slots_in wants in
+    ap (λ b. b && rest) kept-is ∙ ap (λ b. all_below (length wants) (is_kept g w) && b) rest-is
+    ∙ ap (λ n. all_below (length wants) (is_kept g w) && all_below (length gots) (is_early_or_free g n)) many
+    ∙ ap (λ n. all_below n (is_kept g w) && all_below (length gots) (is_early_or_free g n)) (sym (length-map wants slot_of))
+    ∙ ap (λ n. all_below (length w) (is_kept g w) && all_below n (is_early_or_free g (length w))) (sym (length-map gots slot_of))
+    ∙ placed_fit g w pg pw
+
 -- ---- the pairs of such rows
 
 module _ (gots wants : List Slot) (pg : list_all is_plain gots ≡ true) (pw : list_all is_plain wants ≡ true) where

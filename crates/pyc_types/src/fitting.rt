@@ -47,11 +47,18 @@ fn is_all_kept(gots: &[Param], wants: &[Param]) -> bool
     ensures { result ≡ spec.all_below (length wants.now) (placed.is_kept (slots_in gots.now) (slots_in wants.now)) }
 {
     for j in 0..wants.len() {
-        if !keeps_optional(wants.get(j), gots.get(j)) {
+        if !is_kept(gots, wants, j) {
             return false;
         }
     }
     true
+}
+
+/// Whether at the place of a wanted parameter there is one, and it stays optional where it is.
+fn is_kept(gots: &[Param], wants: &[Param], j: usize) -> bool
+    ensures { result ≡ placed.is_kept (slots_in gots.now) (slots_in wants.now) j }
+{
+    keeps_optional(wants.get(j), gots.get(j))
 }
 
 /// Whether each parameter after so many of the first may be left out.

@@ -1,15 +1,21 @@
-use Rattle.std.proofs.Common.{◌≡◌, ◌&&◌, length, sym, ap, ◌∙◌, rules, arith}
-use Rattle.std.proofs.lemmas.List.{length-map}
+use Rattle.std.proofs.Common.{◌≡◌, true, false, length, refl, rules, arith}
 use Rattle.pyc_types.specs.Parameters.{all_below}
 use Rattle.pyc_types.specs.PlacedRows.{is_kept, is_early_or_free}
-use Rattle.pyc_types.specs.Slots.{slot_of, slots_in}
-use Rattle.pyc_types.proofs.PlacedLemmas.{placed_fit}
+use Rattle.pyc_types.specs.Slots.{slots_in}
+use Rattle.pyc_types.proofs.PlacedLemmas.{places_fit}
 use Rattle.pyc_types.proofs.fitting.fits_by_place.Goals as goal
 
-pub returns : goal.returns
-returns c =
-    let gots = slots_in c.args.gots.now in
-    let wants = slots_in c.args.wants.now in
-    let many : length wants ≡ length c.args.wants.now = length-map c.args.wants.now slot_of in
-    let all : length gots ≡ length c.args.gots.now = length-map c.args.gots.now slot_of in
-    rw (← placed_fit gots wants c.requires.gots c.requires.wants, many, all) (search rules)
+pub returns-then-is_all_kept : goal.returns-then-is_all_kept
+returns-then-is_all_kept c =
+    let gots = c.args.gots.now in
+    let wants = c.args.wants.now in
+    let kept : true ≡ all_below (length wants) (is_kept (slots_in gots) (slots_in wants)) = search rules in
+    places_fit gots wants c.requires.gots c.requires.wants _ true c.is_rest_free.result kept c.is_rest_free.ensures (search rules)
+
+pub returns-else-is_all_kept : goal.returns-else-is_all_kept
+returns-else-is_all_kept c =
+    let gots = c.args.gots.now in
+    let wants = c.args.wants.now in
+    let kept : false ≡ all_below (length wants) (is_kept (slots_in gots) (slots_in wants)) = search rules in
+    places_fit gots wants c.requires.gots c.requires.wants (length wants) false
+    (all_below (length gots) (is_early_or_free (slots_in gots) (length wants))) kept refl refl
