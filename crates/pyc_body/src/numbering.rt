@@ -58,7 +58,7 @@ fn number_units<'a>(
         all.push(FileUnit {
             file,
             index,
-            unit: *unit,
+            unit: unit.share()?,
         })?;
     }
     Ok(all)

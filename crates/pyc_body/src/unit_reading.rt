@@ -42,6 +42,6 @@ impl IsRead for UnitToRead<'_> {
             options: self.options,
             file: self.unit.file,
         };
-        reader.read(recorder, self.unit.unit)
+        reader.read(recorder, &self.unit.unit)
     }
 }

@@ -29,6 +29,10 @@ pub record ClassBody : Type 0 where
   pub class : Option Id
   pub bindings : List Binding
 
+-- the body, with these bindings, of the class statement at a position with a head
+abbrev pub class_body_of : SourceFile → Position → ClassDefinition → List Binding → ClassBody
+class_body_of file at head bound = record { class = declared_class file at head.name; bindings = bound }
+
 -- the body of the class statement at a position with a head and statements
 unfoldable pub class_body : SourceFile → Position → ClassDefinition → Stmts → ClassBody
 class_body file at head body = record { class = declared_class file at head.name; bindings = bindings_of body }

@@ -7,5 +7,5 @@ mod names;
 mod targets;
 
 pub use bodies::{Body, BodyKind};
-pub use class_bodies::{ClassBody, declares_class};
+pub use class_bodies::{ClassBody, ClassNames, declares_class};
 pub use names::BodyContext;

@@ -55,7 +55,7 @@ fn lines_of(alloc: Global, definitions: &[Unit<'_>]) -> Result<String, Fail> {
             }
             Unit::Method(class, found) => {
                 let line = found.at.line;
-                let around = class.at.line;
+                let around = class.statement.at.line;
                 write!(shown, "{around}.{line} ")?;
             }
             _ => {}

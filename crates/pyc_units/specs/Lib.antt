@@ -3,3 +3,4 @@ pub mod Units
 pub mod UnitView
 pub mod DefinitionReadings
 pub mod UnitReadings
+pub mod MethodClasses

@@ -8,4 +8,4 @@ abbrev pub unit_of : UnitOf → Unit
 unit_of u.Header = header
 unit_of u.ModuleBody = module_body
 unit_of (u.Definition found) = definition (stmt_of found.now)
-unit_of (u.Method class found) = method (stmt_of class.now) (stmt_of found.now)
+unit_of (u.Method class found) = method (stmt_of class.value.statement.now) (stmt_of found.now)

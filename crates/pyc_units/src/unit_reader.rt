@@ -14,6 +14,7 @@ ghost use Rattle.pyc_units.specs.UnitView.{unit_of};
 
 use crate::definitions::{read_class, read_subclass};
 use crate::header::read_header;
+use crate::method_class::MethodClass;
 use crate::unit::Unit;
 use pyc_ast::{Block, ClassDefinition, FunctionDefinition, Outcome, Position, Stmt, StmtForm};
 use pyc_body_context::{Body, BodyKind, ClassBody};
@@ -36,9 +37,9 @@ impl<'a> UnitReader<'a> {
     /// head and its body, a class with its bases, its order, its body and what it overrides. What does not hold is
     /// reported. The only error is that memory runs out.
     #[tactic(auto, unfolding(crate::specs::UnitReadings::unit_reading))]
-    pub fn read<N: AskTypes>(&self, recorder: &mut N, unit: Unit<'_>) -> Result<(), AllocError>
+    pub fn read<N: AskTypes>(&self, recorder: &mut N, unit: &Unit<'_>) -> Result<(), AllocError>
         ensures { Performs (λ u. u)
-            (units.unit_reading self.now.options (source_in self.now.file.now) (unit_of unit.entry))
+            (units.unit_reading self.now.options (source_in self.now.file.now) (unit_of unit.now))
             (N.trace recorder.old)
             result (N.trace recorder.new) }
     {
@@ -138,16 +139,17 @@ impl<'a> UnitReader<'a> {
     fn read_method<N: AskTypes>(
         &self,
         recorder: &mut N,
-        class: &Stmt,
+        class: &MethodClass<'_>,
         found: &Stmt,
     ) -> Result<(), AllocError>
         ensures { Performs (λ u. u)
-            (spec.method_reading self.now.options (source_in self.now.file.now) (stmt_of class.now)
+            (spec.method_reading self.now.options (source_in self.now.file.now) (stmt_of class.now.statement.now)
             (stmt_of found.now)) (N.trace recorder.old) result (N.trace recorder.new) }
     {
-        match &class.form {
-            StmtForm::Class { head, body } => {
-                let own = self.class_body(class.at, head, body)?;
+        match &class.statement.form {
+            StmtForm::Class { head, .. } => {
+                let at = class.statement.at;
+                let own = ClassBody::of_names(self.alloc, self.file, at, head, &class.names)?;
                 self.read_function_in(recorder, &self.body(BodyKind::Class(&own)), found)
             }
             _ => Ok(()),

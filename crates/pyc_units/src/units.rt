@@ -9,10 +9,12 @@ ghost use Rattle.pyc_units.specs.Units as spec;
 ghost use Rattle.pyc_units.specs.Units.{methods_in, unit_count, unit_definitions, units_of, file_units};
 ghost use Rattle.pyc_units.specs.UnitView.{unit_of};
 
+use crate::method_class::MethodClass;
 use crate::unit::Unit;
 use pyc_ast::{Block, Outcome, Stmt, StmtForm};
 use pyc_bindings::{PartForm, scope_parts};
 use std::alloc::{AllocError, Global};
+use std::rc::Rc;
 
 /// How many units a file with this outcome has: a header, a module body, and its classes, functions and methods, or
 /// with a fault the header alone. The only error is that memory runs out.
@@ -114,20 +116,22 @@ fn push_methods<'a>(
 {
     let Block::Of(statements) = body;
     let parts = scope_parts(alloc, statements)?;
+    let shared = Rc::new(alloc, MethodClass::read(alloc, class)?)?;
     for part in &parts {
-        push_method(class, part.form, units)?;
+        push_method(&shared, part.form, units)?;
     }
     Ok(())
 }
 
 /// Adds a part of a class, where it is a method.
 fn push_method<'a>(
-    class: &'a Stmt,
+    class: &Rc<MethodClass<'a>>,
     part: PartForm<'a>,
     units: &mut Vec<Unit<'a>>,
 ) -> Result<(), AllocError>
     ensures { OnOk result (map unit_of units.new.items
-        ≡ map unit_of units.old.items ++ spec.part_methods (stmt_of class.now) (part_form_of part.entry)) }
+        ≡ map unit_of units.old.items
+        ++ spec.part_methods (stmt_of class.now.value.statement.now) (part_form_of part.entry)) }
 {
     match part {
         PartForm::Statement(statement) => push_function(class, statement, units),
@@ -137,15 +141,16 @@ fn push_method<'a>(
 
 /// Adds a statement in the body of a class, where it is a method.
 fn push_function<'a>(
-    class: &'a Stmt,
+    class: &Rc<MethodClass<'a>>,
     statement: &'a Stmt,
     units: &mut Vec<Unit<'a>>,
 ) -> Result<(), AllocError>
     ensures { OnOk result (map unit_of units.new.items
-        ≡ map unit_of units.old.items ++ spec.statement_methods (stmt_of class.now) (stmt_of statement.now)) }
+        ≡ map unit_of units.old.items
+        ++ spec.statement_methods (stmt_of class.now.value.statement.now) (stmt_of statement.now)) }
 {
     if let StmtForm::Function { .. } = &statement.form {
-        units.push(Unit::Method(class, statement))?;
+        units.push(Unit::Method(class.clone()?, statement))?;
     }
     Ok(())
 }
