@@ -22,9 +22,78 @@ pub fn count_units(alloc: Global, outcome: &Outcome) -> Result<usize, AllocError
     ensures { IfOk result (λ count. count ≡ unit_count (outcome_of outcome.now)) }
 {
     match outcome {
-        Outcome::Tree(module) => Ok(unit_definitions(alloc, &module.statements)?.len() + 2),
+        Outcome::Tree(module) => add(count_definitions(alloc, &module.statements)?, 2),
         Outcome::Fault(_) => Ok(1),
     }
+}
+
+/// How many functions, classes and methods are among the units of a module that has these statements.
+#[tactic(auto, unfolding(crate::specs::Units::unit_definitions))]
+fn count_definitions(alloc: Global, statements: &[Stmt]) -> Result<usize, AllocError>
+    ensures { IfOk result (λ count. count ≡ length (unit_definitions (stmts (map stmt_of statements.now)))) }
+{
+    let parts = scope_parts(alloc, statements)?;
+    let mut count = 0;
+    for part in &parts {
+        count = add(count, count_part(alloc, part.form)?)?;
+    }
+    Ok(count)
+}
+
+/// How many units a part of a module makes.
+fn count_part(alloc: Global, part: PartForm<'_>) -> Result<usize, AllocError>
+    ensures { IfOk result (λ count. count ≡ length (units_of (part_form_of part.entry))) }
+{
+    match part {
+        PartForm::Statement(statement) => count_statement(alloc, statement),
+        _ => Ok(0),
+    }
+}
+
+/// How many units a statement of a module makes.
+fn count_statement(alloc: Global, statement: &Stmt) -> Result<usize, AllocError>
+    ensures { IfOk result (λ count. count ≡ length (spec.statement_units (stmt_of statement.now))) }
+{
+    match &statement.form {
+        StmtForm::Function { .. } => Ok(1),
+        StmtForm::Class { body, .. } => add(count_methods(alloc, statement, body)?, 1),
+        _ => Ok(0),
+    }
+}
+
+/// How many methods a class has that has this block.
+fn count_methods(alloc: Global, class: &Stmt, body: &Block) -> Result<usize, AllocError>
+    ensures { IfOk result (λ count. count ≡ length (methods_in (stmt_of class.now) (block_of body.now))) }
+{
+    let Block::Of(statements) = body;
+    let parts = scope_parts(alloc, statements)?;
+    let mut count = 0;
+    for part in &parts {
+        count = add(count, count_method(class, part.form))?;
+    }
+    Ok(count)
+}
+
+/// How many methods a part of a class is, one or none.
+fn count_method(class: &Stmt, part: PartForm<'_>) -> usize
+    ensures { result ≡ length (spec.part_methods (stmt_of class.now) (part_form_of part.entry)) }
+{
+    match part {
+        PartForm::Statement(statement) if is_function(&statement.form) => 1,
+        _ => 0,
+    }
+}
+
+/// Whether a statement of this form is a function.
+fn is_function(form: &StmtForm) -> bool {
+    matches!(form, StmtForm::Function { .. })
+}
+
+/// The sum of two numbers. The only error is that it is too large.
+fn add(a: usize, b: usize) -> Result<usize, AllocError>
+    ensures { IfOk result (λ sum. sum ≡ a + b) }
+{
+    a.checked_add(b).ok_or(AllocError)
 }
 
 /// The units of a file with this outcome, in order. The only error is that memory runs out.
