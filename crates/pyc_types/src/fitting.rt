@@ -1,6 +1,6 @@
 //! Which parameter of one callable serves one of another, and whether all fit. Types are left out here.
 
-ghost use Rattle.std.specs.Prelude.{◌≡◌, length, true, option_map};
+ghost use Rattle.std.specs.Prelude.{◌≡◌, ◌+◌, ◌<◌, ◌≤◌, ◌^◌, if◌then◌else◌, length, take, true, option_map};
 ghost use Rattle.std.specs.List.{list_all, position_from};
 ghost use Rattle.pyc_type_forms.specs.TypeView.{param_of};
 ghost use Rattle.pyc_types.specs.Parameters as spec;
@@ -113,23 +113,59 @@ fn keeps_optional(want: Option<&Param>, got: Option<&Param>) -> bool
     }
 }
 
+/// A parameter of a row: its index, and how many parameters before it are filled by place.
+#[derive(Clone, Copy)]
+pub(crate) struct Seat {
+    pub(crate) index: usize,
+    pub(crate) place: usize,
+}
+
+impl Seat {
+    /// The first of a row.
+    pub(crate) fn first() -> Seat
+        ensures { (result.index ≡ 0) × (result.place ≡ 0) }
+    {
+        Seat { index: 0, place: 0 }
+    }
+
+    /// The one after it, where this parameter sits on it.
+    pub(crate) fn after(self, param: &Param) -> Seat
+        requires { (self.entry.index + 1 < 2 ^ 64) × (self.entry.place ≤ self.entry.index) }
+        ensures { (result.index ≡ self.entry.index + 1)
+            × (result.place ≡ (if spec.is_plain (slot_of param.now) then self.entry.place + 1 else self.entry.place)) }
+    {
+        let place = if is_plain(param) {
+            self.place + 1
+        } else {
+            self.place
+        };
+        Seat {
+            index: self.index + 1,
+            place,
+        }
+    }
+}
+
 /// Whether each of got's parameters may be left out or serves a wanted one.
 fn is_all_used(gots: &[Param], wants: &[Param]) -> bool
     ensures { result ≡ spec.all_below (length gots.now) (spec.is_used (slots_in gots.now) (slots_in wants.now)) }
 {
-    for i in 0..gots.len() {
-        if !is_used(gots, wants, i) {
+    let mut seat = Seat::first();
+    for got in gots {
+        if !is_used(gots, wants, seat) {
             return false;
         }
+        seat = seat.after(got);
     }
     true
 }
 
 /// Whether one of got's parameters may be left out or serves a wanted one.
-fn is_used(gots: &[Param], wants: &[Param], i: usize) -> bool
-    ensures { result ≡ spec.is_used (slots_in gots.now) (slots_in wants.now) i }
+fn is_used(gots: &[Param], wants: &[Param], i: Seat) -> bool
+    requires { i.entry.place ≡ spec.count_plain (slots_in (take i.entry.index gots.now)) }
+    ensures { result ≡ spec.is_used (slots_in gots.now) (slots_in wants.now) i.entry.index }
 {
-    is_free(gots.get(i)) || is_serving(gots, wants, i)
+    is_free(gots.get(i.index)) || is_serving(gots, wants, i)
 }
 
 /// Whether there is a parameter, and it may be left out.
@@ -143,19 +179,56 @@ fn is_free(param: Option<&Param>) -> bool
 }
 
 /// Whether one of got's parameters serves a wanted one.
-fn is_serving(gots: &[Param], wants: &[Param], i: usize) -> bool
-    ensures { result ≡ spec.any_below (length wants.now) (spec.serves (slots_in gots.now) (slots_in wants.now) i) }
+fn is_serving(gots: &[Param], wants: &[Param], i: Seat) -> bool
+    requires { i.entry.place ≡ spec.count_plain (slots_in (take i.entry.index gots.now)) }
+    ensures { result
+        ≡ spec.any_below (length wants.now) (spec.serves (slots_in gots.now) (slots_in wants.now) i.entry.index) }
 {
-    for j in 0..wants.len() {
-        if serves(gots, wants, i, j) {
+    let mut seat = Seat::first();
+    for want in wants {
+        if serves(gots, wants, i, seat) {
             return true;
         }
+        seat = seat.after(want);
     }
     false
 }
 
-/// Whether got's i-th parameter serves the j-th wanted one.
-pub(crate) fn serves(gots: &[Param], wants: &[Param], i: usize, j: usize) -> bool
+/// Whether got's i-th parameter serves the j-th wanted one. What cannot for its kind, its place or its name is not looked
+/// for in the row.
+pub(crate) fn serves(gots: &[Param], wants: &[Param], i: Seat, j: Seat) -> bool
+    requires gots { i.entry.place ≡ spec.count_plain (slots_in (take i.entry.index gots.now)) }
+    requires wants { j.entry.place ≡ spec.count_plain (slots_in (take j.entry.index wants.now)) }
+    ensures { result ≡ spec.serves (slots_in gots.now) (slots_in wants.now) i.entry.index j.entry.index }
+{
+    may_serve(gots.get(i.index), wants.get(j.index), i.place == j.place)
+        && is_served_by(gots, wants, i.index, j.index)
+}
+
+/// Whether a parameter may serve a wanted one by their kinds, their names, and whether as many stand before both that are
+/// filled by place.
+fn may_serve(got: Option<&Param>, want: Option<&Param>, is_same_place: bool) -> bool {
+    match (got, want) {
+        (Some(got), Some(want)) => may_serve_kind(&got.kind, &want.kind, is_same_place),
+        _ => false,
+    }
+}
+
+/// Whether a parameter of a kind may serve a wanted one of another.
+fn may_serve_kind(got: &ParamKind, want: &ParamKind, is_same_place: bool) -> bool {
+    match (got, want) {
+        (ParamKind::Plain(_), ParamKind::Plain(_)) => is_same_place,
+        (ParamKind::Star, ParamKind::Plain(_)) | (ParamKind::Star, ParamKind::Star) => true,
+        (ParamKind::Plain(Some(own)), ParamKind::KeywordOnly(name)) => own == name,
+        (ParamKind::KeywordOnly(own), ParamKind::KeywordOnly(name)) => own == name,
+        (ParamKind::DoubleStar, ParamKind::KeywordOnly(_)) => true,
+        (ParamKind::DoubleStar, ParamKind::DoubleStar) => true,
+        _ => false,
+    }
+}
+
+/// Whether got's i-th parameter is the one that serves the j-th wanted one.
+fn is_served_by(gots: &[Param], wants: &[Param], i: usize, j: usize) -> bool
     ensures { result ≡ spec.serves (slots_in gots.now) (slots_in wants.now) i j }
 {
     match server(gots, wants, j) {

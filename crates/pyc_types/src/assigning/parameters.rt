@@ -1,16 +1,16 @@
 //! The parameters of two callables: the ways between their types.
 
-ghost use Rattle.std.specs.Prelude.{◌≡◌, ◌&&◌, ◌<◌, length, true};
+ghost use Rattle.std.specs.Prelude.{◌≡◌, ◌&&◌, ◌<◌, length, take, true};
 ghost use Rattle.std.specs.List.{list_all};
 ghost use Rattle.pyc_type_forms.specs.TypeView.{ty_of, params_of, param_row};
 ghost use Rattle.pyc_types.specs.Assignable.{slots_of};
 ghost use Rattle.pyc_types.specs.Pairs as spec;
-ghost use Rattle.pyc_types.specs.Parameters.{is_plain};
+ghost use Rattle.pyc_types.specs.Parameters.{count_plain, is_plain};
 ghost use Rattle.pyc_types.specs.Slots.{slots_in};
 ghost use Rattle.pyc_types.specs.Ways.{ways, params_ways, params_ways_of, listed_ways_of};
 
 use super::walk;
-use crate::fitting::{fits, is_all_plain, serves};
+use crate::fitting::{Seat, fits, is_all_plain, serves};
 use crate::ways::Ways;
 use pyc_class_ids::Lins;
 use pyc_type_forms::{Param, Params};
@@ -56,8 +56,10 @@ fn rows_ways<L: Lins>(lins: &L, gots: &[Param], wants: &[Param]) -> Ways
 {
     let are_plain = is_all_plain(gots) && is_all_plain(wants);
     let mut all = Ways::each();
-    for (i, got) in gots.iter().enumerate() {
-        all = all.meet(row_ways(lins, gots, wants, are_plain, i, got));
+    let mut seat = Seat::first();
+    for got in gots {
+        all = all.meet(row_ways(lins, gots, wants, are_plain, seat, got));
+        seat = seat.after(got);
     }
     all
 }
@@ -71,20 +73,23 @@ fn row_ways<L: Lins>(
     gots: &[Param],
     wants: &[Param],
     are_plain: bool,
-    i: usize,
+    i: Seat,
     got: &Param,
 ) -> Ways
     requires plain { are_plain ≡ (list_all is_plain (slots_in gots.now) && list_all is_plain (slots_in wants.now)) }
-    requires within { i < length gots.now }
-    ensures { result ≡ spec.row_ways (spec.pair_ways (slots_in gots.now) (slots_in wants.now) i) 0
+    requires within { i.entry.index < length gots.now }
+    requires place { i.entry.place ≡ count_plain (slots_in (take i.entry.index gots.now)) }
+    ensures { result ≡ spec.row_ways (spec.pair_ways (slots_in gots.now) (slots_in wants.now) i.entry.index) 0
         (ways (L.orders lins.now) (ty_of got.now.ty)) (param_row wants.now) }
 {
     if are_plain {
-        return place_ways(lins, gots, wants, i, got);
+        return place_ways(lins, gots, wants, i.index, got);
     }
     let mut all = Ways::each();
-    for (j, want) in wants.iter().enumerate() {
-        all = all.meet(pair_ways(lins, gots, wants, i, j, got, want));
+    let mut seat = Seat::first();
+    for want in wants {
+        all = all.meet(pair_ways(lins, gots, wants, i, seat, got, want));
+        seat = seat.after(want);
     }
     all
 }
@@ -116,12 +121,14 @@ fn pair_ways<L: Lins>(
     lins: &L,
     gots: &[Param],
     wants: &[Param],
-    i: usize,
-    j: usize,
+    i: Seat,
+    j: Seat,
     got: &Param,
     want: &Param,
 ) -> Ways
-    ensures { result ≡ spec.pair_ways (slots_in gots.now) (slots_in wants.now) i j
+    requires gots { i.entry.place ≡ count_plain (slots_in (take i.entry.index gots.now)) }
+    requires wants { j.entry.place ≡ count_plain (slots_in (take j.entry.index wants.now)) }
+    ensures { result ≡ spec.pair_ways (slots_in gots.now) (slots_in wants.now) i.entry.index j.entry.index
         (ways (L.orders lins.now) (ty_of got.now.ty) (ty_of want.now.ty)) }
 {
     let is_served = serves(gots, wants, i, j);
