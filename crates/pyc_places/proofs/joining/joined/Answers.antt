@@ -13,4 +13,4 @@ pub invariant_of-result : goal.invariant_of-result
 invariant_of-result c =
     let once : are_once (map (λ n. narrowing_of n.value) c.deref.result.now) ≡ true =
     subst (λ (l : List (Rc NarrowingOf Global)). are_once (map (λ n. narrowing_of n.value) l) ≡ true) (sym c.deref.ensures.value) c.args.narrowings.now.once in
-    record { once = rw c.in_ok-items.ensures (once_joined (λ n. type_of (narrowings_in c.args.more.now) n.place) (map (λ n. narrowing_of n.value) c.deref.result.now) once); }
+    record { once = rw c.in_ok-items.ensures (once_joined (λ n. type_of (narrowings_in c.args.more.now) n.place) (map (λ n. narrowing_of n.value) c.deref.result.now) once) }
