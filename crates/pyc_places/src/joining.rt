@@ -10,7 +10,7 @@ ghost use Rattle.pyc_type_forms.specs.TypeView.{ty_of};
 ghost use Rattle.pyc_type_forms.specs.Unions.{union_of};
 
 use crate::lookup::{Hints, type_by};
-use crate::narrowings::{Narrowing, Narrowings};
+use crate::narrowings::{Narrowing, Narrowings, push_block};
 use crate::places::Place;
 use crate::states::State;
 use pyc_type_forms::{Ty, union_of};
@@ -41,33 +41,59 @@ fn joined(
         ≡ flat_map (λ n. spec.on_both n (spec.type_of (narrowings_in more.now) n.place))
         (narrowings_in narrowings.now)) }
 {
-    let items = joined_items(alloc, &narrowings.items, more)?;
-    Ok(Narrowings { items })
+    let all = more.all(alloc)?;
+    let mut hints = Hints::new();
+    let mut blocks = Vec::new(alloc);
+    for block in &narrowings.blocks {
+        hints = add_joined(alloc, &mut blocks, block, &all, hints)?;
+    }
+    let (recent, _, _) = joined_items(alloc, &narrowings.recent, &all, hints)?;
+    Ok(Narrowings { blocks, recent })
 }
 
-/// The narrowings of the places that both narrow, in the order of the first.
+/// Adds a block of the narrowings that both narrow; it is shared where all are.
+fn add_joined(
+    alloc: Global,
+    blocks: &mut Vec<Rc<Vec<Rc<Narrowing>>>>,
+    block: &Rc<Vec<Rc<Narrowing>>>,
+    more: &[&Narrowing],
+    hints: Hints,
+) -> Result<Hints, AllocError> {
+    let (items, is_whole, after) = joined_items(alloc, block, more, hints)?;
+    if is_whole {
+        blocks.push(block.clone()?)?;
+    } else {
+        push_block(alloc, blocks, items)?;
+    }
+    Ok(after)
+}
+
+/// The narrowings of the places that both narrow, in the order of the first, and whether these are all as they are.
 fn joined_items(
     alloc: Global,
     narrowings: &[Rc<Narrowing>],
-    more: &Narrowings,
-) -> Result<Vec<Rc<Narrowing>>, AllocError>
-    ensures { IfOk result (λ joined. map (λ n. narrowing_of n.value) joined.items
-        ≡ flat_map (λ n. spec.on_both n (spec.type_of (narrowings_in more.now) n.place))
-        (map (λ n. narrowing_of n.value) narrowings.now)) }
-{
+    more: &[&Narrowing],
+    hints: Hints,
+) -> Result<(Vec<Rc<Narrowing>>, bool, Hints), AllocError> {
     let mut joined = Vec::new(alloc);
-    let mut hints = Hints::new();
+    let mut hints = hints;
+    let mut is_whole = true;
     for narrowing in narrowings {
         let found = hints.index_of(more, &narrowing.place);
         hints = hints.after(found);
-        add_on_both(
-            alloc,
-            &mut joined,
-            narrowing,
-            type_by(&more.items, &narrowing.place, found),
-        )?;
+        let other = type_by(more, &narrowing.place, found);
+        is_whole = is_whole && is_as_it_is(&narrowing.ty, other);
+        add_on_both(alloc, &mut joined, narrowing, other)?;
     }
-    Ok(joined)
+    Ok((joined, is_whole, hints))
+}
+
+/// Whether a place that is narrowed to a type stays so where it is narrowed to another, or to none, on the other way.
+fn is_as_it_is(ty: &Ty, other: Option<&Ty>) -> bool {
+    match other {
+        Some(other) => is_one_item(ty, other),
+        None => false,
+    }
 }
 
 /// Adds a place that is narrowed on the one way, if it is so on the other.

@@ -7,10 +7,9 @@ ghost use Rattle.pyc_places.specs.StateView.{narrowings_in};
 ghost use Rattle.pyc_places.specs.NarrowingView.{narrowing_of};
 ghost use Rattle.pyc_type_forms.specs.TypeView.{ty_of};
 
-use crate::narrowings::{Narrowing, Narrowings};
+use crate::narrowings::Narrowing;
 use crate::places::Place;
 use pyc_type_forms::Ty;
-use std::rc::Rc;
 
 /// Where a place is looked for first: states that are joined come of one, and have most places in one order.
 #[derive(Clone, Copy)]
@@ -28,16 +27,16 @@ impl Hints {
     }
 
     /// Where a place stands among some narrowings. It takes no memory.
-    pub(crate) fn index_of(self, narrowings: &Narrowings, place: &Place) -> Option<usize>
+    pub(crate) fn index_of(self, narrowings: &[&Narrowing], place: &Place) -> Option<usize>
         ensures { result ≡ first_place (narrowings_in narrowings.now) place.now }
     {
-        if stands_at(&narrowings.items, self.next, place) {
+        if stands_at(narrowings, self.next, place) {
             return Some(self.next);
         }
-        if stands_at(&narrowings.items, self.other, place) {
+        if stands_at(narrowings, self.other, place) {
             return Some(self.other);
         }
-        first_index(&narrowings.items, place)
+        first_index(narrowings, place)
     }
 
     /// The hints after a place was found there, or was not.
@@ -58,7 +57,7 @@ impl Hints {
 
 /// Whether a place stands at an index.
 #[tactic(auto, using(crate::proofs::LookupLemmas::stands_here, crate::proofs::LookupLemmas::stands_beyond))]
-fn stands_at(narrowings: &[Rc<Narrowing>], index: usize, place: &Place) -> bool
+fn stands_at(narrowings: &[&Narrowing], index: usize, place: &Place) -> bool
     ensures { result ≡ is_at (map (λ n. narrowing_of n.value) narrowings.now) index place.now }
 {
     index < narrowings.len() && narrowings[index].place == *place
@@ -66,7 +65,7 @@ fn stands_at(narrowings: &[Rc<Narrowing>], index: usize, place: &Place) -> bool
 
 /// Where a place stands first.
 #[tactic(auto, using(crate::proofs::LookupLemmas::first_from))]
-fn first_index(narrowings: &[Rc<Narrowing>], place: &Place) -> Option<usize>
+fn first_index(narrowings: &[&Narrowing], place: &Place) -> Option<usize>
     ensures { result ≡ first_place (map (λ n. narrowing_of n.value) narrowings.now) place.now }
 {
     for index in 0..narrowings.len() {
@@ -79,7 +78,7 @@ fn first_index(narrowings: &[Rc<Narrowing>], place: &Place) -> Option<usize>
 
 /// The type of a place that stands there first, if it stands anywhere. It takes no memory.
 pub(crate) fn type_by<'a>(
-    narrowings: &'a [Rc<Narrowing>],
+    narrowings: &'a [&'a Narrowing],
     place: &Place,
     found: Option<usize>,
 ) -> Option<&'a Ty>

@@ -12,6 +12,8 @@ use std::marker::Model;
 #[derive(Debug, Drop)]
 pub struct Place {
     names: Vec<Text>,
+    /// The sign of the last name: places of other signs are others.
+    sign: u32,
 }
 
 impl Model for Place {
@@ -27,9 +29,9 @@ impl Clone for Place {
 
     /// A clone shares the names of the place. The only error is that memory runs out.
     fn clone(&self) -> Result<Place, AllocError> {
-        Ok(Place {
-            names: self.names.clone()?,
-        })
+        let names = self.names.clone()?;
+        let sign = self.sign;
+        Ok(Place { names, sign })
     }
 }
 
@@ -44,7 +46,7 @@ impl PartialEq for Place {
 
     /// Whether both are one place.
     fn eq(&self, other: &Place) -> bool {
-        self.names.as_slice() == other.names.as_slice()
+        self.sign == other.sign && self.names.as_slice() == other.names.as_slice()
     }
 }
 
@@ -77,7 +79,26 @@ pub fn name_place(alloc: Global, name: &Text) -> Result<Place, AllocError>
 {
     let mut names = Vec::with_capacity(alloc, 1)?;
     names.push(name.clone()?)?;
-    Ok(Place { names })
+    let sign = sign_of(name);
+    Ok(Place { names, sign })
+}
+
+/// The sign of a name: its last two bytes, and how long it is. Names of other signs are others.
+fn sign_of(name: &Text) -> u32 {
+    match name.as_str().as_bytes() {
+        [rest @ .., first, last] => ((rest.len() as u32) << 16) | ((*first as u32) << 8) | (*last as u32),
+        [only] => *only as u32,
+        [] => 0,
+    }
+}
+
+/// The sign of the place that an expression is, if it is one.
+pub(crate) fn sign_at(e: &Expr) -> Option<u32> {
+    match &e.form {
+        Form::Name(name) => Some(sign_of(name)),
+        Form::Attribute { name, .. } => Some(sign_of(name)),
+        _ => None,
+    }
 }
 
 /// The attribute of a place, if there is one.
@@ -87,6 +108,7 @@ pub(crate) fn below(owner: Option<Place>, name: &Text) -> Result<Option<Place>, 
     match owner {
         Some(mut place) => {
             place.names.push(name.clone()?)?;
+            place.sign = sign_of(name);
             Ok(Some(place))
         }
         None => Ok(None),
@@ -98,6 +120,13 @@ pub(crate) fn is_place(place: &Place, e: &Expr) -> bool
     ensures { result ≡ spec.is_place place.now (spec.place_of (expr_of e.now)) }
 {
     has_names(&place.names, e)
+}
+
+/// Whether an expression of this sign is the place. It takes no memory.
+pub(crate) fn is_signed_place(place: &Place, sign: u32, e: &Expr) -> bool
+    ensures { result ≡ spec.is_place place.now (spec.place_of (expr_of e.now)) }
+{
+    place.sign == sign && has_names(&place.names, e)
 }
 
 /// Whether an expression is the place with these names.
@@ -140,5 +169,8 @@ fn are_the_affected(names: &[Text], name: &Text) -> bool
 pub fn is_at_or_below(upper: &Place, place: &Place) -> bool
     ensures { result ≡ spec.is_at_or_below upper.now place.now }
 {
+    if upper.names.len() == place.names.len() {
+        return upper.sign == place.sign && upper.names.as_slice() == place.names.as_slice();
+    }
     place.names.starts_with(upper.names.as_slice())
 }

@@ -6,7 +6,7 @@ ghost use Rattle.pyc_places.specs.States as spec;
 ghost use Rattle.pyc_places.specs.StateView.{state_of};
 ghost use Rattle.pyc_type_forms.specs.TypeView.{ty_of};
 
-use crate::narrowings::{Narrowings, type_at, type_of};
+use crate::narrowings::Narrowings;
 use crate::places::Place;
 use pyc_ast::Expr;
 use pyc_type_forms::Ty;
@@ -67,7 +67,7 @@ impl State {
     {
         match self {
             State::Unreachable => None,
-            State::Reachable(narrowings) => type_of(&narrowings.items, place),
+            State::Reachable(narrowings) => narrowings.type_of(place),
         }
     }
 
@@ -77,7 +77,7 @@ impl State {
     {
         match self {
             State::Unreachable => None,
-            State::Reachable(narrowings) => type_at(&narrowings.items, e),
+            State::Reachable(narrowings) => narrowings.type_at(e),
         }
     }
 
