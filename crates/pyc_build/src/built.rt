@@ -14,15 +14,15 @@ ghost use Rattle.pyc_tree.specs.View.{tree_of, pieces_of, tail_of, perhaps_of, l
 use crate::error::ParseError;
 use pyc_token::Token;
 use pyc_tree::{Comprehension, DisplayKind, Expr, Link, Pieces, Tail};
-use std::alloc::Global;
+use std::alloc::Allocator;
 
 /// How high a tree may be.
 pub const MAX_HEIGHT: usize = 1000;
 
 /// A tree with its height, and whether it may be assigned to, as a whole and as an item of a list.
 #[derive(Drop)]
-pub struct Built {
-    pub expr: Box<Expr>,
+pub struct Built<A: Allocator> {
+    pub expr: Box<Expr<A>, A>,
     pub height: usize,
     pub is_target: bool,
     pub is_item_target: bool,
@@ -34,8 +34,8 @@ pub struct Built {
 
 /// Items with their height, whether they have a comma, and whether they may be assigned to.
 #[derive(Drop)]
-pub struct BuiltPieces {
-    pub pieces: Pieces,
+pub struct BuiltPieces<A: Allocator> {
+    pub pieces: Pieces<A>,
     pub height: usize,
     pub has_comma: bool,
     pub are_targets: bool,
@@ -47,8 +47,8 @@ pub struct BuiltPieces {
 
 /// Comparisons with the height of their operands.
 #[derive(Drop)]
-pub struct BuiltLinks {
-    pub links: Vec<Link>,
+pub struct BuiltLinks<A: Allocator> {
+    pub links: Vec<Link<A>, A>,
     pub height: usize,
     pub ghost height_is: { height ≡ links_height (links_before links.items tree.unlinked) },
     pub ghost heights: { (end : tree.Links) → links_height (links_before links.items end)
@@ -58,8 +58,8 @@ pub struct BuiltLinks {
 
 /// The clauses of a comprehension with their height.
 #[derive(Drop)]
-pub struct BuiltComprehensions {
-    pub comprehensions: Vec<Comprehension>,
+pub struct BuiltComprehensions<A: Allocator> {
+    pub comprehensions: Vec<Comprehension<A>, A>,
     pub height: usize,
     pub ghost height_is: { height
         ≡ comprehensions_height (comprehensions_before comprehensions.items tree.no_comprehension) },
@@ -71,8 +71,8 @@ pub struct BuiltComprehensions {
 
 /// An expression with its height, or none, whose height is 0.
 #[derive(Drop)]
-pub struct BuiltOption {
-    pub expr: Option<Box<Expr>>,
+pub struct BuiltOption<A: Allocator> {
+    pub expr: Option<Box<Expr<A>, A>>,
     pub height: usize,
     pub ghost height_is: { height ≡ perhaps_height (perhaps_of expr) },
     pub ghost low: { height ≤ 1000 },
@@ -80,15 +80,15 @@ pub struct BuiltOption {
 
 /// A token and the expression after it with its height, or nothing, whose height is 0.
 #[derive(Drop)]
-pub struct BuiltTail {
-    pub tail: Tail,
+pub struct BuiltTail<A: Allocator> {
+    pub tail: Tail<A>,
     pub height: usize,
     pub ghost height_is: { height ≡ tail_height (tail_of tail) },
     pub ghost low: { height ≤ 1000 },
 }
 
 /// Puts `value` on the heap.
-pub fn boxed<T: Drop>(alloc: Global, value: T) -> Result<Box<T>, ParseError>
+pub fn boxed<T: Drop, A: Allocator>(alloc: A, value: T) -> Result<Box<T, A>, ParseError>
     ensures same { IfOk result (λ b. b.value ≡ value) }
     ensures memory { IfErr result (λ e. e ≡ Memory) }
 {
@@ -103,13 +103,13 @@ pub fn taller(a: usize, b: usize) -> usize
 }
 
 /// A tree of this height, unless that passes the limit.
-fn made_with(
-    alloc: Global,
-    expr: Expr,
+fn made_with<A: Allocator>(
+    alloc: A,
+    expr: Expr<A>,
     height: usize,
     is_target: bool,
     is_item_target: bool,
-) -> Result<Built, ParseError>
+) -> Result<Built<A>, ParseError>
     requires height_is { height ≡ height_of (tree_of expr) }
     requires target_is { is_target ≡ targets.is_target (tree_of expr) }
     requires item_target_is { is_item_target ≡ targets.is_item_target (tree_of expr) }
@@ -129,7 +129,7 @@ fn made_with(
 
 /// A tree of height `height`, unless that passes the limit. `is_target` says whether the tree is a target by itself,
 /// and also whether it is one as an item of a list.
-fn made(alloc: Global, expr: Expr, height: usize, is_target: bool) -> Result<Built, ParseError>
+fn made<A: Allocator>(alloc: A, expr: Expr<A>, height: usize, is_target: bool) -> Result<Built<A>, ParseError>
     requires height_is { height ≡ height_of (tree_of expr) }
     requires target_is { is_target ≡ targets.is_target (tree_of expr) }
     requires item_target_is { is_target ≡ targets.is_item_target (tree_of expr) }
@@ -139,7 +139,7 @@ fn made(alloc: Global, expr: Expr, height: usize, is_target: bool) -> Result<Bui
 }
 
 /// A tree of one node.
-fn leaf(alloc: Global, expr: Expr, is_target: bool) -> Result<Built, ParseError>
+fn leaf<A: Allocator>(alloc: A, expr: Expr<A>, is_target: bool) -> Result<Built<A>, ParseError>
     requires height_is { height_of (tree_of expr) ≡ 1 }
     requires target_is { is_target ≡ targets.is_target (tree_of expr) }
     requires item_target_is { is_target ≡ targets.is_item_target (tree_of expr) }
@@ -170,7 +170,7 @@ fn holds_targets(display_kind: DisplayKind) -> bool
 }
 
 /// An identifier.
-pub fn name(alloc: Global, token: Token) -> Result<Built, ParseError>
+pub fn name<A: Allocator>(alloc: A, token: Token) -> Result<Built<A>, ParseError>
     ensures made { IfOk result (λ b. tree_of b.expr.value ≡ tree.name token) }
     ensures memory { IfErr result (λ e. e ≡ Memory) }
 {
@@ -178,7 +178,7 @@ pub fn name(alloc: Global, token: Token) -> Result<Built, ParseError>
 }
 
 /// A number.
-pub fn number(alloc: Global, token: Token) -> Result<Built, ParseError>
+pub fn number<A: Allocator>(alloc: A, token: Token) -> Result<Built<A>, ParseError>
     ensures made { IfOk result (λ b. tree_of b.expr.value ≡ tree.number token) }
     ensures memory { IfErr result (λ e. e ≡ Memory) }
 {
@@ -186,7 +186,7 @@ pub fn number(alloc: Global, token: Token) -> Result<Built, ParseError>
 }
 
 /// `False`, `None`, `True` or `...`.
-pub fn constant(alloc: Global, token: Token) -> Result<Built, ParseError>
+pub fn constant<A: Allocator>(alloc: A, token: Token) -> Result<Built<A>, ParseError>
     ensures made { IfOk result (λ b. tree_of b.expr.value ≡ tree.constant token) }
     ensures memory { IfErr result (λ e. e ≡ Memory) }
 {
@@ -194,7 +194,7 @@ pub fn constant(alloc: Global, token: Token) -> Result<Built, ParseError>
 }
 
 /// String literals, one after another.
-pub fn strings(alloc: Global, first: Token, more: Vec<Token>) -> Result<Built, ParseError>
+pub fn strings<A: Allocator>(alloc: A, first: Token, more: Vec<Token, A>) -> Result<Built<A>, ParseError>
     ensures made { IfOk result (λ b. tree_of b.expr.value ≡ tree.strings first more.items) }
     ensures memory { IfErr result (λ e. e ≡ Memory) }
 {
@@ -202,12 +202,12 @@ pub fn strings(alloc: Global, first: Token, more: Vec<Token>) -> Result<Built, P
 }
 
 /// A form in parentheses.
-pub fn parenthesized(
-    alloc: Global,
+pub fn parenthesized<A: Allocator>(
+    alloc: A,
     opening: Token,
-    inner: Built,
+    inner: Built<A>,
     closing: Token,
-) -> Result<Built, ParseError>
+) -> Result<Built<A>, ParseError>
     ensures { Makes (λ b. tree_of b.expr.value) (tree.parenthesized opening (tree_of inner.expr.value) closing) result }
 {
     let height = inner.height + 1;
@@ -221,13 +221,13 @@ pub fn parenthesized(
 }
 
 /// A display of items in brackets.
-pub fn display(
-    alloc: Global,
+pub fn display<A: Allocator>(
+    alloc: A,
     display_kind: DisplayKind,
     opening: Token,
-    items: BuiltPieces,
+    items: BuiltPieces<A>,
     closing: Token,
-) -> Result<Built, ParseError>
+) -> Result<Built<A>, ParseError>
     ensures { Makes (λ b. tree_of b.expr.value) (tree.display display_kind opening (pieces_of items.pieces) closing)
         result }
 {
@@ -242,14 +242,14 @@ pub fn display(
 }
 
 /// A comprehension, or a generator, in brackets.
-pub fn comprehension_display(
-    alloc: Global,
+pub fn comprehension_display<A: Allocator>(
+    alloc: A,
     display_kind: DisplayKind,
     opening: Token,
-    element: Built,
-    comprehensions: BuiltComprehensions,
+    element: Built<A>,
+    comprehensions: BuiltComprehensions<A>,
     closing: Token,
-) -> Result<Built, ParseError>
+) -> Result<Built<A>, ParseError>
     ensures { Makes (λ b. tree_of b.expr.value)
         (tree.comprehension_display display_kind opening (tree_of element.expr.value)
         (comprehensions_before comprehensions.comprehensions.items tree.no_comprehension) closing) result }
@@ -270,7 +270,7 @@ pub fn comprehension_display(
 }
 
 /// An object, `.` and a name.
-pub fn attribute(alloc: Global, object: Built, dot: Token, name: Token) -> Result<Built, ParseError>
+pub fn attribute<A: Allocator>(alloc: A, object: Built<A>, dot: Token, name: Token) -> Result<Built<A>, ParseError>
     ensures { Makes (λ b. tree_of b.expr.value) (tree.attribute (tree_of object.expr.value) dot name) result }
 {
     let height = object.height + 1;
@@ -284,13 +284,13 @@ pub fn attribute(alloc: Global, object: Built, dot: Token, name: Token) -> Resul
 }
 
 /// A callee and its arguments in parentheses.
-pub fn call(
-    alloc: Global,
-    callee: Built,
+pub fn call<A: Allocator>(
+    alloc: A,
+    callee: Built<A>,
     opening: Token,
-    arguments: BuiltPieces,
+    arguments: BuiltPieces<A>,
     closing: Token,
-) -> Result<Built, ParseError>
+) -> Result<Built<A>, ParseError>
     ensures { Makes (λ b. tree_of b.expr.value)
         (tree.call (tree_of callee.expr.value) opening (pieces_of arguments.pieces) closing) result }
 {
@@ -304,13 +304,13 @@ pub fn call(
 }
 
 /// An object and its indices in square brackets.
-pub fn subscript(
-    alloc: Global,
-    object: Built,
+pub fn subscript<A: Allocator>(
+    alloc: A,
+    object: Built<A>,
     opening: Token,
-    indices: BuiltPieces,
+    indices: BuiltPieces<A>,
     closing: Token,
-) -> Result<Built, ParseError>
+) -> Result<Built<A>, ParseError>
     ensures { Makes (λ b. tree_of b.expr.value)
         (tree.subscript (tree_of object.expr.value) opening (pieces_of indices.pieces) closing) result }
 {
@@ -328,7 +328,7 @@ pub fn subscript(
 }
 
 /// `await` and its operand.
-pub fn await_expression(alloc: Global, word: Token, operand: Built) -> Result<Built, ParseError>
+pub fn await_expression<A: Allocator>(alloc: A, word: Token, operand: Built<A>) -> Result<Built<A>, ParseError>
     ensures { Makes (λ b. tree_of b.expr.value) (tree.await word (tree_of operand.expr.value)) result }
 {
     let height = operand.height + 1;
@@ -336,7 +336,7 @@ pub fn await_expression(alloc: Global, word: Token, operand: Built) -> Result<Bu
 }
 
 /// A sign, `~` or `not`, and its operand.
-pub fn unary(alloc: Global, sign: Token, operand: Built) -> Result<Built, ParseError>
+pub fn unary<A: Allocator>(alloc: A, sign: Token, operand: Built<A>) -> Result<Built<A>, ParseError>
     ensures { Makes (λ b. tree_of b.expr.value) (tree.unary sign (tree_of operand.expr.value)) result }
 {
     let height = operand.height + 1;
@@ -344,12 +344,12 @@ pub fn unary(alloc: Global, sign: Token, operand: Built) -> Result<Built, ParseE
 }
 
 /// An operator between two operands.
-pub fn binary(
-    alloc: Global,
-    left: Built,
+pub fn binary<A: Allocator>(
+    alloc: A,
+    left: Built<A>,
     operator: Token,
-    right: Built,
-) -> Result<Built, ParseError>
+    right: Built<A>,
+) -> Result<Built<A>, ParseError>
     ensures { Makes (λ b. tree_of b.expr.value)
         (tree.binary (tree_of left.expr.value) operator (tree_of right.expr.value)) result }
 {
@@ -363,7 +363,7 @@ pub fn binary(
 }
 
 /// A chain of comparisons.
-pub fn compare(alloc: Global, left: Built, links: BuiltLinks) -> Result<Built, ParseError>
+pub fn compare<A: Allocator>(alloc: A, left: Built<A>, links: BuiltLinks<A>) -> Result<Built<A>, ParseError>
     ensures { Makes (λ b. tree_of b.expr.value)
         (tree.compare (tree_of left.expr.value) (links_before links.links.items tree.unlinked)) result }
 {
@@ -372,14 +372,14 @@ pub fn compare(alloc: Global, left: Built, links: BuiltLinks) -> Result<Built, P
 }
 
 /// A value, `if`, a test, `else`, another value.
-pub fn conditional(
-    alloc: Global,
-    value: Built,
+pub fn conditional<A: Allocator>(
+    alloc: A,
+    value: Built<A>,
     word_if: Token,
-    test: Built,
+    test: Built<A>,
     word_else: Token,
-    other: Built,
-) -> Result<Built, ParseError>
+    other: Built<A>,
+) -> Result<Built<A>, ParseError>
     ensures { Makes (λ b. tree_of b.expr.value)
         (tree.conditional (tree_of value.expr.value) word_if (tree_of test.expr.value) word_else
         (tree_of other.expr.value)) result }
@@ -394,13 +394,13 @@ pub fn conditional(
 }
 
 /// `lambda`, parameters, `:` and a body.
-pub fn lambda(
-    alloc: Global,
+pub fn lambda<A: Allocator>(
+    alloc: A,
     word: Token,
-    parameters: BuiltPieces,
+    parameters: BuiltPieces<A>,
     colon: Token,
-    body: Built,
-) -> Result<Built, ParseError>
+    body: Built<A>,
+) -> Result<Built<A>, ParseError>
     ensures { Makes (λ b. tree_of b.expr.value)
         (tree.lambda word (pieces_of parameters.pieces) colon (tree_of body.expr.value)) result }
 {
@@ -414,7 +414,7 @@ pub fn lambda(
 }
 
 /// Items with commas and no brackets: a tuple.
-pub fn bare(alloc: Global, items: BuiltPieces) -> Result<Built, ParseError>
+pub fn bare<A: Allocator>(alloc: A, items: BuiltPieces<A>) -> Result<Built<A>, ParseError>
     ensures { Makes (λ b. tree_of b.expr.value) (tree.bare (pieces_of items.pieces)) result }
 {
     let height = items.height + 1;
@@ -423,7 +423,7 @@ pub fn bare(alloc: Global, items: BuiltPieces) -> Result<Built, ParseError>
 }
 
 /// `yield`, perhaps with a value.
-pub fn yield_expression(alloc: Global, word: Token, value: BuiltOption) -> Result<Built, ParseError>
+pub fn yield_expression<A: Allocator>(alloc: A, word: Token, value: BuiltOption<A>) -> Result<Built<A>, ParseError>
     ensures { Makes (λ b. tree_of b.expr.value) (tree.yield word (perhaps_of value.expr)) result }
 {
     let height = value.height + 1;
@@ -431,12 +431,12 @@ pub fn yield_expression(alloc: Global, word: Token, value: BuiltOption) -> Resul
 }
 
 /// `yield`, `from` and a value.
-pub fn yield_from(
-    alloc: Global,
+pub fn yield_from<A: Allocator>(
+    alloc: A,
     word: Token,
     from: Token,
-    value: Built,
-) -> Result<Built, ParseError>
+    value: Built<A>,
+) -> Result<Built<A>, ParseError>
     ensures { Makes (λ b. tree_of b.expr.value) (tree.yield_from word from (tree_of value.expr.value)) result }
 {
     let height = value.height + 1;
@@ -449,7 +449,7 @@ pub fn yield_from(
 }
 
 /// `*` and an operand.
-pub fn starred(alloc: Global, star: Token, operand: Built) -> Result<Built, ParseError>
+pub fn starred<A: Allocator>(alloc: A, star: Token, operand: Built<A>) -> Result<Built<A>, ParseError>
     ensures { Makes (λ b. tree_of b.expr.value) (tree.starred star (tree_of operand.expr.value)) result }
 {
     let height = operand.height + 1;
@@ -459,7 +459,7 @@ pub fn starred(alloc: Global, star: Token, operand: Built) -> Result<Built, Pars
 }
 
 /// `**` and a value, in a call.
-pub fn double_starred(alloc: Global, stars: Token, operand: Built) -> Result<Built, ParseError>
+pub fn double_starred<A: Allocator>(alloc: A, stars: Token, operand: Built<A>) -> Result<Built<A>, ParseError>
     ensures { Makes (λ b. tree_of b.expr.value) (tree.double_starred stars (tree_of operand.expr.value)) result }
 {
     let height = operand.height + 1;
@@ -472,7 +472,7 @@ pub fn double_starred(alloc: Global, stars: Token, operand: Built) -> Result<Bui
 }
 
 /// A key, `:` and a value, in a dictionary.
-pub fn entry(alloc: Global, key: Built, colon: Token, value: Built) -> Result<Built, ParseError>
+pub fn entry<A: Allocator>(alloc: A, key: Built<A>, colon: Token, value: Built<A>) -> Result<Built<A>, ParseError>
     ensures { Makes (λ b. tree_of b.expr.value) (tree.entry (tree_of key.expr.value) colon (tree_of value.expr.value))
         result }
 {
@@ -486,7 +486,7 @@ pub fn entry(alloc: Global, key: Built, colon: Token, value: Built) -> Result<Bu
 }
 
 /// `**` and a mapping, in a dictionary.
-pub fn mapping(alloc: Global, stars: Token, operand: Built) -> Result<Built, ParseError>
+pub fn mapping<A: Allocator>(alloc: A, stars: Token, operand: Built<A>) -> Result<Built<A>, ParseError>
     ensures { Makes (λ b. tree_of b.expr.value) (tree.mapping stars (tree_of operand.expr.value)) result }
 {
     let height = operand.height;
@@ -494,12 +494,12 @@ pub fn mapping(alloc: Global, stars: Token, operand: Built) -> Result<Built, Par
 }
 
 /// A lower bound, `:` and an upper bound.
-pub fn slice(
-    alloc: Global,
-    lower: BuiltOption,
+pub fn slice<A: Allocator>(
+    alloc: A,
+    lower: BuiltOption<A>,
     colon: Token,
-    upper: BuiltOption,
-) -> Result<Built, ParseError>
+    upper: BuiltOption<A>,
+) -> Result<Built<A>, ParseError>
     ensures { Makes (λ b. tree_of b.expr.value) (tree.slice (perhaps_of lower.expr) colon (perhaps_of upper.expr))
         result }
 {
@@ -513,14 +513,14 @@ pub fn slice(
 }
 
 /// A lower bound, `:`, an upper bound, `:` and a step.
-pub fn stride(
-    alloc: Global,
-    lower: BuiltOption,
+pub fn stride<A: Allocator>(
+    alloc: A,
+    lower: BuiltOption<A>,
     colon: Token,
-    upper: BuiltOption,
+    upper: BuiltOption<A>,
     second: Token,
-    step: BuiltOption,
-) -> Result<Built, ParseError>
+    step: BuiltOption<A>,
+) -> Result<Built<A>, ParseError>
     ensures { Makes (λ b. tree_of b.expr.value)
         (tree.stride (perhaps_of lower.expr) colon (perhaps_of upper.expr) second (perhaps_of step.expr)) result }
 {
@@ -534,7 +534,7 @@ pub fn stride(
 }
 
 /// A plain argument of a call.
-pub fn argument(alloc: Global, value: Built) -> Result<Built, ParseError>
+pub fn argument<A: Allocator>(alloc: A, value: Built<A>) -> Result<Built<A>, ParseError>
     ensures { Makes (λ b. tree_of b.expr.value) (tree.argument (tree_of value.expr.value)) result }
 {
     let height = value.height + 1;
@@ -542,7 +542,7 @@ pub fn argument(alloc: Global, value: Built) -> Result<Built, ParseError>
 }
 
 /// A name, `=` and a value, in a call.
-pub fn keyword(alloc: Global, name: Token, equal: Token, value: Built) -> Result<Built, ParseError>
+pub fn keyword<A: Allocator>(alloc: A, name: Token, equal: Token, value: Built<A>) -> Result<Built<A>, ParseError>
     ensures { Makes (λ b. tree_of b.expr.value) (tree.keyword name equal (tree_of value.expr.value)) result }
 {
     let height = value.height + 1;
@@ -550,12 +550,12 @@ pub fn keyword(alloc: Global, name: Token, equal: Token, value: Built) -> Result
 }
 
 /// A generator that is the only argument of a call.
-pub fn generator(
-    alloc: Global,
-    element: Box<Expr>,
+pub fn generator<A: Allocator>(
+    alloc: A,
+    element: Box<Expr<A>, A>,
     height: usize,
-    comprehensions: BuiltComprehensions,
-) -> Result<Built, ParseError>
+    comprehensions: BuiltComprehensions<A>,
+) -> Result<Built<A>, ParseError>
     requires height_is { height ≡ height_of (tree_of element.value) }
     requires low { height ≤ 1000 }
     ensures { Makes (λ b. tree_of b.expr.value)
@@ -572,12 +572,12 @@ pub fn generator(
 }
 
 /// A parameter with its annotation and its default.
-pub fn parameter(
-    alloc: Global,
+pub fn parameter<A: Allocator>(
+    alloc: A,
     name: Token,
-    annotation: BuiltTail,
-    default: BuiltTail,
-) -> Result<Built, ParseError>
+    annotation: BuiltTail<A>,
+    default: BuiltTail<A>,
+) -> Result<Built<A>, ParseError>
     ensures { Makes (λ b. tree_of b.expr.value) (tree.parameter name (tail_of annotation.tail) (tail_of default.tail))
         result }
 {
@@ -591,12 +591,12 @@ pub fn parameter(
 }
 
 /// `*` and a parameter with its annotation.
-pub fn star_parameter(
-    alloc: Global,
+pub fn star_parameter<A: Allocator>(
+    alloc: A,
     star: Token,
     name: Token,
-    annotation: BuiltTail,
-) -> Result<Built, ParseError>
+    annotation: BuiltTail<A>,
+) -> Result<Built<A>, ParseError>
     ensures { Makes (λ b. tree_of b.expr.value) (tree.star_parameter star name (tail_of annotation.tail)) result }
 {
     let height = annotation.height + 1;
@@ -609,12 +609,12 @@ pub fn star_parameter(
 }
 
 /// `**` and a parameter with its annotation.
-pub fn double_parameter(
-    alloc: Global,
+pub fn double_parameter<A: Allocator>(
+    alloc: A,
     stars: Token,
     name: Token,
-    annotation: BuiltTail,
-) -> Result<Built, ParseError>
+    annotation: BuiltTail<A>,
+) -> Result<Built<A>, ParseError>
     ensures { Makes (λ b. tree_of b.expr.value) (tree.double_parameter stars name (tail_of annotation.tail)) result }
 {
     let height = annotation.height + 1;
@@ -627,7 +627,7 @@ pub fn double_parameter(
 }
 
 /// A context manager, perhaps with its target.
-pub fn with_item(alloc: Global, value: Built, target: BuiltTail) -> Result<Built, ParseError>
+pub fn with_item<A: Allocator>(alloc: A, value: Built<A>, target: BuiltTail<A>) -> Result<Built<A>, ParseError>
     ensures { Makes (λ b. tree_of b.expr.value) (tree.with_item (tree_of value.expr.value) (tail_of target.tail))
         result }
 {
@@ -641,14 +641,14 @@ pub fn with_item(alloc: Global, value: Built, target: BuiltTail) -> Result<Built
 }
 
 /// `*` alone among parameters.
-pub fn bare_star(alloc: Global, token: Token) -> Result<Built, ParseError>
+pub fn bare_star<A: Allocator>(alloc: A, token: Token) -> Result<Built<A>, ParseError>
     ensures { Makes (λ b. tree_of b.expr.value) (tree.bare_star token) result }
 {
     made(alloc, Expr::BareStar(token), 1, false)
 }
 
 /// Nothing, in place of a token and an expression.
-pub fn nothing() -> BuiltTail
+pub fn nothing<A: Allocator>() -> BuiltTail<A>
     ensures { tail_of result.tail ≡ tree.nothing }
 {
     BuiltTail {
@@ -658,7 +658,7 @@ pub fn nothing() -> BuiltTail
 }
 
 /// A token and the expression after it.
-pub fn after(alloc: Global, mark: Token, value: Built) -> Result<BuiltTail, ParseError>
+pub fn after<A: Allocator>(alloc: A, mark: Token, value: Built<A>) -> Result<BuiltTail<A>, ParseError>
     ensures made { IfOk result (λ b. tail_of b.tail ≡ tree.after mark (tree_of value.expr.value)) }
     ensures memory { IfErr result (λ e. e ≡ Memory) }
 {
@@ -670,7 +670,7 @@ pub fn after(alloc: Global, mark: Token, value: Built) -> Result<BuiltTail, Pars
 }
 
 /// No expression.
-pub fn absent() -> BuiltOption
+pub fn absent<A: Allocator>() -> BuiltOption<A>
     ensures { perhaps_of result.expr ≡ tree.absent }
 {
     BuiltOption {
@@ -680,7 +680,7 @@ pub fn absent() -> BuiltOption
 }
 
 /// An expression.
-pub fn present(value: Built) -> BuiltOption
+pub fn present<A: Allocator>(value: Built<A>) -> BuiltOption<A>
     ensures { perhaps_of result.expr ≡ tree.present (tree_of value.expr.value) }
 {
     BuiltOption {

@@ -13,28 +13,28 @@ use crate::error::ParseError;
 use crate::growth::append;
 use pyc_token::Token;
 use pyc_tree::{Comprehension, Link};
-use std::alloc::Global;
+use std::alloc::Allocator;
 
 /// A comparison: its operator and the operand after it.
 #[derive(Drop)]
-pub struct BuiltLink {
+pub struct BuiltLink<A: Allocator> {
     pub first: Token,
     pub second: Option<Token>,
-    pub right: Built,
+    pub right: Built<A>,
 }
 
 /// A clause of a comprehension.
 #[derive(Drop)]
-pub enum BuiltComprehension {
+pub enum BuiltComprehension<A: Allocator> {
     /// Perhaps `async`, then `for`, targets, `in` and what is iterated.
-    For(Option<Token>, Token, Built, Token, Built),
+    For(Option<Token>, Token, Built<A>, Token, Built<A>),
     /// `if` and a condition.
-    If(Token, Built),
+    If(Token, Built<A>),
 }
 
-impl BuiltLinks {
+impl<A: Allocator> BuiltLinks<A> {
     /// No comparison.
-    pub fn new(alloc: Global) -> BuiltLinks
+    pub fn new(alloc: A) -> BuiltLinks<A>
         ensures { result.links.items ≡ [] }
     {
         BuiltLinks {
@@ -44,7 +44,7 @@ impl BuiltLinks {
     }
 
     /// One more comparison.
-    pub fn push(&mut self, link: BuiltLink) -> Result<(), ParseError>
+    pub fn push(&mut self, link: BuiltLink<A>) -> Result<(), ParseError>
         ensures pushed { IfOk result
             (λ _. (end : tree.Links) → links_before self.new.links.items end
             ≡ links_before self.old.links.items
@@ -64,7 +64,7 @@ impl BuiltLinks {
 }
 
 /// The clause as a part of a tree.
-fn clause_and_height(comprehension: BuiltComprehension) -> (Comprehension, usize)
+fn clause_and_height<A: Allocator>(comprehension: BuiltComprehension<A>) -> (Comprehension<A>, usize)
     ensures part { (rest : tree.Comprehensions) → comprehension_before result.0 rest
         ≡ turns.comprehension_of comprehension rest }
     ensures height { (rest : tree.Comprehensions) → comprehensions_height (turns.comprehension_of comprehension rest)
@@ -90,9 +90,9 @@ fn clause_and_height(comprehension: BuiltComprehension) -> (Comprehension, usize
     }
 }
 
-impl BuiltComprehensions {
+impl<A: Allocator> BuiltComprehensions<A> {
     /// No clause.
-    pub fn new(alloc: Global) -> BuiltComprehensions
+    pub fn new(alloc: A) -> BuiltComprehensions<A>
         ensures { result.comprehensions.items ≡ [] }
     {
         BuiltComprehensions {
@@ -102,7 +102,7 @@ impl BuiltComprehensions {
     }
 
     /// One more clause.
-    pub fn push(&mut self, comprehension: BuiltComprehension) -> Result<(), ParseError>
+    pub fn push(&mut self, comprehension: BuiltComprehension<A>) -> Result<(), ParseError>
         ensures pushed { IfOk result
             (λ _. (end : tree.Comprehensions) → comprehensions_before self.new.comprehensions.items end
             ≡ comprehensions_before self.old.comprehensions.items (turns.comprehension_of comprehension end)) }

@@ -15,12 +15,12 @@ use crate::error::ParseError;
 use crate::growth::append;
 use pyc_token::Token;
 use pyc_tree::{Expr, Piece, Pieces};
-use std::alloc::Global;
+use std::alloc::Allocator;
 
 /// Items with a comma after each: with their height, whether all may be assigned to, and whether one is starred.
 #[derive(Drop)]
-pub struct PiecesSoFar {
-    pub each: Vec<Piece>,
+pub struct PiecesSoFar<A: Allocator> {
+    pub each: Vec<Piece<A>, A>,
     pub height: usize,
     pub has_comma: bool,
     pub are_targets: bool,
@@ -35,14 +35,14 @@ pub struct PiecesSoFar {
 }
 
 /// Whether a tree is `*` and an operand.
-fn is_starred(expr: &Expr) -> bool
+fn is_starred<A: Allocator>(expr: &Expr<A>) -> bool
     ensures { result ≡ targets.is_starred (tree_of expr.now) }
 {
     matches!(expr, Expr::Starred(_, _))
 }
 
 /// Whether items are still targets with this one, of which one may be starred.
-fn are_still_targets(are_targets: bool, was_starred: bool, item: &Built) -> bool
+fn are_still_targets<A: Allocator>(are_targets: bool, was_starred: bool, item: &Built<A>) -> bool
     ensures { result ≡ are_targets
         && (targets.is_item_target (tree_of item.now.expr.value)
         && not (was_starred && targets.is_starred (tree_of item.now.expr.value))) }
@@ -50,9 +50,9 @@ fn are_still_targets(are_targets: bool, was_starred: bool, item: &Built) -> bool
     are_targets && item.is_item_target && !(was_starred && is_starred(&item.expr))
 }
 
-impl PiecesSoFar {
+impl<A: Allocator> PiecesSoFar<A> {
     /// No item.
-    pub fn new(alloc: Global) -> PiecesSoFar
+    pub fn new(alloc: A) -> PiecesSoFar<A>
         ensures { result.each.items ≡ [] }
     {
         PiecesSoFar {
@@ -65,7 +65,7 @@ impl PiecesSoFar {
     }
 
     /// One more item with the comma after it.
-    pub fn push(&mut self, item: Built, comma: Token) -> Result<(), ParseError>
+    pub fn push(&mut self, item: Built<A>, comma: Token) -> Result<(), ParseError>
         ensures pushed { IfOk result
             (λ _. (end : tree.Pieces) → pieces_before self.new.each.items end
             ≡ pieces_before self.old.each.items (tree.piece (tree_of item.expr.value) comma end)) }
@@ -84,7 +84,7 @@ impl PiecesSoFar {
     }
 
     /// These items alone.
-    pub fn finish_list(self) -> BuiltPieces
+    pub fn finish_list(self) -> BuiltPieces<A>
         ensures { pieces_of result.pieces ≡ pieces_before self.each.items tree.none }
     {
         BuiltPieces {
@@ -99,7 +99,7 @@ impl PiecesSoFar {
     }
 
     /// These items and a last one without a comma.
-    pub fn finish_list_with(self, item: Built) -> BuiltPieces
+    pub fn finish_list_with(self, item: Built<A>) -> BuiltPieces<A>
         ensures { pieces_of result.pieces ≡ pieces_before self.each.items (tree.last (tree_of item.expr.value)) }
     {
         let height = taller(self.height, item.height);
@@ -118,20 +118,20 @@ impl PiecesSoFar {
 
 /// Items: an expression alone, without a comma, or others.
 #[derive(Drop)]
-pub enum Listed {
-    One(Built),
-    Many(BuiltPieces),
+pub enum Listed<A: Allocator> {
+    One(Built<A>),
+    Many(BuiltPieces<A>),
 }
 
 /// Whether an expression is a target by itself, by whether it is one as an item.
-fn is_alone_target(is_item_target: bool, expr: &Expr) -> bool
+fn is_alone_target<A: Allocator>(is_item_target: bool, expr: &Expr<A>) -> bool
     ensures { result ≡ is_item_target && not (targets.is_starred (tree_of expr.now)) }
 {
     is_item_target && !is_starred(expr)
 }
 
 /// The only item, where there is just one and no comma.
-pub fn separate_single(found: BuiltPieces) -> Listed
+pub fn separate_single<A: Allocator>(found: BuiltPieces<A>) -> Listed<A>
     ensures { IsParted (pieces_of found.pieces) result }
 {
     if found.has_comma {

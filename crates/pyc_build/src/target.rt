@@ -6,9 +6,10 @@ ghost use Rattle.pyc_tree.specs.Targets as targets;
 ghost use Rattle.pyc_tree.specs.View.{tree_of};
 
 use pyc_tree::Expr;
+use std::alloc::Allocator;
 
 /// Whether a tree is a single target: a name, an attribute or a subscript, perhaps in parentheses.
-pub fn is_single_target(expr: &Expr) -> bool
+pub fn is_single_target<A: Allocator>(expr: &Expr<A>) -> bool
     ensures { result ≡ targets.is_single_target (tree_of expr.now) }
 {
     match expr {

@@ -12,12 +12,12 @@ use crate::built_statement::BuiltSimpleStatements;
 use pyc_build::{Built, BuiltPieces, BuiltTail, ParseError, taller};
 use pyc_token::Token;
 use pyc_tree::{Alias, Header, Line};
-use std::alloc::Global;
+use std::alloc::Allocator;
 
 /// A header with its height.
 #[derive(Drop)]
-pub struct BuiltHeader {
-    pub header: Box<Header>,
+pub struct BuiltHeader<A: Allocator> {
+    pub header: Box<Header<A>, A>,
     pub height: usize,
     pub ghost height_is: { height ≡ header_height (header_of header.value) },
     pub ghost low: { height ≤ 1001 },
@@ -25,15 +25,15 @@ pub struct BuiltHeader {
 
 /// A line with its height.
 #[derive(Drop)]
-pub struct BuiltLine {
-    pub line: Line,
+pub struct BuiltLine<A: Allocator> {
+    pub line: Line<A>,
     pub height: usize,
     pub ghost height_is: { height ≡ line_height (line_of line) },
     pub ghost low: { height ≤ 1002 },
 }
 
 /// A header on the heap, with its height.
-fn made(alloc: Global, header: Header, height: usize) -> Result<BuiltHeader, ParseError>
+fn made<A: Allocator>(alloc: A, header: Header<A>, height: usize) -> Result<BuiltHeader<A>, ParseError>
     requires height_is { height ≡ header_height (header_of header) }
     requires low { height ≤ 1001 }
     ensures made { IfOk result (λ b. header_of b.header.value ≡ header_of header) }
@@ -45,7 +45,7 @@ fn made(alloc: Global, header: Header, height: usize) -> Result<BuiltHeader, Par
 
 /// `if`, `elif` or `while`, and a condition.
 #[tactic(auto, unfolding(pyc_tree::specs::Lines::header_height))]
-pub fn condition(alloc: Global, word: Token, test: Built) -> Result<BuiltHeader, ParseError>
+pub fn condition<A: Allocator>(alloc: A, word: Token, test: Built<A>) -> Result<BuiltHeader<A>, ParseError>
     ensures made { IfOk result (λ b. header_of b.header.value ≡ line.condition word (tree_of test.expr.value)) }
     ensures memory { IfErr result (λ e. e ≡ Memory) }
 {
@@ -55,7 +55,7 @@ pub fn condition(alloc: Global, word: Token, test: Built) -> Result<BuiltHeader,
 
 /// `else`, `try` or `finally`.
 #[tactic(auto, unfolding(pyc_tree::specs::Lines::header_height))]
-pub fn word(alloc: Global, token: Token) -> Result<BuiltHeader, ParseError>
+pub fn word<A: Allocator>(alloc: A, token: Token) -> Result<BuiltHeader<A>, ParseError>
     ensures made { IfOk result (λ b. header_of b.header.value ≡ line.word token) }
     ensures memory { IfErr result (λ e. e ≡ Memory) }
 {
@@ -64,14 +64,14 @@ pub fn word(alloc: Global, token: Token) -> Result<BuiltHeader, ParseError>
 
 /// Perhaps `async`, then `for`, targets, `in` and what is iterated.
 #[tactic(auto, unfolding(pyc_tree::specs::Lines::header_height))]
-pub fn for_each(
-    alloc: Global,
+pub fn for_each<A: Allocator>(
+    alloc: A,
     word_async: Option<Token>,
     word: Token,
-    targets: Built,
+    targets: Built<A>,
     word_in: Token,
-    iterated: Built,
-) -> Result<BuiltHeader, ParseError>
+    iterated: Built<A>,
+) -> Result<BuiltHeader<A>, ParseError>
     ensures made { IfOk result
         (λ b. header_of b.header.value
         ≡ line.for_each word_async word (tree_of targets.expr.value) word_in (tree_of iterated.expr.value)) }
@@ -87,7 +87,7 @@ pub fn for_each(
 
 /// `except` alone.
 #[tactic(auto, unfolding(pyc_tree::specs::Lines::header_height))]
-pub fn except(alloc: Global, word: Token) -> Result<BuiltHeader, ParseError>
+pub fn except<A: Allocator>(alloc: A, word: Token) -> Result<BuiltHeader<A>, ParseError>
     ensures made { IfOk result (λ b. header_of b.header.value ≡ line.except word) }
     ensures memory { IfErr result (λ e. e ≡ Memory) }
 {
@@ -96,12 +96,12 @@ pub fn except(alloc: Global, word: Token) -> Result<BuiltHeader, ParseError>
 
 /// `except`, what is caught, and perhaps a name.
 #[tactic(auto, unfolding(pyc_tree::specs::Lines::header_height))]
-pub fn except_of(
-    alloc: Global,
+pub fn except_of<A: Allocator>(
+    alloc: A,
     word: Token,
-    caught: Built,
+    caught: Built<A>,
     alias: Option<Alias>,
-) -> Result<BuiltHeader, ParseError>
+) -> Result<BuiltHeader<A>, ParseError>
     ensures made { IfOk result
         (λ b. header_of b.header.value
         ≡ line.except_of word (tree_of caught.expr.value) (option_map alias_of alias)) }
@@ -113,12 +113,12 @@ pub fn except_of(
 
 /// Perhaps `async`, then `with` and items.
 #[tactic(auto, unfolding(pyc_tree::specs::Lines::header_height))]
-pub fn with(
-    alloc: Global,
+pub fn with<A: Allocator>(
+    alloc: A,
     word_async: Option<Token>,
     word: Token,
-    items: BuiltPieces,
-) -> Result<BuiltHeader, ParseError>
+    items: BuiltPieces<A>,
+) -> Result<BuiltHeader<A>, ParseError>
     ensures made { IfOk result (λ b. header_of b.header.value ≡ line.with word_async word (pieces_of items.pieces)) }
     ensures memory { IfErr result (λ e. e ≡ Memory) }
 {
@@ -128,14 +128,14 @@ pub fn with(
 
 /// Perhaps `async`, then `with` and items in parentheses.
 #[tactic(auto, unfolding(pyc_tree::specs::Lines::header_height))]
-pub fn with_enclosed(
-    alloc: Global,
+pub fn with_enclosed<A: Allocator>(
+    alloc: A,
     word_async: Option<Token>,
     word: Token,
     opening: Token,
-    items: BuiltPieces,
+    items: BuiltPieces<A>,
     closing: Token,
-) -> Result<BuiltHeader, ParseError>
+) -> Result<BuiltHeader<A>, ParseError>
     ensures made { IfOk result
         (λ b. header_of b.header.value
         ≡ line.with_enclosed word_async word opening (pieces_of items.pieces) closing) }
@@ -151,16 +151,16 @@ pub fn with_enclosed(
 
 /// Perhaps `async`, then `def`, a name, parameters in parentheses, and perhaps what is returned.
 #[tactic(auto, unfolding(pyc_tree::specs::Lines::header_height))]
-pub fn def(
-    alloc: Global,
+pub fn def<A: Allocator>(
+    alloc: A,
     word_async: Option<Token>,
     word: Token,
     name: Token,
     opening: Token,
-    parameters: BuiltPieces,
+    parameters: BuiltPieces<A>,
     closing: Token,
-    returned: BuiltTail,
-) -> Result<BuiltHeader, ParseError>
+    returned: BuiltTail<A>,
+) -> Result<BuiltHeader<A>, ParseError>
     ensures made { IfOk result
         (λ b. header_of b.header.value
         ≡ line.def word_async word name opening (pieces_of parameters.pieces) closing (tail_of returned.tail)) }
@@ -184,7 +184,7 @@ pub fn def(
 
 /// `class` and a name.
 #[tactic(auto, unfolding(pyc_tree::specs::Lines::header_height))]
-pub fn class(alloc: Global, word: Token, name: Token) -> Result<BuiltHeader, ParseError>
+pub fn class<A: Allocator>(alloc: A, word: Token, name: Token) -> Result<BuiltHeader<A>, ParseError>
     ensures made { IfOk result (λ b. header_of b.header.value ≡ line.class word name) }
     ensures memory { IfErr result (λ e. e ≡ Memory) }
 {
@@ -193,14 +193,14 @@ pub fn class(alloc: Global, word: Token, name: Token) -> Result<BuiltHeader, Par
 
 /// `class`, a name, and bases and keywords in parentheses.
 #[tactic(auto, unfolding(pyc_tree::specs::Lines::header_height))]
-pub fn class_of(
-    alloc: Global,
+pub fn class_of<A: Allocator>(
+    alloc: A,
     word: Token,
     name: Token,
     opening: Token,
-    arguments: BuiltPieces,
+    arguments: BuiltPieces<A>,
     closing: Token,
-) -> Result<BuiltHeader, ParseError>
+) -> Result<BuiltHeader<A>, ParseError>
     ensures made { IfOk result
         (λ b. header_of b.header.value ≡ line.class_of word name opening (pieces_of arguments.pieces) closing) }
     ensures memory { IfErr result (λ e. e ≡ Memory) }
@@ -215,7 +215,7 @@ pub fn class_of(
 
 /// A line of statements.
 #[tactic(auto, unfolding(pyc_tree::specs::Lines::line_height))]
-pub fn simple(statements: BuiltSimpleStatements) -> BuiltLine
+pub fn simple<A: Allocator>(statements: BuiltSimpleStatements<A>) -> BuiltLine<A>
     ensures { line_of result.line ≡ line.simple (separated_of statement_of statements.statements) }
 {
     BuiltLine {
@@ -226,7 +226,7 @@ pub fn simple(statements: BuiltSimpleStatements) -> BuiltLine
 
 /// A header, its colon, and perhaps statements.
 #[tactic(auto, unfolding(pyc_tree::specs::Lines::line_height))]
-pub fn header(header: BuiltHeader, colon: Token, statements: BuiltSimpleStatements) -> BuiltLine
+pub fn header<A: Allocator>(header: BuiltHeader<A>, colon: Token, statements: BuiltSimpleStatements<A>) -> BuiltLine<A>
     ensures { line_of result.line
         ≡ line.header (header_of header.header.value) colon (separated_of statement_of statements.statements) }
 {
@@ -239,7 +239,7 @@ pub fn header(header: BuiltHeader, colon: Token, statements: BuiltSimpleStatemen
 
 /// `@` and an expression.
 #[tactic(auto, unfolding(pyc_tree::specs::Lines::line_height))]
-pub fn decorator(mark: Token, value: Built) -> BuiltLine
+pub fn decorator<A: Allocator>(mark: Token, value: Built<A>) -> BuiltLine<A>
     ensures { line_of result.line ≡ line.decorator mark (tree_of value.expr.value) }
 {
     BuiltLine {

@@ -16,12 +16,12 @@ ghost use Rattle.pyc_tree.specs.View.{tree_of, tail_of, perhaps_of};
 use pyc_build::{Built, BuiltOption, BuiltTail, ParseError, taller};
 use pyc_token::Token;
 use pyc_tree::{Assigned, Expr, ImportFrom, ImportedModule, Separated, SimpleStatement};
-use std::alloc::Global;
+use std::alloc::Allocator;
 
 /// A statement with its height.
 #[derive(Drop)]
-pub struct BuiltSimpleStatement {
-    pub statement: SimpleStatement,
+pub struct BuiltSimpleStatement<A: Allocator> {
+    pub statement: SimpleStatement<A>,
     pub height: usize,
     pub ghost height_is: { height ≡ statement_height (statement_of statement) },
     pub ghost low: { height ≤ 1001 },
@@ -29,8 +29,8 @@ pub struct BuiltSimpleStatement {
 
 /// Statements, joined by semicolons, with the height of the highest.
 #[derive(Drop)]
-pub struct BuiltSimpleStatements {
-    pub statements: Separated<SimpleStatement>,
+pub struct BuiltSimpleStatements<A: Allocator> {
+    pub statements: Separated<SimpleStatement<A>, A>,
     pub height: usize,
     pub ghost height_is: { height ≡ statements_height (separated_of statement_of statements) },
     pub ghost low: { height ≤ 1001 },
@@ -38,9 +38,9 @@ pub struct BuiltSimpleStatements {
 
 /// Targets, each with its `=`, and the value after them, with the height of the highest.
 #[derive(Drop)]
-pub struct BuiltChain {
-    pub targets: Vec<Assigned>,
-    pub value: Box<Expr>,
+pub struct BuiltChain<A: Allocator> {
+    pub targets: Vec<Assigned<A>, A>,
+    pub value: Box<Expr<A>, A>,
     pub height: usize,
     pub ghost height_is: { height
         ≡ max (targets_height (map assigned_of targets.items)) (height_of (tree_of value.value)) },
@@ -48,7 +48,7 @@ pub struct BuiltChain {
 }
 
 /// No statement.
-pub fn none(alloc: Global) -> BuiltSimpleStatements
+pub fn none<A: Allocator>(alloc: A) -> BuiltSimpleStatements<A>
     ensures { separated_of statement_of result.statements ≡ statement.no_item }
 {
     let each = Vec::new(alloc);
@@ -60,7 +60,7 @@ pub fn none(alloc: Global) -> BuiltSimpleStatements
 
 /// An expression, a tuple without brackets or a `yield`.
 #[tactic(auto, unfolding(pyc_tree::specs::Statements::statement_height))]
-pub fn expression(value: Built) -> BuiltSimpleStatement
+pub fn expression<A: Allocator>(value: Built<A>) -> BuiltSimpleStatement<A>
     ensures { statement_of result.statement ≡ statement.expression (tree_of value.expr.value) }
 {
     BuiltSimpleStatement {
@@ -71,7 +71,7 @@ pub fn expression(value: Built) -> BuiltSimpleStatement
 
 /// A value alone, or an assignment to the targets before it.
 #[tactic(auto, unfolding(pyc_tree::specs::Statements::statement_height))]
-pub fn chained(chain: BuiltChain) -> BuiltSimpleStatement
+pub fn chained<A: Allocator>(chain: BuiltChain<A>) -> BuiltSimpleStatement<A>
     ensures { (self : ℕ → Parser Tree) → statement_of result.statement
         ≡ chained_of self (map assigned_of chain.targets.items, tree_of chain.value.value) }
 {
@@ -86,12 +86,12 @@ pub fn chained(chain: BuiltChain) -> BuiltSimpleStatement
 
 /// A target, `:`, an annotation, and perhaps `=` and a value.
 #[tactic(auto, unfolding(pyc_tree::specs::Statements::statement_height))]
-pub fn annotate(
-    target: Built,
+pub fn annotate<A: Allocator>(
+    target: Built<A>,
     colon: Token,
-    annotation: Built,
-    value: BuiltTail,
-) -> BuiltSimpleStatement
+    annotation: Built<A>,
+    value: BuiltTail<A>,
+) -> BuiltSimpleStatement<A>
     ensures { statement_of result.statement
         ≡ statement.annotate (tree_of target.expr.value) colon (tree_of annotation.expr.value) (tail_of value.tail) }
 {
@@ -104,7 +104,7 @@ pub fn annotate(
 
 /// A target, an operator as `+=`, and a value.
 #[tactic(auto, unfolding(pyc_tree::specs::Statements::statement_height))]
-pub fn augment(target: Built, sign: Token, value: Built) -> BuiltSimpleStatement
+pub fn augment<A: Allocator>(target: Built<A>, sign: Token, value: Built<A>) -> BuiltSimpleStatement<A>
     ensures { statement_of result.statement
         ≡ statement.augment (tree_of target.expr.value) sign (tree_of value.expr.value) }
 {
@@ -117,7 +117,7 @@ pub fn augment(target: Built, sign: Token, value: Built) -> BuiltSimpleStatement
 
 /// `return`, perhaps with a value.
 #[tactic(auto, unfolding(pyc_tree::specs::Statements::statement_height))]
-pub fn returns(word: Token, value: BuiltOption) -> BuiltSimpleStatement
+pub fn returns<A: Allocator>(word: Token, value: BuiltOption<A>) -> BuiltSimpleStatement<A>
     ensures { statement_of result.statement ≡ statement.return word (perhaps_of value.expr) }
 {
     BuiltSimpleStatement {
@@ -128,7 +128,7 @@ pub fn returns(word: Token, value: BuiltOption) -> BuiltSimpleStatement
 
 /// `raise`, perhaps an exception, perhaps `from` and its cause.
 #[tactic(auto, unfolding(pyc_tree::specs::Statements::statement_height))]
-pub fn raise(word: Token, value: BuiltOption, cause: BuiltTail) -> BuiltSimpleStatement
+pub fn raise<A: Allocator>(word: Token, value: BuiltOption<A>, cause: BuiltTail<A>) -> BuiltSimpleStatement<A>
     ensures { statement_of result.statement ≡ statement.raise word (perhaps_of value.expr) (tail_of cause.tail) }
 {
     let height = taller(value.height, cause.height) + 1;
@@ -140,7 +140,7 @@ pub fn raise(word: Token, value: BuiltOption, cause: BuiltTail) -> BuiltSimpleSt
 
 /// `assert`, a test, and perhaps a comma and a message.
 #[tactic(auto, unfolding(pyc_tree::specs::Statements::statement_height))]
-pub fn asserts(word: Token, test: Built, message: BuiltTail) -> BuiltSimpleStatement
+pub fn asserts<A: Allocator>(word: Token, test: Built<A>, message: BuiltTail<A>) -> BuiltSimpleStatement<A>
     ensures { statement_of result.statement ≡ statement.assert word (tree_of test.expr.value) (tail_of message.tail) }
 {
     let height = taller(test.height, message.height) + 1;
@@ -152,7 +152,7 @@ pub fn asserts(word: Token, test: Built, message: BuiltTail) -> BuiltSimpleState
 
 /// `del` and targets.
 #[tactic(auto, unfolding(pyc_tree::specs::Statements::statement_height))]
-pub fn delete(word: Token, targets: Built) -> BuiltSimpleStatement
+pub fn delete<A: Allocator>(word: Token, targets: Built<A>) -> BuiltSimpleStatement<A>
     ensures { statement_of result.statement ≡ statement.delete word (tree_of targets.expr.value) }
 {
     BuiltSimpleStatement {
@@ -163,7 +163,7 @@ pub fn delete(word: Token, targets: Built) -> BuiltSimpleStatement
 
 /// `pass`, `break` or `continue`.
 #[tactic(auto, unfolding(pyc_tree::specs::Statements::statement_height))]
-pub fn word(token: Token) -> BuiltSimpleStatement
+pub fn word<A: Allocator>(token: Token) -> BuiltSimpleStatement<A>
     ensures { statement_of result.statement ≡ statement.word token }
 {
     BuiltSimpleStatement {
@@ -174,11 +174,11 @@ pub fn word(token: Token) -> BuiltSimpleStatement
 
 /// `global` or `nonlocal`, and names.
 #[tactic(auto, unfolding(pyc_tree::specs::Statements::statement_height))]
-pub fn declare(
-    alloc: Global,
+pub fn declare<A: Allocator>(
+    alloc: A,
     word: Token,
-    names: Separated<Token>,
-) -> Result<BuiltSimpleStatement, ParseError>
+    names: Separated<Token, A>,
+) -> Result<BuiltSimpleStatement<A>, ParseError>
     ensures made { IfOk result (λ b. statement_of b.statement ≡ statement.declare word (separated_of token_of names)) }
     ensures memory { IfErr result (λ e. e ≡ Memory) }
 {
@@ -191,11 +191,11 @@ pub fn declare(
 
 /// `import` and modules.
 #[tactic(auto, unfolding(pyc_tree::specs::Statements::statement_height))]
-pub fn import(
-    alloc: Global,
+pub fn import<A: Allocator>(
+    alloc: A,
     word: Token,
-    modules: Separated<ImportedModule>,
-) -> Result<BuiltSimpleStatement, ParseError>
+    modules: Separated<ImportedModule<A>, A>,
+) -> Result<BuiltSimpleStatement<A>, ParseError>
     ensures made { IfOk result
         (λ b. statement_of b.statement ≡ statement.import word (separated_of module_of modules)) }
     ensures memory { IfErr result (λ e. e ≡ Memory) }
@@ -209,7 +209,7 @@ pub fn import(
 
 /// `from`, a module, `import`, and names.
 #[tactic(auto, unfolding(pyc_tree::specs::Statements::statement_height))]
-pub fn import_from(alloc: Global, found: ImportFrom) -> Result<BuiltSimpleStatement, ParseError>
+pub fn import_from<A: Allocator>(alloc: A, found: ImportFrom<A>) -> Result<BuiltSimpleStatement<A>, ParseError>
     ensures made { IfOk result (λ b. statement_of b.statement ≡ import_from_of found) }
     ensures memory { IfErr result (λ e. e ≡ Memory) }
 {

@@ -11,7 +11,7 @@ ghost use Rattle.pyc_tree.specs.SimpleStatements as statements;
 use crate::kinds::{is_dot, is_name, same_kind};
 use pyc_build::ParseError;
 use pyc_token::{Delimiter, Kind, Token};
-use std::alloc::Global;
+use std::alloc::Allocator;
 
 /// The tokens that are left to read.
 #[derive(Drop)]
@@ -70,7 +70,7 @@ impl<'a> Cursor<'a> {
 
     /// The dots that come next, which may be none.
     #[tactic(auto, unfolding(pyc_tree::specs::SimpleStatements::dots))]
-    pub fn dots(&mut self, alloc: Global) -> Result<Vec<Token>, ParseError>
+    pub fn dots<A: Allocator>(&mut self, alloc: A) -> Result<Vec<Token, A>, ParseError>
         ensures { ReadsTokens (λ found. found.items) (statements.dots self.old.rest.now) result self.new.rest.now }
     {
         let (front, rest) = self.rest.split_at(dots_len(self.rest));

@@ -10,9 +10,10 @@ ghost use Rattle.pyc_tree.specs.View.{tree_of, tail_of};
 use crate::kinds::{infix_precedence, prefix_precedence};
 use pyc_token::Bracket;
 use pyc_tree::{DisplayKind, Expr, ListContext, Tail};
+use std::alloc::Allocator;
 
 /// The precedence at which an expression stands, 0 for what stands in some places alone.
-pub fn precedence(expr: &Expr) -> u8
+pub fn precedence<A: Allocator>(expr: &Expr<A>) -> u8
     ensures { result ≡ precedences.precedence (tree_of expr.now) }
 {
     match expr {
@@ -50,14 +51,14 @@ pub fn precedence(expr: &Expr) -> u8
 }
 
 /// Whether an expression stands at this precedence or a tighter one.
-pub fn is_at(loosest: u8, expr: &Expr) -> bool
+pub fn is_at<A: Allocator>(loosest: u8, expr: &Expr<A>) -> bool
     ensures { result ≡ list_contexts.is_at loosest (tree_of expr.now) }
 {
     loosest <= precedence(expr)
 }
 
 /// Whether a parameter may have this annotation: a lambda's has none.
-fn is_annotation(is_annotated: bool, annotation: &Tail) -> bool
+fn is_annotation<A: Allocator>(is_annotated: bool, annotation: &Tail<A>) -> bool
     ensures { result ≡ list_contexts.is_annotation is_annotated (tail_of annotation.now) }
 {
     match annotation {
@@ -67,7 +68,7 @@ fn is_annotation(is_annotated: bool, annotation: &Tail) -> bool
 }
 
 /// Whether an item may stand in a tuple or a list: an expression, or `*` and an operand of the precedence of `|`.
-fn is_item(item: &Expr) -> bool
+fn is_item<A: Allocator>(item: &Expr<A>) -> bool
     ensures { result ≡ list_contexts.is_item (tree_of item.now) }
 {
     match item {
@@ -77,7 +78,7 @@ fn is_item(item: &Expr) -> bool
 }
 
 /// Whether an item may stand in a list of targets.
-fn is_target_item(item: &Expr) -> bool
+fn is_target_item<A: Allocator>(item: &Expr<A>) -> bool
     ensures { result ≡ list_contexts.is_target_item (tree_of item.now) }
 {
     match item {
@@ -87,7 +88,7 @@ fn is_target_item(item: &Expr) -> bool
 }
 
 /// Whether an item may stand in a subscript: an expression or a slice.
-fn is_index(item: &Expr) -> bool
+fn is_index<A: Allocator>(item: &Expr<A>) -> bool
     ensures { result ≡ list_contexts.is_index (tree_of item.now) }
 {
     match item {
@@ -97,14 +98,14 @@ fn is_index(item: &Expr) -> bool
 }
 
 /// Whether an item may stand in the header of a `with`.
-fn is_with_item(item: &Expr) -> bool
+fn is_with_item<A: Allocator>(item: &Expr<A>) -> bool
     ensures { result ≡ list_contexts.is_with_item (tree_of item.now) }
 {
     matches!(item, Expr::WithItem(_, _))
 }
 
 /// Whether an item may stand in a dictionary: `**` and an operand of the precedence of `|`, or a key with its value.
-fn is_entry(item: &Expr) -> bool
+fn is_entry<A: Allocator>(item: &Expr<A>) -> bool
     ensures { result ≡ list_contexts.is_entry (tree_of item.now) }
 {
     match item {
@@ -115,14 +116,14 @@ fn is_entry(item: &Expr) -> bool
 }
 
 /// Whether an item is `**` and a value, or a keyword with its value.
-fn is_last_argument(item: &Expr) -> bool
+fn is_last_argument<A: Allocator>(item: &Expr<A>) -> bool
     ensures { result ≡ list_contexts.is_last_argument (tree_of item.now) }
 {
     matches!(item, Expr::Keyword(_, _, _) | Expr::DoubleStarred(_, _))
 }
 
 /// Whether an item may stand in a call after a keyword: no plain argument may.
-fn is_keyword_argument(item: &Expr) -> bool
+fn is_keyword_argument<A: Allocator>(item: &Expr<A>) -> bool
     ensures { result ≡ list_contexts.is_keyword_argument (tree_of item.now) }
 {
     match item {
@@ -132,7 +133,7 @@ fn is_keyword_argument(item: &Expr) -> bool
 }
 
 /// Whether an item may stand in a call.
-fn is_argument(item: &Expr) -> bool
+fn is_argument<A: Allocator>(item: &Expr<A>) -> bool
     ensures { result ≡ list_contexts.is_argument (tree_of item.now) }
 {
     match item {
@@ -142,7 +143,7 @@ fn is_argument(item: &Expr) -> bool
 }
 
 /// Whether an item may stand after a bare `*` among parameters: a parameter given by keyword.
-fn is_plain_parameter(is_annotated: bool, item: &Expr) -> bool
+fn is_plain_parameter<A: Allocator>(is_annotated: bool, item: &Expr<A>) -> bool
     ensures { result ≡ list_contexts.is_plain_parameter is_annotated (tree_of item.now) }
 {
     match item {
@@ -152,7 +153,7 @@ fn is_plain_parameter(is_annotated: bool, item: &Expr) -> bool
 }
 
 /// Whether an item may stand among parameters after a `*`.
-fn is_late_parameter(is_annotated: bool, item: &Expr) -> bool
+fn is_late_parameter<A: Allocator>(is_annotated: bool, item: &Expr<A>) -> bool
     ensures { result ≡ list_contexts.is_late_parameter is_annotated (tree_of item.now) }
 {
     match item {
@@ -162,7 +163,7 @@ fn is_late_parameter(is_annotated: bool, item: &Expr) -> bool
 }
 
 /// Whether an item may stand among parameters before any `*`.
-fn is_parameter(is_annotated: bool, item: &Expr) -> bool
+fn is_parameter<A: Allocator>(is_annotated: bool, item: &Expr<A>) -> bool
     ensures { result ≡ list_contexts.is_parameter is_annotated (tree_of item.now) }
 {
     match item {
@@ -174,7 +175,7 @@ fn is_parameter(is_annotated: bool, item: &Expr) -> bool
 
 /// Whether an item may stand in a context.
 #[tactic(auto)]
-pub fn fits(here: ListContext, item: &Expr) -> bool
+pub fn fits<A: Allocator>(here: ListContext, item: &Expr<A>) -> bool
     ensures { result ≡ list_contexts.fits here (tree_of item.now) }
 {
     match here {
@@ -195,7 +196,7 @@ pub fn fits(here: ListContext, item: &Expr) -> bool
 }
 
 /// The context after an argument: `**` comes after all `*`, a keyword after all plain arguments.
-fn after_argument(here: ListContext, item: &Expr) -> ListContext
+fn after_argument<A: Allocator>(here: ListContext, item: &Expr<A>) -> ListContext
     ensures { result ≡ list_contexts.after_argument here (tree_of item.now) }
 {
     match item {
@@ -209,7 +210,7 @@ fn after_argument(here: ListContext, item: &Expr) -> ListContext
 }
 
 /// The context after a parameter.
-fn after_parameter(here: ListContext, is_annotated: bool, item: &Expr) -> ListContext
+fn after_parameter<A: Allocator>(here: ListContext, is_annotated: bool, item: &Expr<A>) -> ListContext
     ensures { result ≡ list_contexts.after_parameter here is_annotated (tree_of item.now) }
 {
     match item {
@@ -222,7 +223,7 @@ fn after_parameter(here: ListContext, is_annotated: bool, item: &Expr) -> ListCo
 
 /// The context after an item.
 #[tactic(auto)]
-pub fn next_context(here: ListContext, item: &Expr) -> ListContext
+pub fn next_context<A: Allocator>(here: ListContext, item: &Expr<A>) -> ListContext
     ensures { result ≡ list_contexts.next_context here (tree_of item.now) }
 {
     match here {
@@ -263,7 +264,7 @@ pub fn context_in(bracket: Bracket) -> ListContext
 
 /// What the brackets hold, by their first item.
 #[tactic(auto)]
-pub fn display_kind_of(bracket: Bracket, first: &Expr) -> DisplayKind
+pub fn display_kind_of<A: Allocator>(bracket: Bracket, first: &Expr<A>) -> DisplayKind
     ensures { result ≡ list_contexts.display_kind_of bracket (tree_of first.now) }
 {
     match bracket {
@@ -292,7 +293,7 @@ pub fn empty_display_kind(bracket: Bracket) -> DisplayKind
 }
 
 /// Whether a tree may be the element of a comprehension.
-pub fn is_element(display_kind: DisplayKind, element: &Expr) -> bool
+pub fn is_element<A: Allocator>(display_kind: DisplayKind, element: &Expr<A>) -> bool
     ensures { result ≡ well.is_element display_kind (tree_of element.now) }
 {
     match display_kind {

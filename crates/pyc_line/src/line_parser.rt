@@ -11,6 +11,7 @@ ghost use Rattle.pyc_build.specs.ReadsTokens.{AnswersLine};
 ghost use Rattle.pyc_tree.specs.WellLines.{IsWellLine};
 
 use crate::fault::{ParseFault, What, line_fault, line_number};
+use bumpalo::Bump;
 use pyc_build::{MAX_HEIGHT, ParseError};
 use pyc_cursor::Cursor;
 use pyc_list_rules::ItemRules;
@@ -18,11 +19,10 @@ use pyc_precedence::expr;
 use pyc_statement::StatementRules;
 use pyc_token::Token;
 use pyc_tree::Line;
-use std::alloc::Global;
 
 /// The tree of a line, if it has one.
 #[tactic(auto, unfolding(pyc_tree::specs::Headers::line_tree))]
-fn line_of_tokens(alloc: Global, tokens: &[Token]) -> Result<Line, ParseError>
+fn line_of_tokens<'a>(alloc: &'a Bump, tokens: &[Token]) -> Result<Line<&'a Bump>, ParseError>
     ensures { AnswersLine line_of (line_tree tokens.now) result }
 {
     let rules = ItemRules {
@@ -37,7 +37,7 @@ fn line_of_tokens(alloc: Global, tokens: &[Token]) -> Result<Line, ParseError>
 /// high. Where there is none, what is wrong with the line, reported where its first token stands: it is outside the
 /// profile where it has `:=`, begins with `from` and ends with `import *`, begins with `def` or `async def` and has
 /// `/`, or begins with the name `match`, `case` or `type`. `Memory` comes only from a growth that was refused.
-pub fn parse_line(alloc: Global, tokens: &[Token]) -> Result<Line, ParseFault>
+pub fn parse_line<'a>(alloc: &'a Bump, tokens: &[Token]) -> Result<Line<&'a Bump>, ParseFault>
     ensures tree { IfOk result (λ line. line_tree tokens.now ≡ Some (line_of line)) }
     ensures well { IfOk result (λ line. IsWellLine (line_of line)) }
     ensures tokens { IfOk result (λ line. line_yield (line_of line) ≡ tokens.now) }

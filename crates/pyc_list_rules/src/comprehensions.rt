@@ -11,19 +11,19 @@ ghost use Rattle.pyc_build.specs.Turns as turns;
 ghost use Rattle.pyc_tree.specs.View.{tree_of, comprehensions_before};
 
 use crate::rules::ItemRules;
+use bumpalo::Bump;
 use pyc_build::{Built, BuiltComprehension, BuiltComprehensions, ParseError};
 use pyc_cursor::{Cursor, is_comprehension};
 use pyc_token::{Keyword, Kind, Token};
-use std::alloc::Global;
 
-impl<F: Fn(Global, &mut Cursor<'_>, usize, u8) -> Result<Built, ParseError>> ItemRules<F> {
+impl<'a, F: Fn(&'a Bump, &mut Cursor<'_>, usize, u8) -> Result<Built<&'a Bump>, ParseError>> ItemRules<'a, F> {
     /// `for`, targets, `in` and what is iterated, after an `async` where there is one.
     #[tactic(auto, using(pyc_build::proofs::Steps::ReadsTokens_made), unfolding(pyc_tree::specs::Items::for_clause))]
     fn for_clause(
         &self,
         tokens: &mut Cursor<'_>,
         word_async: Option<Token>,
-    ) -> Result<BuiltComprehension, ParseError>
+    ) -> Result<BuiltComprehension<&'a Bump>, ParseError>
         requires { ReadsExpressions self.now.depth (F.pre self.now.expr) (F.post self.now.expr) }
         ensures { ReadsTokens (λ b rest. turns.comprehension_of b rest)
             (items.for_clause (spec.expr self.now.depth) word_async tokens.old.rest.now) result tokens.new.rest.now }
@@ -37,7 +37,7 @@ impl<F: Fn(Global, &mut Cursor<'_>, usize, u8) -> Result<Built, ParseError>> Ite
 
     /// `async` and a `for`.
     #[tactic(auto, using(pyc_build::proofs::Steps::ReadsTokens_made), unfolding(pyc_tree::specs::Items::async_clause))]
-    fn async_clause(&self, tokens: &mut Cursor<'_>) -> Result<BuiltComprehension, ParseError>
+    fn async_clause(&self, tokens: &mut Cursor<'_>) -> Result<BuiltComprehension<&'a Bump>, ParseError>
         requires { ReadsExpressions self.now.depth (F.pre self.now.expr) (F.post self.now.expr) }
         ensures { ReadsTokens (λ b rest. turns.comprehension_of b rest)
             (items.async_clause (spec.expr self.now.depth) tokens.old.rest.now) result tokens.new.rest.now }
@@ -48,7 +48,7 @@ impl<F: Fn(Global, &mut Cursor<'_>, usize, u8) -> Result<Built, ParseError>> Ite
 
     /// `if` and a condition.
     #[tactic(auto, using(pyc_build::proofs::Steps::ReadsTokens_made), unfolding(pyc_tree::specs::Items::if_clause))]
-    fn if_clause(&self, tokens: &mut Cursor<'_>) -> Result<BuiltComprehension, ParseError>
+    fn if_clause(&self, tokens: &mut Cursor<'_>) -> Result<BuiltComprehension<&'a Bump>, ParseError>
         requires { ReadsExpressions self.now.depth (F.pre self.now.expr) (F.post self.now.expr) }
         ensures { ReadsTokens (λ b rest. turns.comprehension_of b rest)
             (items.if_clause (spec.expr self.now.depth) tokens.old.rest.now) result tokens.new.rest.now }
@@ -64,7 +64,7 @@ impl<F: Fn(Global, &mut Cursor<'_>, usize, u8) -> Result<Built, ParseError>> Ite
         &self,
         tokens: &mut Cursor<'_>,
         kind: Kind,
-    ) -> Result<BuiltComprehension, ParseError>
+    ) -> Result<BuiltComprehension<&'a Bump>, ParseError>
         requires { ReadsExpressions self.now.depth (F.pre self.now.expr) (F.post self.now.expr) }
         ensures { ReadsTokens (λ b rest. turns.comprehension_of b rest)
             (turns.comprehension_at (items.comprehension_by (spec.expr self.now.depth) kind) tokens.old.rest.now)
@@ -82,7 +82,7 @@ impl<F: Fn(Global, &mut Cursor<'_>, usize, u8) -> Result<Built, ParseError>> Ite
     }
 
     /// The clauses of a comprehension.
-    pub fn comprehensions(&self, tokens: &mut Cursor<'_>) -> Result<BuiltComprehensions, ParseError>
+    pub fn comprehensions(&self, tokens: &mut Cursor<'_>) -> Result<BuiltComprehensions<&'a Bump>, ParseError>
         requires { ReadsExpressions self.now.depth (F.pre self.now.expr) (F.post self.now.expr) }
         ensures { ReadsTokens (λ b. comprehensions_before b.comprehensions.items tree.no_comprehension)
             (items.comprehensions (spec.expr self.now.depth) tokens.old.rest.now) result tokens.new.rest.now }

@@ -9,16 +9,16 @@ ghost use Rattle.pyc_build.specs.ReadsTokens.{ReadsTokens};
 ghost use Rattle.pyc_tree.specs.View.{tree_of, tail_of, perhaps_of};
 
 use crate::rules::ItemRules;
+use bumpalo::Bump;
 use pyc_build::{Built, BuiltOption, BuiltTail, ParseError, built};
 use pyc_cursor::{Cursor, begins_expression, fits, is_colon, is_double_star, is_star, same_kind};
 use pyc_token::{Delimiter, Keyword, Kind};
 use pyc_tree::{Expr, ListContext};
-use std::alloc::Global;
 
-impl<F: Fn(Global, &mut Cursor<'_>, usize, u8) -> Result<Built, ParseError>> ItemRules<F> {
+impl<'a, F: Fn(&'a Bump, &mut Cursor<'_>, usize, u8) -> Result<Built<&'a Bump>, ParseError>> ItemRules<'a, F> {
     /// The token of a kind and the expression after it, or nothing.
     #[tactic(auto, using(pyc_build::proofs::Steps::ReadsTokens_made), unfolding(pyc_tree::specs::Items::tail))]
-    pub fn tail(&self, tokens: &mut Cursor<'_>, kind: Kind) -> Result<BuiltTail, ParseError>
+    pub fn tail(&self, tokens: &mut Cursor<'_>, kind: Kind) -> Result<BuiltTail<&'a Bump>, ParseError>
         requires { ReadsExpressions self.now.depth (F.pre self.now.expr) (F.post self.now.expr) }
         ensures { ReadsTokens (λ b. tail_of b.tail) (items.tail (spec.expr self.now.depth) kind tokens.old.rest.now)
             result tokens.new.rest.now }
@@ -34,7 +34,7 @@ impl<F: Fn(Global, &mut Cursor<'_>, usize, u8) -> Result<Built, ParseError>> Ite
 
     /// An expression, if one begins.
     #[tactic(auto, using(pyc_build::proofs::Steps::ReadsTokens_made), unfolding(pyc_tree::specs::Items::optional_bound))]
-    pub fn optional_bound(&self, tokens: &mut Cursor<'_>) -> Result<BuiltOption, ParseError>
+    pub fn optional_bound(&self, tokens: &mut Cursor<'_>) -> Result<BuiltOption<&'a Bump>, ParseError>
         requires { ReadsExpressions self.now.depth (F.pre self.now.expr) (F.post self.now.expr) }
         ensures { ReadsTokens (λ b. perhaps_of b.expr) (items.optional_bound (spec.expr self.now.depth)
             tokens.old.rest.now)
@@ -50,7 +50,7 @@ impl<F: Fn(Global, &mut Cursor<'_>, usize, u8) -> Result<Built, ParseError>> Ite
 
     /// `*` and an operand of this precedence.
     #[tactic(auto, using(pyc_build::proofs::Steps::ReadsTokens_made), unfolding(pyc_tree::specs::Items::starred))]
-    pub fn starred(&self, tokens: &mut Cursor<'_>, loosest: u8) -> Result<Built, ParseError>
+    pub fn starred(&self, tokens: &mut Cursor<'_>, loosest: u8) -> Result<Built<&'a Bump>, ParseError>
         requires { ReadsExpressions self.now.depth (F.pre self.now.expr) (F.post self.now.expr) }
         ensures { ReadsTokens (λ b. tree_of b.expr.value)
             (items.starred (spec.expr self.now.depth) loosest tokens.old.rest.now) result tokens.new.rest.now }
@@ -62,7 +62,7 @@ impl<F: Fn(Global, &mut Cursor<'_>, usize, u8) -> Result<Built, ParseError>> Ite
 
     /// `**` and a mapping.
     #[tactic(auto, using(pyc_build::proofs::Steps::ReadsTokens_made), unfolding(pyc_tree::specs::Items::mapping))]
-    pub fn mapping(&self, tokens: &mut Cursor<'_>) -> Result<Built, ParseError>
+    pub fn mapping(&self, tokens: &mut Cursor<'_>) -> Result<Built<&'a Bump>, ParseError>
         requires { ReadsExpressions self.now.depth (F.pre self.now.expr) (F.post self.now.expr) }
         ensures { ReadsTokens (λ b. tree_of b.expr.value)
             (items.mapping (spec.expr self.now.depth) tokens.old.rest.now) result tokens.new.rest.now }
@@ -74,7 +74,7 @@ impl<F: Fn(Global, &mut Cursor<'_>, usize, u8) -> Result<Built, ParseError>> Ite
 
     /// `**` and a value, as an argument.
     #[tactic(auto, using(pyc_build::proofs::Steps::ReadsTokens_made), unfolding(pyc_tree::specs::Items::double_starred))]
-    pub fn double_starred(&self, tokens: &mut Cursor<'_>) -> Result<Built, ParseError>
+    pub fn double_starred(&self, tokens: &mut Cursor<'_>) -> Result<Built<&'a Bump>, ParseError>
         requires { ReadsExpressions self.now.depth (F.pre self.now.expr) (F.post self.now.expr) }
         ensures { ReadsTokens (λ b. tree_of b.expr.value)
             (items.double_starred (spec.expr self.now.depth) tokens.old.rest.now) result tokens.new.rest.now }
@@ -86,7 +86,7 @@ impl<F: Fn(Global, &mut Cursor<'_>, usize, u8) -> Result<Built, ParseError>> Ite
 
     /// An element, or a key with its value.
     #[tactic(auto, using(pyc_build::proofs::Steps::ReadsTokens_made), unfolding(pyc_tree::specs::Items::element_or_entry))]
-    pub fn element_or_entry(&self, tokens: &mut Cursor<'_>) -> Result<Built, ParseError>
+    pub fn element_or_entry(&self, tokens: &mut Cursor<'_>) -> Result<Built<&'a Bump>, ParseError>
         requires { ReadsExpressions self.now.depth (F.pre self.now.expr) (F.post self.now.expr) }
         ensures { ReadsTokens (λ b. tree_of b.expr.value) (items.element_or_entry (spec.expr self.now.depth)
             tokens.old.rest.now)
@@ -107,11 +107,11 @@ impl<F: Fn(Global, &mut Cursor<'_>, usize, u8) -> Result<Built, ParseError>> Ite
     pub fn parse_slice(
         &self,
         tokens: &mut Cursor<'_>,
-        lower: BuiltOption,
-    ) -> Result<Built, ParseError>
+        lower: BuiltOption<&'a Bump>,
+    ) -> Result<Built<&'a Bump>, ParseError>
         requires { ReadsExpressions self.now.depth (F.pre self.now.expr) (F.post self.now.expr) }
         ensures { ReadsTokens (λ b. tree_of b.expr.value)
-            (items.parse_slice (spec.expr self.now.depth) (perhaps_of lower.expr) tokens.old.rest.now) result
+            (items.parse_slice (spec.expr self.now.depth) (perhaps_of lower.entry.expr) tokens.old.rest.now) result
             tokens.new.rest.now }
     {
         let colon = tokens.take()?;
@@ -127,7 +127,7 @@ impl<F: Fn(Global, &mut Cursor<'_>, usize, u8) -> Result<Built, ParseError>> Ite
 
     /// An index: an expression or a slice.
     #[tactic(auto, using(pyc_build::proofs::Steps::ReadsTokens_made), unfolding(pyc_tree::specs::Items::index))]
-    pub fn index(&self, tokens: &mut Cursor<'_>) -> Result<Built, ParseError>
+    pub fn index(&self, tokens: &mut Cursor<'_>) -> Result<Built<&'a Bump>, ParseError>
         requires { ReadsExpressions self.now.depth (F.pre self.now.expr) (F.post self.now.expr) }
         ensures { ReadsTokens (λ b. tree_of b.expr.value) (items.index (spec.expr self.now.depth) tokens.old.rest.now)
             result tokens.new.rest.now }
@@ -145,10 +145,10 @@ impl<F: Fn(Global, &mut Cursor<'_>, usize, u8) -> Result<Built, ParseError>> Ite
 
     /// A keyword's value, after its name.
     #[tactic(auto, using(pyc_build::proofs::Steps::ReadsTokens_made, pyc_tree::proofs::ViewLemmas::view_Name))]
-    fn keyword(&self, tokens: &mut Cursor<'_>, key: Built) -> Result<Built, ParseError>
+    fn keyword(&self, tokens: &mut Cursor<'_>, key: Built<&'a Bump>) -> Result<Built<&'a Bump>, ParseError>
         requires { ReadsExpressions self.now.depth (F.pre self.now.expr) (F.post self.now.expr) }
         ensures { ReadsTokens (λ b. tree_of b.expr.value)
-            (items.keyword (spec.expr self.now.depth) (tree_of key.expr.value) tokens.old.rest.now) result
+            (items.keyword (spec.expr self.now.depth) (tree_of key.entry.expr.value) tokens.old.rest.now) result
             tokens.new.rest.now }
     {
         match *key.expr {
@@ -163,7 +163,7 @@ impl<F: Fn(Global, &mut Cursor<'_>, usize, u8) -> Result<Built, ParseError>> Ite
 
     /// An argument, or a keyword with its value.
     #[tactic(auto, using(pyc_build::proofs::Steps::ReadsTokens_made), unfolding(pyc_tree::specs::Items::argument))]
-    fn argument(&self, tokens: &mut Cursor<'_>) -> Result<Built, ParseError>
+    fn argument(&self, tokens: &mut Cursor<'_>) -> Result<Built<&'a Bump>, ParseError>
         requires { ReadsExpressions self.now.depth (F.pre self.now.expr) (F.post self.now.expr) }
         ensures { ReadsTokens (λ b. tree_of b.expr.value)
             (items.argument (spec.expr self.now.depth) tokens.old.rest.now) result tokens.new.rest.now }
@@ -178,10 +178,10 @@ impl<F: Fn(Global, &mut Cursor<'_>, usize, u8) -> Result<Built, ParseError>> Ite
 
     /// A target after `as`.
     #[tactic(auto, using(pyc_build::proofs::Steps::ReadsTokens_made), unfolding(pyc_tree::specs::Items::with_target))]
-    fn with_target(&self, tokens: &mut Cursor<'_>, value: Built) -> Result<Built, ParseError>
+    fn with_target(&self, tokens: &mut Cursor<'_>, value: Built<&'a Bump>) -> Result<Built<&'a Bump>, ParseError>
         requires { ReadsExpressions self.now.depth (F.pre self.now.expr) (F.post self.now.expr) }
         ensures { ReadsTokens (λ b. tree_of b.expr.value)
-            (items.with_target (spec.expr self.now.depth) (tree_of value.expr.value) tokens.old.rest.now) result
+            (items.with_target (spec.expr self.now.depth) (tree_of value.entry.expr.value) tokens.old.rest.now) result
             tokens.new.rest.now }
     {
         let word = tokens.take()?;
@@ -195,7 +195,7 @@ impl<F: Fn(Global, &mut Cursor<'_>, usize, u8) -> Result<Built, ParseError>> Ite
 
     /// A context manager, perhaps with its target.
     #[tactic(auto, using(pyc_build::proofs::Steps::ReadsTokens_made), unfolding(pyc_tree::specs::Items::with_item))]
-    fn with_item(&self, tokens: &mut Cursor<'_>) -> Result<Built, ParseError>
+    fn with_item(&self, tokens: &mut Cursor<'_>) -> Result<Built<&'a Bump>, ParseError>
         requires { ReadsExpressions self.now.depth (F.pre self.now.expr) (F.post self.now.expr) }
         ensures { ReadsTokens (λ b. tree_of b.expr.value)
             (items.with_item (spec.expr self.now.depth) tokens.old.rest.now) result tokens.new.rest.now }
@@ -215,7 +215,7 @@ impl<F: Fn(Global, &mut Cursor<'_>, usize, u8) -> Result<Built, ParseError>> Ite
         tokens: &mut Cursor<'_>,
         loosest: u8,
         kind: Kind,
-    ) -> Result<Built, ParseError>
+    ) -> Result<Built<&'a Bump>, ParseError>
         requires { ReadsExpressions self.now.depth (F.pre self.now.expr) (F.post self.now.expr) }
         ensures { ReadsTokens (λ b. tree_of b.expr.value)
             (items.starred_or_expression (spec.expr self.now.depth) loosest kind tokens.old.rest.now) result
@@ -230,7 +230,7 @@ impl<F: Fn(Global, &mut Cursor<'_>, usize, u8) -> Result<Built, ParseError>> Ite
 
     /// An item between curly brackets.
     #[tactic(auto, using(pyc_build::proofs::Steps::ReadsTokens_made))]
-    fn brace_item_by_kind(&self, tokens: &mut Cursor<'_>, kind: Kind) -> Result<Built, ParseError>
+    fn brace_item_by_kind(&self, tokens: &mut Cursor<'_>, kind: Kind) -> Result<Built<&'a Bump>, ParseError>
         requires { ReadsExpressions self.now.depth (F.pre self.now.expr) (F.post self.now.expr) }
         ensures { ReadsTokens (λ b. tree_of b.expr.value)
             (items.brace_item_by_kind (spec.expr self.now.depth) kind tokens.old.rest.now) result tokens.new.rest.now }
@@ -246,7 +246,7 @@ impl<F: Fn(Global, &mut Cursor<'_>, usize, u8) -> Result<Built, ParseError>> Ite
 
     /// An item between the parentheses of a call.
     #[tactic(auto, using(pyc_build::proofs::Steps::ReadsTokens_made))]
-    fn argument_by_kind(&self, tokens: &mut Cursor<'_>, kind: Kind) -> Result<Built, ParseError>
+    fn argument_by_kind(&self, tokens: &mut Cursor<'_>, kind: Kind) -> Result<Built<&'a Bump>, ParseError>
         requires { ReadsExpressions self.now.depth (F.pre self.now.expr) (F.post self.now.expr) }
         ensures { ReadsTokens (λ b. tree_of b.expr.value)
             (items.argument_by_kind (spec.expr self.now.depth) kind tokens.old.rest.now) result tokens.new.rest.now }
@@ -267,7 +267,7 @@ impl<F: Fn(Global, &mut Cursor<'_>, usize, u8) -> Result<Built, ParseError>> Ite
         tokens: &mut Cursor<'_>,
         is_annotated: bool,
         kind: Kind,
-    ) -> Result<Built, ParseError>
+    ) -> Result<Built<&'a Bump>, ParseError>
         requires { ReadsExpressions self.now.depth (F.pre self.now.expr) (F.post self.now.expr) }
         ensures { ReadsTokens (λ b. tree_of b.expr.value)
             (items.parameter_by_kind (spec.expr self.now.depth) is_annotated kind tokens.old.rest.now) result
@@ -289,7 +289,7 @@ impl<F: Fn(Global, &mut Cursor<'_>, usize, u8) -> Result<Built, ParseError>> Ite
         tokens: &mut Cursor<'_>,
         here: ListContext,
         kind: Kind,
-    ) -> Result<Built, ParseError>
+    ) -> Result<Built<&'a Bump>, ParseError>
         requires { ReadsExpressions self.now.depth (F.pre self.now.expr) (F.post self.now.expr) }
         ensures { ReadsTokens (λ b. tree_of b.expr.value)
             (items.item_by_context (spec.expr self.now.depth) here kind tokens.old.rest.now) result
@@ -318,7 +318,7 @@ impl<F: Fn(Global, &mut Cursor<'_>, usize, u8) -> Result<Built, ParseError>> Ite
 
     /// An item that may stand in a context.
     #[tactic(auto, using(pyc_build::proofs::Steps::ReadsTokens_made), unfolding(pyc_tree::specs::Items::item))]
-    pub fn item(&self, tokens: &mut Cursor<'_>, here: ListContext) -> Result<Built, ParseError>
+    pub fn item(&self, tokens: &mut Cursor<'_>, here: ListContext) -> Result<Built<&'a Bump>, ParseError>
         requires { ReadsExpressions self.now.depth (F.pre self.now.expr) (F.post self.now.expr) }
         ensures { ReadsTokens (λ b. tree_of b.expr.value)
             (items.item (spec.expr self.now.depth) here tokens.old.rest.now) result tokens.new.rest.now }

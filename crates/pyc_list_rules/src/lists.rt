@@ -11,18 +11,19 @@ ghost use Rattle.pyc_tree.specs.Tree as tree;
 ghost use Rattle.pyc_tree.specs.View.{tree_of, pieces_of, pieces_before};
 
 use crate::rules::ItemRules;
+use bumpalo::Bump;
 use pyc_build::{Built, BuiltPieces, Listed, ParseError, PiecesSoFar, built, separate_single};
 use pyc_cursor::{Cursor, begins, is_at, may_end, next_context, same_kind};
 use pyc_token::{Delimiter, Kind};
 use pyc_tree::ListContext;
-use std::alloc::Global;
+use std::alloc::Allocator;
 
 /// The items that are read, where the list may end in this context.
-fn finish_list(
+fn finish_list<A: Allocator>(
     tokens: &Cursor<'_>,
     list_context: ListContext,
-    so_far: PiecesSoFar,
-) -> Result<BuiltPieces, ParseError>
+    so_far: PiecesSoFar<A>,
+) -> Result<BuiltPieces<A>, ParseError>
     ensures { ReadsTokens (λ b. pieces_of b.pieces)
         (items.checked (list_contexts.may_end list_context) (pieces_before so_far.each.items tree.none)
         tokens.now.rest.now) result tokens.now.rest.now }
@@ -35,12 +36,12 @@ fn finish_list(
 }
 
 /// The items that are read and a last one, `item`, without a comma, where the list may end in `list_context`.
-fn finish_list_with(
+fn finish_list_with<A: Allocator>(
     tokens: &Cursor<'_>,
     list_context: ListContext,
-    so_far: PiecesSoFar,
-    item: Built,
-) -> Result<BuiltPieces, ParseError>
+    so_far: PiecesSoFar<A>,
+    item: Built<A>,
+) -> Result<BuiltPieces<A>, ParseError>
     ensures { ReadsTokens (λ b. pieces_of b.pieces)
         (items.checked (list_contexts.may_end list_context)
         (pieces_before so_far.each.items (tree.last (tree_of item.expr.value))) tokens.now.rest.now) result
@@ -54,11 +55,11 @@ fn finish_list_with(
 }
 
 /// Items without brackets: one alone is itself, and is not starred.
-fn single_or_tuple(
-    alloc: Global,
+fn single_or_tuple<A: Allocator>(
+    alloc: A,
     tokens: &Cursor<'_>,
-    found: BuiltPieces,
-) -> Result<Built, ParseError>
+    found: BuiltPieces<A>,
+) -> Result<Built<A>, ParseError>
     ensures { ReadsTokens (λ b. tree_of b.expr.value)
         (items.single_or_tuple (spec.expr 0) (pieces_of found.pieces) tokens.now.rest.now) result tokens.now.rest.now }
 {
@@ -74,17 +75,17 @@ fn single_or_tuple(
     }
 }
 
-impl<F: Fn(Global, &mut Cursor<'_>, usize, u8) -> Result<Built, ParseError>> ItemRules<F> {
+impl<'a, F: Fn(&'a Bump, &mut Cursor<'_>, usize, u8) -> Result<Built<&'a Bump>, ParseError>> ItemRules<'a, F> {
     /// An item that is read already, and those after it.
     pub fn parse_items_from(
         &self,
         tokens: &mut Cursor<'_>,
         here: ListContext,
-        first: Built,
-    ) -> Result<BuiltPieces, ParseError>
+        first: Built<&'a Bump>,
+    ) -> Result<BuiltPieces<&'a Bump>, ParseError>
         requires { ReadsExpressions self.now.depth (F.pre self.now.expr) (F.post self.now.expr) }
         ensures { ReadsTokens (λ b. pieces_of b.pieces)
-            (items.parse_items_from (spec.expr self.now.depth) here (tree_of first.expr.value) tokens.old.rest.now)
+            (items.parse_items_from (spec.expr self.now.depth) here (tree_of first.entry.expr.value) tokens.old.rest.now)
             result
             tokens.new.rest.now }
     {
@@ -112,7 +113,7 @@ impl<F: Fn(Global, &mut Cursor<'_>, usize, u8) -> Result<Built, ParseError>> Ite
         &self,
         tokens: &mut Cursor<'_>,
         here: ListContext,
-    ) -> Result<BuiltPieces, ParseError>
+    ) -> Result<BuiltPieces<&'a Bump>, ParseError>
         requires { ReadsExpressions self.now.depth (F.pre self.now.expr) (F.post self.now.expr) }
         ensures { ReadsTokens (λ b. pieces_of b.pieces)
             (items.optional_items (spec.expr self.now.depth) here tokens.old.rest.now) result tokens.new.rest.now }
@@ -131,7 +132,7 @@ impl<F: Fn(Global, &mut Cursor<'_>, usize, u8) -> Result<Built, ParseError>> Ite
         &self,
         tokens: &mut Cursor<'_>,
         here: ListContext,
-    ) -> Result<Built, ParseError>
+    ) -> Result<Built<&'a Bump>, ParseError>
         requires { ReadsExpressions self.now.depth (F.pre self.now.expr) (F.post self.now.expr) }
         ensures { ReadsTokens (λ b. tree_of b.expr.value)
             (items.expressions (spec.expr self.now.depth) here tokens.old.rest.now) result tokens.new.rest.now }
@@ -143,7 +144,7 @@ impl<F: Fn(Global, &mut Cursor<'_>, usize, u8) -> Result<Built, ParseError>> Ite
 
     /// A target, or a tuple of targets without brackets.
     #[tactic(auto, using(pyc_build::proofs::Steps::ReadsTokens_made), unfolding(pyc_tree::specs::Items::targets))]
-    pub fn targets(&self, tokens: &mut Cursor<'_>) -> Result<Built, ParseError>
+    pub fn targets(&self, tokens: &mut Cursor<'_>) -> Result<Built<&'a Bump>, ParseError>
         requires { ReadsExpressions self.now.depth (F.pre self.now.expr) (F.post self.now.expr) }
         ensures { ReadsTokens (λ b. tree_of b.expr.value)
             (items.targets (spec.expr self.now.depth) tokens.old.rest.now) result tokens.new.rest.now }

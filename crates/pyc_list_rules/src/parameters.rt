@@ -9,19 +9,19 @@ ghost use Rattle.pyc_build.specs.ReadsTokens.{ReadsTokens};
 ghost use Rattle.pyc_tree.specs.View.{tree_of, tail_of};
 
 use crate::rules::ItemRules;
+use bumpalo::Bump;
 use pyc_build::{Built, BuiltTail, ParseError, built};
 use pyc_cursor::{Cursor, is_name};
 use pyc_token::{Delimiter, Kind};
-use std::alloc::Global;
 
-impl<F: Fn(Global, &mut Cursor<'_>, usize, u8) -> Result<Built, ParseError>> ItemRules<F> {
+impl<'a, F: Fn(&'a Bump, &mut Cursor<'_>, usize, u8) -> Result<Built<&'a Bump>, ParseError>> ItemRules<'a, F> {
     /// The annotation of a parameter; a lambda's has none.
     #[tactic(auto, using(pyc_build::proofs::Steps::ReadsTokens_made))]
     fn annotation(
         &self,
         tokens: &mut Cursor<'_>,
         is_annotated: bool,
-    ) -> Result<BuiltTail, ParseError>
+    ) -> Result<BuiltTail<&'a Bump>, ParseError>
         requires { ReadsExpressions self.now.depth (F.pre self.now.expr) (F.post self.now.expr) }
         ensures { ReadsTokens (λ b. tail_of b.tail)
             (items.annotation (spec.expr self.now.depth) is_annotated tokens.old.rest.now) result
@@ -40,7 +40,7 @@ impl<F: Fn(Global, &mut Cursor<'_>, usize, u8) -> Result<Built, ParseError>> Ite
         &self,
         tokens: &mut Cursor<'_>,
         is_annotated: bool,
-    ) -> Result<Built, ParseError>
+    ) -> Result<Built<&'a Bump>, ParseError>
         requires { ReadsExpressions self.now.depth (F.pre self.now.expr) (F.post self.now.expr) }
         ensures { ReadsTokens (λ b. tree_of b.expr.value)
             (items.star_parameter (spec.expr self.now.depth) is_annotated tokens.old.rest.now) result
@@ -62,7 +62,7 @@ impl<F: Fn(Global, &mut Cursor<'_>, usize, u8) -> Result<Built, ParseError>> Ite
         &self,
         tokens: &mut Cursor<'_>,
         is_annotated: bool,
-    ) -> Result<Built, ParseError>
+    ) -> Result<Built<&'a Bump>, ParseError>
         requires { ReadsExpressions self.now.depth (F.pre self.now.expr) (F.post self.now.expr) }
         ensures { ReadsTokens (λ b. tree_of b.expr.value)
             (items.double_parameter (spec.expr self.now.depth) is_annotated tokens.old.rest.now) result
@@ -80,7 +80,7 @@ impl<F: Fn(Global, &mut Cursor<'_>, usize, u8) -> Result<Built, ParseError>> Ite
         &self,
         tokens: &mut Cursor<'_>,
         is_annotated: bool,
-    ) -> Result<Built, ParseError>
+    ) -> Result<Built<&'a Bump>, ParseError>
         requires { ReadsExpressions self.now.depth (F.pre self.now.expr) (F.post self.now.expr) }
         ensures { ReadsTokens (λ b. tree_of b.expr.value)
             (items.plain_parameter (spec.expr self.now.depth) is_annotated tokens.old.rest.now) result

@@ -8,22 +8,22 @@ ghost use Rattle.pyc_list_rules.specs.ReadsExpressions.{ReadsExpressions};
 ghost use Rattle.pyc_build.specs.ReadsTokens.{ReadsTokens};
 ghost use Rattle.pyc_tree.specs.View.{tree_of};
 
+use bumpalo::Bump;
 use pyc_build::{Built, ParseError};
 use pyc_cursor::Cursor;
-use std::alloc::Global;
 
 /// The rules, over a function that reads expressions.
 #[derive(Clone, Copy)]
-pub struct ItemRules<F> {
-    pub alloc: Global,
+pub struct ItemRules<'a, F> {
+    pub alloc: &'a Bump,
     /// How deep expressions may still nest.
     pub depth: usize,
     pub expr: F,
 }
 
-impl<F: Fn(Global, &mut Cursor<'_>, usize, u8) -> Result<Built, ParseError>> ItemRules<F> {
+impl<'a, F: Fn(&'a Bump, &mut Cursor<'_>, usize, u8) -> Result<Built<&'a Bump>, ParseError>> ItemRules<'a, F> {
     /// An expression that goes on with operators of a precedence or tighter ones.
-    pub fn expr(&self, tokens: &mut Cursor<'_>, loosest: u8) -> Result<Built, ParseError>
+    pub fn expr(&self, tokens: &mut Cursor<'_>, loosest: u8) -> Result<Built<&'a Bump>, ParseError>
         requires { ReadsExpressions self.now.depth (F.pre self.now.expr) (F.post self.now.expr) }
         ensures { ReadsTokens (λ b. tree_of b.expr.value) (spec.expr self.now.depth loosest tokens.old.rest.now)
             result tokens.new.rest.now }

@@ -9,16 +9,16 @@ ghost use Rattle.pyc_build.specs.ReadsTokens.{ReadsTokens};
 ghost use Rattle.pyc_tree.specs.View.{tree_of};
 
 use crate::rules::ItemRules;
+use bumpalo::Bump;
 use pyc_build::{Built, ParseError, built};
 use pyc_cursor::{Cursor, begins, same_kind};
 use pyc_token::{Bracket, Keyword, Kind, Token};
 use pyc_tree::ListContext;
-use std::alloc::Global;
 
-impl<F: Fn(Global, &mut Cursor<'_>, usize, u8) -> Result<Built, ParseError>> ItemRules<F> {
+impl<'a, F: Fn(&'a Bump, &mut Cursor<'_>, usize, u8) -> Result<Built<&'a Bump>, ParseError>> ItemRules<'a, F> {
     /// `yield`, `from` and a value, after the `yield`.
     #[tactic(auto, using(pyc_build::proofs::Steps::ReadsTokens_made), unfolding(pyc_tree::specs::Items::yield_from))]
-    fn yield_from(&self, tokens: &mut Cursor<'_>, word: Token) -> Result<Built, ParseError>
+    fn yield_from(&self, tokens: &mut Cursor<'_>, word: Token) -> Result<Built<&'a Bump>, ParseError>
         requires { ReadsExpressions self.now.depth (F.pre self.now.expr) (F.post self.now.expr) }
         ensures { ReadsTokens (λ b. tree_of b.expr.value)
             (items.yield_from (spec.expr self.now.depth) word tokens.old.rest.now) result tokens.new.rest.now }
@@ -30,7 +30,7 @@ impl<F: Fn(Global, &mut Cursor<'_>, usize, u8) -> Result<Built, ParseError>> Ite
 
     /// The value of a `yield`, after it.
     #[tactic(auto, using(pyc_build::proofs::Steps::ReadsTokens_made), unfolding(pyc_tree::specs::Items::yield_value))]
-    fn yield_value(&self, tokens: &mut Cursor<'_>, word: Token) -> Result<Built, ParseError>
+    fn yield_value(&self, tokens: &mut Cursor<'_>, word: Token) -> Result<Built<&'a Bump>, ParseError>
         requires { ReadsExpressions self.now.depth (F.pre self.now.expr) (F.post self.now.expr) }
         ensures { ReadsTokens (λ b. tree_of b.expr.value)
             (items.yield_value (spec.expr self.now.depth) word tokens.old.rest.now) result tokens.new.rest.now }
@@ -41,7 +41,7 @@ impl<F: Fn(Global, &mut Cursor<'_>, usize, u8) -> Result<Built, ParseError>> Ite
 
     /// A `yield`.
     #[tactic(auto, using(pyc_build::proofs::Steps::ReadsTokens_made), unfolding(pyc_tree::specs::Items::yield_expression))]
-    pub fn yield_expression(&self, tokens: &mut Cursor<'_>) -> Result<Built, ParseError>
+    pub fn yield_expression(&self, tokens: &mut Cursor<'_>) -> Result<Built<&'a Bump>, ParseError>
         requires { ReadsExpressions self.now.depth (F.pre self.now.expr) (F.post self.now.expr) }
         ensures { ReadsTokens (λ b. tree_of b.expr.value)
             (items.yield_expression (spec.expr self.now.depth) tokens.old.rest.now) result tokens.new.rest.now }
@@ -62,7 +62,7 @@ impl<F: Fn(Global, &mut Cursor<'_>, usize, u8) -> Result<Built, ParseError>> Ite
         &self,
         tokens: &mut Cursor<'_>,
         opening: Token,
-    ) -> Result<Built, ParseError>
+    ) -> Result<Built<&'a Bump>, ParseError>
         requires { ReadsExpressions self.now.depth (F.pre self.now.expr) (F.post self.now.expr) }
         ensures { ReadsTokens (λ b. tree_of b.expr.value)
             (items.yield_enclosed (spec.expr self.now.depth) opening tokens.old.rest.now) result tokens.new.rest.now }

@@ -11,9 +11,10 @@ ghost use Rattle.pyc_tree.specs.View.{tree_of, pieces_of};
 ghost use Rattle.pyc_tree.specs.WellLines as line;
 
 use pyc_tree::{Expr, Line, Piece, Pieces, Separated, SimpleStatement};
+use std::alloc::Allocator;
 
 /// Whether a tree is `*` and an operand.
-fn is_starred(tree: &Expr) -> bool
+fn is_starred<A: Allocator>(tree: &Expr<A>) -> bool
     ensures { result ≡ target.is_starred (tree_of tree.now) }
 {
     match tree {
@@ -23,7 +24,7 @@ fn is_starred(tree: &Expr) -> bool
 }
 
 /// Whether one of these items is starred.
-fn any_starred(items: &[Piece]) -> bool
+fn any_starred<A: Allocator>(items: &[Piece<A>]) -> bool
     ensures { result ≡ list_any (λ item. target.is_starred (tree_of item.value.value)) items.now }
 {
     for item in items {
@@ -35,7 +36,7 @@ fn any_starred(items: &[Piece]) -> bool
 }
 
 /// Whether no item is starred.
-fn has_no_star(items: &Pieces) -> bool
+fn has_no_star<A: Allocator>(items: &Pieces<A>) -> bool
     ensures { result ≡ line.has_no_star (pieces_of items.now) }
 {
     if any_starred(&items.each) {
@@ -48,7 +49,7 @@ fn has_no_star(items: &Pieces) -> bool
 }
 
 /// Whether what stands as a statement is an expression list.
-fn is_input(tree: &Expr) -> bool
+fn is_input<A: Allocator>(tree: &Expr<A>) -> bool
     ensures { result ≡ spec.is_input (tree_of tree.now) }
 {
     match tree {
@@ -60,7 +61,7 @@ fn is_input(tree: &Expr) -> bool
 }
 
 /// The expression that a simple statement is.
-fn expression_of_statement(statement: &SimpleStatement) -> Option<&Expr>
+fn expression_of_statement<A: Allocator>(statement: &SimpleStatement<A>) -> Option<&Expr<A>>
     ensures { option_map (λ tree. tree_of tree.now) result ≡ spec.expression_of_statement (statement_of statement.now) }
 {
     let SimpleStatement::Expression(tree) = statement else {
@@ -70,7 +71,7 @@ fn expression_of_statement(statement: &SimpleStatement) -> Option<&Expr>
 }
 
 /// The expression that simple statements are.
-fn expression_of_statements(statements: &Separated<SimpleStatement>) -> Option<&Expr>
+fn expression_of_statements<A: Allocator>(statements: &Separated<SimpleStatement<A>, A>) -> Option<&Expr<A>>
     ensures { option_map (λ tree. tree_of tree.now) result
         ≡ spec.expression_of_statements (separated_of statement_of statements.now) }
 {
@@ -84,7 +85,7 @@ fn expression_of_statements(statements: &Separated<SimpleStatement>) -> Option<&
 }
 
 /// The expression that a line is.
-pub fn expression_of_line(line: &Line) -> Option<&Expr>
+pub fn expression_of_line<A: Allocator>(line: &Line<A>) -> Option<&Expr<A>>
     ensures { option_map (λ tree. tree_of tree.now) result ≡ spec.expression_of_line (line_of line.now) }
 {
     match line {

@@ -8,6 +8,7 @@ ghost use Rattle.pyc_lower.specs.Parts.{part_in, lowered_of, AddsPart, AnswersPa
 ghost use Rattle.pyc_lower_atom.specs.OriginView.{origin_of};
 
 use crate::read_strings::{ReadStrings, strings_of_lines};
+use bumpalo::Bump;
 use pyc_ast::Stmt;
 use pyc_lex::{Keyword, Kind, LogicalLine, Scan};
 use pyc_lower_block::{into_statements, statements_suspend};
@@ -72,6 +73,7 @@ fn begins_part(part: &[LogicalLine], line: &LogicalLine) -> bool {
 /// error is that memory runs out.
 fn add_lines<Q: Quotes>(
     lowering: &Lowering<'_, Q>,
+    arena: &Bump,
     part: Vec<LogicalLine>,
     found: &mut Lowered,
     names: &mut Names,
@@ -85,7 +87,7 @@ fn add_lines<Q: Quotes>(
         ignores: Vec::new(lowering.alloc),
         whole_file: false,
     };
-    match parse(lowering.alloc, scan) {
+    match parse(lowering.alloc, arena, scan) {
         Ok(module) => {
             found.suspends = found.suspends || statements_suspend(&module.statements);
             let mut more = into_statements(lowering, module.statements, names)?;
@@ -106,6 +108,7 @@ fn add_lines<Q: Quotes>(
 /// fault adds nothing. The only error is that memory runs out.
 fn add_part<Q: Quotes>(
     lowering: &Lowering<'_, Q>,
+    arena: &mut Bump,
     part: Vec<LogicalLine>,
     found: &mut Lowered,
     names: &mut Names,
@@ -124,8 +127,10 @@ fn add_part<Q: Quotes>(
         origin: lowering.origin,
         quotes: &quotes,
     };
-    let fault = add_lines(&lowering, part, found, names);
+    let fault = add_lines(&lowering, arena, part, found, names);
     drop(strings.into_inner());
+    // Where it fails, the arena stays as it is and goes on growing.
+    let _ = arena.reset();
     fault
 }
 
@@ -148,8 +153,9 @@ pub fn lower_whole<Q: Quotes>(
     ensures { IfOk result (λ parts. AnswersWhole
         (part_in Q.spelled (origin_of lowering.now.origin) (map line_in lines.items)) parts) }
 {
+    let mut arena = Bump::new(lowering.alloc);
     let mut found = nothing(lowering.alloc);
-    match add_part(lowering, lines, &mut found, names)? {
+    match add_part(lowering, &mut arena, lines, &mut found, names)? {
         Some(fault) => Ok(Parts::Fault(fault)),
         None => Ok(Parts::Lowered(found)),
     }
@@ -174,19 +180,20 @@ pub fn lower_parts<Q: Quotes>(
     ensures { IfOk result (λ parts. AnswersParts
         (part_in Q.spelled (origin_of lowering.now.origin) (map line_in lines.items)) parts) }
 {
+    let mut arena = Bump::new(lowering.alloc);
     let mut found = nothing(lowering.alloc);
     let mut part = Vec::with_capacity(lowering.alloc, PART_LINES)?;
     for line in lines {
         if begins_part(&part, &line) {
             let next = Vec::with_capacity(lowering.alloc, PART_LINES)?;
             let whole = mem::replace(&mut part, next);
-            if let Some(fault) = add_part(lowering, whole, &mut found, names)? {
+            if let Some(fault) = add_part(lowering, &mut arena, whole, &mut found, names)? {
                 return Ok(parts_of_fault(fault));
             }
         }
         part.push(line)?;
     }
-    match add_part(lowering, part, &mut found, names)? {
+    match add_part(lowering, &mut arena, part, &mut found, names)? {
         Some(fault) => Ok(parts_of_fault(fault)),
         None => Ok(Parts::Lowered(found)),
     }

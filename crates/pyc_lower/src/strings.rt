@@ -11,19 +11,20 @@ use crate::content::{content, is_skipped};
 use crate::expression_input::expression_of_line;
 use crate::only_line::only_line;
 use crate::read_strings::{ReadStrings, strings_of_lines};
+use bumpalo::Bump;
 use pyc_ast::{Expr, Position};
 use pyc_lex::LogicalLine;
 use pyc_lower_expression::{Lowering, Names, Origin, Quotes, Role};
 use pyc_tree::Expr as Tree;
-use std::alloc::{AllocError, Global};
+use std::alloc::{AllocError, Allocator, Global};
 use std::cell::Cell;
 
 /// The expression that a tree on these lines is as an annotation, their long strings read before it. The only error is
 /// that memory runs out.
-fn lower_annotation<Q: Quotes>(
+fn lower_annotation<Q: Quotes, A: Allocator>(
     lowering: &Lowering<'_, Q>,
     lines: &[LogicalLine],
-    tree: &Tree,
+    tree: &Tree<A>,
     names: &mut Names,
 ) -> Result<Expr, AllocError>
     ensures { IfOk result (λ e. expr_of e
@@ -69,7 +70,8 @@ impl<Q: Quotes> Quotes for Inside<Q> {
             return Ok(None);
         }
         let source = content(text);
-        let Some(line) = only_line(alloc, source)? else {
+        let arena = Bump::new(alloc);
+        let Some(line) = only_line(alloc, &arena, source)? else {
             return Ok(None);
         };
         let Some(tree) = expression_of_line(&line.tree) else {

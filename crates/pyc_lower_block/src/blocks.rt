@@ -20,12 +20,12 @@ use pyc_lower_statement::{header_at, statement};
 use pyc_tree::{
     CompoundClause, Decorator, Header, Separated, SimpleStatement, Stmt as Tree, Suite,
 };
-use std::alloc::AllocError;
+use std::alloc::{AllocError, Allocator};
 
 /// Puts the statements of a line behind others.
-fn push_line<Q: Quotes>(
+fn push_line<Q: Quotes, A: Allocator>(
     lowering: &Lowering<'_, Q>,
-    line: &Separated<SimpleStatement>,
+    line: &Separated<SimpleStatement<A>, A>,
     found: &mut Vec<Stmt>,
     names: &mut Names,
 ) -> Result<(), AllocError>
@@ -43,9 +43,9 @@ fn push_line<Q: Quotes>(
 }
 
 /// The decorators of a function or a class.
-fn decorators<Q: Quotes>(
+fn decorators<Q: Quotes, A: Allocator>(
     lowering: &Lowering<'_, Q>,
-    marks: &[Decorator],
+    marks: &[Decorator<A>],
     names: &mut Names,
 ) -> Result<Vec<Expr>, AllocError>
     ensures { IfOk result (λ found. map expr_of found.items
@@ -61,9 +61,9 @@ fn decorators<Q: Quotes>(
 
 /// The statements of a block; the only error is that memory runs out.
 #[cycle(blocks)]
-fn statements<Q: Quotes>(
+fn statements<Q: Quotes, A: Allocator>(
     lowering: &Lowering<'_, Q>,
-    trees: &[Tree],
+    trees: &[Tree<A>],
     names: &mut Names,
 ) -> Result<Vec<Stmt>, AllocError>
     ensures { IfOk result (λ found. map made_of found.items
@@ -79,9 +79,9 @@ fn statements<Q: Quotes>(
 
 /// The statements of a block whose trees are needed no longer: each is dropped once it is lowered, while it is near.
 /// The only error is that memory runs out.
-pub fn into_statements<Q: Quotes>(
+pub fn into_statements<Q: Quotes, A: Allocator>(
     lowering: &Lowering<'_, Q>,
-    trees: Vec<Tree>,
+    trees: Vec<Tree<A>, A>,
     names: &mut Names,
 ) -> Result<Vec<Stmt>, AllocError>
     ensures { IfOk result (λ found. map made_of found.items
@@ -97,9 +97,9 @@ pub fn into_statements<Q: Quotes>(
 
 /// Puts the statements of a line, or a compound one, behind others.
 #[cycle(blocks)]
-fn push_statement<Q: Quotes>(
+fn push_statement<Q: Quotes, A: Allocator>(
     lowering: &Lowering<'_, Q>,
-    statement: &Tree,
+    statement: &Tree<A>,
     found: &mut Vec<Stmt>,
     names: &mut Names,
 ) -> Result<(), AllocError>
@@ -122,9 +122,9 @@ fn push_statement<Q: Quotes>(
 /// What stands in a compound statement beside its header, by its decorators, its first block and the clauses after
 /// the first.
 #[cycle(blocks)]
-fn parts<Q: Quotes>(
+fn parts<Q: Quotes, A: Allocator>(
     lowering: &Lowering<'_, Q>,
-    clauses: &[CompoundClause],
+    clauses: &[CompoundClause<A>],
     decorators: Vec<Expr>,
     body: Block,
     names: &mut Names,
@@ -145,9 +145,9 @@ fn parts<Q: Quotes>(
 
 /// What a header heads.
 #[cycle(blocks)]
-fn suite<Q: Quotes>(
+fn suite<Q: Quotes, A: Allocator>(
     lowering: &Lowering<'_, Q>,
-    suite: &Suite,
+    suite: &Suite<A>,
     names: &mut Names,
 ) -> Result<Vec<Stmt>, AllocError>
     ensures { IfOk result (λ found. map made_of found.items
@@ -165,9 +165,9 @@ fn suite<Q: Quotes>(
 
 /// Puts the branch that a clause is, if it is one, behind others.
 #[cycle(blocks)]
-fn push_branch<Q: Quotes>(
+fn push_branch<Q: Quotes, A: Allocator>(
     lowering: &Lowering<'_, Q>,
-    clause: &CompoundClause,
+    clause: &CompoundClause<A>,
     found: &mut Vec<Branch>,
     names: &mut Names,
 ) -> Result<(), AllocError>
@@ -187,9 +187,9 @@ fn push_branch<Q: Quotes>(
 
 /// Each `elif` of these clauses.
 #[cycle(blocks)]
-fn branches<Q: Quotes>(
+fn branches<Q: Quotes, A: Allocator>(
     lowering: &Lowering<'_, Q>,
-    clauses: &[CompoundClause],
+    clauses: &[CompoundClause<A>],
     names: &mut Names,
 ) -> Result<Vec<Branch>, AllocError>
     ensures { IfOk result (λ found. map branch_of found.items
@@ -205,9 +205,9 @@ fn branches<Q: Quotes>(
 
 /// Puts the handler that a clause is, if it is one, behind others.
 #[cycle(blocks)]
-fn push_handler<Q: Quotes>(
+fn push_handler<Q: Quotes, A: Allocator>(
     lowering: &Lowering<'_, Q>,
-    clause: &CompoundClause,
+    clause: &CompoundClause<A>,
     found: &mut Vec<Handler>,
     names: &mut Names,
 ) -> Result<(), AllocError>
@@ -232,9 +232,9 @@ fn push_handler<Q: Quotes>(
 
 /// Each `except` of these clauses.
 #[cycle(blocks)]
-fn handlers<Q: Quotes>(
+fn handlers<Q: Quotes, A: Allocator>(
     lowering: &Lowering<'_, Q>,
-    clauses: &[CompoundClause],
+    clauses: &[CompoundClause<A>],
     names: &mut Names,
 ) -> Result<Vec<Handler>, AllocError>
     ensures { IfOk result (λ found. map handler_of found.items
@@ -250,9 +250,9 @@ fn handlers<Q: Quotes>(
 
 /// The block of the clause that ends a statement in this way, empty where there is none.
 #[cycle(blocks)]
-fn ending_block<Q: Quotes>(
+fn ending_block<Q: Quotes, A: Allocator>(
     lowering: &Lowering<'_, Q>,
-    clauses: &[CompoundClause],
+    clauses: &[CompoundClause<A>],
     ending: Ending,
     names: &mut Names,
 ) -> Result<Vec<Stmt>, AllocError>

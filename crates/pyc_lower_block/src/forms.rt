@@ -25,7 +25,7 @@ use pyc_lower_expression::{Lowering, Names, Quotes, Role};
 use pyc_lower_statement::{alias, definition, for_head, with_items};
 use pyc_token::{Keyword, Kind, Token};
 use pyc_tree::{Alias, CompoundClause, Expr as Tree, Header, Pieces};
-use std::alloc::AllocError;
+use std::alloc::{AllocError, Allocator};
 
 /// What stands in a compound statement beside its header: its decorators, its first block, the `elif` branches, the
 /// handlers, and what stands after `else` and `finally`.
@@ -57,7 +57,7 @@ fn is_ending_word(ending: Ending, kind: Kind) -> bool
 }
 
 /// Whether a header begins the clause that ends a statement in this way.
-pub fn is_ending(ending: Ending, header: &Header) -> bool
+pub fn is_ending<A: Allocator>(ending: Ending, header: &Header<A>) -> bool
     ensures { result ≡ spec.is_ending ending (header_of header.now) }
 {
     match header {
@@ -67,10 +67,10 @@ pub fn is_ending(ending: Ending, header: &Header) -> bool
 }
 
 /// A branch of an `if`.
-pub fn branch<Q: Quotes>(
+pub fn branch<Q: Quotes, A: Allocator>(
     lowering: &Lowering<'_, Q>,
     word: Token,
-    test: &Tree,
+    test: &Tree<A>,
     body: Block,
     names: &mut Names,
 ) -> Result<Branch, AllocError>
@@ -99,10 +99,10 @@ pub fn bare_handler<Q: Quotes>(lowering: &Lowering<'_, Q>, word: Token, body: Bl
 }
 
 /// A handler of a `try`, by what it catches.
-pub fn handler<Q: Quotes>(
+pub fn handler<Q: Quotes, A: Allocator>(
     lowering: &Lowering<'_, Q>,
     word: Token,
-    caught: &Tree,
+    caught: &Tree<A>,
     name: &Option<Alias>,
     body: Block,
     names: &mut Names,
@@ -121,10 +121,10 @@ pub fn handler<Q: Quotes>(
 }
 
 /// `while`, or `if` with its branches.
-fn condition<Q: Quotes>(
+fn condition<Q: Quotes, A: Allocator>(
     lowering: &Lowering<'_, Q>,
     word: Token,
-    test: &Tree,
+    test: &Tree<A>,
     parts: Parts,
     names: &mut Names,
 ) -> Result<StmtForm, AllocError>
@@ -154,10 +154,10 @@ fn condition<Q: Quotes>(
 }
 
 /// `with` and its items.
-fn with_form<Q: Quotes>(
+fn with_form<Q: Quotes, A: Allocator>(
     lowering: &Lowering<'_, Q>,
     word_async: Option<Token>,
-    items: &Pieces,
+    items: &Pieces<A>,
     body: Block,
     names: &mut Names,
 ) -> Result<StmtForm, AllocError>
@@ -174,9 +174,9 @@ fn with_form<Q: Quotes>(
 }
 
 /// What a compound statement is, by its first clause and the rest of it.
-pub fn form<Q: Quotes>(
+pub fn form<Q: Quotes, A: Allocator>(
     lowering: &Lowering<'_, Q>,
-    first: &CompoundClause,
+    first: &CompoundClause<A>,
     parts: Parts,
     names: &mut Names,
 ) -> Result<StmtForm, AllocError>

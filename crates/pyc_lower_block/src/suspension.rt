@@ -9,9 +9,10 @@ ghost use Rattle.pyc_tree.specs.LineView.{header_of};
 
 use pyc_lower_statement::{header_suspends, statements_suspend as line_suspends};
 use pyc_tree::{CompoundClause, Header, Stmt as Tree, Suite};
+use std::alloc::Allocator;
 
 /// Whether a header begins a function or a class.
-fn defines(header: &Header) -> bool
+fn defines<A: Allocator>(header: &Header<A>) -> bool
     ensures { result ≡ spec.defines (header_of header.now) }
 {
     match header {
@@ -30,7 +31,7 @@ fn defines(header: &Header) -> bool
 
 /// Whether a `yield` or an `await` stands in a block.
 #[cycle(suspends)]
-pub fn statements_suspend(statements: &[Tree]) -> bool
+pub fn statements_suspend<A: Allocator>(statements: &[Tree<A>]) -> bool
     ensures { result ≡ spec.stmts_suspend (stmts_before statements.now tree.no_statement) }
 {
     for statement in statements {
@@ -43,7 +44,7 @@ pub fn statements_suspend(statements: &[Tree]) -> bool
 
 /// Whether a statement suspends.
 #[cycle(suspends)]
-fn statement_suspends(statement: &Tree) -> bool
+fn statement_suspends<A: Allocator>(statement: &Tree<A>) -> bool
     ensures { result ≡ spec.stmt_suspends (stmt_of statement.now) }
 {
     match statement {
@@ -54,7 +55,7 @@ fn statement_suspends(statement: &Tree) -> bool
 
 /// Whether a clause suspends. A definition never does.
 #[cycle(suspends)]
-fn clause_suspends(clause: &CompoundClause) -> bool
+fn clause_suspends<A: Allocator>(clause: &CompoundClause<A>) -> bool
     ensures { result ≡ spec.clause_suspends (clause_of clause.now) }
 {
     if defines(&clause.header) {
@@ -65,7 +66,7 @@ fn clause_suspends(clause: &CompoundClause) -> bool
 
 /// Whether one of some clauses suspends.
 #[cycle(suspends)]
-fn clauses_suspend(clauses: &[CompoundClause]) -> bool
+fn clauses_suspend<A: Allocator>(clauses: &[CompoundClause<A>]) -> bool
     ensures { result ≡ spec.clauses_suspend (clauses_before clauses.now tree.no_clause) }
 {
     for clause in clauses {
@@ -78,7 +79,7 @@ fn clauses_suspend(clauses: &[CompoundClause]) -> bool
 
 /// Whether what a header heads suspends.
 #[cycle(suspends)]
-pub fn suite_suspends(suite: &Suite) -> bool
+pub fn suite_suspends<A: Allocator>(suite: &Suite<A>) -> bool
     ensures { result ≡ spec.suite_suspends (suite_of suite.now) }
 {
     match suite {

@@ -20,7 +20,7 @@ use pyc_ast::{
 use pyc_lower_atom::{Names, Origin, Role};
 use pyc_token::Kind;
 use pyc_tree::{Expr as Tree, Pieces};
-use std::alloc::{AllocError, Global};
+use std::alloc::{AllocError, Allocator, Global};
 
 /// An expression that begins at its own first token.
 pub fn with_position(at: Position, form: Form) -> Expr
@@ -93,11 +93,11 @@ pub fn call(alloc: Global, callee: Expr, arguments: Vec<Argument>) -> Result<Exp
 }
 
 /// A call whose parenthesis stands here, with the arguments that its items are.
-pub fn call_with_items(
+pub fn call_with_items<A: Allocator>(
     alloc: Global,
     callee: Expr,
     here: Position,
-    items: &Pieces,
+    items: &Pieces<A>,
     found: Vec<Argument>,
 ) -> Result<Expr, AllocError>
     ensures { IfOk result (λ e. expr_of e
@@ -230,7 +230,7 @@ pub fn set(at: Position, items: Vec<Element>) -> Expr
 }
 
 /// The position of the star of a tree, where it has one.
-fn star_of(origin: Origin<'_>, item: &Tree) -> Option<Position>
+fn star_of<A: Allocator>(origin: Origin<'_>, item: &Tree<A>) -> Option<Position>
     ensures { result ≡ spec.star_at (origin_of origin.entry) (tree_of item.now) }
 {
     match item {
@@ -240,7 +240,7 @@ fn star_of(origin: Origin<'_>, item: &Tree) -> Option<Position>
 }
 
 /// The first of some items.
-fn first_of(items: &Pieces) -> Option<&Tree>
+fn first_of<A: Allocator>(items: &Pieces<A>) -> Option<&Tree<A>>
     ensures { option_map (λ item. tree_of item.now) result ≡ spec.first_of (pieces_of items.now) }
 {
     match items.each.as_slice() {
@@ -263,7 +263,7 @@ fn value_at(found: &[Element]) -> Position
 }
 
 /// Where the first of some items begins, which are these.
-fn first_at(origin: Origin<'_>, items: &Pieces, found: &[Element]) -> Position
+fn first_at<A: Allocator>(origin: Origin<'_>, items: &Pieces<A>, found: &[Element]) -> Position
     ensures { result ≡ spec.first_at (origin_of origin.entry) (pieces_of items.now) (map element_of found.now) }
 {
     let Some(first) = first_of(items) else {
@@ -276,7 +276,7 @@ fn first_at(origin: Origin<'_>, items: &Pieces, found: &[Element]) -> Position
 }
 
 /// A tuple without brackets.
-pub fn bare(origin: Origin<'_>, items: &Pieces, found: Vec<Element>) -> Expr
+pub fn bare<A: Allocator>(origin: Origin<'_>, items: &Pieces<A>, found: Vec<Element>) -> Expr
     ensures { expr_of result
         ≡ spec.with_position (spec.first_at (origin_of origin.entry) (pieces_of items.now) (map element_of found.items))
         (plain.tuple (plain.elements (map element_of found.items))) }
@@ -286,12 +286,12 @@ pub fn bare(origin: Origin<'_>, items: &Pieces, found: Vec<Element>) -> Expr
 }
 
 /// How many items there are.
-pub fn count(items: &Pieces) -> usize {
+pub fn count<A: Allocator>(items: &Pieces<A>) -> usize {
     items.each.len() + usize::from(items.last.is_some())
 }
 
 /// An item of a tuple, a list or a set, by its value.
-pub fn element(item: &Tree, value: Expr) -> Element
+pub fn element<A: Allocator>(item: &Tree<A>, value: Expr) -> Element
     ensures { element_of result ≡ spec.element_of (tree_of item.now) (expr_of value) }
 {
     match item {
@@ -307,10 +307,10 @@ pub fn element(item: &Tree, value: Expr) -> Element
 }
 
 /// An argument, by its value.
-pub fn argument(
+pub fn argument<A: Allocator>(
     alloc: Global,
     origin: Origin<'_>,
-    item: &Tree,
+    item: &Tree<A>,
     value: Expr,
     names: &mut Names,
 ) -> Result<Argument, AllocError>
@@ -342,7 +342,7 @@ pub fn argument(
 }
 
 /// Whether items are two.
-fn are_two(items: &Pieces) -> bool
+fn are_two<A: Allocator>(items: &Pieces<A>) -> bool
     ensures { result ≡ spec.are_two (pieces_of items.now) }
 {
     if items.last.is_some() {
@@ -353,7 +353,7 @@ fn are_two(items: &Pieces) -> bool
 }
 
 /// The role of the first of these arguments.
-pub fn first_role(role: Role, items: &Pieces) -> Role
+pub fn first_role<A: Allocator>(role: Role, items: &Pieces<A>) -> Role
     ensures { result ≡ spec.first_role role (pieces_of items.now) }
 {
     if are_two(items) {
@@ -364,7 +364,7 @@ pub fn first_role(role: Role, items: &Pieces) -> Role
 }
 
 /// Whether a tree is a generator that is an argument.
-fn is_generator(item: &Tree) -> bool
+fn is_generator<A: Allocator>(item: &Tree<A>) -> bool
     ensures { result ≡ spec.is_generator (tree_of item.now) }
 {
     match item {
@@ -391,7 +391,7 @@ fn only_generator(alloc: Global, here: Position) -> Result<Vec<Argument>, AllocE
 }
 
 /// Whether the only one of some items is a generator.
-fn is_only_generator(items: &Pieces) -> bool
+fn is_only_generator<A: Allocator>(items: &Pieces<A>) -> bool
     ensures { result ≡ spec.is_only_generator (pieces_of items.now) }
 {
     match single(items) {
@@ -401,10 +401,10 @@ fn is_only_generator(items: &Pieces) -> bool
 }
 
 /// The arguments of a call whose parenthesis stands here: a generator that is the only one stands in these parentheses.
-pub fn arguments_or_generator(
+pub fn arguments_or_generator<A: Allocator>(
     alloc: Global,
     here: Position,
-    items: &Pieces,
+    items: &Pieces<A>,
     found: Vec<Argument>,
 ) -> Result<Vec<Argument>, AllocError>
     ensures { IfOk result (λ all. map argument_of all.items
@@ -454,7 +454,7 @@ fn index_at(found: &[Index]) -> Position
 }
 
 /// The only one of some items, where there is one without a comma.
-pub fn single(items: &Pieces) -> Option<&Tree>
+pub fn single<A: Allocator>(items: &Pieces<A>) -> Option<&Tree<A>>
     ensures found { IfSome result (λ item. pieces_of items.now ≡ last (tree_of item.now)) }
     ensures none { IfNone result (spec.is_single (pieces_of items.now) ≡ false) }
 {

@@ -22,7 +22,7 @@ use pyc_lower_atom::{
 };
 use pyc_token::{Kind, Token};
 use pyc_tree::{DisplayKind, Expr as Tree, Link, Pieces};
-use std::alloc::{AllocError, Global};
+use std::alloc::{AllocError, Allocator, Global};
 
 /// How trees of one origin are lowered, with a reader of the strings that may be annotations.
 #[derive(Drop)]
@@ -107,7 +107,7 @@ impl<Q: Quotes> Lowering<'_, Q> {
 
     /// The expression that a tree is; the only error is that memory runs out.
     #[cycle(lower)]
-    pub fn expr(&self, expr: &Tree, role: Role, names: &mut Names) -> Result<Expr, AllocError>
+    pub fn expr<A: Allocator>(&self, expr: &Tree<A>, role: Role, names: &mut Names) -> Result<Expr, AllocError>
         ensures { IfOk result (λ e. expr_of e
             ≡ spec.expr_in Q.spelled (origin_of self.now.origin) role (tree_of expr.now)) }
     {
@@ -143,9 +143,9 @@ impl<Q: Quotes> Lowering<'_, Q> {
 
     /// A display in brackets.
     #[cycle(lower)]
-    fn display(
+    fn display<A: Allocator>(
         &self,
-        items: &Pieces,
+        items: &Pieces<A>,
         made: DisplayKind,
         opening: Token,
         role: Role,
@@ -181,7 +181,7 @@ impl<Q: Quotes> Lowering<'_, Q> {
 
     /// The expression that a tree is that is no atom.
     #[cycle(lower)]
-    fn operation(&self, expr: &Tree, role: Role, names: &mut Names) -> Result<Expr, AllocError>
+    fn operation<A: Allocator>(&self, expr: &Tree<A>, role: Role, names: &mut Names) -> Result<Expr, AllocError>
         requires { is_atom (tree_of expr.now) ≡ false }
         ensures { IfOk result (λ e. expr_of e
             ≡ spec.expr_in Q.spelled (origin_of self.now.origin) role (tree_of expr.now)) }
@@ -235,9 +235,9 @@ impl<Q: Quotes> Lowering<'_, Q> {
 
     /// A call of a callee with the arguments that its items are.
     #[cycle(lower)]
-    fn call(
+    fn call<A: Allocator>(
         &self,
-        items: &Pieces,
+        items: &Pieces<A>,
         opening: Token,
         callee: Expr,
         role: Role,
@@ -262,9 +262,9 @@ impl<Q: Quotes> Lowering<'_, Q> {
 
     /// A subscript of an object by what its items are.
     #[cycle(lower)]
-    fn lower_subscript(
+    fn lower_subscript<A: Allocator>(
         &self,
-        items: &Pieces,
+        items: &Pieces<A>,
         value: Expr,
         role: Role,
         names: &mut Names,
@@ -280,9 +280,9 @@ impl<Q: Quotes> Lowering<'_, Q> {
 
     /// An operator between a left operand and what the right one is.
     #[cycle(lower)]
-    fn binary(
+    fn binary<A: Allocator>(
         &self,
-        right: &Tree,
+        right: &Tree<A>,
         left: Expr,
         sign: Kind,
         role: Role,
@@ -298,9 +298,9 @@ impl<Q: Quotes> Lowering<'_, Q> {
 
     /// A chain of the comparisons that links are, after its first operand.
     #[cycle(lower)]
-    fn lower_comparisons(
+    fn lower_comparisons<A: Allocator>(
         &self,
-        links: &[Link],
+        links: &[Link<A>],
         left: Expr,
         role: Role,
         names: &mut Names,
@@ -316,9 +316,9 @@ impl<Q: Quotes> Lowering<'_, Q> {
 
     /// A choice of a value or of what the other one is.
     #[cycle(lower)]
-    fn conditional(
+    fn conditional<A: Allocator>(
         &self,
-        orelse: &Tree,
+        orelse: &Tree<A>,
         test: Expr,
         body: Expr,
         role: Role,
@@ -334,7 +334,7 @@ impl<Q: Quotes> Lowering<'_, Q> {
 
     /// The value of an item.
     #[cycle(lower)]
-    fn item(&self, expr: &Tree, role: Role, names: &mut Names) -> Result<Expr, AllocError>
+    fn item<A: Allocator>(&self, expr: &Tree<A>, role: Role, names: &mut Names) -> Result<Expr, AllocError>
         requires no_atom { is_atom (tree_of expr.now) ≡ false }
         requires no_operation { is_operation (tree_of expr.now) ≡ false }
         ensures { IfOk result (λ e. expr_of e
@@ -354,9 +354,9 @@ impl<Q: Quotes> Lowering<'_, Q> {
 
     /// An expression, or none.
     #[cycle(lower)]
-    fn optional(
+    fn optional<A: Allocator>(
         &self,
-        expr: &Option<Box<Tree>>,
+        expr: &Option<Box<Tree<A>, A>>,
         role: Role,
         names: &mut Names,
     ) -> Result<OptionalExpr, AllocError>
@@ -371,9 +371,9 @@ impl<Q: Quotes> Lowering<'_, Q> {
 
     /// The items of a tuple, a list or a set.
     #[cycle(lower)]
-    fn elements(
+    fn elements<A: Allocator>(
         &self,
-        items: &Pieces,
+        items: &Pieces<A>,
         role: Role,
         names: &mut Names,
     ) -> Result<Vec<Element>, AllocError>
@@ -397,7 +397,7 @@ impl<Q: Quotes> Lowering<'_, Q> {
 
     /// An item of a dictionary.
     #[cycle(lower)]
-    fn dict_item(&self, item: &Tree, role: Role, names: &mut Names) -> Result<DictItem, AllocError>
+    fn dict_item<A: Allocator>(&self, item: &Tree<A>, role: Role, names: &mut Names) -> Result<DictItem, AllocError>
         ensures { IfOk result (λ found. dict_item_of found
             ≡ (let o = origin_of self.now.origin in let t = tree_of item.now in
             spec.dict_item_in Q.spelled o role t
@@ -415,9 +415,9 @@ impl<Q: Quotes> Lowering<'_, Q> {
 
     /// The items of a dictionary.
     #[cycle(lower)]
-    fn dict_items(
+    fn dict_items<A: Allocator>(
         &self,
-        items: &Pieces,
+        items: &Pieces<A>,
         role: Role,
         names: &mut Names,
     ) -> Result<Vec<DictItem>, AllocError>
@@ -440,9 +440,9 @@ impl<Q: Quotes> Lowering<'_, Q> {
 
     /// The arguments of a call.
     #[cycle(lower)]
-    pub fn arguments(
+    pub fn arguments<A: Allocator>(
         &self,
-        items: &Pieces,
+        items: &Pieces<A>,
         role: Role,
         names: &mut Names,
     ) -> Result<Vec<Argument>, AllocError>
@@ -469,9 +469,9 @@ impl<Q: Quotes> Lowering<'_, Q> {
 
     /// The comparisons of a chain after its first operand.
     #[cycle(lower)]
-    fn comparisons(
+    fn comparisons<A: Allocator>(
         &self,
-        links: &[Link],
+        links: &[Link<A>],
         role: Role,
         names: &mut Names,
     ) -> Result<Vec<Comparison>, AllocError>
@@ -490,7 +490,7 @@ impl<Q: Quotes> Lowering<'_, Q> {
 
     /// An index.
     #[cycle(lower)]
-    fn index(&self, item: &Tree, role: Role, names: &mut Names) -> Result<Index, AllocError>
+    fn index<A: Allocator>(&self, item: &Tree<A>, role: Role, names: &mut Names) -> Result<Index, AllocError>
         ensures { IfOk result (λ found. index_of found
             ≡ (let o = origin_of self.now.origin in let t = tree_of item.now in
             spec.index_in Q.spelled o role t
@@ -519,9 +519,9 @@ impl<Q: Quotes> Lowering<'_, Q> {
 
     /// The indices of a subscript.
     #[cycle(lower)]
-    fn indices(
+    fn indices<A: Allocator>(
         &self,
-        items: &Pieces,
+        items: &Pieces<A>,
         role: Role,
         names: &mut Names,
     ) -> Result<Vec<Index>, AllocError>
@@ -543,9 +543,9 @@ impl<Q: Quotes> Lowering<'_, Q> {
 
     /// Indices with commas.
     #[cycle(lower)]
-    fn many_indices(
+    fn many_indices<A: Allocator>(
         &self,
-        items: &Pieces,
+        items: &Pieces<A>,
         role: Role,
         names: &mut Names,
     ) -> Result<Index, AllocError>
@@ -557,9 +557,9 @@ impl<Q: Quotes> Lowering<'_, Q> {
 
     /// What stands between the brackets of a subscript.
     #[cycle(lower)]
-    pub fn subscript(
+    pub fn subscript<A: Allocator>(
         &self,
-        items: &Pieces,
+        items: &Pieces<A>,
         role: Role,
         names: &mut Names,
     ) -> Result<Index, AllocError>

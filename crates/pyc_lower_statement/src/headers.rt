@@ -19,7 +19,7 @@ use pyc_ast::{
 use pyc_lower_expression::{Lowering, Names, Origin, Quotes, Role};
 use pyc_token::Token;
 use pyc_tree::{Expr as Tree, Header, Pieces, Tail};
-use std::alloc::AllocError;
+use std::alloc::{AllocError, Allocator};
 use std::rc::Rc;
 
 /// Where a statement begins that may be `async`.
@@ -33,7 +33,7 @@ fn async_at(origin: Origin<'_>, word_async: Option<Token>, word: Token) -> Posit
 }
 
 /// Where a header begins.
-pub fn header_at(origin: Origin<'_>, header: &Header) -> Position
+pub fn header_at<A: Allocator>(origin: Origin<'_>, header: &Header<A>) -> Position
     ensures { result ≡ spec.header_at (origin_of origin.entry) (header_of header.now) }
 {
     match header {
@@ -51,11 +51,11 @@ pub fn header_at(origin: Origin<'_>, header: &Header) -> Position
 }
 
 /// The head of a `for`.
-pub fn for_head<Q: Quotes>(
+pub fn for_head<Q: Quotes, A: Allocator>(
     lowering: &Lowering<'_, Q>,
     word_async: Option<Token>,
-    targets: &Tree,
-    iterable: &Tree,
+    targets: &Tree<A>,
+    iterable: &Tree<A>,
     names: &mut Names,
 ) -> Result<For, AllocError>
     ensures { IfOk result (λ found. for_of found
@@ -70,9 +70,9 @@ pub fn for_head<Q: Quotes>(
 }
 
 /// The target after `as`, where there is one.
-fn optional_target<Q: Quotes>(
+fn optional_target<Q: Quotes, A: Allocator>(
     lowering: &Lowering<'_, Q>,
-    tail: &Tail,
+    tail: &Tail<A>,
     names: &mut Names,
 ) -> Result<Option<Target>, AllocError>
     ensures { IfOk result (λ found. option_map target_of found
@@ -86,9 +86,9 @@ fn optional_target<Q: Quotes>(
 }
 
 /// What an item of a `with` is assigned to.
-fn with_target<Q: Quotes>(
+fn with_target<Q: Quotes, A: Allocator>(
     lowering: &Lowering<'_, Q>,
-    item: &Tree,
+    item: &Tree<A>,
     names: &mut Names,
 ) -> Result<Option<Target>, AllocError>
     ensures { IfOk result (λ found. option_map target_of found
@@ -101,9 +101,9 @@ fn with_target<Q: Quotes>(
 }
 
 /// An item of a `with`.
-fn with_item<Q: Quotes>(
+fn with_item<Q: Quotes, A: Allocator>(
     lowering: &Lowering<'_, Q>,
-    item: &Tree,
+    item: &Tree<A>,
     names: &mut Names,
 ) -> Result<WithItem, AllocError>
     ensures { IfOk result (λ found. with_item_of found
@@ -116,9 +116,9 @@ fn with_item<Q: Quotes>(
 }
 
 /// The items of a `with`.
-pub fn with_items<Q: Quotes>(
+pub fn with_items<Q: Quotes, A: Allocator>(
     lowering: &Lowering<'_, Q>,
-    items: &Pieces,
+    items: &Pieces<A>,
     names: &mut Names,
 ) -> Result<Vec<WithItem>, AllocError>
     ensures { IfOk result (λ found. map with_item_of found.items
@@ -137,11 +137,11 @@ pub fn with_items<Q: Quotes>(
 }
 
 /// A function or a class, by its decorators, whether its body suspends, its header and its body.
-pub fn definition<Q: Quotes>(
+pub fn definition<Q: Quotes, A: Allocator>(
     lowering: &Lowering<'_, Q>,
     decorators: Vec<Expr>,
     suspends: bool,
-    header: &Header,
+    header: &Header<A>,
     body: Block,
     names: &mut Names,
 ) -> Result<StmtForm, AllocError>

@@ -17,7 +17,7 @@ use pyc_tree::{
     Alias as AliasTree, Dotted, ImportFrom as ImportFromTree, ImportedModule as ModuleTree,
     ImportedName, Separated,
 };
-use std::alloc::AllocError;
+use std::alloc::{AllocError, Allocator};
 use std::rc::Rc;
 
 /// The name of a token.
@@ -47,9 +47,9 @@ pub fn alias<Q: Quotes>(
 }
 
 /// The names that a statement declares.
-pub fn declared_names<Q: Quotes>(
+pub fn declared_names<Q: Quotes, A: Allocator>(
     lowering: &Lowering<'_, Q>,
-    tokens: &Separated<Token>,
+    tokens: &Separated<Token, A>,
     names: &mut Names,
 ) -> Result<Vec<Text>, AllocError>
     ensures { IfOk result (λ found. found.items
@@ -67,9 +67,9 @@ pub fn declared_names<Q: Quotes>(
 }
 
 /// The parts of a dotted name.
-fn path<Q: Quotes>(
+fn path<Q: Quotes, A: Allocator>(
     lowering: &Lowering<'_, Q>,
-    path: &Dotted,
+    path: &Dotted<A>,
     names: &mut Names,
 ) -> Result<Vec<Text>, AllocError>
     ensures { IfOk result (λ found. found.items ≡ spec.path_in (origin_of lowering.now.origin) (dotted_of path.now)) }
@@ -83,9 +83,9 @@ fn path<Q: Quotes>(
 }
 
 /// A module that is imported.
-fn module<Q: Quotes>(
+fn module<Q: Quotes, A: Allocator>(
     lowering: &Lowering<'_, Q>,
-    found: &ModuleTree,
+    found: &ModuleTree<A>,
     names: &mut Names,
 ) -> Result<Rc<ImportedModule>, AllocError>
     ensures { IfOk result (λ made. imported_of made
@@ -99,9 +99,9 @@ fn module<Q: Quotes>(
 }
 
 /// The modules of an `import`.
-pub fn modules<Q: Quotes>(
+pub fn modules<Q: Quotes, A: Allocator>(
     lowering: &Lowering<'_, Q>,
-    trees: &Separated<ModuleTree>,
+    trees: &Separated<ModuleTree<A>, A>,
     names: &mut Names,
 ) -> Result<Vec<Rc<ImportedModule>>, AllocError>
     ensures { IfOk result (λ found. map imported_of found.items
@@ -133,9 +133,9 @@ fn imported<Q: Quotes>(
 }
 
 /// The names of a from-import.
-fn imported_names<Q: Quotes>(
+fn imported_names<Q: Quotes, A: Allocator>(
     lowering: &Lowering<'_, Q>,
-    trees: &Separated<ImportedName>,
+    trees: &Separated<ImportedName, A>,
     names: &mut Names,
 ) -> Result<Vec<Alias>, AllocError>
     ensures { IfOk result (λ found. found.items
@@ -174,9 +174,9 @@ fn count_dots(dots: &[Token]) -> usize
 }
 
 /// The parts of a module's name, where it has one.
-fn optional_path<Q: Quotes>(
+fn optional_path<Q: Quotes, A: Allocator>(
     lowering: &Lowering<'_, Q>,
-    tree: &Option<Dotted>,
+    tree: &Option<Dotted<A>>,
     names: &mut Names,
 ) -> Result<Vec<Text>, AllocError>
     ensures { IfOk result (λ found. found.items
@@ -189,9 +189,9 @@ fn optional_path<Q: Quotes>(
 }
 
 /// Names imported from a module.
-pub fn import_from<Q: Quotes>(
+pub fn import_from<Q: Quotes, A: Allocator>(
     lowering: &Lowering<'_, Q>,
-    tree: &ImportFromTree,
+    tree: &ImportFromTree<A>,
     names: &mut Names,
 ) -> Result<ImportFrom, AllocError>
     ensures { IfOk result (λ found. import_from_of found

@@ -12,12 +12,12 @@ ghost use Rattle.pyc_tree.specs.View.{tree_of, pieces_of, perhaps_of, tail_of};
 use pyc_ast::{Expr, Parameter, ParameterKind};
 use pyc_lower_expression::{Lowering, Names, Quotes, Role};
 use pyc_tree::{Expr as Tree, Pieces, Tail};
-use std::alloc::AllocError;
+use std::alloc::{AllocError, Allocator};
 
 /// An expression in a box, where there is one.
-pub fn optional_expression<Q: Quotes>(
+pub fn optional_expression<Q: Quotes, A: Allocator>(
     lowering: &Lowering<'_, Q>,
-    tree: &Option<Box<Tree>>,
+    tree: &Option<Box<Tree<A>, A>>,
     role: Role,
     names: &mut Names,
 ) -> Result<Option<Box<Expr>>, AllocError>
@@ -35,9 +35,9 @@ pub fn optional_expression<Q: Quotes>(
 }
 
 /// The expression after a token, where there is one.
-pub fn tail<Q: Quotes>(
+pub fn tail<Q: Quotes, A: Allocator>(
     lowering: &Lowering<'_, Q>,
-    tail: &Tail,
+    tail: &Tail<A>,
     role: Role,
     names: &mut Names,
 ) -> Result<Option<Expr>, AllocError>
@@ -51,9 +51,9 @@ pub fn tail<Q: Quotes>(
 }
 
 /// The expression after a token in a box, where there is one.
-pub fn boxed_tail<Q: Quotes>(
+pub fn boxed_tail<Q: Quotes, A: Allocator>(
     lowering: &Lowering<'_, Q>,
-    tail: &Tail,
+    tail: &Tail<A>,
     role: Role,
     names: &mut Names,
 ) -> Result<Option<Box<Expr>>, AllocError>
@@ -81,7 +81,7 @@ fn kind_after(after_star: bool) -> ParameterKind
 }
 
 /// Whether a parameter is `*name` or `*` alone.
-fn is_star(tree: &Tree) -> bool
+fn is_star<A: Allocator>(tree: &Tree<A>) -> bool
     ensures { result ≡ spec.is_star (tree_of tree.now) }
 {
     match tree {
@@ -92,16 +92,16 @@ fn is_star(tree: &Tree) -> bool
 }
 
 /// Whether a `*` stands before the parameter after this one.
-fn is_after_star(after_star: bool, tree: &Tree) -> bool
+fn is_after_star<A: Allocator>(after_star: bool, tree: &Tree<A>) -> bool
     ensures { result ≡ after_star || spec.is_star (tree_of tree.now) }
 {
     after_star || is_star(tree)
 }
 
 /// A parameter, by whether a `*` stands before it; `*` alone is none.
-fn parameter<Q: Quotes>(
+fn parameter<Q: Quotes, A: Allocator>(
     lowering: &Lowering<'_, Q>,
-    tree: &Tree,
+    tree: &Tree<A>,
     after_star: bool,
     names: &mut Names,
 ) -> Result<Option<Parameter>, AllocError>
@@ -136,9 +136,9 @@ fn parameter<Q: Quotes>(
 }
 
 /// Puts a parameter behind those that were found, by whether a `*` stands before it.
-fn push_parameter<Q: Quotes>(
+fn push_parameter<Q: Quotes, A: Allocator>(
     lowering: &Lowering<'_, Q>,
-    tree: &Tree,
+    tree: &Tree<A>,
     after_star: bool,
     found: &mut Vec<Parameter>,
     names: &mut Names,
@@ -155,9 +155,9 @@ fn push_parameter<Q: Quotes>(
 }
 
 /// The parameters of a function.
-pub fn parameters<Q: Quotes>(
+pub fn parameters<Q: Quotes, A: Allocator>(
     lowering: &Lowering<'_, Q>,
-    items: &Pieces,
+    items: &Pieces<A>,
     names: &mut Names,
 ) -> Result<Vec<Parameter>, AllocError>
     ensures { IfOk result (λ found. map parameter_of found.items

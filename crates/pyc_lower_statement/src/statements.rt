@@ -27,13 +27,13 @@ use pyc_token::{Keyword, Kind, Token};
 use pyc_tree::{
     Assigned, Expr as Tree, ImportFrom, ImportedModule, Separated, SimpleStatement, Tail,
 };
-use std::alloc::AllocError;
+use std::alloc::{AllocError, Allocator};
 use std::rc::Rc;
 
 /// The targets of an assignment.
-fn assigned<Q: Quotes>(
+fn assigned<Q: Quotes, A: Allocator>(
     lowering: &Lowering<'_, Q>,
-    trees: &[Assigned],
+    trees: &[Assigned<A>],
     names: &mut Names,
 ) -> Result<Vec<Target>, AllocError>
     ensures { IfOk result (λ found. map target_of found.items
@@ -58,10 +58,10 @@ fn targets_at(targets: &[Target]) -> Position
 }
 
 /// An assignment to targets.
-fn assign<Q: Quotes>(
+fn assign<Q: Quotes, A: Allocator>(
     lowering: &Lowering<'_, Q>,
-    trees: &[Assigned],
-    value: &Tree,
+    trees: &[Assigned<A>],
+    value: &Tree<A>,
     names: &mut Names,
 ) -> Result<Stmt, AllocError>
     ensures { IfOk result (λ found. stmt_of found
@@ -80,11 +80,11 @@ fn assign<Q: Quotes>(
 }
 
 /// A target with its annotation, and perhaps a value.
-fn annotate<Q: Quotes>(
+fn annotate<Q: Quotes, A: Allocator>(
     lowering: &Lowering<'_, Q>,
-    to: &Tree,
-    annotation: &Tree,
-    value: &Tail,
+    to: &Tree<A>,
+    annotation: &Tree<A>,
+    value: &Tail<A>,
     names: &mut Names,
 ) -> Result<Stmt, AllocError>
     ensures { IfOk result (λ found. stmt_of found
@@ -103,11 +103,11 @@ fn annotate<Q: Quotes>(
 }
 
 /// An assignment by an operator.
-fn augment<Q: Quotes>(
+fn augment<Q: Quotes, A: Allocator>(
     lowering: &Lowering<'_, Q>,
-    to: &Tree,
+    to: &Tree<A>,
     sign: Token,
-    value: &Tree,
+    value: &Tree<A>,
     names: &mut Names,
 ) -> Result<Stmt, AllocError>
     ensures { IfOk result (λ found. stmt_of found
@@ -157,9 +157,9 @@ fn with_position<Q: Quotes>(lowering: &Lowering<'_, Q>, word: Token, form: StmtF
 }
 
 /// An expression that stands alone.
-fn expression<Q: Quotes>(
+fn expression<Q: Quotes, A: Allocator>(
     lowering: &Lowering<'_, Q>,
-    value: &Tree,
+    value: &Tree<A>,
     names: &mut Names,
 ) -> Result<Stmt, AllocError>
     ensures { IfOk result (λ found. stmt_of found
@@ -174,10 +174,10 @@ fn expression<Q: Quotes>(
 }
 
 /// `return`, perhaps with a value.
-fn lower_return<Q: Quotes>(
+fn lower_return<Q: Quotes, A: Allocator>(
     lowering: &Lowering<'_, Q>,
     word: Token,
-    value: &Option<Box<Tree>>,
+    value: &Option<Box<Tree<A>, A>>,
     names: &mut Names,
 ) -> Result<Stmt, AllocError>
     ensures { IfOk result (λ found. stmt_of found
@@ -189,11 +189,11 @@ fn lower_return<Q: Quotes>(
 }
 
 /// `raise`, perhaps with an exception and its cause.
-fn raise<Q: Quotes>(
+fn raise<Q: Quotes, A: Allocator>(
     lowering: &Lowering<'_, Q>,
     word: Token,
-    exception: &Option<Box<Tree>>,
-    cause: &Tail,
+    exception: &Option<Box<Tree<A>, A>>,
+    cause: &Tail<A>,
     names: &mut Names,
 ) -> Result<Stmt, AllocError>
     ensures { IfOk result (λ found. stmt_of found
@@ -206,11 +206,11 @@ fn raise<Q: Quotes>(
 }
 
 /// `assert` and a test, perhaps with a message.
-fn assertion<Q: Quotes>(
+fn assertion<Q: Quotes, A: Allocator>(
     lowering: &Lowering<'_, Q>,
     word: Token,
-    test: &Tree,
-    message: &Tail,
+    test: &Tree<A>,
+    message: &Tail<A>,
     names: &mut Names,
 ) -> Result<Stmt, AllocError>
     ensures { IfOk result (λ found. stmt_of found
@@ -224,10 +224,10 @@ fn assertion<Q: Quotes>(
 }
 
 /// `del` and a target.
-fn delete<Q: Quotes>(
+fn delete<Q: Quotes, A: Allocator>(
     lowering: &Lowering<'_, Q>,
     word: Token,
-    to: &Tree,
+    to: &Tree<A>,
     names: &mut Names,
 ) -> Result<Stmt, AllocError>
     ensures { IfOk result (λ found. stmt_of found
@@ -240,10 +240,10 @@ fn delete<Q: Quotes>(
 }
 
 /// `global` or `nonlocal`, and names.
-fn declare<Q: Quotes>(
+fn declare<Q: Quotes, A: Allocator>(
     lowering: &Lowering<'_, Q>,
     word: Token,
-    tokens: &Separated<Token>,
+    tokens: &Separated<Token, A>,
     names: &mut Names,
 ) -> Result<Stmt, AllocError>
     ensures { IfOk result (λ found. stmt_of found
@@ -255,10 +255,10 @@ fn declare<Q: Quotes>(
 }
 
 /// `import` and modules.
-fn import<Q: Quotes>(
+fn import<Q: Quotes, A: Allocator>(
     lowering: &Lowering<'_, Q>,
     word: Token,
-    trees: &Separated<ImportedModule>,
+    trees: &Separated<ImportedModule<A>, A>,
     names: &mut Names,
 ) -> Result<Stmt, AllocError>
     ensures { IfOk result (λ found. stmt_of found
@@ -270,9 +270,9 @@ fn import<Q: Quotes>(
 }
 
 /// Names imported from a module.
-fn lower_import_from<Q: Quotes>(
+fn lower_import_from<Q: Quotes, A: Allocator>(
     lowering: &Lowering<'_, Q>,
-    imported: &ImportFrom,
+    imported: &ImportFrom<A>,
     names: &mut Names,
 ) -> Result<Stmt, AllocError>
     ensures { IfOk result (λ found. stmt_of found
@@ -285,9 +285,9 @@ fn lower_import_from<Q: Quotes>(
 }
 
 /// The statement that a simple statement is; the only error is that memory runs out.
-pub fn statement<Q: Quotes>(
+pub fn statement<Q: Quotes, A: Allocator>(
     lowering: &Lowering<'_, Q>,
-    statement: &SimpleStatement,
+    statement: &SimpleStatement<A>,
     names: &mut Names,
 ) -> Result<Stmt, AllocError>
     ensures { IfOk result (λ found. stmt_of found

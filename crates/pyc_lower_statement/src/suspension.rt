@@ -12,10 +12,11 @@ ghost use Rattle.pyc_tree.specs.View.{tree_of, pieces_of, links_before, comprehe
 use pyc_tree::{
     Assigned, Comprehension, Expr as Tree, Header, Link, Pieces, Separated, SimpleStatement, Tail,
 };
+use std::alloc::Allocator;
 
 /// Whether a `yield` or an `await` stands in a tree, outside lambdas.
 #[cycle(suspends)]
-fn suspends(tree: &Tree) -> bool
+fn suspends<A: Allocator>(tree: &Tree<A>) -> bool
     ensures { result ≡ spec.suspends (tree_of tree.now) }
 {
     match tree {
@@ -63,7 +64,7 @@ fn suspends(tree: &Tree) -> bool
 
 /// Whether one of some items with commas suspends.
 #[cycle(suspends)]
-fn pieces_suspend(items: &Pieces) -> bool
+fn pieces_suspend<A: Allocator>(items: &Pieces<A>) -> bool
     ensures { result ≡ spec.pieces_suspend (pieces_of items.now) }
 {
     for piece in &items.each {
@@ -76,7 +77,7 @@ fn pieces_suspend(items: &Pieces) -> bool
 
 /// Whether the right operand of one of some comparisons suspends.
 #[cycle(suspends)]
-fn links_suspend(links: &[Link]) -> bool
+fn links_suspend<A: Allocator>(links: &[Link<A>]) -> bool
     ensures { result ≡ spec.links_suspend (links_before links.now tree.unlinked) }
 {
     for link in links {
@@ -89,7 +90,7 @@ fn links_suspend(links: &[Link]) -> bool
 
 /// Whether a clause of a comprehension suspends.
 #[cycle(suspends)]
-fn clause_suspends(clause: &Comprehension) -> bool
+fn clause_suspends<A: Allocator>(clause: &Comprehension<A>) -> bool
     ensures { result ≡ spec.comprehensions_suspend (comprehensions_before (clause.now ∷ []) tree.no_comprehension) }
 {
     match clause {
@@ -100,7 +101,7 @@ fn clause_suspends(clause: &Comprehension) -> bool
 
 /// Whether one of the clauses of a comprehension suspends.
 #[cycle(suspends)]
-fn comprehensions_suspend(clauses: &[Comprehension]) -> bool
+fn comprehensions_suspend<A: Allocator>(clauses: &[Comprehension<A>]) -> bool
     ensures { result ≡ spec.comprehensions_suspend (comprehensions_before clauses.now tree.no_comprehension) }
 {
     for clause in clauses {
@@ -113,7 +114,7 @@ fn comprehensions_suspend(clauses: &[Comprehension]) -> bool
 
 /// Whether `value` is some expression that suspends.
 #[cycle(suspends)]
-fn perhaps_suspends(value: &Option<Box<Tree>>) -> bool
+fn perhaps_suspends<A: Allocator>(value: &Option<Box<Tree<A>, A>>) -> bool
     ensures { result ≡ spec.perhaps_suspends (perhaps_of value.now) }
 {
     match value {
@@ -124,7 +125,7 @@ fn perhaps_suspends(value: &Option<Box<Tree>>) -> bool
 
 /// Whether `tail` has some expression that suspends.
 #[cycle(suspends)]
-fn tail_suspends(tail: &Tail) -> bool
+fn tail_suspends<A: Allocator>(tail: &Tail<A>) -> bool
     ensures { result ≡ spec.tail_suspends (tail_of tail.now) }
 {
     match tail {
@@ -134,7 +135,7 @@ fn tail_suspends(tail: &Tail) -> bool
 }
 
 /// Whether one of the targets of an assignment suspends.
-fn targets_suspend(targets: &[Assigned]) -> bool
+fn targets_suspend<A: Allocator>(targets: &[Assigned<A>]) -> bool
     ensures { result ≡ list_any (λ found. spec.suspends found.target) (map assigned_of targets.now) }
 {
     for assigned in targets {
@@ -146,7 +147,7 @@ fn targets_suspend(targets: &[Assigned]) -> bool
 }
 
 /// Whether a simple statement suspends.
-fn statement_suspends(statement: &SimpleStatement) -> bool
+fn statement_suspends<A: Allocator>(statement: &SimpleStatement<A>) -> bool
     ensures { result ≡ spec.statement_suspends (statement_of statement.now) }
 {
     match statement {
@@ -170,7 +171,7 @@ fn statement_suspends(statement: &SimpleStatement) -> bool
 }
 
 /// Whether one of the statements on a line suspends.
-pub fn statements_suspend(statements: &Separated<SimpleStatement>) -> bool
+pub fn statements_suspend<A: Allocator>(statements: &Separated<SimpleStatement<A>, A>) -> bool
     ensures { result ≡ spec.separated_suspend (separated_of statement_of statements.now) }
 {
     for item in &statements.each {
@@ -185,7 +186,7 @@ pub fn statements_suspend(statements: &Separated<SimpleStatement>) -> bool
 }
 
 /// Whether a header suspends. That of a definition never does.
-pub fn header_suspends(header: &Header) -> bool
+pub fn header_suspends<A: Allocator>(header: &Header<A>) -> bool
     ensures { result ≡ spec.header_suspends (header_of header.now) }
 {
     match header {

@@ -14,7 +14,7 @@ ghost use Rattle.pyc_tree.specs.View.{tree_of, pieces_of};
 use pyc_ast::{Expr, Index, Position, Target, TargetElement, TargetForm, Text};
 use pyc_lower_expression::{Lowering, Names, Origin, Quotes, Role};
 use pyc_tree::{Expr as Tree, Pieces};
-use std::alloc::{AllocError, Global};
+use std::alloc::{AllocError, Allocator, Global};
 
 /// A target that begins at its own first token.
 fn with_position(at: Position, form: TargetForm) -> Target
@@ -65,7 +65,7 @@ fn subscript(alloc: Global, value: Expr, index: Index) -> Result<Target, AllocEr
 }
 
 /// The position of the star of a tree, where it has one.
-fn star_of(origin: Origin<'_>, item: &Tree) -> Option<Position>
+fn star_of<A: Allocator>(origin: Origin<'_>, item: &Tree<A>) -> Option<Position>
     ensures { result ≡ star_at (origin_of origin.entry) (tree_of item.now) }
 {
     match item {
@@ -75,7 +75,7 @@ fn star_of(origin: Origin<'_>, item: &Tree) -> Option<Position>
 }
 
 /// The position of the star of the first of some items, where it has one.
-fn first_star(origin: Origin<'_>, items: &Pieces) -> Option<Position>
+fn first_star<A: Allocator>(origin: Origin<'_>, items: &Pieces<A>) -> Option<Position>
     ensures { result ≡ option_and_then (star_at (origin_of origin.entry)) (first_of (pieces_of items.now)) }
 {
     match items.each.as_slice() {
@@ -98,7 +98,7 @@ fn element_at(found: &[TargetElement]) -> Position
 }
 
 /// Where the first of some items begins: at its star, else with its target.
-fn first_at(origin: Origin<'_>, items: &Pieces, found: &[TargetElement]) -> Position
+fn first_at<A: Allocator>(origin: Origin<'_>, items: &Pieces<A>, found: &[TargetElement]) -> Position
     ensures { result ≡ spec.first_at (origin_of origin.entry) (pieces_of items.now) (map target_element_of found.now) }
 {
     match first_star(origin, items) {
@@ -108,7 +108,7 @@ fn first_at(origin: Origin<'_>, items: &Pieces, found: &[TargetElement]) -> Posi
 }
 
 /// An item of a tuple or a list, by its target.
-fn element(item: &Tree, target: Target) -> TargetElement
+fn element<A: Allocator>(item: &Tree<A>, target: Target) -> TargetElement
     ensures { target_element_of result ≡ spec.element_of (tree_of item.now) (target_of target) }
 {
     match item {
@@ -125,9 +125,9 @@ fn element(item: &Tree, target: Target) -> TargetElement
 
 /// The target that a tree is; the only error is that memory runs out.
 #[cycle(targets)]
-pub fn target<Q: Quotes>(
+pub fn target<Q: Quotes, A: Allocator>(
     lowering: &Lowering<'_, Q>,
-    tree: &Tree,
+    tree: &Tree<A>,
     names: &mut Names,
 ) -> Result<Target, AllocError>
     ensures { IfOk result (λ found. target_of found
@@ -169,9 +169,9 @@ pub fn target<Q: Quotes>(
 
 /// The items of a tuple or a list of targets.
 #[cycle(targets)]
-fn elements<Q: Quotes>(
+fn elements<Q: Quotes, A: Allocator>(
     lowering: &Lowering<'_, Q>,
-    items: &Pieces,
+    items: &Pieces<A>,
     names: &mut Names,
 ) -> Result<Vec<TargetElement>, AllocError>
     ensures { IfOk result (λ found. map target_element_of found.items

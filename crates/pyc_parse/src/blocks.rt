@@ -13,9 +13,10 @@ mod rules;
 
 use crate::block_fault::BlockFault;
 use crate::blocks::rules::block_at;
+use bumpalo::Bump;
 use pyc_lex::{Keyword, Kind};
 use pyc_tree::{After, Form, Header, Line, Next, Placed, Separated, SimpleStatement, Stmt};
-use std::alloc::Global;
+use std::alloc::Allocator;
 use std::collections::VecDeque;
 
 /// Which clause begins with a condition after this token.
@@ -41,7 +42,7 @@ fn word_form(kind: Kind) -> Form
 }
 
 /// Which clause a header begins.
-fn form_of(header: &Header) -> Form
+fn form_of<A: Allocator>(header: &Header<A>) -> Form
     ensures { result ≡ spec.form_of (header_of header.now) }
 {
     match header {
@@ -71,7 +72,7 @@ fn follows(after: After, form: Form) -> Option<After>
 }
 
 /// Whether a line is the header of an `except` or a `finally`.
-fn is_handler(line: &Line) -> bool
+fn is_handler<A: Allocator>(line: &Line<A>) -> bool
     ensures { result ≡ spec.is_handler (line_of line.now) }
 {
     match line {
@@ -81,7 +82,7 @@ fn is_handler(line: &Line) -> bool
 }
 
 /// What the clause of a line is to those after it; none where the line begins no clause that may follow `after`.
-fn line_follows(after: After, line: &Line) -> Option<After>
+fn line_follows<A: Allocator>(after: After, line: &Line<A>) -> Option<After>
     ensures { result ≡ spec.line_follows after (line_of line.now) }
 {
     match line {
@@ -91,7 +92,7 @@ fn line_follows(after: After, line: &Line) -> Option<After>
 }
 
 /// Whether a header has no statements after it.
-pub fn is_none(statements: &Separated<SimpleStatement>) -> bool
+pub fn is_none<A: Allocator>(statements: &Separated<SimpleStatement<A>, A>) -> bool
     ensures { result ≡ spec.is_none (separated_of statement_of statements.now) }
 {
     match statements.each.as_slice() {
@@ -127,11 +128,11 @@ pub fn is_definition(next: Next) -> bool
 
 /// The lines that are left to read.
 #[derive(Drop)]
-pub struct Lines {
-    pub rest: VecDeque<Placed>,
+pub struct Lines<A: Allocator> {
+    pub rest: VecDeque<Placed<A>>,
 }
 
-impl Lines {
+impl<A: Allocator> Lines<A> {
     /// How many they are.
     pub fn len(&self) -> usize
         ensures { result ≡ length (lines_of self.now) }
@@ -200,7 +201,7 @@ impl Lines {
     }
 
     /// What the first line is, at the indent of its block.
-    fn next_of_line(&self, number: usize, indent: usize, line: &Line) -> Next
+    fn next_of_line(&self, number: usize, indent: usize, line: &Line<A>) -> Next
         ensures { result ≡ spec.next_of_line number indent (map placed_of (drop 1 self.now.rest.items))
             (line_of line.now) }
     {
@@ -226,7 +227,7 @@ impl Lines {
 
     /// The next line.
     #[tactic(auto, unfolding(crate::specs::Blocks::take_one))]
-    pub fn take(&mut self) -> Result<Placed, BlockFault>
+    pub fn take(&mut self) -> Result<Placed<A>, BlockFault>
         ensures { ReadsLines placed_of (spec.take_one (lines_of self.old)) result (lines_of self.new) }
     {
         match self.rest.pop_front() {
@@ -241,11 +242,14 @@ const MAX_BLOCKS: usize = 65;
 
 /// The statements of a module.
 #[tactic(auto, unfolding(crate::specs::Blocks::blocks))]
-pub(crate) fn read_blocks(alloc: Global, lines: Vec<Placed>) -> Result<Vec<Stmt>, BlockFault>
-    ensures { AnswersBlocks stmts_of (spec.blocks (map placed_of lines.items)) result }
+pub(crate) fn read_blocks<'a>(
+    arena: &'a Bump,
+    lines: Vec<Placed<&'a Bump>>,
+) -> Result<Vec<Stmt<&'a Bump>, &'a Bump>, BlockFault>
+    ensures { AnswersBlocks stmts_of (spec.blocks (map placed_of lines.entry.items)) result }
 {
     let mut lines = Lines {
         rest: VecDeque::from(lines),
     };
-    block_at(alloc, &mut lines, MAX_BLOCKS, 0)
+    block_at(arena, &mut lines, MAX_BLOCKS, 0)
 }

@@ -10,9 +10,10 @@ ghost use Rattle.pyc_parse.specs.Outcome.{fault_in, outcome_in, outcome_of, outc
 
 use crate::file_outcome::{Fault, Outcome};
 use crate::module_tree::parse;
+use bumpalo::Bump;
 use pyc_lex::{LexFault, Scan, scan};
 use pyc_line::{ParseFault, What};
-use std::alloc::{AllocError, Global};
+use std::alloc::{AllocError, Allocator, Global};
 
 /// What is reported of a line without a tree, or of a block.
 fn parse_text(what: What) -> &'static str
@@ -58,7 +59,7 @@ pub fn lexical_fault(fault: LexFault) -> Result<Fault, AllocError>
 }
 
 /// What a source with this lexical fault is.
-fn lexical_outcome(fault: LexFault) -> Result<Outcome, AllocError>
+fn lexical_outcome<A: Allocator>(fault: LexFault) -> Result<Outcome<A>, AllocError>
     ensures outcome { IfOk result (λ outcome. outcome_in outcome ≡ spec.lexical_outcome fault) }
     ensures of_source { OnOk result (fault ≢ LexFault.Memory) }
 {
@@ -78,10 +79,14 @@ pub fn parse_fault(fault: ParseFault) -> Result<Fault, AllocError>
 }
 
 /// What a source with these logical lines is.
-fn parse_outcome(alloc: Global, scan: Scan) -> Result<Outcome, AllocError>
+fn parse_outcome<'a>(
+    alloc: Global,
+    arena: &'a Bump,
+    scan: Scan,
+) -> Result<Outcome<&'a Bump>, AllocError>
     ensures { IfOk result (λ outcome. outcome_in outcome ≡ spec.parse_outcome (module_of (lexis_in scan))) }
 {
-    match parse(alloc, scan) {
+    match parse(alloc, arena, scan) {
         Ok(module) => Ok(Outcome::Tree(module)),
         Err(fault) => Ok(Outcome::Fault(parse_fault(fault)?)),
     }
@@ -92,7 +97,11 @@ fn parse_outcome(alloc: Global, scan: Scan) -> Result<Outcome, AllocError>
 /// the tokens, and of each line before it one has. The only error is that memory runs out. The call is for users of the
 /// library: the program does not make it.
 #[tactic(auto, unfolding(crate::specs::Outcome::outcome_of))]
-pub fn outcome(alloc: Global, bytes: &[u8]) -> Result<Outcome, AllocError>
+pub fn outcome<'a>(
+    alloc: Global,
+    arena: &'a Bump,
+    bytes: &[u8],
+) -> Result<Outcome<&'a Bump>, AllocError>
     ensures outcome { IfOk result (λ outcome. outcome_in outcome ≡ outcome_of bytes.now) }
     ensures spans { IfOk result
         (λ outcome. All (λ token. IsTextSpan bytes.now token.span) (outcome_tokens (outcome_in outcome))) }
@@ -100,7 +109,7 @@ pub fn outcome(alloc: Global, bytes: &[u8]) -> Result<Outcome, AllocError>
         (λ outcome. is_line_fault (outcome_in outcome) ≡ true → ReportsFirstBadLine bytes.now (outcome_in outcome)) }
 {
     match scan(alloc, bytes) {
-        Ok(scan) => parse_outcome(alloc, scan),
+        Ok(scan) => parse_outcome(alloc, arena, scan),
         Err(fault) => lexical_outcome(fault),
     }
 }

@@ -11,30 +11,30 @@ ghost use Rattle.pyc_tree.specs.Tree as tree;
 ghost use Rattle.pyc_tree.specs.View.{tree_of};
 
 use crate::rules::ExpressionRules;
+use bumpalo::Bump;
 use pyc_build::{Built, ParseError, PiecesSoFar, built};
 use pyc_cursor::{Cursor, begins_comprehension, same_kind};
 use pyc_token::{Bracket, Kind, Token};
 use pyc_tree::{Expr, ListContext};
-use std::alloc::Global;
 
-impl<F: Fn(Global, &mut Cursor<'_>, usize, u8) -> Result<Built, ParseError>> ExpressionRules<F> {
+impl<'a, F: Fn(&'a Bump, &mut Cursor<'_>, usize, u8) -> Result<Built<&'a Bump>, ParseError>> ExpressionRules<'a, F> {
     /// A generator that is the only argument, after its element.
     #[tactic(auto, using(pyc_build::proofs::Steps::ReadsTokens_made))]
     fn parse_generator_call(
         &self,
         tokens: &mut Cursor<'_>,
-        callee: Built,
+        callee: Built<&'a Bump>,
         opening: Token,
-        element: Box<Expr>,
+        element: Box<Expr<&'a Bump>, &'a Bump>,
         height: usize,
-    ) -> Result<Built, ParseError>
+    ) -> Result<Built<&'a Bump>, ParseError>
         requires nests { ReadsExpressions self.now.rules.depth (F.pre self.now.rules.expr)
             (F.post self.now.rules.expr) }
         requires height_is { height ≡ height_of (tree_of element.value) }
         requires low { height ≤ 1000 }
         ensures { ReadsTokens (λ b. tree_of b.expr.value)
-            (items.parse_generator_after (spec.expr self.now.rules.depth) (tree_of callee.expr.value) opening
-            (tree.argument (tree_of element.value)) tokens.old.rest.now) result tokens.new.rest.now }
+            (items.parse_generator_after (spec.expr self.now.rules.depth) (tree_of callee.entry.expr.value) opening
+            (tree.argument (tree_of element.entry.value)) tokens.old.rest.now) result tokens.new.rest.now }
     {
         let comprehensions = self.rules.comprehensions(tokens)?;
         let closing = tokens.expect(Kind::Close(Bracket::Round))?;
@@ -49,14 +49,14 @@ impl<F: Fn(Global, &mut Cursor<'_>, usize, u8) -> Result<Built, ParseError>> Exp
     fn parse_generator_after(
         &self,
         tokens: &mut Cursor<'_>,
-        callee: Built,
+        callee: Built<&'a Bump>,
         opening: Token,
-        first: Built,
-    ) -> Result<Built, ParseError>
+        first: Built<&'a Bump>,
+    ) -> Result<Built<&'a Bump>, ParseError>
         requires { ReadsExpressions self.now.rules.depth (F.pre self.now.rules.expr) (F.post self.now.rules.expr) }
         ensures { ReadsTokens (λ b. tree_of b.expr.value)
-            (items.parse_generator_after (spec.expr self.now.rules.depth) (tree_of callee.expr.value) opening
-            (tree_of first.expr.value) tokens.old.rest.now) result tokens.new.rest.now }
+            (items.parse_generator_after (spec.expr self.now.rules.depth) (tree_of callee.entry.expr.value) opening
+            (tree_of first.entry.expr.value) tokens.old.rest.now) result tokens.new.rest.now }
     {
         let height = first.height;
         match Box::into_inner(first.expr).into_argument() {
@@ -76,14 +76,14 @@ impl<F: Fn(Global, &mut Cursor<'_>, usize, u8) -> Result<Built, ParseError>> Exp
     fn parse_call_arguments(
         &self,
         tokens: &mut Cursor<'_>,
-        callee: Built,
+        callee: Built<&'a Bump>,
         opening: Token,
-        first: Built,
-    ) -> Result<Built, ParseError>
+        first: Built<&'a Bump>,
+    ) -> Result<Built<&'a Bump>, ParseError>
         requires { ReadsExpressions self.now.rules.depth (F.pre self.now.rules.expr) (F.post self.now.rules.expr) }
         ensures { ReadsTokens (λ b. tree_of b.expr.value)
-            (items.parse_call_arguments (spec.expr self.now.rules.depth) (tree_of callee.expr.value) opening
-            (tree_of first.expr.value) tokens.old.rest.now) result tokens.new.rest.now }
+            (items.parse_call_arguments (spec.expr self.now.rules.depth) (tree_of callee.entry.expr.value) opening
+            (tree_of first.entry.expr.value) tokens.old.rest.now) result tokens.new.rest.now }
     {
         let arguments = self
             .rules
@@ -97,12 +97,12 @@ impl<F: Fn(Global, &mut Cursor<'_>, usize, u8) -> Result<Built, ParseError>> Exp
     fn parse_filled_call(
         &self,
         tokens: &mut Cursor<'_>,
-        callee: Built,
+        callee: Built<&'a Bump>,
         opening: Token,
-    ) -> Result<Built, ParseError>
+    ) -> Result<Built<&'a Bump>, ParseError>
         requires { ReadsExpressions self.now.rules.depth (F.pre self.now.rules.expr) (F.post self.now.rules.expr) }
         ensures { ReadsTokens (λ b. tree_of b.expr.value)
-            (items.parse_filled_call (spec.expr self.now.rules.depth) (tree_of callee.expr.value) opening
+            (items.parse_filled_call (spec.expr self.now.rules.depth) (tree_of callee.entry.expr.value) opening
             tokens.old.rest.now) result tokens.new.rest.now }
     {
         let first = self.rules.item(tokens, ListContext::Arguments)?;
@@ -118,11 +118,11 @@ impl<F: Fn(Global, &mut Cursor<'_>, usize, u8) -> Result<Built, ParseError>> Exp
     fn parse_empty_call(
         &self,
         tokens: &mut Cursor<'_>,
-        callee: Built,
+        callee: Built<&'a Bump>,
         opening: Token,
-    ) -> Result<Built, ParseError>
+    ) -> Result<Built<&'a Bump>, ParseError>
         ensures { ReadsTokens (λ b. tree_of b.expr.value)
-            (items.parse_empty_call (spec.expr self.now.rules.depth) (tree_of callee.expr.value) opening
+            (items.parse_empty_call (spec.expr self.now.rules.depth) (tree_of callee.entry.expr.value) opening
             tokens.old.rest.now) result tokens.new.rest.now }
     {
         let closing = tokens.take()?;
@@ -132,10 +132,10 @@ impl<F: Fn(Global, &mut Cursor<'_>, usize, u8) -> Result<Built, ParseError>> Exp
 
     /// A callee and its arguments in parentheses.
     #[tactic(auto, using(pyc_build::proofs::Steps::ReadsTokens_made), unfolding(pyc_tree::specs::Items::parse_call))]
-    pub fn parse_call(&self, tokens: &mut Cursor<'_>, callee: Built) -> Result<Built, ParseError>
+    pub fn parse_call(&self, tokens: &mut Cursor<'_>, callee: Built<&'a Bump>) -> Result<Built<&'a Bump>, ParseError>
         requires { ReadsExpressions self.now.rules.depth (F.pre self.now.rules.expr) (F.post self.now.rules.expr) }
         ensures { ReadsTokens (λ b. tree_of b.expr.value)
-            (items.parse_call (spec.expr self.now.rules.depth) (tree_of callee.expr.value) tokens.old.rest.now) result
+            (items.parse_call (spec.expr self.now.rules.depth) (tree_of callee.entry.expr.value) tokens.old.rest.now) result
             tokens.new.rest.now }
     {
         let opening = tokens.take()?;
@@ -151,11 +151,11 @@ impl<F: Fn(Global, &mut Cursor<'_>, usize, u8) -> Result<Built, ParseError>> Exp
     pub fn parse_subscript(
         &self,
         tokens: &mut Cursor<'_>,
-        object: Built,
-    ) -> Result<Built, ParseError>
+        object: Built<&'a Bump>,
+    ) -> Result<Built<&'a Bump>, ParseError>
         requires { ReadsExpressions self.now.rules.depth (F.pre self.now.rules.expr) (F.post self.now.rules.expr) }
         ensures { ReadsTokens (λ b. tree_of b.expr.value)
-            (items.parse_subscript (spec.expr self.now.rules.depth) (tree_of object.expr.value) tokens.old.rest.now)
+            (items.parse_subscript (spec.expr self.now.rules.depth) (tree_of object.entry.expr.value) tokens.old.rest.now)
             result tokens.new.rest.now }
     {
         let opening = tokens.take()?;

@@ -9,10 +9,10 @@ ghost use Rattle.pyc_tree.specs.Tree as tree;
 ghost use Rattle.pyc_tree.specs.View.{tree_of, links_before};
 
 use crate::rules::ExpressionRules;
+use bumpalo::Bump;
 use pyc_build::{Built, BuiltLink, BuiltLinks, ParseError, built};
 use pyc_cursor::{Cursor, is_comparison, same_kind};
 use pyc_token::{Keyword, Kind, Token};
-use std::alloc::Global;
 
 /// The second word of a comparison's operator, by the first.
 #[tactic(auto, unfolding(pyc_tree::specs::Expressions::second_word))]
@@ -36,10 +36,10 @@ fn second_word(tokens: &mut Cursor<'_>, first: Kind) -> Result<Option<Token>, Pa
     }
 }
 
-impl<F: Fn(Global, &mut Cursor<'_>, usize, u8) -> Result<Built, ParseError>> ExpressionRules<F> {
+impl<'a, F: Fn(&'a Bump, &mut Cursor<'_>, usize, u8) -> Result<Built<&'a Bump>, ParseError>> ExpressionRules<'a, F> {
     /// A comparison.
     #[tactic(auto, using(pyc_build::proofs::Steps::ReadsTokens_made), unfolding(pyc_tree::specs::Expressions::one_link))]
-    fn one_link(&self, tokens: &mut Cursor<'_>) -> Result<BuiltLink, ParseError>
+    fn one_link(&self, tokens: &mut Cursor<'_>) -> Result<BuiltLink<&'a Bump>, ParseError>
         requires { ReadsExpressions self.now.rules.depth (F.pre self.now.rules.expr) (F.post self.now.rules.expr) }
         ensures { ReadsTokens (λ b rest. tree.link b.first b.second (tree_of b.right.expr.value) rest)
             (spec.one_link (spec.expr self.now.rules.depth) tokens.old.rest.now) result tokens.new.rest.now }
@@ -55,7 +55,7 @@ impl<F: Fn(Global, &mut Cursor<'_>, usize, u8) -> Result<Built, ParseError>> Exp
     }
 
     /// Comparisons, as long as one comes next.
-    fn all_links(&self, tokens: &mut Cursor<'_>) -> Result<BuiltLinks, ParseError>
+    fn all_links(&self, tokens: &mut Cursor<'_>) -> Result<BuiltLinks<&'a Bump>, ParseError>
         requires { ReadsExpressions self.now.rules.depth (F.pre self.now.rules.expr) (F.post self.now.rules.expr) }
         ensures { ReadsTokens (λ b. links_before b.links.items tree.unlinked)
             (spec.all_links (spec.expr self.now.rules.depth) tokens.old.rest.now) result tokens.new.rest.now }
@@ -76,11 +76,11 @@ impl<F: Fn(Global, &mut Cursor<'_>, usize, u8) -> Result<Built, ParseError>> Exp
     pub fn parse_comparisons(
         &self,
         tokens: &mut Cursor<'_>,
-        left: Built,
-    ) -> Result<Built, ParseError>
+        left: Built<&'a Bump>,
+    ) -> Result<Built<&'a Bump>, ParseError>
         requires { ReadsExpressions self.now.rules.depth (F.pre self.now.rules.expr) (F.post self.now.rules.expr) }
         ensures { ReadsTokens (λ b. tree_of b.expr.value)
-            (spec.parse_comparisons (spec.expr self.now.rules.depth) (tree_of left.expr.value) tokens.old.rest.now)
+            (spec.parse_comparisons (spec.expr self.now.rules.depth) (tree_of left.entry.expr.value) tokens.old.rest.now)
             result
             tokens.new.rest.now }
     {

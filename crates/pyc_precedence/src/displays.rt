@@ -14,6 +14,7 @@ ghost use Rattle.pyc_tree.specs.Tree as tree;
 ghost use Rattle.pyc_tree.specs.View.{tree_of, pieces_of};
 
 use crate::rules::ExpressionRules;
+use bumpalo::Bump;
 use pyc_build::{Built, BuiltPieces, Listed, ParseError, PiecesSoFar, built, separate_single};
 use pyc_cursor::{
     Cursor, begins_comprehension, context_in, display_kind_of, empty_display_kind, is_at,
@@ -21,15 +22,15 @@ use pyc_cursor::{
 };
 use pyc_token::{Bracket, Keyword, Kind, Token};
 use pyc_tree::{DisplayKind, ListContext};
-use std::alloc::Global;
+use std::alloc::Allocator;
 
 /// What parentheses make of their items: an expression alone is itself.
-fn in_parentheses(
-    alloc: Global,
+fn in_parentheses<A: Allocator>(
+    alloc: A,
     opening: Token,
-    found: BuiltPieces,
+    found: BuiltPieces<A>,
     closing: Token,
-) -> Result<Built, ParseError>
+) -> Result<Built<A>, ParseError>
     ensures { (self : ℕ → Parser tree.Tree) (first : tree.Tree) (ts : List Token)
         → ReadsTokens (λ b. tree_of b.expr.value)
         (items.enclosed self Round first opening (pieces_of found.pieces) closing ts) result ts }
@@ -46,7 +47,7 @@ fn in_parentheses(
     }
 }
 
-impl<F: Fn(Global, &mut Cursor<'_>, usize, u8) -> Result<Built, ParseError>> ExpressionRules<F> {
+impl<'a, F: Fn(&'a Bump, &mut Cursor<'_>, usize, u8) -> Result<Built<&'a Bump>, ParseError>> ExpressionRules<'a, F> {
     /// A comprehension after its element.
     #[tactic(auto, using(pyc_build::proofs::Steps::ReadsTokens_made), unfolding(pyc_tree::specs::Items::parse_comprehension_display))]
     fn parse_comprehension_display(
@@ -54,12 +55,12 @@ impl<F: Fn(Global, &mut Cursor<'_>, usize, u8) -> Result<Built, ParseError>> Exp
         tokens: &mut Cursor<'_>,
         bracket: Bracket,
         opening: Token,
-        element: Built,
-    ) -> Result<Built, ParseError>
+        element: Built<&'a Bump>,
+    ) -> Result<Built<&'a Bump>, ParseError>
         requires { ReadsExpressions self.now.rules.depth (F.pre self.now.rules.expr) (F.post self.now.rules.expr) }
         ensures { ReadsTokens (λ b. tree_of b.expr.value)
             (items.parse_comprehension_display (spec.expr self.now.rules.depth) bracket opening
-            (tree_of element.expr.value)
+            (tree_of element.entry.expr.value)
             tokens.old.rest.now) result tokens.new.rest.now }
     {
         let comprehensions = self.rules.comprehensions(tokens)?;
@@ -85,11 +86,11 @@ impl<F: Fn(Global, &mut Cursor<'_>, usize, u8) -> Result<Built, ParseError>> Exp
         &self,
         tokens: &mut Cursor<'_>,
         opening: Token,
-        first: Built,
-    ) -> Result<Built, ParseError>
+        first: Built<&'a Bump>,
+    ) -> Result<Built<&'a Bump>, ParseError>
         requires { ReadsExpressions self.now.rules.depth (F.pre self.now.rules.expr) (F.post self.now.rules.expr) }
         ensures { ReadsTokens (λ b. tree_of b.expr.value)
-            (items.parse_display (spec.expr self.now.rules.depth) Round opening (tree_of first.expr.value)
+            (items.parse_display (spec.expr self.now.rules.depth) Round opening (tree_of first.entry.expr.value)
             tokens.old.rest.now) result tokens.new.rest.now }
     {
         let found = self
@@ -105,11 +106,11 @@ impl<F: Fn(Global, &mut Cursor<'_>, usize, u8) -> Result<Built, ParseError>> Exp
         &self,
         tokens: &mut Cursor<'_>,
         opening: Token,
-        first: Built,
-    ) -> Result<Built, ParseError>
+        first: Built<&'a Bump>,
+    ) -> Result<Built<&'a Bump>, ParseError>
         requires { ReadsExpressions self.now.rules.depth (F.pre self.now.rules.expr) (F.post self.now.rules.expr) }
         ensures { ReadsTokens (λ b. tree_of b.expr.value)
-            (items.parse_display (spec.expr self.now.rules.depth) Square opening (tree_of first.expr.value)
+            (items.parse_display (spec.expr self.now.rules.depth) Square opening (tree_of first.entry.expr.value)
             tokens.old.rest.now) result tokens.new.rest.now }
     {
         let found = self
@@ -125,11 +126,11 @@ impl<F: Fn(Global, &mut Cursor<'_>, usize, u8) -> Result<Built, ParseError>> Exp
         &self,
         tokens: &mut Cursor<'_>,
         opening: Token,
-        first: Built,
-    ) -> Result<Built, ParseError>
+        first: Built<&'a Bump>,
+    ) -> Result<Built<&'a Bump>, ParseError>
         requires { ReadsExpressions self.now.rules.depth (F.pre self.now.rules.expr) (F.post self.now.rules.expr) }
         ensures { ReadsTokens (λ b. tree_of b.expr.value)
-            (items.parse_display (spec.expr self.now.rules.depth) Curly opening (tree_of first.expr.value)
+            (items.parse_display (spec.expr self.now.rules.depth) Curly opening (tree_of first.entry.expr.value)
             tokens.old.rest.now) result tokens.new.rest.now }
     {
         let display_kind = display_kind_of(Bracket::Curly, &first.expr);
@@ -147,11 +148,11 @@ impl<F: Fn(Global, &mut Cursor<'_>, usize, u8) -> Result<Built, ParseError>> Exp
         tokens: &mut Cursor<'_>,
         bracket: Bracket,
         opening: Token,
-        first: Built,
-    ) -> Result<Built, ParseError>
+        first: Built<&'a Bump>,
+    ) -> Result<Built<&'a Bump>, ParseError>
         requires { ReadsExpressions self.now.rules.depth (F.pre self.now.rules.expr) (F.post self.now.rules.expr) }
         ensures { ReadsTokens (λ b. tree_of b.expr.value)
-            (items.parse_display (spec.expr self.now.rules.depth) bracket opening (tree_of first.expr.value)
+            (items.parse_display (spec.expr self.now.rules.depth) bracket opening (tree_of first.entry.expr.value)
             tokens.old.rest.now) result tokens.new.rest.now }
     {
         match bracket {
@@ -168,7 +169,7 @@ impl<F: Fn(Global, &mut Cursor<'_>, usize, u8) -> Result<Built, ParseError>> Exp
         tokens: &mut Cursor<'_>,
         bracket: Bracket,
         opening: Token,
-    ) -> Result<Built, ParseError>
+    ) -> Result<Built<&'a Bump>, ParseError>
         requires { ReadsExpressions self.now.rules.depth (F.pre self.now.rules.expr) (F.post self.now.rules.expr) }
         ensures { ReadsTokens (λ b. tree_of b.expr.value)
             (items.parse_filled_brackets (spec.expr self.now.rules.depth) bracket opening tokens.old.rest.now) result
@@ -189,7 +190,7 @@ impl<F: Fn(Global, &mut Cursor<'_>, usize, u8) -> Result<Built, ParseError>> Exp
         tokens: &mut Cursor<'_>,
         bracket: Bracket,
         opening: Token,
-    ) -> Result<Built, ParseError>
+    ) -> Result<Built<&'a Bump>, ParseError>
         ensures { ReadsTokens (λ b. tree_of b.expr.value)
             (items.parse_empty_brackets (spec.expr self.now.rules.depth) bracket opening tokens.old.rest.now) result
             tokens.new.rest.now }
@@ -207,7 +208,7 @@ impl<F: Fn(Global, &mut Cursor<'_>, usize, u8) -> Result<Built, ParseError>> Exp
 
     /// Parentheses and what is between them.
     #[tactic(auto, using(pyc_build::proofs::Steps::ReadsTokens_made), unfolding(pyc_tree::specs::Expressions::parentheses))]
-    pub fn parentheses(&self, tokens: &mut Cursor<'_>) -> Result<Built, ParseError>
+    pub fn parentheses(&self, tokens: &mut Cursor<'_>) -> Result<Built<&'a Bump>, ParseError>
         requires { ReadsExpressions self.now.rules.depth (F.pre self.now.rules.expr) (F.post self.now.rules.expr) }
         ensures { ReadsTokens (λ b. tree_of b.expr.value)
             (spec.parentheses (spec.expr self.now.rules.depth) tokens.old.rest.now) result tokens.new.rest.now }
@@ -224,7 +225,7 @@ impl<F: Fn(Global, &mut Cursor<'_>, usize, u8) -> Result<Built, ParseError>> Exp
 
     /// Square or curly brackets and what is between them.
     #[tactic(auto, using(pyc_build::proofs::Steps::ReadsTokens_made), unfolding(pyc_tree::specs::Expressions::brackets))]
-    pub fn brackets(&self, tokens: &mut Cursor<'_>, bracket: Bracket) -> Result<Built, ParseError>
+    pub fn brackets(&self, tokens: &mut Cursor<'_>, bracket: Bracket) -> Result<Built<&'a Bump>, ParseError>
         requires { ReadsExpressions self.now.rules.depth (F.pre self.now.rules.expr) (F.post self.now.rules.expr) }
         ensures { ReadsTokens (λ b. tree_of b.expr.value)
             (spec.brackets (spec.expr self.now.rules.depth) bracket tokens.old.rest.now) result tokens.new.rest.now }

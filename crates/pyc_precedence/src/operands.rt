@@ -14,11 +14,12 @@ ghost use Rattle.pyc_tree.specs.Tree as tree;
 ghost use Rattle.pyc_tree.specs.View.{tree_of};
 
 use crate::rules::ExpressionRules;
+use bumpalo::Bump;
 use pyc_build::{Built, ParseError, built};
 use pyc_cursor::{Cursor, is_bytes, is_string};
 use pyc_token::{Arithmetic, Bracket, Delimiter, Keyword, Kind, Token};
 use pyc_tree::ListContext;
-use std::alloc::Global;
+use std::alloc::Allocator;
 
 /// How many string literals come next.
 fn literal_count(tokens: &[Token]) -> usize
@@ -33,7 +34,7 @@ fn literal_count(tokens: &[Token]) -> usize
 
 /// The string literals that come next, all of them.
 #[tactic(auto, unfolding(pyc_tree::specs::Expressions::literals))]
-fn literals(alloc: Global, tokens: &mut Cursor<'_>) -> Result<Vec<Token>, ParseError>
+fn literals<A: Allocator>(alloc: A, tokens: &mut Cursor<'_>) -> Result<Vec<Token, A>, ParseError>
     ensures { ReadsTokens (λ v. v.items) (spec.literals tokens.old.rest.now) result tokens.new.rest.now }
 {
     let (front, rest) = tokens.rest.split_at(literal_count(tokens.rest));
@@ -61,10 +62,10 @@ fn are_joined(of_bytes: bool, more: &[Token]) -> bool
     true
 }
 
-impl<F: Fn(Global, &mut Cursor<'_>, usize, u8) -> Result<Built, ParseError>> ExpressionRules<F> {
+impl<'a, F: Fn(&'a Bump, &mut Cursor<'_>, usize, u8) -> Result<Built<&'a Bump>, ParseError>> ExpressionRules<'a, F> {
     /// An identifier.
     #[tactic(auto, using(pyc_build::proofs::Steps::ReadsTokens_made))]
-    fn name(&self, tokens: &mut Cursor<'_>) -> Result<Built, ParseError>
+    fn name(&self, tokens: &mut Cursor<'_>) -> Result<Built<&'a Bump>, ParseError>
         ensures { ReadsTokens (λ b. tree_of b.expr.value) (spec.atom tree.name tokens.old.rest.now) result
             tokens.new.rest.now }
     {
@@ -74,7 +75,7 @@ impl<F: Fn(Global, &mut Cursor<'_>, usize, u8) -> Result<Built, ParseError>> Exp
 
     /// A number.
     #[tactic(auto, using(pyc_build::proofs::Steps::ReadsTokens_made))]
-    fn number(&self, tokens: &mut Cursor<'_>) -> Result<Built, ParseError>
+    fn number(&self, tokens: &mut Cursor<'_>) -> Result<Built<&'a Bump>, ParseError>
         ensures { ReadsTokens (λ b. tree_of b.expr.value) (spec.atom tree.number tokens.old.rest.now) result
             tokens.new.rest.now }
     {
@@ -84,7 +85,7 @@ impl<F: Fn(Global, &mut Cursor<'_>, usize, u8) -> Result<Built, ParseError>> Exp
 
     /// `False`, `None`, `True` or `...`.
     #[tactic(auto, using(pyc_build::proofs::Steps::ReadsTokens_made))]
-    fn constant(&self, tokens: &mut Cursor<'_>) -> Result<Built, ParseError>
+    fn constant(&self, tokens: &mut Cursor<'_>) -> Result<Built<&'a Bump>, ParseError>
         ensures { ReadsTokens (λ b. tree_of b.expr.value) (spec.atom tree.constant tokens.old.rest.now) result
             tokens.new.rest.now }
     {
@@ -94,7 +95,7 @@ impl<F: Fn(Global, &mut Cursor<'_>, usize, u8) -> Result<Built, ParseError>> Exp
 
     /// String literals that join.
     #[tactic(auto, using(pyc_build::proofs::Steps::ReadsTokens_made), unfolding(pyc_tree::specs::Expressions::strings))]
-    fn strings(&self, tokens: &mut Cursor<'_>) -> Result<Built, ParseError>
+    fn strings(&self, tokens: &mut Cursor<'_>) -> Result<Built<&'a Bump>, ParseError>
         ensures { ReadsTokens (λ b. tree_of b.expr.value) (spec.strings tokens.old.rest.now) result
             tokens.new.rest.now }
     {
@@ -109,7 +110,7 @@ impl<F: Fn(Global, &mut Cursor<'_>, usize, u8) -> Result<Built, ParseError>> Exp
 
     /// `lambda`, parameters, `:` and a body.
     #[tactic(auto, using(pyc_build::proofs::Steps::ReadsTokens_made), unfolding(pyc_tree::specs::Expressions::lambda))]
-    fn lambda(&self, tokens: &mut Cursor<'_>, loosest: u8) -> Result<Built, ParseError>
+    fn lambda(&self, tokens: &mut Cursor<'_>, loosest: u8) -> Result<Built<&'a Bump>, ParseError>
         requires { ReadsExpressions self.now.rules.depth (F.pre self.now.rules.expr) (F.post self.now.rules.expr) }
         ensures { ReadsTokens (λ b. tree_of b.expr.value)
             (spec.lambda (spec.expr self.now.rules.depth) loosest tokens.old.rest.now) result tokens.new.rest.now }
@@ -133,7 +134,7 @@ impl<F: Fn(Global, &mut Cursor<'_>, usize, u8) -> Result<Built, ParseError>> Exp
         tokens: &mut Cursor<'_>,
         loosest: u8,
         word: Keyword,
-    ) -> Result<Built, ParseError>
+    ) -> Result<Built<&'a Bump>, ParseError>
         requires { ReadsExpressions self.now.rules.depth (F.pre self.now.rules.expr) (F.post self.now.rules.expr) }
         ensures { ReadsTokens (λ b. tree_of b.expr.value)
             (spec.prefix_by (spec.expr self.now.rules.depth) loosest (kind.Keyword word) tokens.old.rest.now) result
@@ -155,7 +156,7 @@ impl<F: Fn(Global, &mut Cursor<'_>, usize, u8) -> Result<Built, ParseError>> Exp
         tokens: &mut Cursor<'_>,
         loosest: u8,
         sign: Arithmetic,
-    ) -> Result<Built, ParseError>
+    ) -> Result<Built<&'a Bump>, ParseError>
         requires { ReadsExpressions self.now.rules.depth (F.pre self.now.rules.expr) (F.post self.now.rules.expr) }
         ensures { ReadsTokens (λ b. tree_of b.expr.value)
             (spec.prefix_by (spec.expr self.now.rules.depth) loosest (kind.Arithmetic sign) tokens.old.rest.now)
@@ -174,7 +175,7 @@ impl<F: Fn(Global, &mut Cursor<'_>, usize, u8) -> Result<Built, ParseError>> Exp
         tokens: &mut Cursor<'_>,
         loosest: u8,
         mark: Delimiter,
-    ) -> Result<Built, ParseError>
+    ) -> Result<Built<&'a Bump>, ParseError>
         requires { ReadsExpressions self.now.rules.depth (F.pre self.now.rules.expr) (F.post self.now.rules.expr) }
         ensures { ReadsTokens (λ b. tree_of b.expr.value)
             (spec.prefix_by (spec.expr self.now.rules.depth) loosest (kind.Delimiter mark) tokens.old.rest.now) result
@@ -189,7 +190,7 @@ impl<F: Fn(Global, &mut Cursor<'_>, usize, u8) -> Result<Built, ParseError>> Exp
 
     /// An operand that a bracket begins.
     #[tactic(auto, using(pyc_build::proofs::Steps::ReadsTokens_made))]
-    fn prefix_bracket(&self, tokens: &mut Cursor<'_>, bracket: Bracket) -> Result<Built, ParseError>
+    fn prefix_bracket(&self, tokens: &mut Cursor<'_>, bracket: Bracket) -> Result<Built<&'a Bump>, ParseError>
         requires { ReadsExpressions self.now.rules.depth (F.pre self.now.rules.expr) (F.post self.now.rules.expr) }
         ensures { ReadsTokens (λ b. tree_of b.expr.value)
             (spec.prefix_by (spec.expr self.now.rules.depth) 1 (kind.Open bracket) tokens.old.rest.now) result
@@ -204,7 +205,7 @@ impl<F: Fn(Global, &mut Cursor<'_>, usize, u8) -> Result<Built, ParseError>> Exp
 
     /// An operand, by its first token.
     #[tactic(auto, using(pyc_build::proofs::Steps::ReadsTokens_made), unfolding(pyc_tree::specs::Expressions::prefix))]
-    pub fn prefix(&self, tokens: &mut Cursor<'_>, loosest: u8) -> Result<Built, ParseError>
+    pub fn prefix(&self, tokens: &mut Cursor<'_>, loosest: u8) -> Result<Built<&'a Bump>, ParseError>
         requires { ReadsExpressions self.now.rules.depth (F.pre self.now.rules.expr) (F.post self.now.rules.expr) }
         ensures { ReadsTokens (λ b. tree_of b.expr.value)
             (spec.prefix (spec.expr self.now.rules.depth) loosest tokens.old.rest.now) result tokens.new.rest.now }

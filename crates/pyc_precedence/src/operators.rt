@@ -9,12 +9,12 @@ ghost use Rattle.pyc_token.specs.declared.tokens.Kind.TheVariants as kind;
 ghost use Rattle.pyc_tree.specs.View.{tree_of};
 
 use crate::rules::ExpressionRules;
+use bumpalo::Bump;
 use pyc_build::{Built, ParseError, built};
 use pyc_cursor::{Cursor, infix_precedence, right_precedence};
 use pyc_token::{Bracket, Delimiter, Keyword, Kind};
-use std::alloc::Global;
 
-impl<F: Fn(Global, &mut Cursor<'_>, usize, u8) -> Result<Built, ParseError>> ExpressionRules<F> {
+impl<'a, F: Fn(&'a Bump, &mut Cursor<'_>, usize, u8) -> Result<Built<&'a Bump>, ParseError>> ExpressionRules<'a, F> {
     /// An operator and its operand, both of this precedence.
     #[tactic(auto, unfolding(pyc_tree::specs::Expressions::parse_unary))]
     pub fn parse_unary(
@@ -22,7 +22,7 @@ impl<F: Fn(Global, &mut Cursor<'_>, usize, u8) -> Result<Built, ParseError>> Exp
         tokens: &mut Cursor<'_>,
         loosest: u8,
         own: u8,
-    ) -> Result<Built, ParseError>
+    ) -> Result<Built<&'a Bump>, ParseError>
         requires { ReadsExpressions self.now.rules.depth (F.pre self.now.rules.expr) (F.post self.now.rules.expr) }
         ensures { ReadsTokens (λ b. tree_of b.expr.value)
             (spec.parse_unary (spec.expr self.now.rules.depth) loosest own tokens.old.rest.now) result
@@ -38,10 +38,10 @@ impl<F: Fn(Global, &mut Cursor<'_>, usize, u8) -> Result<Built, ParseError>> Exp
 
     /// `if`, a test, `else` and another value, after a value.
     #[tactic(auto, unfolding(pyc_tree::specs::Expressions::conditional))]
-    pub fn conditional(&self, tokens: &mut Cursor<'_>, left: Built) -> Result<Built, ParseError>
+    pub fn conditional(&self, tokens: &mut Cursor<'_>, left: Built<&'a Bump>) -> Result<Built<&'a Bump>, ParseError>
         requires { ReadsExpressions self.now.rules.depth (F.pre self.now.rules.expr) (F.post self.now.rules.expr) }
         ensures { ReadsTokens (λ b. tree_of b.expr.value)
-            (spec.conditional (spec.expr self.now.rules.depth) (tree_of left.expr.value) tokens.old.rest.now) result
+            (spec.conditional (spec.expr self.now.rules.depth) (tree_of left.entry.expr.value) tokens.old.rest.now) result
             tokens.new.rest.now }
     {
         let word_if = tokens.take()?;
@@ -57,7 +57,7 @@ impl<F: Fn(Global, &mut Cursor<'_>, usize, u8) -> Result<Built, ParseError>> Exp
         &self,
         tokens: &mut Cursor<'_>,
         loosest: u8,
-    ) -> Result<Built, ParseError>
+    ) -> Result<Built<&'a Bump>, ParseError>
         requires { ReadsExpressions self.now.rules.depth (F.pre self.now.rules.expr) (F.post self.now.rules.expr) }
         ensures { ReadsTokens (λ b. tree_of b.expr.value)
             (spec.await_expression (spec.expr self.now.rules.depth) loosest tokens.old.rest.now) result
@@ -76,12 +76,12 @@ impl<F: Fn(Global, &mut Cursor<'_>, usize, u8) -> Result<Built, ParseError>> Exp
     pub fn parse_binary(
         &self,
         tokens: &mut Cursor<'_>,
-        left: Built,
+        left: Built<&'a Bump>,
         precedence: u8,
-    ) -> Result<Built, ParseError>
+    ) -> Result<Built<&'a Bump>, ParseError>
         requires { ReadsExpressions self.now.rules.depth (F.pre self.now.rules.expr) (F.post self.now.rules.expr) }
         ensures { ReadsTokens (λ b. tree_of b.expr.value)
-            (spec.parse_binary (spec.expr self.now.rules.depth) (tree_of left.expr.value) precedence
+            (spec.parse_binary (spec.expr self.now.rules.depth) (tree_of left.entry.expr.value) precedence
             tokens.old.rest.now)
             result tokens.new.rest.now }
     {
@@ -92,9 +92,9 @@ impl<F: Fn(Global, &mut Cursor<'_>, usize, u8) -> Result<Built, ParseError>> Exp
 
     /// `.` and a name, after an object.
     #[tactic(auto, unfolding(pyc_tree::specs::Expressions::attribute))]
-    pub fn attribute(&self, tokens: &mut Cursor<'_>, object: Built) -> Result<Built, ParseError>
+    pub fn attribute(&self, tokens: &mut Cursor<'_>, object: Built<&'a Bump>) -> Result<Built<&'a Bump>, ParseError>
         ensures { ReadsTokens (λ b. tree_of b.expr.value)
-            (spec.attribute (spec.expr self.now.rules.depth) (tree_of object.expr.value) tokens.old.rest.now) result
+            (spec.attribute (spec.expr self.now.rules.depth) (tree_of object.entry.expr.value) tokens.old.rest.now) result
             tokens.new.rest.now }
     {
         let dot = tokens.take()?;
@@ -104,10 +104,10 @@ impl<F: Fn(Global, &mut Cursor<'_>, usize, u8) -> Result<Built, ParseError>> Exp
 
     /// What an expression goes on with, by the next token.
     #[tactic(auto, unfolding(pyc_tree::specs::Expressions::operation))]
-    fn operation(&self, tokens: &mut Cursor<'_>, left: Built) -> Result<Built, ParseError>
+    fn operation(&self, tokens: &mut Cursor<'_>, left: Built<&'a Bump>) -> Result<Built<&'a Bump>, ParseError>
         requires { ReadsExpressions self.now.rules.depth (F.pre self.now.rules.expr) (F.post self.now.rules.expr) }
         ensures { ReadsTokens (λ b. tree_of b.expr.value)
-            (spec.operation (spec.expr self.now.rules.depth) (tree_of left.expr.value) tokens.old.rest.now) result
+            (spec.operation (spec.expr self.now.rules.depth) (tree_of left.entry.expr.value) tokens.old.rest.now) result
             tokens.new.rest.now }
     {
         match tokens.peek() {
@@ -124,12 +124,12 @@ impl<F: Fn(Global, &mut Cursor<'_>, usize, u8) -> Result<Built, ParseError>> Exp
     fn word_operation(
         &self,
         tokens: &mut Cursor<'_>,
-        left: Built,
+        left: Built<&'a Bump>,
         word: Keyword,
-    ) -> Result<Built, ParseError>
+    ) -> Result<Built<&'a Bump>, ParseError>
         requires { ReadsExpressions self.now.rules.depth (F.pre self.now.rules.expr) (F.post self.now.rules.expr) }
         ensures { ReadsTokens (λ b. tree_of b.expr.value)
-            (spec.operation_by (spec.expr self.now.rules.depth) (tree_of left.expr.value) (kind.Keyword word)
+            (spec.operation_by (spec.expr self.now.rules.depth) (tree_of left.entry.expr.value) (kind.Keyword word)
             tokens.old.rest.now) result tokens.new.rest.now }
     {
         match word {
@@ -144,12 +144,12 @@ impl<F: Fn(Global, &mut Cursor<'_>, usize, u8) -> Result<Built, ParseError>> Exp
     fn bracket_operation(
         &self,
         tokens: &mut Cursor<'_>,
-        left: Built,
+        left: Built<&'a Bump>,
         bracket: Bracket,
-    ) -> Result<Built, ParseError>
+    ) -> Result<Built<&'a Bump>, ParseError>
         requires { ReadsExpressions self.now.rules.depth (F.pre self.now.rules.expr) (F.post self.now.rules.expr) }
         ensures { ReadsTokens (λ b. tree_of b.expr.value)
-            (spec.operation_by (spec.expr self.now.rules.depth) (tree_of left.expr.value) (kind.Open bracket)
+            (spec.operation_by (spec.expr self.now.rules.depth) (tree_of left.entry.expr.value) (kind.Open bracket)
             tokens.old.rest.now) result tokens.new.rest.now }
     {
         match bracket {
@@ -164,12 +164,12 @@ impl<F: Fn(Global, &mut Cursor<'_>, usize, u8) -> Result<Built, ParseError>> Exp
     fn mark_operation(
         &self,
         tokens: &mut Cursor<'_>,
-        left: Built,
+        left: Built<&'a Bump>,
         mark: Delimiter,
-    ) -> Result<Built, ParseError>
+    ) -> Result<Built<&'a Bump>, ParseError>
         requires { ReadsExpressions self.now.rules.depth (F.pre self.now.rules.expr) (F.post self.now.rules.expr) }
         ensures { ReadsTokens (λ b. tree_of b.expr.value)
-            (spec.operation_by (spec.expr self.now.rules.depth) (tree_of left.expr.value) (kind.Delimiter mark)
+            (spec.operation_by (spec.expr self.now.rules.depth) (tree_of left.entry.expr.value) (kind.Delimiter mark)
             tokens.old.rest.now) result tokens.new.rest.now }
     {
         match mark {
@@ -183,11 +183,11 @@ impl<F: Fn(Global, &mut Cursor<'_>, usize, u8) -> Result<Built, ParseError>> Exp
         &self,
         tokens: &mut Cursor<'_>,
         loosest: u8,
-        mut left: Built,
-    ) -> Result<Built, ParseError>
+        mut left: Built<&'a Bump>,
+    ) -> Result<Built<&'a Bump>, ParseError>
         requires { ReadsExpressions self.now.rules.depth (F.pre self.now.rules.expr) (F.post self.now.rules.expr) }
         ensures { ReadsTokens (λ b. tree_of b.expr.value)
-            (spec.operations (spec.expr self.now.rules.depth) loosest (tree_of left.expr.value) tokens.old.rest.now)
+            (spec.operations (spec.expr self.now.rules.depth) loosest (tree_of left.entry.expr.value) tokens.old.rest.now)
             result tokens.new.rest.now }
     {
         for _turn in 0..tokens.rest.len() {
@@ -201,7 +201,7 @@ impl<F: Fn(Global, &mut Cursor<'_>, usize, u8) -> Result<Built, ParseError>> Exp
 
     /// An operand and the operators after it.
     #[tactic(auto, unfolding(pyc_tree::specs::Expressions::whole))]
-    pub fn whole(&self, tokens: &mut Cursor<'_>, loosest: u8) -> Result<Built, ParseError>
+    pub fn whole(&self, tokens: &mut Cursor<'_>, loosest: u8) -> Result<Built<&'a Bump>, ParseError>
         requires { ReadsExpressions self.now.rules.depth (F.pre self.now.rules.expr) (F.post self.now.rules.expr) }
         ensures { ReadsTokens (λ b. tree_of b.expr.value)
             (spec.whole (spec.expr self.now.rules.depth) loosest tokens.old.rest.now) result tokens.new.rest.now }

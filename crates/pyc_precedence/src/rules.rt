@@ -6,24 +6,24 @@ ghost use Rattle.pyc_build.specs.ReadsTokens.{ReadsTokens};
 ghost use Rattle.pyc_tree.specs.Expressions as spec;
 ghost use Rattle.pyc_tree.specs.View.{tree_of};
 
+use bumpalo::Bump;
 use pyc_build::{Built, ParseError};
 use pyc_cursor::Cursor;
 use pyc_list_rules::ItemRules;
-use std::alloc::Global;
 
 /// The rules of operands and operators, over a function that reads expressions.
 #[derive(Clone, Copy)]
-pub struct ExpressionRules<F> {
-    pub rules: ItemRules<F>,
+pub struct ExpressionRules<'a, F> {
+    pub rules: ItemRules<'a, F>,
 }
 
 /// An expression of a precedence, with as much depth as is reported.
-pub fn expr(
-    alloc: Global,
+pub fn expr<'a>(
+    alloc: &'a Bump,
     tokens: &mut Cursor<'_>,
     depth: usize,
     loosest: u8,
-) -> Result<Built, ParseError>
+) -> Result<Built<&'a Bump>, ParseError>
     ensures { ReadsTokens (λ b. tree_of b.expr.value) (spec.expr depth loosest tokens.old.rest.now) result
         tokens.new.rest.now }
 {

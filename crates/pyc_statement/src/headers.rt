@@ -11,16 +11,17 @@ ghost use Rattle.pyc_tree.specs.View.{pieces_of};
 
 use crate::names::alias;
 use crate::rules::StatementRules;
+use bumpalo::Bump;
 use pyc_build::{Built, BuiltPieces, ParseError, ends_without_comma};
 use pyc_build_line::{BuiltHeader, built_line};
 use pyc_cursor::{Cursor, is_colon, same_kind};
 use pyc_token::{Bracket, Delimiter, Keyword, Kind, Token};
 use pyc_tree::ListContext;
-use std::alloc::Global;
+use std::alloc::Allocator;
 
 /// `else`, `try` or `finally`.
 #[tactic(auto, unfolding(pyc_tree::specs::Headers::word_header))]
-pub fn word_header(alloc: Global, tokens: &mut Cursor<'_>) -> Result<BuiltHeader, ParseError>
+pub fn word_header<A: Allocator>(alloc: A, tokens: &mut Cursor<'_>) -> Result<BuiltHeader<A>, ParseError>
     ensures { ReadsTokens (λ b. header_of b.header.value) (headers.word_header tokens.old.rest.now) result
         tokens.new.rest.now }
 {
@@ -28,10 +29,10 @@ pub fn word_header(alloc: Global, tokens: &mut Cursor<'_>) -> Result<BuiltHeader
     built_line::word(alloc, word)
 }
 
-impl<F: Fn(Global, &mut Cursor<'_>, usize, u8) -> Result<Built, ParseError>> StatementRules<F> {
+impl<'a, F: Fn(&'a Bump, &mut Cursor<'_>, usize, u8) -> Result<Built<&'a Bump>, ParseError>> StatementRules<'a, F> {
     /// `if`, `elif` or `while`, and a condition.
     #[tactic(auto, using(crate::proofs::ReadingSteps::reading), unfolding(pyc_tree::specs::Headers::condition))]
-    pub fn condition(&self, tokens: &mut Cursor<'_>) -> Result<BuiltHeader, ParseError>
+    pub fn condition(&self, tokens: &mut Cursor<'_>) -> Result<BuiltHeader<&'a Bump>, ParseError>
         requires { ReadsExpressions self.now.rules.depth (F.pre self.now.rules.expr) (F.post self.now.rules.expr) }
         ensures { ReadsTokens (λ b. header_of b.header.value)
             (headers.condition (spec.expr self.now.rules.depth) tokens.old.rest.now) result tokens.new.rest.now }
@@ -47,7 +48,7 @@ impl<F: Fn(Global, &mut Cursor<'_>, usize, u8) -> Result<Built, ParseError>> Sta
         &self,
         tokens: &mut Cursor<'_>,
         word_async: Option<Token>,
-    ) -> Result<BuiltHeader, ParseError>
+    ) -> Result<BuiltHeader<&'a Bump>, ParseError>
         requires { ReadsExpressions self.now.rules.depth (F.pre self.now.rules.expr) (F.post self.now.rules.expr) }
         ensures { ReadsTokens (λ b. header_of b.header.value)
             (headers.for_each (spec.expr self.now.rules.depth) word_async tokens.old.rest.now) result
@@ -69,7 +70,7 @@ impl<F: Fn(Global, &mut Cursor<'_>, usize, u8) -> Result<Built, ParseError>> Sta
 
     /// `except`, and perhaps what is caught.
     #[tactic(auto, using(crate::proofs::ReadingSteps::reading), unfolding(pyc_tree::specs::Headers::except_header))]
-    pub fn except_header(&self, tokens: &mut Cursor<'_>) -> Result<BuiltHeader, ParseError>
+    pub fn except_header(&self, tokens: &mut Cursor<'_>) -> Result<BuiltHeader<&'a Bump>, ParseError>
         requires { ReadsExpressions self.now.rules.depth (F.pre self.now.rules.expr) (F.post self.now.rules.expr) }
         ensures { ReadsTokens (λ b. header_of b.header.value)
             (headers.except_header (spec.expr self.now.rules.depth) tokens.old.rest.now) result tokens.new.rest.now }
@@ -85,7 +86,7 @@ impl<F: Fn(Global, &mut Cursor<'_>, usize, u8) -> Result<Built, ParseError>> Sta
 
     /// The items of a `with`.
     #[tactic(auto, using(crate::proofs::ReadingSteps::reading), unfolding(pyc_tree::specs::Headers::with_items))]
-    fn with_items(&self, tokens: &mut Cursor<'_>) -> Result<BuiltPieces, ParseError>
+    fn with_items(&self, tokens: &mut Cursor<'_>) -> Result<BuiltPieces<&'a Bump>, ParseError>
         requires { ReadsExpressions self.now.rules.depth (F.pre self.now.rules.expr) (F.post self.now.rules.expr) }
         ensures { ReadsTokens (λ b. pieces_of b.pieces)
             (headers.with_items (spec.expr self.now.rules.depth) tokens.old.rest.now) result tokens.new.rest.now }
@@ -102,7 +103,7 @@ impl<F: Fn(Global, &mut Cursor<'_>, usize, u8) -> Result<Built, ParseError>> Sta
         tokens: &mut Cursor<'_>,
         word_async: Option<Token>,
         word: Token,
-    ) -> Result<BuiltHeader, ParseError>
+    ) -> Result<BuiltHeader<&'a Bump>, ParseError>
         requires { ReadsExpressions self.now.rules.depth (F.pre self.now.rules.expr) (F.post self.now.rules.expr) }
         ensures { ReadsTokens (λ b. header_of b.header.value)
             (headers.with_enclosed (spec.expr self.now.rules.depth) word_async word tokens.old.rest.now) result
@@ -124,7 +125,7 @@ impl<F: Fn(Global, &mut Cursor<'_>, usize, u8) -> Result<Built, ParseError>> Sta
         tokens: &mut Cursor<'_>,
         word_async: Option<Token>,
         word: Token,
-    ) -> Result<BuiltHeader, ParseError>
+    ) -> Result<BuiltHeader<&'a Bump>, ParseError>
         requires { ReadsExpressions self.now.rules.depth (F.pre self.now.rules.expr) (F.post self.now.rules.expr) }
         ensures { ReadsTokens (λ b. header_of b.header.value)
             (headers.with_unenclosed (spec.expr self.now.rules.depth) word_async word tokens.old.rest.now) result
@@ -143,7 +144,7 @@ impl<F: Fn(Global, &mut Cursor<'_>, usize, u8) -> Result<Built, ParseError>> Sta
         &self,
         tokens: &mut Cursor<'_>,
         word_async: Option<Token>,
-    ) -> Result<BuiltHeader, ParseError>
+    ) -> Result<BuiltHeader<&'a Bump>, ParseError>
         requires { ReadsExpressions self.now.rules.depth (F.pre self.now.rules.expr) (F.post self.now.rules.expr) }
         ensures { ReadsTokens (λ b. header_of b.header.value)
             (headers.with (spec.expr self.now.rules.depth) word_async tokens.old.rest.now) result
@@ -167,7 +168,7 @@ impl<F: Fn(Global, &mut Cursor<'_>, usize, u8) -> Result<Built, ParseError>> Sta
         &self,
         tokens: &mut Cursor<'_>,
         word_async: Option<Token>,
-    ) -> Result<BuiltHeader, ParseError>
+    ) -> Result<BuiltHeader<&'a Bump>, ParseError>
         requires { ReadsExpressions self.now.rules.depth (F.pre self.now.rules.expr) (F.post self.now.rules.expr) }
         ensures { ReadsTokens (λ b. header_of b.header.value)
             (headers.function (spec.expr self.now.rules.depth) word_async tokens.old.rest.now) result
@@ -200,7 +201,7 @@ impl<F: Fn(Global, &mut Cursor<'_>, usize, u8) -> Result<Built, ParseError>> Sta
         tokens: &mut Cursor<'_>,
         word: Token,
         name: Token,
-    ) -> Result<BuiltHeader, ParseError>
+    ) -> Result<BuiltHeader<&'a Bump>, ParseError>
         requires { ReadsExpressions self.now.rules.depth (F.pre self.now.rules.expr) (F.post self.now.rules.expr) }
         ensures { ReadsTokens (λ b. header_of b.header.value)
             (headers.class_of (spec.expr self.now.rules.depth) word name tokens.old.rest.now) result
@@ -214,7 +215,7 @@ impl<F: Fn(Global, &mut Cursor<'_>, usize, u8) -> Result<Built, ParseError>> Sta
 
     /// `class`, a name, and perhaps bases and keywords.
     #[tactic(auto, using(crate::proofs::ReadingSteps::reading), unfolding(pyc_tree::specs::Headers::class))]
-    pub fn class(&self, tokens: &mut Cursor<'_>) -> Result<BuiltHeader, ParseError>
+    pub fn class(&self, tokens: &mut Cursor<'_>) -> Result<BuiltHeader<&'a Bump>, ParseError>
         requires { ReadsExpressions self.now.rules.depth (F.pre self.now.rules.expr) (F.post self.now.rules.expr) }
         ensures { ReadsTokens (λ b. header_of b.header.value)
             (headers.class (spec.expr self.now.rules.depth) tokens.old.rest.now) result tokens.new.rest.now }
@@ -229,7 +230,7 @@ impl<F: Fn(Global, &mut Cursor<'_>, usize, u8) -> Result<Built, ParseError>> Sta
     }
 
     /// A header after `async`.
-    pub fn coroutine(&self, tokens: &mut Cursor<'_>) -> Result<BuiltHeader, ParseError>
+    pub fn coroutine(&self, tokens: &mut Cursor<'_>) -> Result<BuiltHeader<&'a Bump>, ParseError>
         requires { ReadsExpressions self.now.rules.depth (F.pre self.now.rules.expr) (F.post self.now.rules.expr) }
         ensures { ReadsTokens (λ b. header_of b.header.value)
             (headers.async (spec.expr self.now.rules.depth) tokens.old.rest.now) result tokens.new.rest.now }

@@ -13,14 +13,14 @@ use pyc_build_line::{BuiltSimpleStatement, built_statement};
 use pyc_cursor::{Cursor, same_kind};
 use pyc_token::{Bracket, Keyword, Kind, Token};
 use pyc_tree::{Dotted, ImportFrom, Source};
-use std::alloc::Global;
+use std::alloc::Allocator;
 
 /// The module after its dots: behind a dot it may have no name.
-fn path_after(
-    alloc: Global,
+fn path_after<A: Allocator + Copy>(
+    alloc: A,
     tokens: &mut Cursor<'_>,
     dots: &[Token],
-) -> Result<Option<Dotted>, ParseError>
+) -> Result<Option<Dotted<A>>, ParseError>
     ensures { ReadsTokens (option_map dotted_of)
         (spec.path_after dots.now (kinds.kind_of tokens.old.rest.now) tokens.old.rest.now) result
         tokens.new.rest.now }
@@ -36,7 +36,7 @@ fn path_after(
 
 /// The module of a from-import.
 #[tactic(auto, unfolding(pyc_tree::specs::SimpleStatements::source))]
-fn source(alloc: Global, tokens: &mut Cursor<'_>) -> Result<Source, ParseError>
+fn source<A: Allocator + Copy>(alloc: A, tokens: &mut Cursor<'_>) -> Result<Source<A>, ParseError>
     ensures { ReadsTokens source_of (spec.source tokens.old.rest.now) result tokens.new.rest.now }
 {
     let dots = tokens.dots(alloc)?;
@@ -46,7 +46,7 @@ fn source(alloc: Global, tokens: &mut Cursor<'_>) -> Result<Source, ParseError>
 
 /// `import` and modules.
 #[tactic(auto, unfolding(pyc_tree::specs::SimpleStatements::imported))]
-pub fn imported(alloc: Global, tokens: &mut Cursor<'_>) -> Result<BuiltSimpleStatement, ParseError>
+pub fn imported<A: Allocator + Copy>(alloc: A, tokens: &mut Cursor<'_>) -> Result<BuiltSimpleStatement<A>, ParseError>
     ensures { ReadsTokens (λ b. statement_of b.statement) (spec.imported tokens.old.rest.now) result
         tokens.new.rest.now }
 {
@@ -57,13 +57,13 @@ pub fn imported(alloc: Global, tokens: &mut Cursor<'_>) -> Result<BuiltSimpleSta
 
 /// Imported names in parentheses.
 #[tactic(auto, unfolding(pyc_tree::specs::SimpleStatements::enclosed_names))]
-fn enclosed_names(
-    alloc: Global,
+fn enclosed_names<A: Allocator + Copy>(
+    alloc: A,
     tokens: &mut Cursor<'_>,
     word: Token,
-    from: Source,
+    from: Source<A>,
     word_import: Token,
-) -> Result<BuiltSimpleStatement, ParseError>
+) -> Result<BuiltSimpleStatement<A>, ParseError>
     ensures { ReadsTokens (λ b. statement_of b.statement)
         (spec.enclosed_names word (source_of from) word_import tokens.old.rest.now) result tokens.new.rest.now }
 {
@@ -85,13 +85,13 @@ fn enclosed_names(
 
 /// Imported names without parentheses.
 #[tactic(auto, unfolding(pyc_tree::specs::SimpleStatements::open_names))]
-fn open_names(
-    alloc: Global,
+fn open_names<A: Allocator + Copy>(
+    alloc: A,
     tokens: &mut Cursor<'_>,
     word: Token,
-    from: Source,
+    from: Source<A>,
     word_import: Token,
-) -> Result<BuiltSimpleStatement, ParseError>
+) -> Result<BuiltSimpleStatement<A>, ParseError>
     ensures { ReadsTokens (λ b. statement_of b.statement)
         (spec.open_names word (source_of from) word_import tokens.old.rest.now) result tokens.new.rest.now }
 {
@@ -111,10 +111,10 @@ fn open_names(
 
 /// `from`, a module, `import` and names.
 #[tactic(auto, unfolding(pyc_tree::specs::SimpleStatements::import_from_statement))]
-pub fn import_from_statement(
-    alloc: Global,
+pub fn import_from_statement<A: Allocator + Copy>(
+    alloc: A,
     tokens: &mut Cursor<'_>,
-) -> Result<BuiltSimpleStatement, ParseError>
+) -> Result<BuiltSimpleStatement<A>, ParseError>
     ensures { ReadsTokens (λ b. statement_of b.statement) (spec.import_from_statement tokens.old.rest.now) result
         tokens.new.rest.now }
 {
@@ -130,7 +130,7 @@ pub fn import_from_statement(
 
 /// `pass`, `break` or `continue`.
 #[tactic(auto, unfolding(pyc_tree::specs::SimpleStatements::word_statement))]
-pub fn word_statement(tokens: &mut Cursor<'_>) -> Result<BuiltSimpleStatement, ParseError>
+pub fn word_statement<A: Allocator + Copy>(tokens: &mut Cursor<'_>) -> Result<BuiltSimpleStatement<A>, ParseError>
     ensures { ReadsTokens (λ b. statement_of b.statement) (spec.word_statement tokens.old.rest.now) result
         tokens.new.rest.now }
 {
@@ -140,7 +140,7 @@ pub fn word_statement(tokens: &mut Cursor<'_>) -> Result<BuiltSimpleStatement, P
 
 /// `global` or `nonlocal`, and names.
 #[tactic(auto, unfolding(pyc_tree::specs::SimpleStatements::declared))]
-pub fn declared(alloc: Global, tokens: &mut Cursor<'_>) -> Result<BuiltSimpleStatement, ParseError>
+pub fn declared<A: Allocator + Copy>(alloc: A, tokens: &mut Cursor<'_>) -> Result<BuiltSimpleStatement<A>, ParseError>
     ensures { ReadsTokens (λ b. statement_of b.statement) (spec.declared tokens.old.rest.now) result
         tokens.new.rest.now }
 {

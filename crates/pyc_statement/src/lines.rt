@@ -11,17 +11,17 @@ ghost use Rattle.pyc_build.specs.ReadsTokens.{ReadsTokens, AnswersLine};
 
 use crate::headers::word_header;
 use crate::rules::StatementRules;
+use bumpalo::Bump;
 use pyc_build::{Built, MAX_HEIGHT, ParseError};
 use pyc_build_line::{BuiltHeader, BuiltLine, built_line, built_statement};
 use pyc_cursor::Cursor;
 use pyc_token::{Arithmetic, Delimiter, Keyword, Kind};
 use pyc_tree::Line;
-use std::alloc::Global;
 
-impl<F: Fn(Global, &mut Cursor<'_>, usize, u8) -> Result<Built, ParseError>> StatementRules<F> {
+impl<'a, F: Fn(&'a Bump, &mut Cursor<'_>, usize, u8) -> Result<Built<&'a Bump>, ParseError>> StatementRules<'a, F> {
     /// `@` and an expression.
     #[tactic(auto, using(crate::proofs::ReadingSteps::reading), unfolding(pyc_tree::specs::Headers::decorator))]
-    fn decorator(&self, tokens: &mut Cursor<'_>) -> Result<BuiltLine, ParseError>
+    fn decorator(&self, tokens: &mut Cursor<'_>) -> Result<BuiltLine<&'a Bump>, ParseError>
         requires { ReadsExpressions self.now.rules.depth (F.pre self.now.rules.expr) (F.post self.now.rules.expr) }
         ensures { ReadsTokens (λ b. line_of b.line)
             (headers.decorator (spec.expr self.now.rules.depth) tokens.old.rest.now) result tokens.new.rest.now }
@@ -33,10 +33,10 @@ impl<F: Fn(Global, &mut Cursor<'_>, usize, u8) -> Result<Built, ParseError>> Sta
 
     /// The colon after a header, and the statements where a token is left.
     #[tactic(auto, using(crate::proofs::ReadingSteps::reading), unfolding(pyc_tree::specs::Headers::suite))]
-    fn suite(&self, tokens: &mut Cursor<'_>, header: BuiltHeader) -> Result<BuiltLine, ParseError>
+    fn suite(&self, tokens: &mut Cursor<'_>, header: BuiltHeader<&'a Bump>) -> Result<BuiltLine<&'a Bump>, ParseError>
         requires { ReadsExpressions self.now.rules.depth (F.pre self.now.rules.expr) (F.post self.now.rules.expr) }
         ensures { ReadsTokens (λ b. line_of b.line)
-            (headers.suite (spec.expr self.now.rules.depth) (header_of header.header.value) tokens.old.rest.now)
+            (headers.suite (spec.expr self.now.rules.depth) (header_of header.entry.header.value) tokens.old.rest.now)
             result tokens.new.rest.now }
     {
         let colon = tokens.expect(Kind::Delimiter(Delimiter::Colon))?;
@@ -50,7 +50,7 @@ impl<F: Fn(Global, &mut Cursor<'_>, usize, u8) -> Result<Built, ParseError>> Sta
 
     /// Statements, joined by semicolons.
     #[tactic(auto, using(crate::proofs::ReadingSteps::reading), unfolding(pyc_tree::specs::Headers::simple_line))]
-    fn simple_line(&self, tokens: &mut Cursor<'_>) -> Result<BuiltLine, ParseError>
+    fn simple_line(&self, tokens: &mut Cursor<'_>) -> Result<BuiltLine<&'a Bump>, ParseError>
         requires { ReadsExpressions self.now.rules.depth (F.pre self.now.rules.expr) (F.post self.now.rules.expr) }
         ensures { ReadsTokens (λ b. line_of b.line)
             (headers.simple_line (spec.expr self.now.rules.depth) tokens.old.rest.now) result tokens.new.rest.now }
@@ -65,7 +65,7 @@ impl<F: Fn(Global, &mut Cursor<'_>, usize, u8) -> Result<Built, ParseError>> Sta
         &self,
         tokens: &mut Cursor<'_>,
         word: Keyword,
-    ) -> Result<BuiltLine, ParseError>
+    ) -> Result<BuiltLine<&'a Bump>, ParseError>
         requires { ReadsExpressions self.now.rules.depth (F.pre self.now.rules.expr) (F.post self.now.rules.expr) }
         ensures { ReadsTokens (λ b. line_of b.line)
             (headers.line_by (spec.expr self.now.rules.depth) (kind.Keyword word) tokens.old.rest.now) result
@@ -90,7 +90,7 @@ impl<F: Fn(Global, &mut Cursor<'_>, usize, u8) -> Result<Built, ParseError>> Sta
 
     /// A line, by its first token.
     #[tactic(auto, using(crate::proofs::ReadingSteps::reading), unfolding(pyc_tree::specs::Headers::any_line))]
-    fn any_line(&self, tokens: &mut Cursor<'_>) -> Result<BuiltLine, ParseError>
+    fn any_line(&self, tokens: &mut Cursor<'_>) -> Result<BuiltLine<&'a Bump>, ParseError>
         requires { ReadsExpressions self.now.rules.depth (F.pre self.now.rules.expr) (F.post self.now.rules.expr) }
         ensures { ReadsTokens (λ b. line_of b.line)
             (headers.any_line (spec.expr self.now.rules.depth) tokens.old.rest.now) result tokens.new.rest.now }
@@ -103,7 +103,7 @@ impl<F: Fn(Global, &mut Cursor<'_>, usize, u8) -> Result<Built, ParseError>> Sta
     }
 
     /// The tree of a line, where no token is left and it is no higher than the profile allows.
-    pub fn line(&self, tokens: &mut Cursor<'_>) -> Result<Line, ParseError>
+    pub fn line(&self, tokens: &mut Cursor<'_>) -> Result<Line<&'a Bump>, ParseError>
         requires { ReadsExpressions self.now.rules.depth (F.pre self.now.rules.expr) (F.post self.now.rules.expr) }
         ensures { AnswersLine line_of
             (headers.complete (headers.any_line (spec.expr self.now.rules.depth) tokens.old.rest.now)) result }

@@ -13,7 +13,7 @@ use pyc_build::{ParseError, boxed};
 use pyc_cursor::{Cursor, is_name, same_kind};
 use pyc_token::{Delimiter, Keyword, Kind, Token};
 use pyc_tree::{Alias, Dotted, DottedPart, ImportedModule, ImportedName, Item, Separated};
-use std::alloc::Global;
+use std::alloc::Allocator;
 
 /// `as` and a name, if it comes next.
 #[tactic(auto, unfolding(pyc_tree::specs::SimpleStatements::alias))]
@@ -30,7 +30,7 @@ pub fn alias(tokens: &mut Cursor<'_>) -> Result<Option<Alias>, ParseError>
 }
 
 /// Dots, each with a name.
-fn parts(alloc: Global, tokens: &mut Cursor<'_>) -> Result<Vec<DottedPart>, ParseError>
+fn parts<A: Allocator + Copy>(alloc: A, tokens: &mut Cursor<'_>) -> Result<Vec<DottedPart, A>, ParseError>
     ensures { ReadsTokens (λ parts. map part_of parts.items) (spec.all_parts tokens.old.rest.now) result
         tokens.new.rest.now }
 {
@@ -48,7 +48,7 @@ fn parts(alloc: Global, tokens: &mut Cursor<'_>) -> Result<Vec<DottedPart>, Pars
 
 /// A dotted name.
 #[tactic(auto, unfolding(pyc_tree::specs::SimpleStatements::dotted_name))]
-pub fn dotted_name(alloc: Global, tokens: &mut Cursor<'_>) -> Result<Dotted, ParseError>
+pub fn dotted_name<A: Allocator + Copy>(alloc: A, tokens: &mut Cursor<'_>) -> Result<Dotted<A>, ParseError>
     ensures { ReadsTokens dotted_of (spec.dotted_name tokens.old.rest.now) result tokens.new.rest.now }
 {
     let first = tokens.expect_name()?;
@@ -58,7 +58,7 @@ pub fn dotted_name(alloc: Global, tokens: &mut Cursor<'_>) -> Result<Dotted, Par
 
 /// A module that is imported.
 #[tactic(auto, unfolding(pyc_tree::specs::SimpleStatements::imported_module))]
-fn imported_module(alloc: Global, tokens: &mut Cursor<'_>) -> Result<ImportedModule, ParseError>
+fn imported_module<A: Allocator + Copy>(alloc: A, tokens: &mut Cursor<'_>) -> Result<ImportedModule<A>, ParseError>
     ensures { ReadsTokens module_of (spec.imported_module tokens.old.rest.now) result tokens.new.rest.now }
 {
     let path = dotted_name(alloc, tokens)?;
@@ -77,7 +77,7 @@ fn imported_name(tokens: &mut Cursor<'_>) -> Result<ImportedName, ParseError>
 }
 
 /// Names with commas between them.
-pub fn names(alloc: Global, tokens: &mut Cursor<'_>) -> Result<Separated<Token>, ParseError>
+pub fn names<A: Allocator + Copy>(alloc: A, tokens: &mut Cursor<'_>) -> Result<Separated<Token, A>, ParseError>
     ensures { ReadsTokens (separated_of token_of) (spec.all_separated parser.expect_name false tokens.old.rest.now)
         result tokens.new.rest.now }
 {
@@ -98,10 +98,10 @@ pub fn names(alloc: Global, tokens: &mut Cursor<'_>) -> Result<Separated<Token>,
 }
 
 /// Imported modules with commas between them.
-pub fn modules(
-    alloc: Global,
+pub fn modules<A: Allocator + Copy>(
+    alloc: A,
     tokens: &mut Cursor<'_>,
-) -> Result<Separated<ImportedModule>, ParseError>
+) -> Result<Separated<ImportedModule<A>, A>, ParseError>
     ensures { ReadsTokens (separated_of module_of) (spec.all_separated spec.imported_module false tokens.old.rest.now)
         result tokens.new.rest.now }
 {
@@ -129,11 +129,11 @@ fn ends(tokens: &Cursor<'_>, may_trail: bool) -> bool
 }
 
 /// Imported names with commas between them; whether one may follow the last.
-pub fn imported_names(
-    alloc: Global,
+pub fn imported_names<A: Allocator + Copy>(
+    alloc: A,
     tokens: &mut Cursor<'_>,
     may_trail: bool,
-) -> Result<Separated<ImportedName>, ParseError>
+) -> Result<Separated<ImportedName, A>, ParseError>
     ensures { ReadsTokens (separated_of name_of) (spec.all_separated spec.imported_name may_trail tokens.old.rest.now)
         result tokens.new.rest.now }
 {

@@ -4,6 +4,6 @@ use pyc_list_rules::ItemRules;
 
 /// The rules, over a function that reads expressions.
 #[derive(Clone, Copy)]
-pub struct StatementRules<F> {
-    pub rules: ItemRules<F>,
+pub struct StatementRules<'a, F> {
+    pub rules: ItemRules<'a, F>,
 }

@@ -12,17 +12,17 @@ ghost use Rattle.pyc_tree.specs.View.{tree_of, tail_of};
 
 use crate::imports::{declared, import_from_statement, imported, word_statement};
 use crate::rules::StatementRules;
+use bumpalo::Bump;
 use pyc_build::{Built, BuiltTail, ParseError, append, boxed, built, is_single_target, taller};
 use pyc_build_line::{BuiltChain, BuiltSimpleStatement, BuiltSimpleStatements, built_statement};
 use pyc_cursor::{Cursor, is_augmented, is_colon, same_kind};
 use pyc_token::{Delimiter, Keyword, Kind};
 use pyc_tree::{Assigned, Item, ListContext, Separated};
-use std::alloc::Global;
 
-impl<F: Fn(Global, &mut Cursor<'_>, usize, u8) -> Result<Built, ParseError>> StatementRules<F> {
+impl<'a, F: Fn(&'a Bump, &mut Cursor<'_>, usize, u8) -> Result<Built<&'a Bump>, ParseError>> StatementRules<'a, F> {
     /// An expression, a tuple without brackets or a `yield`.
     #[tactic(auto, unfolding(pyc_tree::specs::SimpleStatements::value))]
-    fn value(&self, tokens: &mut Cursor<'_>) -> Result<Built, ParseError>
+    fn value(&self, tokens: &mut Cursor<'_>) -> Result<Built<&'a Bump>, ParseError>
         requires { ReadsExpressions self.now.rules.depth (F.pre self.now.rules.expr) (F.post self.now.rules.expr) }
         ensures { ReadsTokens (λ b. tree_of b.expr.value)
             (statements.value (spec.expr self.now.rules.depth) tokens.old.rest.now) result tokens.new.rest.now }
@@ -35,7 +35,7 @@ impl<F: Fn(Global, &mut Cursor<'_>, usize, u8) -> Result<Built, ParseError>> Sta
 
     /// `=` and a value, if it comes next.
     #[tactic(auto, unfolding(pyc_tree::specs::SimpleStatements::given))]
-    fn given(&self, tokens: &mut Cursor<'_>) -> Result<BuiltTail, ParseError>
+    fn given(&self, tokens: &mut Cursor<'_>) -> Result<BuiltTail<&'a Bump>, ParseError>
         requires { ReadsExpressions self.now.rules.depth (F.pre self.now.rules.expr) (F.post self.now.rules.expr) }
         ensures { ReadsTokens (λ b. tail_of b.tail)
             (statements.given (spec.expr self.now.rules.depth) tokens.old.rest.now) result tokens.new.rest.now }
@@ -50,10 +50,10 @@ impl<F: Fn(Global, &mut Cursor<'_>, usize, u8) -> Result<Built, ParseError>> Sta
     }
 
     /// The targets before the last value of a chain, each with its `=`, and that value.
-    fn chain(&self, tokens: &mut Cursor<'_>, first: Built) -> Result<BuiltChain, ParseError>
+    fn chain(&self, tokens: &mut Cursor<'_>, first: Built<&'a Bump>) -> Result<BuiltChain<&'a Bump>, ParseError>
         requires { ReadsExpressions self.now.rules.depth (F.pre self.now.rules.expr) (F.post self.now.rules.expr) }
         ensures { ReadsTokens (λ b. (map assigned_of b.targets.items, tree_of b.value.value))
-            (statements.chain (spec.expr self.now.rules.depth) (length tokens.old.rest.now) (tree_of first.expr.value)
+            (statements.chain (spec.expr self.now.rules.depth) (length tokens.old.rest.now) (tree_of first.entry.expr.value)
             tokens.old.rest.now) result tokens.new.rest.now }
     {
         let mut targets = Vec::new(self.rules.alloc);
@@ -86,11 +86,11 @@ impl<F: Fn(Global, &mut Cursor<'_>, usize, u8) -> Result<Built, ParseError>> Sta
     fn assigned(
         &self,
         tokens: &mut Cursor<'_>,
-        first: Built,
-    ) -> Result<BuiltSimpleStatement, ParseError>
+        first: Built<&'a Bump>,
+    ) -> Result<BuiltSimpleStatement<&'a Bump>, ParseError>
         requires { ReadsExpressions self.now.rules.depth (F.pre self.now.rules.expr) (F.post self.now.rules.expr) }
         ensures { ReadsTokens (λ b. statement_of b.statement)
-            (statements.assigned (spec.expr self.now.rules.depth) (tree_of first.expr.value) tokens.old.rest.now)
+            (statements.assigned (spec.expr self.now.rules.depth) (tree_of first.entry.expr.value) tokens.old.rest.now)
             result tokens.new.rest.now }
     {
         let chain = self.chain(tokens, first)?;
@@ -102,11 +102,11 @@ impl<F: Fn(Global, &mut Cursor<'_>, usize, u8) -> Result<Built, ParseError>> Sta
     fn annotated_target(
         &self,
         tokens: &mut Cursor<'_>,
-        target: Built,
-    ) -> Result<BuiltSimpleStatement, ParseError>
+        target: Built<&'a Bump>,
+    ) -> Result<BuiltSimpleStatement<&'a Bump>, ParseError>
         requires { ReadsExpressions self.now.rules.depth (F.pre self.now.rules.expr) (F.post self.now.rules.expr) }
         ensures { ReadsTokens (λ b. statement_of b.statement)
-            (statements.annotated_target (spec.expr self.now.rules.depth) (tree_of target.expr.value)
+            (statements.annotated_target (spec.expr self.now.rules.depth) (tree_of target.entry.expr.value)
             tokens.old.rest.now)
             result tokens.new.rest.now }
     {
@@ -124,11 +124,11 @@ impl<F: Fn(Global, &mut Cursor<'_>, usize, u8) -> Result<Built, ParseError>> Sta
     fn augmented_assignment(
         &self,
         tokens: &mut Cursor<'_>,
-        target: Built,
-    ) -> Result<BuiltSimpleStatement, ParseError>
+        target: Built<&'a Bump>,
+    ) -> Result<BuiltSimpleStatement<&'a Bump>, ParseError>
         requires { ReadsExpressions self.now.rules.depth (F.pre self.now.rules.expr) (F.post self.now.rules.expr) }
         ensures { ReadsTokens (λ b. statement_of b.statement)
-            (statements.augmented_assignment (spec.expr self.now.rules.depth) (tree_of target.expr.value)
+            (statements.augmented_assignment (spec.expr self.now.rules.depth) (tree_of target.entry.expr.value)
             tokens.old.rest.now)
             result tokens.new.rest.now }
     {
@@ -145,7 +145,7 @@ impl<F: Fn(Global, &mut Cursor<'_>, usize, u8) -> Result<Built, ParseError>> Sta
     fn expression_or_assignment(
         &self,
         tokens: &mut Cursor<'_>,
-    ) -> Result<BuiltSimpleStatement, ParseError>
+    ) -> Result<BuiltSimpleStatement<&'a Bump>, ParseError>
         requires { ReadsExpressions self.now.rules.depth (F.pre self.now.rules.expr) (F.post self.now.rules.expr) }
         ensures { ReadsTokens (λ b. statement_of b.statement)
             (statements.expression_or_assignment (spec.expr self.now.rules.depth) tokens.old.rest.now) result
@@ -164,7 +164,7 @@ impl<F: Fn(Global, &mut Cursor<'_>, usize, u8) -> Result<Built, ParseError>> Sta
 
     /// A statement that begins with `yield`.
     #[tactic(auto, unfolding(pyc_tree::specs::SimpleStatements::yield_statement))]
-    fn yield_statement(&self, tokens: &mut Cursor<'_>) -> Result<BuiltSimpleStatement, ParseError>
+    fn yield_statement(&self, tokens: &mut Cursor<'_>) -> Result<BuiltSimpleStatement<&'a Bump>, ParseError>
         requires { ReadsExpressions self.now.rules.depth (F.pre self.now.rules.expr) (F.post self.now.rules.expr) }
         ensures { ReadsTokens (λ b. statement_of b.statement)
             (statements.yield_statement (spec.expr self.now.rules.depth) tokens.old.rest.now) result
@@ -176,7 +176,7 @@ impl<F: Fn(Global, &mut Cursor<'_>, usize, u8) -> Result<Built, ParseError>> Sta
 
     /// `return`, perhaps with a value.
     #[tactic(auto, unfolding(pyc_tree::specs::SimpleStatements::return_statement))]
-    fn return_statement(&self, tokens: &mut Cursor<'_>) -> Result<BuiltSimpleStatement, ParseError>
+    fn return_statement(&self, tokens: &mut Cursor<'_>) -> Result<BuiltSimpleStatement<&'a Bump>, ParseError>
         requires { ReadsExpressions self.now.rules.depth (F.pre self.now.rules.expr) (F.post self.now.rules.expr) }
         ensures { ReadsTokens (λ b. statement_of b.statement)
             (statements.return_statement (spec.expr self.now.rules.depth) tokens.old.rest.now) result
@@ -192,7 +192,7 @@ impl<F: Fn(Global, &mut Cursor<'_>, usize, u8) -> Result<Built, ParseError>> Sta
 
     /// `raise`, perhaps an exception, perhaps `from` and its cause.
     #[tactic(auto, unfolding(pyc_tree::specs::SimpleStatements::raise_statement))]
-    fn raise_statement(&self, tokens: &mut Cursor<'_>) -> Result<BuiltSimpleStatement, ParseError>
+    fn raise_statement(&self, tokens: &mut Cursor<'_>) -> Result<BuiltSimpleStatement<&'a Bump>, ParseError>
         requires { ReadsExpressions self.now.rules.depth (F.pre self.now.rules.expr) (F.post self.now.rules.expr) }
         ensures { ReadsTokens (λ b. statement_of b.statement)
             (statements.raise_statement (spec.expr self.now.rules.depth) tokens.old.rest.now) result
@@ -209,7 +209,7 @@ impl<F: Fn(Global, &mut Cursor<'_>, usize, u8) -> Result<Built, ParseError>> Sta
 
     /// `assert`, a test, and perhaps a message.
     #[tactic(auto, unfolding(pyc_tree::specs::SimpleStatements::assert_statement))]
-    fn assert_statement(&self, tokens: &mut Cursor<'_>) -> Result<BuiltSimpleStatement, ParseError>
+    fn assert_statement(&self, tokens: &mut Cursor<'_>) -> Result<BuiltSimpleStatement<&'a Bump>, ParseError>
         requires { ReadsExpressions self.now.rules.depth (F.pre self.now.rules.expr) (F.post self.now.rules.expr) }
         ensures { ReadsTokens (λ b. statement_of b.statement)
             (statements.assert_statement (spec.expr self.now.rules.depth) tokens.old.rest.now) result
@@ -223,7 +223,7 @@ impl<F: Fn(Global, &mut Cursor<'_>, usize, u8) -> Result<Built, ParseError>> Sta
 
     /// `del` and targets.
     #[tactic(auto, unfolding(pyc_tree::specs::SimpleStatements::delete_statement))]
-    fn delete_statement(&self, tokens: &mut Cursor<'_>) -> Result<BuiltSimpleStatement, ParseError>
+    fn delete_statement(&self, tokens: &mut Cursor<'_>) -> Result<BuiltSimpleStatement<&'a Bump>, ParseError>
         requires { ReadsExpressions self.now.rules.depth (F.pre self.now.rules.expr) (F.post self.now.rules.expr) }
         ensures { ReadsTokens (λ b. statement_of b.statement)
             (statements.delete_statement (spec.expr self.now.rules.depth) tokens.old.rest.now) result
@@ -236,7 +236,7 @@ impl<F: Fn(Global, &mut Cursor<'_>, usize, u8) -> Result<Built, ParseError>> Sta
 
     /// A simple statement, by its first token.
     #[tactic(auto, unfolding(pyc_tree::specs::SimpleStatements::simple))]
-    pub fn simple(&self, tokens: &mut Cursor<'_>) -> Result<BuiltSimpleStatement, ParseError>
+    pub fn simple(&self, tokens: &mut Cursor<'_>) -> Result<BuiltSimpleStatement<&'a Bump>, ParseError>
         requires { ReadsExpressions self.now.rules.depth (F.pre self.now.rules.expr) (F.post self.now.rules.expr) }
         ensures { ReadsTokens (λ b. statement_of b.statement)
             (statements.simple (spec.expr self.now.rules.depth) tokens.old.rest.now) result tokens.new.rest.now }
@@ -261,7 +261,7 @@ impl<F: Fn(Global, &mut Cursor<'_>, usize, u8) -> Result<Built, ParseError>> Sta
     }
 
     /// Statements to the end of the line, joined by semicolons, of which one may follow the last.
-    pub fn statements(&self, tokens: &mut Cursor<'_>) -> Result<BuiltSimpleStatements, ParseError>
+    pub fn statements(&self, tokens: &mut Cursor<'_>) -> Result<BuiltSimpleStatements<&'a Bump>, ParseError>
         requires { ReadsExpressions self.now.rules.depth (F.pre self.now.rules.expr) (F.post self.now.rules.expr) }
         ensures { ReadsTokens (λ b. separated_of statement_of b.statements)
             (statements.all_statements (spec.expr self.now.rules.depth) tokens.old.rest.now) result

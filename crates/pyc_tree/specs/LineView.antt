@@ -10,7 +10,7 @@ use Rattle.pyc_tree.specs.View.{tree_of, pieces_of, tail_of}
 use Rattle.pyc_tree.specs.StatementView.{alias_of, separated_of, statement_of}
 
 -- the header of one of the code
-abbrev pub header_of : HeaderOf → Header
+abbrev pub header_of : {S : Type 0} → HeaderOf S → Header
 header_of (h.Condition t x) = plain.condition t (tree_of x.value)
 header_of (h.Word t) = plain.word t
 header_of (h.For word_async t targets word_in x) =
@@ -26,7 +26,7 @@ header_of (h.Class t name) = plain.class t name
 header_of (h.ClassOf t name opening arguments closing) = plain.class_of t name opening (pieces_of arguments) closing
 
 -- the line of one of the code
-abbrev pub line_of : LineOf → Line
+abbrev pub line_of : {S : Type 0} → LineOf S → Line
 line_of (l.Simple statements) = plain.simple (separated_of statement_of statements)
 line_of (l.Header h colon statements) = plain.header (header_of h.value) colon (separated_of statement_of statements)
 line_of (l.Decorator t x) = plain.decorator t (tree_of x.value)

@@ -1,6 +1,5 @@
 -- The plain statements that those of the code are.
 use Rattle.std.specs.Prelude.{List, [], ◌∷◌, Option, None, Some, map, option_map}
-use Rattle.std.specs.declared.alloc.Global.{Global}
 use Rattle.std.specs.declared.boxed.Box.{Box}
 use Rattle.pyc_token.specs.declared.tokens.Token.{Token}
 use Rattle.pyc_tree.specs.declared.statement.Alias.{Alias as AliasOf}
@@ -28,11 +27,11 @@ separated_before view [] end = end
 separated_before view (x ∷ xs) end = item (view x.value) x.separator (separated_before view xs end)
 
 -- the last item, where there is one without a token after it
-abbrev pub last_item_of : {T A : Type 0} → (T → A) → Option (Box T Global) → Separated A
+abbrev pub last_item_of : {T A S : Type 0} → (T → A) → Option (Box T S) → Separated A
 last_item_of view None = no_item
 last_item_of view (Some x) = last_item (view x.value)
 
-abbrev pub separated_of : {T A : Type 0} → (T → A) → SeparatedOf T → Separated A
+abbrev pub separated_of : {T A S : Type 0} → (T → A) → SeparatedOf T S → Separated A
 separated_of view found = separated_before view found.each.items (last_item_of view found.last)
 
 -- ---- names
@@ -43,16 +42,16 @@ alias_of found = record { word = found.word; name = found.name }
 abbrev pub part_of : DottedPartOf → DottedPart
 part_of found = record { dot = found.dot; name = found.name }
 
-abbrev pub dotted_of : DottedOf → Dotted
+abbrev pub dotted_of : {S : Type 0} → DottedOf S → Dotted
 dotted_of found = record { first = found.first; parts = map part_of found.parts.items }
 
-abbrev pub module_of : ModuleOf → ImportedModule
+abbrev pub module_of : {S : Type 0} → ModuleOf S → ImportedModule
 module_of found = record { path = dotted_of found.path; alias = option_map alias_of found.alias }
 
 abbrev pub name_of : NameOf → ImportedName
 name_of found = record { name = found.name; alias = option_map alias_of found.alias }
 
-abbrev pub source_of : SourceOf → Source
+abbrev pub source_of : {S : Type 0} → SourceOf S → Source
 source_of found = record { dots = found.dots.items; path = option_map dotted_of found.path }
 
 -- a token as itself
@@ -61,16 +60,16 @@ token_of token = token
 
 -- ---- statements
 
-abbrev pub assigned_of : AssignedOf → Assigned
+abbrev pub assigned_of : {S : Type 0} → AssignedOf S → Assigned
 assigned_of found = record { target = tree_of found.target.value; equal = found.equal }
 
-abbrev pub import_from_of : ImportFromOf → SimpleStatement
+abbrev pub import_from_of : {S : Type 0} → ImportFromOf S → SimpleStatement
 import_from_of found =
     plain.import_from found.word (source_of found.source) found.word_import found.opening
     (separated_of name_of found.names) found.closing
 
 -- the statement of one of the code
-abbrev pub statement_of : SimpleStatementOf → SimpleStatement
+abbrev pub statement_of : {S : Type 0} → SimpleStatementOf S → SimpleStatement
 statement_of (s.Expression x) = plain.expression (tree_of x.value)
 statement_of (s.Assign targets x) = plain.assign (map assigned_of targets.items) (tree_of x.value)
 statement_of (s.Annotate x colon annotation value) =

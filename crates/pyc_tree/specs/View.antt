@@ -1,6 +1,5 @@
 -- The plain tree that an expression of the code is.
 use Rattle.std.specs.Prelude.{List, [], ◌∷◌, Option, None, Some}
-use Rattle.std.specs.declared.alloc.Global.{Global}
 use Rattle.std.specs.declared.boxed.Box.{Box}
 use Rattle.pyc_token.specs.declared.tokens.Token.{Token}
 use Rattle.pyc_tree.specs.declared.tree.Expr.{Expr, Row_of-Comprehension, end_of-Comprehension, more_of-Comprehension}
@@ -18,7 +17,7 @@ use Rattle.pyc_tree.specs.Tree as tree
 
 unfoldable mutual
   -- the tree of an expression
-  pub tree_of : Expr → Tree
+  pub tree_of : {S : Type 0} → Expr S → Tree
   tree_of (e.Name t) = tree.name t
   tree_of (e.Number t) = tree.number t
   tree_of (e.Constant t) = tree.constant t
@@ -56,70 +55,70 @@ unfoldable mutual
   tree_of (e.WithItem' _ x target) = tree.with_item (tree_of x) (tail_of target)
 
   -- items with commas
-  pub pieces_of : Items → Pieces
+  pub pieces_of : {S : Type 0} → Items S → Pieces
   pieces_of (Pieces' _ each end) = pieces_row each (last_held end)
 
   -- items with a comma each, before others
-  pub pieces_row : {n : _} → Row_of-Piece n → Pieces → Pieces
+  pub pieces_row : {S : Type 0} {n : _} → Row_of-Piece S n → Pieces → Pieces
   pieces_row end_of-Piece end = end
   pieces_row (more_of-Piece _ x comma rest) end = tree.piece (tree_of x) comma (pieces_row rest end)
 
   -- the last item, where there is one without a comma
-  pub last_held : Held-Expr-Yield-1 → Pieces
+  pub last_held : {S : Type 0} → Held-Expr-Yield-1 S → Pieces
   last_held None' = tree.none
   last_held (Some' _ x) = tree.last (tree_of x)
 
   -- an expression, where there is one
-  pub held : Held-Expr-Yield-1 → Perhaps
+  pub held : {S : Type 0} → Held-Expr-Yield-1 S → Perhaps
   held None' = tree.absent
   held (Some' _ x) = tree.present (tree_of x)
 
   -- comparisons
-  pub links_row : {n : _} → Row_of-Link n → Links
+  pub links_row : {S : Type 0} {n : _} → Row_of-Link S n → Links
   links_row end_of-Link = tree.unlinked
   links_row (more_of-Link first second _ x rest) = tree.link first second (tree_of x) (links_row rest)
 
   -- a clause before others
-  pub comprehension_before : Comprehension → Comprehensions → Comprehensions
+  pub comprehension_before : {S : Type 0} → Comprehension S → Comprehensions → Comprehensions
   comprehension_before (c.For' word_async word_for _ targets word_in _ x) rest =
       tree.for_clause word_async word_for (tree_of targets) word_in (tree_of x) rest
   comprehension_before (c.If' word _ x) rest = tree.if_clause word (tree_of x) rest
 
   -- the clauses of a comprehension
-  pub comprehensions_row : {n : _} → Row_of-Comprehension n → Comprehensions
+  pub comprehensions_row : {S : Type 0} {n : _} → Row_of-Comprehension S n → Comprehensions
   comprehensions_row end_of-Comprehension = tree.no_comprehension
   comprehensions_row (more_of-Comprehension comprehension rest) =
       comprehension_before comprehension (comprehensions_row rest)
 
   -- a token and the expression after it, or nothing
-  pub tail_of : Ending → Tail
+  pub tail_of : {S : Type 0} → Ending S → Tail
   tail_of t.Nothing = tree.nothing
   tail_of (t.After' mark _ x) = tree.after mark.value (tree_of x)
 
 -- ---- trees over lists, as contracts see a `Vec`
 
 -- items with a comma each, before others
-abbrev pub pieces_before : List Piece → Pieces → Pieces
+abbrev pub pieces_before : {S : Type 0} → List (Piece S) → Pieces → Pieces
 pieces_before [] end = end
 pieces_before (p ∷ ps) end = tree.piece (tree_of p.value.value) p.comma (pieces_before ps end)
 
 -- the last item, where there is one without a comma
-abbrev pub last_of : Option (Box Expr Global) → Pieces
+abbrev pub last_of : {S : Type 0} → Option (Box (Expr S) S) → Pieces
 last_of None = tree.none
 last_of (Some x) = tree.last (tree_of x.value)
 
 -- an expression, where there is one
-abbrev pub perhaps_of : Option (Box Expr Global) → Perhaps
+abbrev pub perhaps_of : {S : Type 0} → Option (Box (Expr S) S) → Perhaps
 perhaps_of None = tree.absent
 perhaps_of (Some x) = tree.present (tree_of x.value)
 
 -- comparisons before others
-abbrev pub links_before : List Link → Links → Links
+abbrev pub links_before : {S : Type 0} → List (Link S) → Links → Links
 links_before [] end = end
 links_before (l ∷ ls) end = tree.link l.first l.second (tree_of l.right.value) (links_before ls end)
 
 -- clauses before others
-abbrev pub comprehensions_before : List Comprehension → Comprehensions → Comprehensions
+abbrev pub comprehensions_before : {S : Type 0} → List (Comprehension S) → Comprehensions → Comprehensions
 comprehensions_before [] end = end
 comprehensions_before (comprehension ∷ comprehensions) end =
     comprehension_before comprehension (comprehensions_before comprehensions end)

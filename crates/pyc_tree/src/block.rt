@@ -4,33 +4,34 @@ use crate::line::{Header, Line};
 use crate::statement::{Separated, SimpleStatement};
 use crate::tree::Expr;
 use pyc_token::Token;
+use std::alloc::Allocator;
 
 /// A logical line, how many levels above the first it stands, and the number of the physical line where it begins.
 #[derive(Drop)]
-pub struct Placed {
+pub struct Placed<A: Allocator> {
     pub indent: usize,
     pub number: usize,
-    pub line: Line,
+    pub line: Line<A>,
 }
 
 /// `@` and an expression.
 #[derive(Drop)]
-pub struct Decorator {
+pub struct Decorator<A: Allocator> {
     pub mark: Token,
-    pub value: Box<Expr>,
+    pub value: Box<Expr<A>, A>,
 }
 
 /// A statement of a block.
 #[cycle(block)]
-pub enum Stmt {
+pub enum Stmt<A: Allocator> {
     /// Simple statements on one line.
-    Simple(Separated<SimpleStatement>),
+    Simple(Separated<SimpleStatement<A>, A>),
     /// Decorators, the first clause, and those after it.
-    Compound(Vec<Decorator>, Box<CompoundClause>, Vec<CompoundClause>),
+    Compound(Vec<Decorator<A>, A>, Box<CompoundClause<A>, A>, Vec<CompoundClause<A>, A>),
 }
 
 /// Written out: the crates above call it, where what `derive` writes would be made and proved in each of them.
-impl Drop for Stmt {
+impl<A: Allocator> Drop for Stmt<A> {
     #[cycle(block)]
     fn drop(self) {
         match self {
@@ -46,14 +47,14 @@ impl Drop for Stmt {
 
 /// A header, its colon, and what it heads.
 #[cycle(block)]
-pub struct CompoundClause {
-    pub header: Box<Header>,
+pub struct CompoundClause<A: Allocator> {
+    pub header: Box<Header<A>, A>,
     pub colon: Token,
-    pub suite: Suite,
+    pub suite: Suite<A>,
 }
 
 /// Written out: the crates above call it, where what `derive` writes would be made and proved in each of them.
-impl Drop for CompoundClause {
+impl<A: Allocator> Drop for CompoundClause<A> {
     #[cycle(block)]
     fn drop(self) {
         let CompoundClause {
@@ -68,15 +69,15 @@ impl Drop for CompoundClause {
 
 /// What a header heads.
 #[cycle(block)]
-pub enum Suite {
+pub enum Suite<A: Allocator> {
     /// Simple statements on the header's line.
-    Inline(Separated<SimpleStatement>),
+    Inline(Separated<SimpleStatement<A>, A>),
     /// The statements of a deeper block.
-    Block(Vec<Stmt>),
+    Block(Vec<Stmt<A>, A>),
 }
 
 /// Written out: the crates above call it, where what `derive` writes would be made and proved in each of them.
-impl Drop for Suite {
+impl<A: Allocator> Drop for Suite<A> {
     #[cycle(block)]
     fn drop(self) {
         match self {

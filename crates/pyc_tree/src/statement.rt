@@ -2,12 +2,13 @@
 
 use crate::tree::{Expr, Tail};
 use pyc_token::Token;
+use std::alloc::Allocator;
 
 /// Items with a token after each, and perhaps a last one without.
 #[derive(Drop)]
-pub struct Separated<T> {
-    pub each: Vec<Item<T>>,
-    pub last: Option<Box<T>>,
+pub struct Separated<T, A: Allocator> {
+    pub each: Vec<Item<T>, A>,
+    pub last: Option<Box<T, A>>,
 }
 
 /// An item and the token after it.
@@ -33,15 +34,15 @@ pub struct DottedPart {
 
 /// A dotted name.
 #[derive(Drop)]
-pub struct Dotted {
+pub struct Dotted<A: Allocator> {
     pub first: Token,
-    pub parts: Vec<DottedPart>,
+    pub parts: Vec<DottedPart, A>,
 }
 
 /// A module that is imported, perhaps under another name.
 #[derive(Drop)]
-pub struct ImportedModule {
-    pub path: Dotted,
+pub struct ImportedModule<A: Allocator> {
+    pub path: Dotted<A>,
     pub alias: Option<Alias>,
 }
 
@@ -54,59 +55,59 @@ pub struct ImportedName {
 
 /// A target and the `=` after it.
 #[derive(Drop)]
-pub struct Assigned {
-    pub target: Box<Expr>,
+pub struct Assigned<A: Allocator> {
+    pub target: Box<Expr<A>, A>,
     pub equal: Token,
 }
 
 /// The module of a from-import: the dots before it, and its dotted name, where it has one.
 #[derive(Drop)]
-pub struct Source {
-    pub dots: Vec<Token>,
-    pub path: Option<Dotted>,
+pub struct Source<A: Allocator> {
+    pub dots: Vec<Token, A>,
+    pub path: Option<Dotted<A>>,
 }
 
 /// `from`, a module, `import`, and names, perhaps in parentheses.
 #[derive(Drop)]
-pub struct ImportFrom {
+pub struct ImportFrom<A: Allocator> {
     pub word: Token,
-    pub source: Source,
+    pub source: Source<A>,
     pub word_import: Token,
     pub opening: Option<Token>,
-    pub names: Separated<ImportedName>,
+    pub names: Separated<ImportedName, A>,
     pub closing: Option<Token>,
 }
 
 /// A simple statement.
-pub enum SimpleStatement {
+pub enum SimpleStatement<A: Allocator> {
     /// An expression, a tuple without brackets or a `yield`.
-    Expression(Box<Expr>),
+    Expression(Box<Expr<A>, A>),
     /// Targets, each with its `=`, and a value.
-    Assign(Vec<Assigned>, Box<Expr>),
+    Assign(Vec<Assigned<A>, A>, Box<Expr<A>, A>),
     /// A target, `:`, an annotation, and perhaps `=` and a value.
-    Annotate(Box<Expr>, Token, Box<Expr>, Tail),
+    Annotate(Box<Expr<A>, A>, Token, Box<Expr<A>, A>, Tail<A>),
     /// A target, an operator as `+=`, and a value.
-    Augment(Box<Expr>, Token, Box<Expr>),
+    Augment(Box<Expr<A>, A>, Token, Box<Expr<A>, A>),
     /// `pass`, `break` or `continue`.
     Word(Token),
     /// `return`, perhaps with a value.
-    Return(Token, Option<Box<Expr>>),
+    Return(Token, Option<Box<Expr<A>, A>>),
     /// `raise`, perhaps an exception, perhaps `from` and its cause.
-    Raise(Token, Option<Box<Expr>>, Tail),
+    Raise(Token, Option<Box<Expr<A>, A>>, Tail<A>),
     /// `assert`, a test, and perhaps a comma and a message.
-    Assert(Token, Box<Expr>, Tail),
+    Assert(Token, Box<Expr<A>, A>, Tail<A>),
     /// `del` and targets.
-    Delete(Token, Box<Expr>),
+    Delete(Token, Box<Expr<A>, A>),
     /// `global` or `nonlocal`, and names.
-    Declare(Token, Box<Separated<Token>>),
+    Declare(Token, Box<Separated<Token, A>, A>),
     /// `import` and modules.
-    Import(Token, Box<Separated<ImportedModule>>),
+    Import(Token, Box<Separated<ImportedModule<A>, A>, A>),
     /// Names of a module.
-    ImportFrom(Box<ImportFrom>),
+    ImportFrom(Box<ImportFrom<A>, A>),
 }
 
 /// Written out: the crates above call it, where what `derive` writes would be made and proved in each of them.
-impl Drop for SimpleStatement {
+impl<A: Allocator> Drop for SimpleStatement<A> {
     fn drop(self) {
         match self {
             SimpleStatement::Expression(part) => drop(part),

@@ -8,80 +8,81 @@ ghost use Rattle.pyc_tree.specs.View.{tree_of};
 
 use crate::display_kind::DisplayKind;
 use pyc_token::Token;
+use std::alloc::Allocator;
 
 /// An expression, or a part that stands in some places alone.
 #[cycle(tree)]
-pub enum Expr {
+pub enum Expr<A: Allocator> {
     /// An identifier.
     Name(Token),
     Number(Token),
     /// `False`, `None`, `True` or `...`.
     Constant(Token),
     /// String literals, one after another.
-    Strings(Token, Vec<Token>),
+    Strings(Token, Vec<Token, A>),
     /// A form in parentheses.
-    Parenthesized(Token, Box<Expr>, Token),
+    Parenthesized(Token, Box<Expr<A>, A>, Token),
     /// A tuple, a list, a set or a dictionary in brackets.
-    Display(DisplayKind, Token, Pieces, Token),
+    Display(DisplayKind, Token, Pieces<A>, Token),
     /// A comprehension, or a generator, in brackets.
-    ComprehensionDisplay(DisplayKind, Token, Box<Expr>, Vec<Comprehension>, Token),
+    ComprehensionDisplay(DisplayKind, Token, Box<Expr<A>, A>, Vec<Comprehension<A>, A>, Token),
     /// An object, `.` and a name.
-    Attribute(Box<Expr>, Token, Token),
+    Attribute(Box<Expr<A>, A>, Token, Token),
     /// A callee and its arguments in parentheses.
-    Call(Box<Expr>, Token, Pieces, Token),
+    Call(Box<Expr<A>, A>, Token, Pieces<A>, Token),
     /// An object and its indices in square brackets.
-    Subscript(Box<Expr>, Token, Pieces, Token),
+    Subscript(Box<Expr<A>, A>, Token, Pieces<A>, Token),
     /// `await` and its operand.
-    Await(Token, Box<Expr>),
+    Await(Token, Box<Expr<A>, A>),
     /// A sign, `~` or `not`, and its operand.
-    Unary(Token, Box<Expr>),
+    Unary(Token, Box<Expr<A>, A>),
     /// An operator between two operands, `and` and `or` too.
-    Binary(Box<Expr>, Token, Box<Expr>),
+    Binary(Box<Expr<A>, A>, Token, Box<Expr<A>, A>),
     /// A chain of comparisons.
-    Compare(Box<Expr>, Vec<Link>),
+    Compare(Box<Expr<A>, A>, Vec<Link<A>, A>),
     /// A value, `if`, a test, `else`, another value.
-    Conditional(Box<Expr>, Token, Box<Expr>, Token, Box<Expr>),
+    Conditional(Box<Expr<A>, A>, Token, Box<Expr<A>, A>, Token, Box<Expr<A>, A>),
     /// `lambda`, parameters, `:` and a body.
-    Lambda(Token, Pieces, Token, Box<Expr>),
+    Lambda(Token, Pieces<A>, Token, Box<Expr<A>, A>),
     /// Items with commas and no brackets: a tuple.
-    Bare(Pieces),
+    Bare(Pieces<A>),
     /// `yield`, perhaps with a value.
-    Yield(Token, Option<Box<Expr>>),
+    Yield(Token, Option<Box<Expr<A>, A>>),
     /// `yield`, `from` and a value.
-    YieldFrom(Token, Token, Box<Expr>),
+    YieldFrom(Token, Token, Box<Expr<A>, A>),
     /// `*` and an operand.
-    Starred(Token, Box<Expr>),
+    Starred(Token, Box<Expr<A>, A>),
     /// `**` and a value, in a call.
-    DoubleStarred(Token, Box<Expr>),
+    DoubleStarred(Token, Box<Expr<A>, A>),
     /// A key, `:` and a value, in a dictionary.
-    Entry(Box<Expr>, Token, Box<Expr>),
+    Entry(Box<Expr<A>, A>, Token, Box<Expr<A>, A>),
     /// `**` and a mapping, in a dictionary.
-    Mapping(Token, Box<Expr>),
+    Mapping(Token, Box<Expr<A>, A>),
     /// A lower bound, `:` and an upper bound, in a subscript.
-    Slice(Option<Box<Expr>>, Token, Option<Box<Expr>>),
+    Slice(Option<Box<Expr<A>, A>>, Token, Option<Box<Expr<A>, A>>),
     /// A lower bound, `:`, an upper bound, `:` and a step, in a subscript.
-    Stride(Option<Box<Expr>>, Token, Option<Box<Expr>>, Token, Option<Box<Expr>>),
+    Stride(Option<Box<Expr<A>, A>>, Token, Option<Box<Expr<A>, A>>, Token, Option<Box<Expr<A>, A>>),
     /// A plain argument of a call.
-    Argument(Box<Expr>),
+    Argument(Box<Expr<A>, A>),
     /// A name, `=` and a value, in a call.
-    Keyword(Token, Token, Box<Expr>),
+    Keyword(Token, Token, Box<Expr<A>, A>),
     /// A generator that is the only argument of a call.
-    Generator(Box<Expr>, Vec<Comprehension>),
+    Generator(Box<Expr<A>, A>, Vec<Comprehension<A>, A>),
     /// A parameter with its annotation after `:` and its default after `=`.
-    Parameter(Token, Tail, Tail),
+    Parameter(Token, Tail<A>, Tail<A>),
     /// `*` and a parameter with its annotation.
-    StarParameter(Token, Token, Tail),
+    StarParameter(Token, Token, Tail<A>),
     /// `*` alone among parameters.
     BareStar(Token),
     /// `**` and a parameter with its annotation.
-    DoubleParameter(Token, Token, Tail),
+    DoubleParameter(Token, Token, Tail<A>),
     /// A context manager with its target after `as`, in a `with`.
-    WithItem(Box<Expr>, Tail),
+    WithItem(Box<Expr<A>, A>, Tail<A>),
 }
 
 /// Written out: the crates above call it, where what `derive` writes would be made and proved in each of them. What an
 /// arm names is dropped as it ends.
-impl Drop for Expr {
+impl<A: Allocator> Drop for Expr<A> {
     #[cycle(tree)]
     fn drop(self) {
         match self {
@@ -116,9 +117,9 @@ impl Drop for Expr {
     }
 }
 
-impl Expr {
+impl<A: Allocator> Expr<A> {
     /// The value of a plain argument of a call, where this is one.
-    pub fn into_argument(self) -> Option<Box<Expr>>
+    pub fn into_argument(self) -> Option<Box<Expr<A>, A>>
         ensures found { IfSome result (λ value. tree_of self ≡ tree.argument (tree_of value.value)) }
         ensures none { IfNone result (is_plain_argument (tree_of self) ≡ false) }
     {
@@ -136,20 +137,20 @@ impl Expr {
 /// Items with a comma after each, and perhaps a last one without.
 #[cycle(tree)]
 #[derive(Drop)]
-pub struct Pieces {
-    pub each: Vec<Piece>,
-    pub last: Option<Box<Expr>>,
+pub struct Pieces<A: Allocator> {
+    pub each: Vec<Piece<A>, A>,
+    pub last: Option<Box<Expr<A>, A>>,
 }
 
 /// An item and the comma after it.
 #[cycle(tree)]
-pub struct Piece {
-    pub value: Box<Expr>,
+pub struct Piece<A: Allocator> {
+    pub value: Box<Expr<A>, A>,
     pub comma: Token,
 }
 
 /// Written out: the crates above call it, where what `derive` writes would be made and proved in each of them.
-impl Drop for Piece {
+impl<A: Allocator> Drop for Piece<A> {
     #[cycle(tree)]
     fn drop(self) {
         let Piece { value, comma: _ } = self;
@@ -159,14 +160,14 @@ impl Drop for Piece {
 
 /// A comparison: its operator, which may have a second word, as `not in`, and its right operand.
 #[cycle(tree)]
-pub struct Link {
+pub struct Link<A: Allocator> {
     pub first: Token,
     pub second: Option<Token>,
-    pub right: Box<Expr>,
+    pub right: Box<Expr<A>, A>,
 }
 
 /// Written out: the crates above call it, where what `derive` writes would be made and proved in each of them.
-impl Drop for Link {
+impl<A: Allocator> Drop for Link<A> {
     #[cycle(tree)]
     fn drop(self) {
         let Link {
@@ -180,15 +181,15 @@ impl Drop for Link {
 
 /// A clause of a comprehension.
 #[cycle(tree)]
-pub enum Comprehension {
+pub enum Comprehension<A: Allocator> {
     /// Perhaps `async`, then `for`, targets, `in` and what is iterated.
-    For(Option<Token>, Token, Box<Expr>, Token, Box<Expr>),
+    For(Option<Token>, Token, Box<Expr<A>, A>, Token, Box<Expr<A>, A>),
     /// `if` and a condition.
-    If(Token, Box<Expr>),
+    If(Token, Box<Expr<A>, A>),
 }
 
 /// Written out: the crates above call it, where what `derive` writes would be made and proved in each of them.
-impl Drop for Comprehension {
+impl<A: Allocator> Drop for Comprehension<A> {
     #[cycle(tree)]
     fn drop(self) {
         match self {
@@ -203,13 +204,13 @@ impl Drop for Comprehension {
 
 /// A token with an expression after it, or nothing. Most are nothing, so the token stands in a box of its own.
 #[cycle(tree)]
-pub enum Tail {
+pub enum Tail<A: Allocator> {
     Nothing,
-    After(Box<Token>, Box<Expr>),
+    After(Box<Token, A>, Box<Expr<A>, A>),
 }
 
 /// Written out: the crates above call it, where what `derive` writes would be made and proved in each of them.
-impl Drop for Tail {
+impl<A: Allocator> Drop for Tail<A> {
     #[cycle(tree)]
     fn drop(self) {
         match self {

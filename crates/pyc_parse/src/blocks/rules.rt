@@ -12,16 +12,17 @@ ghost use Rattle.pyc_tree.specs.StatementView.{separated_of, statement_of};
 
 use crate::block_fault::BlockFault;
 use crate::blocks::{Lines, is_decorator, is_definition, is_none};
+use bumpalo::Bump;
 use pyc_build::append;
 use pyc_tree::{
     After, CompoundClause, Decorator, Line, Next, Separated, SimpleStatement, Stmt, Suite,
 };
-use std::alloc::Global;
+use std::alloc::Allocator;
 
 /// The rules, over a function that reads the block at an indent.
 #[derive(Clone, Copy)]
-pub struct Rules<F> {
-    pub alloc: Global,
+pub struct Rules<'a, F> {
+    pub alloc: &'a Bump,
     /// How deep blocks may still nest.
     pub depth: usize,
     pub block: F,
@@ -29,7 +30,7 @@ pub struct Rules<F> {
 
 /// A line of simple statements.
 #[tactic(auto, using(pyc_tree::proofs::BlockViewLemmas::block_views), unfolding(crate::specs::Blocks::simple_line))]
-fn simple_line(lines: &mut Lines) -> Result<Stmt, BlockFault>
+fn simple_line<A: Allocator>(lines: &mut Lines<A>) -> Result<Stmt<A>, BlockFault>
     ensures { ReadsLines stmt_of (spec.simple_line (lines_of lines.old)) result (lines_of lines.new) }
 {
     let placed = lines.take()?;
@@ -41,7 +42,7 @@ fn simple_line(lines: &mut Lines) -> Result<Stmt, BlockFault>
 
 /// A line that decorates.
 #[tactic(auto, unfolding(crate::specs::Blocks::decorator_line))]
-fn decorator_line(lines: &mut Lines) -> Result<Decorator, BlockFault>
+fn decorator_line<A: Allocator>(lines: &mut Lines<A>) -> Result<Decorator<A>, BlockFault>
     ensures { ReadsLines decorator_of (spec.decorator_line (lines_of lines.old)) result (lines_of lines.new) }
 {
     let placed = lines.take()?;
@@ -52,7 +53,7 @@ fn decorator_line(lines: &mut Lines) -> Result<Decorator, BlockFault>
 }
 
 /// The decorators of a row.
-fn decorators(alloc: Global, lines: &mut Lines, indent: usize) -> Result<Vec<Decorator>, BlockFault>
+fn decorators<A: Allocator>(alloc: A, lines: &mut Lines<A>, indent: usize) -> Result<Vec<Decorator<A>, A>, BlockFault>
     ensures { ReadsLines decorators_of (spec.all_decorators indent (lines_of lines.old)) result (lines_of lines.new) }
 {
     let mut found = Vec::new(alloc);
@@ -66,9 +67,9 @@ fn decorators(alloc: Global, lines: &mut Lines, indent: usize) -> Result<Vec<Dec
     Ok(found)
 }
 
-impl<F: Fn(Global, &mut Lines, usize, usize) -> Result<Vec<Stmt>, BlockFault>> Rules<F> {
+impl<'a, F: Fn(&'a Bump, &mut Lines<&'a Bump>, usize, usize) -> Result<Vec<Stmt<&'a Bump>, &'a Bump>, BlockFault>> Rules<'a, F> {
     /// The block at an indent.
-    fn block(&self, lines: &mut Lines, indent: usize) -> Result<Vec<Stmt>, BlockFault>
+    fn block(&self, lines: &mut Lines<&'a Bump>, indent: usize) -> Result<Vec<Stmt<&'a Bump>, &'a Bump>, BlockFault>
         requires { ReadsBlocks self.now.depth (F.pre self.now.block) (F.post self.now.block) }
         ensures { ReadsLines stmts_of (spec.block_at self.now.depth indent (lines_of lines.old)) result
             (lines_of lines.new) }
@@ -80,14 +81,14 @@ impl<F: Fn(Global, &mut Lines, usize, usize) -> Result<Vec<Stmt>, BlockFault>> R
     #[tactic(auto, using(pyc_tree::proofs::BlockViewLemmas::block_views), unfolding(crate::specs::Blocks::suite))]
     fn suite(
         &self,
-        lines: &mut Lines,
+        lines: &mut Lines<&'a Bump>,
         number: usize,
         indent: usize,
-        statements: Separated<SimpleStatement>,
-    ) -> Result<Suite, BlockFault>
+        statements: Separated<SimpleStatement<&'a Bump>, &'a Bump>,
+    ) -> Result<Suite<&'a Bump>, BlockFault>
         requires { ReadsBlocks self.now.depth (F.pre self.now.block) (F.post self.now.block) }
         ensures { ReadsLines suite_of
-            (spec.suite (spec.block_at self.now.depth) number indent (separated_of statement_of statements)
+            (spec.suite (spec.block_at self.now.depth) number indent (separated_of statement_of statements.entry)
             (lines_of lines.old)) result (lines_of lines.new) }
     {
         if !is_none(&statements) {
@@ -104,7 +105,7 @@ impl<F: Fn(Global, &mut Lines, usize, usize) -> Result<Vec<Stmt>, BlockFault>> R
 
     /// A clause.
     #[tactic(auto, unfolding(crate::specs::Blocks::one_clause))]
-    fn one_clause(&self, lines: &mut Lines, indent: usize) -> Result<CompoundClause, BlockFault>
+    fn one_clause(&self, lines: &mut Lines<&'a Bump>, indent: usize) -> Result<CompoundClause<&'a Bump>, BlockFault>
         requires { ReadsBlocks self.now.depth (F.pre self.now.block) (F.post self.now.block) }
         ensures { ReadsLines clause_of (spec.one_clause (spec.block_at self.now.depth) indent (lines_of lines.old))
             result (lines_of lines.new) }
@@ -128,10 +129,10 @@ impl<F: Fn(Global, &mut Lines, usize, usize) -> Result<Vec<Stmt>, BlockFault>> R
     #[tactic(auto, unfolding(crate::specs::Blocks::next_clause))]
     fn next_clause(
         &self,
-        lines: &mut Lines,
+        lines: &mut Lines<&'a Bump>,
         after: After,
         indent: usize,
-    ) -> Result<Option<(CompoundClause, After)>, BlockFault>
+    ) -> Result<Option<(CompoundClause<&'a Bump>, After)>, BlockFault>
         requires { ReadsBlocks self.now.depth (F.pre self.now.block) (F.post self.now.block) }
         ensures { ReadsLines follower_of
             (spec.next_clause (spec.block_at self.now.depth) after indent (lines_of lines.old)) result
@@ -149,10 +150,10 @@ impl<F: Fn(Global, &mut Lines, usize, usize) -> Result<Vec<Stmt>, BlockFault>> R
     /// The clauses that follow.
     fn clauses(
         &self,
-        lines: &mut Lines,
+        lines: &mut Lines<&'a Bump>,
         indent: usize,
         after: After,
-    ) -> Result<Vec<CompoundClause>, BlockFault>
+    ) -> Result<Vec<CompoundClause<&'a Bump>, &'a Bump>, BlockFault>
         requires { ReadsBlocks self.now.depth (F.pre self.now.block) (F.post self.now.block) }
         ensures { ReadsLines clauses_of
             (spec.all_clauses (spec.block_at self.now.depth) indent after (lines_of lines.old)) result
@@ -177,14 +178,14 @@ impl<F: Fn(Global, &mut Lines, usize, usize) -> Result<Vec<Stmt>, BlockFault>> R
     #[tactic(auto, using(pyc_tree::proofs::BlockViewLemmas::block_views), unfolding(crate::specs::Blocks::compound_statement))]
     fn compound(
         &self,
-        lines: &mut Lines,
+        lines: &mut Lines<&'a Bump>,
         indent: usize,
-        marks: Vec<Decorator>,
+        marks: Vec<Decorator<&'a Bump>, &'a Bump>,
         after: After,
-    ) -> Result<Stmt, BlockFault>
+    ) -> Result<Stmt<&'a Bump>, BlockFault>
         requires { ReadsBlocks self.now.depth (F.pre self.now.block) (F.post self.now.block) }
         ensures { ReadsLines stmt_of
-            (spec.compound_statement (spec.block_at self.now.depth) indent (decorators_of marks) after
+            (spec.compound_statement (spec.block_at self.now.depth) indent (decorators_of marks.entry) after
             (lines_of lines.old)) result (lines_of lines.new) }
     {
         let first = self.one_clause(lines, indent)?;
@@ -196,10 +197,10 @@ impl<F: Fn(Global, &mut Lines, usize, usize) -> Result<Vec<Stmt>, BlockFault>> R
     /// A compound statement without decorators.
     fn undecorated_statement(
         &self,
-        lines: &mut Lines,
+        lines: &mut Lines<&'a Bump>,
         indent: usize,
         after: After,
-    ) -> Result<Stmt, BlockFault>
+    ) -> Result<Stmt<&'a Bump>, BlockFault>
         requires { ReadsBlocks self.now.depth (F.pre self.now.block) (F.post self.now.block) }
         ensures { ReadsLines stmt_of
             (spec.compound_statement (spec.block_at self.now.depth) indent [] after (lines_of lines.old)) result
@@ -212,14 +213,14 @@ impl<F: Fn(Global, &mut Lines, usize, usize) -> Result<Vec<Stmt>, BlockFault>> R
     #[tactic(auto, unfolding(crate::specs::Blocks::definition))]
     fn definition(
         &self,
-        lines: &mut Lines,
+        lines: &mut Lines<&'a Bump>,
         number: usize,
         indent: usize,
-        marks: Vec<Decorator>,
-    ) -> Result<Stmt, BlockFault>
+        marks: Vec<Decorator<&'a Bump>, &'a Bump>,
+    ) -> Result<Stmt<&'a Bump>, BlockFault>
         requires { ReadsBlocks self.now.depth (F.pre self.now.block) (F.post self.now.block) }
         ensures { ReadsLines stmt_of
-            (spec.definition (spec.block_at self.now.depth) number indent (decorators_of marks) (lines_of lines.old))
+            (spec.definition (spec.block_at self.now.depth) number indent (decorators_of marks.entry) (lines_of lines.old))
             result (lines_of lines.new) }
     {
         if is_definition(lines.next(indent)) {
@@ -231,7 +232,7 @@ impl<F: Fn(Global, &mut Lines, usize, usize) -> Result<Vec<Stmt>, BlockFault>> R
 
     /// A row of decorators and a definition.
     #[tactic(auto, unfolding(crate::specs::Blocks::decorated_definition))]
-    fn decorated_definition(&self, lines: &mut Lines, indent: usize) -> Result<Stmt, BlockFault>
+    fn decorated_definition(&self, lines: &mut Lines<&'a Bump>, indent: usize) -> Result<Stmt<&'a Bump>, BlockFault>
         requires { ReadsBlocks self.now.depth (F.pre self.now.block) (F.post self.now.block) }
         ensures { ReadsLines stmt_of (spec.decorated_definition (spec.block_at self.now.depth) indent
             (lines_of lines.old))
@@ -244,7 +245,7 @@ impl<F: Fn(Global, &mut Lines, usize, usize) -> Result<Vec<Stmt>, BlockFault>> R
 
     /// The statement that the next line begins, or none where the block ends.
     #[tactic(auto, unfolding(crate::specs::Blocks::next_statement))]
-    fn next_statement(&self, lines: &mut Lines, indent: usize) -> Result<Option<Stmt>, BlockFault>
+    fn next_statement(&self, lines: &mut Lines<&'a Bump>, indent: usize) -> Result<Option<Stmt<&'a Bump>>, BlockFault>
         requires { ReadsBlocks self.now.depth (F.pre self.now.block) (F.post self.now.block) }
         ensures { ReadsLines (option_map stmt_of)
             (spec.next_statement (spec.block_at self.now.depth) indent (lines_of lines.old)) result
@@ -262,7 +263,7 @@ impl<F: Fn(Global, &mut Lines, usize, usize) -> Result<Vec<Stmt>, BlockFault>> R
     }
 
     /// The statements of a block.
-    fn statements(&self, lines: &mut Lines, indent: usize) -> Result<Vec<Stmt>, BlockFault>
+    fn statements(&self, lines: &mut Lines<&'a Bump>, indent: usize) -> Result<Vec<Stmt<&'a Bump>, &'a Bump>, BlockFault>
         requires { ReadsBlocks self.now.depth (F.pre self.now.block) (F.post self.now.block) }
         ensures { ReadsLines stmts_of (spec.all_statements (spec.block_at self.now.depth) indent (lines_of lines.old))
             result (lines_of lines.new) }
@@ -280,12 +281,12 @@ impl<F: Fn(Global, &mut Lines, usize, usize) -> Result<Vec<Stmt>, BlockFault>> R
 }
 
 /// The block at an indent, under which this many blocks may still nest.
-pub fn block_at(
-    alloc: Global,
-    lines: &mut Lines,
+pub fn block_at<'a>(
+    alloc: &'a Bump,
+    lines: &mut Lines<&'a Bump>,
     depth: usize,
     indent: usize,
-) -> Result<Vec<Stmt>, BlockFault>
+) -> Result<Vec<Stmt<&'a Bump>, &'a Bump>, BlockFault>
     ensures { ReadsLines stmts_of (spec.block_at depth indent (lines_of lines.old)) result (lines_of lines.new) }
 {
     if depth == 0 {
