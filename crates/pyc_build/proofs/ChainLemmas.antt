@@ -17,36 +17,36 @@ max_zero a = omega arith
 
 -- ---- comparisons
 
-pub links_append : (front : List Link) (l : Link) (end : Links) → links_before (front ++ l ∷ []) end ≡ links_before front (tree.link l.first l.second (tree_of l.right.value) end)
+pub links_append : {S : Type 0} (front : List (Link S)) (l : Link S) (end : Links) → links_before (front ++ l ∷ []) end ≡ links_before front (tree.link l.first l.second (tree_of l.right.value) end)
 links_append [] l end = refl
 links_append (q ∷ front) l end = ap (tree.link q.first q.second (tree_of q.right.value)) (links_append front l end)
 
-pub link_heights : (front items : List Link) (l : Link) (so after : ℕ) → items ≡ front ++ l ∷ [] → ((end : Links) → links_height (links_before front end) ≡ max so (links_height end))
+pub link_heights : {S : Type 0} (front items : List (Link S)) (l : Link S) (so after : ℕ) → items ≡ front ++ l ∷ [] → ((end : Links) → links_height (links_before front end) ≡ max so (links_height end))
     → after ≡ max so (height (tree_of l.right.value)) → (end : Links) → links_height (links_before items end) ≡ max after (links_height end)
 unfolding links_height
 link_heights front items l so after is all more end =
-    ap (λ (some : List Link). links_height (links_before some end)) is ∙ (ap links_height (links_append front l end)
+    ap (λ (some : List (Link _)). links_height (links_before some end)) is ∙ (ap links_height (links_append front l end)
     ∙ (all (tree.link l.first l.second (tree_of l.right.value) end) ∙ rw more (max_assoc so (height (tree_of l.right.value)) (links_height end))))
 
-pub links_whole : (items : List Link) (h : ℕ) → ((end : Links) → links_height (links_before items end) ≡ max h (links_height end)) → h ≡ links_height (links_before items tree.unlinked)
+pub links_whole : {S : Type 0} (items : List (Link S)) (h : ℕ) → ((end : Links) → links_height (links_before items end) ≡ max h (links_height end)) → h ≡ links_height (links_before items tree.unlinked)
 unfolding links_height
 links_whole items h all = max_zero h ∙ sym (all tree.unlinked)
 
 -- ---- clauses
 
-pub comprehensions_append : (front : List Comprehension) (part : Comprehension) (end : Comprehensions) → comprehensions_before (front ++ part ∷ []) end ≡ comprehensions_before front (comprehension_before part end)
+pub comprehensions_append : {S : Type 0} (front : List (Comprehension S)) (part : Comprehension S) (end : Comprehensions) → comprehensions_before (front ++ part ∷ []) end ≡ comprehensions_before front (comprehension_before part end)
 comprehensions_append [] part end = refl
 comprehensions_append (q ∷ front) part end = ap (comprehension_before q) (comprehensions_append front part end)
 
-pub comprehension_heights : (front items : List Comprehension) (part : Comprehension) (comprehension : BuiltComprehension) (so own after : ℕ) → items ≡ front ++ part ∷ []
+pub comprehension_heights : {S : Type 0} (front items : List (Comprehension S)) (part : Comprehension S) (comprehension : BuiltComprehension S) (so own after : ℕ) → items ≡ front ++ part ∷ []
     → ((end : Comprehensions) → comprehensions_height (comprehensions_before front end) ≡ max so (comprehensions_height end)) → ((rest : Comprehensions) → comprehension_before part rest ≡ comprehension_of comprehension rest)
     → ((rest : Comprehensions) → comprehensions_height (comprehension_of comprehension rest) ≡ max own (comprehensions_height rest)) → after ≡ max so own
     → (end : Comprehensions) → comprehensions_height (comprehensions_before items end) ≡ max after (comprehensions_height end)
 comprehension_heights front items part comprehension so own after is all same tall more end =
-    ap (λ (some : List Comprehension). comprehensions_height (comprehensions_before some end)) is ∙ (ap comprehensions_height (comprehensions_append front part end)
+    ap (λ (some : List (Comprehension _)). comprehensions_height (comprehensions_before some end)) is ∙ (ap comprehensions_height (comprehensions_append front part end)
     ∙ (all (comprehension_before part end) ∙ (ap (λ (rest : Comprehensions). max so (comprehensions_height rest)) (same end)
     ∙ (ap (max so) (tall end) ∙ rw more (max_assoc so own (comprehensions_height end))))))
 
-pub comprehensions_whole : (items : List Comprehension) (h : ℕ) → ((end : Comprehensions) → comprehensions_height (comprehensions_before items end) ≡ max h (comprehensions_height end)) → h ≡ comprehensions_height (comprehensions_before items tree.no_comprehension)
+pub comprehensions_whole : {S : Type 0} (items : List (Comprehension S)) (h : ℕ) → ((end : Comprehensions) → comprehensions_height (comprehensions_before items end) ≡ max h (comprehensions_height end)) → h ≡ comprehensions_height (comprehensions_before items tree.no_comprehension)
 unfolding comprehensions_height
 comprehensions_whole items h all = max_zero h ∙ sym (all tree.no_comprehension)

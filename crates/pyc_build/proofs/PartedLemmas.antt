@@ -1,7 +1,6 @@
 -- Items that are an expression alone.
 use Rattle.std.proofs.Common.{◌≡◌, ℕ, ◌&&◌, not, false, true, Bool, List, [], ◌∷◌, Option, Some, None, refl, ap, sym, ◌∙◌, true≢false}
 use Rattle.std.proofs.Math.Bool.{and-true}
-use Rattle.std.specs.declared.alloc.Global.{Global}
 use Rattle.std.specs.declared.boxed.Box.{Box}
 use Rattle.pyc_tree.specs.declared.tree.Comprehension.TheViews.{out-Pieces, roll-Pieces, roll-out-Pieces}
 use Rattle.pyc_tree.specs.declared.tree.Expr.{Expr}
@@ -18,16 +17,16 @@ use Rattle.pyc_tree.proofs.TargetLemmas.{target_of_item}
 use Rattle.pyc_tree.proofs.ViewLemmas.{view_Pieces}
 
 -- the items that a value of the code holds
-pub view_parts : (x : Items) → pieces_of x ≡ pieces_before (out-Pieces x).each.items (last_of (out-Pieces x).last)
-view_parts x = ap pieces_of (sym (roll-out-Pieces x)) ∙ view_Pieces (out-Pieces x).each (out-Pieces x).last
+pub view_parts : {S : Type 0} (x : Items S) → pieces_of x ≡ pieces_before (out-Pieces _ x).each.items (last_of (out-Pieces _ x).last)
+view_parts x = ap pieces_of (sym (roll-out-Pieces _ x)) ∙ view_Pieces (out-Pieces _ x).each (out-Pieces _ x).last
 
-no_comma : (items : List Piece) (end : Pieces) → has_comma (pieces_before items end) ≡ false → pieces_before items end ≡ end
+no_comma : {S : Type 0} (items : List (Piece S)) (end : Pieces) → has_comma (pieces_before items end) ≡ false → pieces_before items end ≡ end
 no_comma [] end none = refl
 no_comma (p ∷ items) end none = absurd (true≢false none)
 
-pub alone : (x : Items) (last : Option (Box Expr Global)) → (out-Pieces x).last ≡ last → has_comma (pieces_of x) ≡ false → pieces_of x ≡ last_of last
+pub alone : {S : Type 0} (x : Items S) (last : Option (Box (Expr S) S)) → (out-Pieces _ x).last ≡ last → has_comma (pieces_of x) ≡ false → pieces_of x ≡ last_of last
 alone x last is none =
-    view_parts x ∙ (no_comma (out-Pieces x).each.items (last_of (out-Pieces x).last) (ap has_comma (sym (view_parts x)) ∙ none) ∙ ap last_of is)
+    view_parts x ∙ (no_comma (out-Pieces _ x).each.items (last_of (out-Pieces _ x).last) (ap has_comma (sym (view_parts x)) ∙ none) ∙ ap last_of is)
 
 pub comma_not_one : (items : Pieces) → has_comma items ≡ true → is_one items ≡ false
 comma_not_one tree.none is = refl
@@ -46,11 +45,11 @@ pub alone_target : (so : Bool) (b : Bool) (t : Tree) → b ≡ so && not (is_sta
 alone_target so b t is item = is ∙ (ap (λ x. x && not (is_starred t)) item ∙ sym (target_of_item t))
 
 -- nothing is held
-pub nothing_held : (x : Items) (y : Items) → (out-Pieces x).last ≡ None → has_comma (pieces_of x) ≡ false → pieces_of y ≡ pieces_before (out-Pieces x).each.items tree.none
+pub nothing_held : {S : Type 0} (x : Items S) (y : Items S) → (out-Pieces _ x).last ≡ None → has_comma (pieces_of x) ≡ false → pieces_of y ≡ pieces_before (out-Pieces _ x).each.items tree.none
     → (pieces_of x ≡ pieces_of y) × (is_one (pieces_of x) ≡ false)
 nothing_held x y last none is =
     let held : pieces_of x ≡ tree.none = alone x None last none in
-    (held ∙ sym (is ∙ (no_comma (out-Pieces x).each.items tree.none (ap has_comma (empty last) ∙ none))), ap is_one held)
+    (held ∙ sym (is ∙ (no_comma (out-Pieces _ x).each.items tree.none (ap has_comma (empty last) ∙ none))), ap is_one held)
   where
-    empty : (out-Pieces x).last ≡ None → pieces_before (out-Pieces x).each.items tree.none ≡ pieces_of x
-    empty some = ap (pieces_before (out-Pieces x).each.items) (ap last_of (sym some)) ∙ sym (view_parts x)
+    empty : (out-Pieces _ x).last ≡ None → pieces_before (out-Pieces _ x).each.items tree.none ≡ pieces_of x
+    empty some = ap (pieces_before (out-Pieces _ x).each.items) (ap last_of (sym some)) ∙ sym (view_parts x)

@@ -1,6 +1,5 @@
 -- Which forms of the code are single targets.
 use Rattle.std.proofs.Common.{◌≡◌, refl, false}
-use Rattle.std.specs.declared.alloc.Global.{Global}
 use Rattle.std.specs.declared.boxed.Box.{Box}
 use Rattle.pyc_token.specs.declared.tokens.Token.{Token}
 use Rattle.pyc_tree.specs.declared.tree.Expr.{Expr}
@@ -10,10 +9,10 @@ use Rattle.pyc_tree.specs.Targets.{is_single_target}
 use Rattle.pyc_tree.specs.View.{tree_of}
 
 -- every form but these four is no single target
-pub single_other : (x : Expr) → ((t : Token) → ¬ (x ≡ e.Name t))
-    → ((opening : Token) (inner : Box Expr Global) (closing : Token) → ¬ (x ≡ e.Parenthesized opening inner closing))
-    → ((object : Box Expr Global) (dot name : Token) → ¬ (x ≡ e.Attribute object dot name))
-    → ((object : Box Expr Global) (opening : Token) (items : Items) (closing : Token) → ¬ (x ≡ e.Subscript object opening items closing))
+pub single_other : {S : Type 0} (x : Expr S) → ((t : Token) → ¬ (x ≡ e.Name t))
+    → ((opening : Token) (inner : Box (Expr S) S) (closing : Token) → ¬ (x ≡ e.Parenthesized opening inner closing))
+    → ((object : Box (Expr S) S) (dot name : Token) → ¬ (x ≡ e.Attribute object dot name))
+    → ((object : Box (Expr S) S) (opening : Token) (items : Items S) (closing : Token) → ¬ (x ≡ e.Subscript object opening items closing))
     → false ≡ is_single_target (tree_of x)
 unfolding tree_of
 single_other (e.Name t) not_name not_enclosed not_attribute not_subscript = absurd (not_name t refl)

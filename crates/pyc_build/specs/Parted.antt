@@ -12,6 +12,6 @@ is_one (tree.last _) = true
 is_one _ = false
 
 -- what the items are
-abbrev pub IsParted : Pieces → Listed → Type 0
+abbrev pub IsParted : {S : Type 0} → Pieces → Listed S → Type 0
 IsParted items (One built) = items ≡ tree.last (tree_of built.expr.value)
 IsParted items (Many built) = (items ≡ pieces_of built.pieces) × (is_one items ≡ false)

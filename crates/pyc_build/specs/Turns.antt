@@ -11,7 +11,7 @@ use Rattle.pyc_tree.specs.Parser.{Parser, fail}
 use Rattle.pyc_tree.specs.View.{tree_of}
 
 -- a clause before others
-abbrev pub comprehension_of : BuiltComprehension → Comprehensions → Comprehensions
+abbrev pub comprehension_of : {S : Type 0} → BuiltComprehension S → Comprehensions → Comprehensions
 comprehension_of (comprehension.For word_async word_for targets word_in iterated) rest =
     tree.for_clause word_async word_for (tree_of targets.expr.value) word_in (tree_of iterated.expr.value) rest
 comprehension_of (comprehension.If word condition) rest = tree.if_clause word (tree_of condition.expr.value) rest

@@ -18,7 +18,7 @@ use Rattle.pyc_tree.specs.View.{links_before, comprehensions_before}
 
 -- ---- comparisons
 
-abbrev pub with_links : List Link → Parsed Links → Parsed Links
+abbrev pub with_links : {S : Type 0} → List (Link S) → Parsed Links → Parsed Links
 with_links front None = None
 with_links front (Some p) = Some (links_before front p.0, p.1)
 
@@ -26,35 +26,35 @@ pub with_no_link : (o : Parsed Links) → with_links [] o ≡ o
 with_no_link None = refl
 with_no_link (Some p) = refl
 
-links_pushed : (front after : List Link) (f : Links → Links) → ((end : Links) → links_before after end ≡ links_before front (f end))
+links_pushed : {S : Type 0} (front after : List (Link S)) (f : Links → Links) → ((end : Links) → links_before after end ≡ links_before front (f end))
     → (o : Parsed Links) → with_links front (and_then o (λ more. pure (f more))) ≡ with_links after o
 links_pushed front after f more None = refl
 links_pushed front after f more (Some p) = ap {B = Parsed Links} (λ found. Some (found, p.1)) (sym (more p.0))
 
-pub links_step : (self : ℕ → Parser Tree) (n : ℕ) (ts : List Token) (front after : List Link) (k : Kind) (f : Links → Links) (rest : List Token)
+pub links_step : {S : Type 0} (self : ℕ → Parser Tree) (n : ℕ) (ts : List Token) (front after : List (Link S)) (k : Kind) (f : Links → Links) (rest : List Token)
     → k ≡ kind_of ts → is_comparison k ≡ true → one_link self ts ≡ Some (f, rest) → ((end : Links) → links_before after end ≡ links_before front (f end))
     → with_links front (links self (suc n) ts) ≡ with_links after (links self n rest)
 unfolding links
 links_step self n ts front after k f rest is_kind is read more = rw (sym is_kind, is, read) (links_pushed front after f more (links self n rest))
 
-pub links_bad : (self : ℕ → Parser Tree) (n : ℕ) (ts : List Token) (front : List Link) (k : Kind)
+pub links_bad : {S : Type 0} (self : ℕ → Parser Tree) (n : ℕ) (ts : List Token) (front : List (Link S)) (k : Kind)
     → k ≡ kind_of ts → is_comparison k ≡ true → one_link self ts ≡ None → with_links front (links self (suc n) ts) ≡ None
 unfolding links
 links_bad self n ts front k is_kind is read = rw (sym is_kind, is, read) refl
 
-pub links_done : (self : ℕ → Parser Tree) (n : ℕ) (ts : List Token) (front : List Link) (k : Kind)
+pub links_done : {S : Type 0} (self : ℕ → Parser Tree) (n : ℕ) (ts : List Token) (front : List (Link S)) (k : Kind)
     → k ≡ kind_of ts → is_comparison k ≡ false → with_links front (links self n ts) ≡ Some (links_before front tree.unlinked, ts)
 unfolding links
 links_done self zero ts front k is_kind is = refl
 links_done self (suc n) ts front k is_kind is = rw (sym is_kind, is) refl
 
-pub links_over : (self : ℕ → Parser Tree) (ts : List Token) (front : List Link) → with_links front (links self 0 ts) ≡ Some (links_before front tree.unlinked, ts)
+pub links_over : {S : Type 0} (self : ℕ → Parser Tree) (ts : List Token) (front : List (Link S)) → with_links front (links self 0 ts) ≡ Some (links_before front tree.unlinked, ts)
 unfolding links
 links_over self ts front = refl
 
 -- ---- clauses
 
-abbrev pub with_comprehensions : List Comprehension → Parsed Comprehensions → Parsed Comprehensions
+abbrev pub with_comprehensions : {S : Type 0} → List (Comprehension S) → Parsed Comprehensions → Parsed Comprehensions
 with_comprehensions front None = None
 with_comprehensions front (Some p) = Some (comprehensions_before front p.0, p.1)
 
@@ -62,7 +62,7 @@ pub with_no_comprehension : (o : Parsed Comprehensions) → with_comprehensions 
 with_no_comprehension None = refl
 with_no_comprehension (Some p) = refl
 
-comprehensions_pushed : (front after : List Comprehension) (f : Comprehensions → Comprehensions) → ((end : Comprehensions) → comprehensions_before after end ≡ comprehensions_before front (f end))
+comprehensions_pushed : {S : Type 0} (front after : List (Comprehension S)) (f : Comprehensions → Comprehensions) → ((end : Comprehensions) → comprehensions_before after end ≡ comprehensions_before front (f end))
     → (o : Parsed Comprehensions) → with_comprehensions front (and_then o (λ more. pure (f more))) ≡ with_comprehensions after o
 comprehensions_pushed front after f more None = refl
 comprehensions_pushed front after f more (Some p) = ap {B = Parsed Comprehensions} (λ found. Some (found, p.1)) (sym (more p.0))
@@ -92,25 +92,25 @@ joined_none : (self : ℕ → Parser Tree) (o : Option (Parser (Comprehensions �
 joined_none self None more ts there = refl
 joined_none self (Some p) more ts there = absurd (true≢false there)
 
-pub comprehensions_step : (self : ℕ → Parser Tree) (n : ℕ) (ts : List Token) (front after : List Comprehension) (k : Kind) (f : Comprehensions → Comprehensions) (rest : List Token)
+pub comprehensions_step : {S : Type 0} (self : ℕ → Parser Tree) (n : ℕ) (ts : List Token) (front after : List (Comprehension S)) (k : Kind) (f : Comprehensions → Comprehensions) (rest : List Token)
     → k ≡ kind_of ts → comprehension_at (comprehension_by self k) ts ≡ Some (f, rest) → ((end : Comprehensions) → comprehensions_before after end ≡ comprehensions_before front (f end))
     → with_comprehensions front (comprehensions_of self (suc n) ts) ≡ with_comprehensions after (comprehensions_of self n rest)
 unfolding comprehensions_of
 comprehensions_step self n ts front after k f rest is_kind read more =
     rw (sym is_kind, joined_on self (comprehension_by self k) (comprehensions_of self n) ts f rest read) (comprehensions_pushed front after f more (comprehensions_of self n rest))
 
-pub comprehensions_bad : (self : ℕ → Parser Tree) (n : ℕ) (ts : List Token) (front : List Comprehension) (k : Kind)
+pub comprehensions_bad : {S : Type 0} (self : ℕ → Parser Tree) (n : ℕ) (ts : List Token) (front : List (Comprehension S)) (k : Kind)
     → k ≡ kind_of ts → is_comprehension k ≡ true → comprehension_at (comprehension_by self k) ts ≡ None → with_comprehensions front (comprehensions_of self (suc n) ts) ≡ None
 unfolding comprehensions_of
 comprehensions_bad self n ts front k is_kind is read = rw (sym is_kind, joined_bad self (comprehension_by self k) (comprehensions_of self n) ts (comprehension_is_there self k ∙ is) read) refl
 
-pub comprehensions_done : (self : ℕ → Parser Tree) (n : ℕ) (ts : List Token) (front : List Comprehension) (k : Kind)
+pub comprehensions_done : {S : Type 0} (self : ℕ → Parser Tree) (n : ℕ) (ts : List Token) (front : List (Comprehension S)) (k : Kind)
     → k ≡ kind_of ts → is_comprehension k ≡ false → with_comprehensions front (comprehensions_of self n ts) ≡ Some (comprehensions_before front tree.no_comprehension, ts)
 unfolding comprehensions_of
 comprehensions_done self zero ts front k is_kind is = refl
 comprehensions_done self (suc n) ts front k is_kind is = rw (sym is_kind, joined_none self (comprehension_by self k) (comprehensions_of self n) ts (comprehension_is_there self k ∙ is)) refl
 
-pub comprehensions_over : (self : ℕ → Parser Tree) (ts : List Token) (front : List Comprehension) → with_comprehensions front (comprehensions_of self 0 ts) ≡ Some (comprehensions_before front tree.no_comprehension, ts)
+pub comprehensions_over : {S : Type 0} (self : ℕ → Parser Tree) (ts : List Token) (front : List (Comprehension S)) → with_comprehensions front (comprehensions_of self 0 ts) ≡ Some (comprehensions_before front tree.no_comprehension, ts)
 unfolding comprehensions_of
 comprehensions_over self ts front = refl
 

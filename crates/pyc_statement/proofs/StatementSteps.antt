@@ -57,13 +57,13 @@ targets_height-more : (front : List Assigned) (x : Assigned) → targets_height 
 targets_height-more [] x = omega arith
 targets_height-more (y ∷ ys) x = let rest = targets_height-more ys x in omega (arith, rest)
 
-pub targets_height-push : (found : List AssignedOf) (x : AssignedOf)
+pub targets_height-push : {H : Type 0} (found : List (AssignedOf H)) (x : AssignedOf H)
     → targets_height (map assigned_of (found ++ x ∷ [])) ≡ max (targets_height (map assigned_of found)) (height (tree_of x.target.value))
 targets_height-push found x =
     ap targets_height (map_push assigned_of found x) ∙ targets_height-more (map assigned_of found) (assigned_of x)
 
 module _ (S : ℕ → Parser Tree) where
-  module _ (n at : ℕ) (all : Parsed Chain) (found : List AssignedOf) (e : Tree) (ts : List Token)
+  module _ {H : Type 0} (n at : ℕ) (all : Parsed Chain) (found : List (AssignedOf H)) (e : Tree) (ts : List Token)
       (read : with_targets (map assigned_of found) (chain S (n - at) e ts) ≡ all) where
     -- where no turn is left, all are found
     pub chain_over : n ≤ at → all ≡ Some ((map assigned_of found, e), ts)
@@ -96,7 +96,7 @@ module _ (S : ℕ → Parser Tree) where
             chain_refused bad = sym (rw (an_equal, a_target, took, bad) at chain_turn)
 
             -- a target before others
-            pub chain_on : (x : AssignedOf) → assigned_of x ≡ record { target = e; equal = equal } → (f : Tree) (ts2 : List Token) → value S ts1 ≡ Some (f, ts2)
+            pub chain_on : (x : AssignedOf H) → assigned_of x ≡ record { target = e; equal = equal } → (f : Tree) (ts2 : List Token) → value S ts1 ≡ Some (f, ts2)
                 → with_targets (map assigned_of (found ++ x ∷ [])) (chain S (n - (at + 1)) f ts2) ≡ all
             unfolding chain
             chain_on x same f ts2 is =
@@ -112,12 +112,12 @@ abbrev semicolon_kind : Kind
 semicolon_kind = kind.Delimiter delimiter.Semicolon
 
 -- statements before others are as high as the highest of both
-statements_height-before : (front : List (Item SimpleStatementOf)) (end : Statements)
+statements_height-before : {H : Type 0} (front : List (Item (SimpleStatementOf H))) (end : Statements)
     → statements_height (separated_before statement_of front end) ≡ max (statements_height (separated_before statement_of front no_item)) (statements_height end)
 statements_height-before [] end = omega arith
 statements_height-before (x ∷ xs) end = let rest = statements_height-before xs end in omega (arith, rest)
 
-module _ (front : List (Item SimpleStatementOf)) (before own all : ℕ) (is : all ≡ max before own)
+module _ {H : Type 0} (front : List (Item (SimpleStatementOf H))) (before own all : ℕ) (is : all ≡ max before own)
     (of_front : before ≡ statements_height (separated_before statement_of front no_item)) where
   pub statements_tall-last : (s : SimpleStatement) → own ≡ statement_height s → all ≡ statements_height (separated_before statement_of front (last_item s))
   statements_tall-last s of_own =
@@ -125,7 +125,7 @@ module _ (front : List (Item SimpleStatementOf)) (before own all : ℕ) (is : al
       ≡ max (statements_height (separated_before statement_of front no_item)) (statement_height s) = statements_height-before front (last_item s) in
       cc
 
-  pub statements_tall-push : (x : Item SimpleStatementOf) (items : List (Item SimpleStatementOf)) → items ≡ front ++ x ∷ [] → own ≡ statement_height (statement_of x.value)
+  pub statements_tall-push : (x : Item (SimpleStatementOf H)) (items : List (Item (SimpleStatementOf H))) → items ≡ front ++ x ∷ [] → own ≡ statement_height (statement_of x.value)
       → all ≡ statements_height (separated_before statement_of items no_item)
   statements_tall-push x items pushed of_own =
       let more : statements_height (separated_before statement_of front (item (statement_of x.value) x.separator no_item))
@@ -134,7 +134,7 @@ module _ (front : List (Item SimpleStatementOf)) (before own all : ℕ) (is : al
       let one : max (statement_height (statement_of x.value)) 0 ≡ statement_height (statement_of x.value) = omega arith in
       let whole : statements_height (separated_before statement_of items no_item)
       ≡ statements_height (separated_before statement_of front (item (statement_of x.value) x.separator no_item)) =
-      ap (λ (found : List (Item SimpleStatementOf)). statements_height (separated_before statement_of found no_item)) pushed
+      ap (λ (found : List (Item (SimpleStatementOf _))). statements_height (separated_before statement_of found no_item)) pushed
       ∙ ap statements_height (separated_before-more statement_of front x no_item) in
       cc
 
@@ -143,10 +143,10 @@ with_statements-first : (o : Parsed Statements) → with_items statement_of [] o
 with_statements-first (Some p) = refl
 with_statements-first None = refl
 
-pub statements_start : (S : ℕ → Parser Tree) (n : ℕ) (ts : List Token) → with_items statement_of [] (statements S (n - 0) ts) ≡ statements S n ts
+pub statements_start : {H : Type 0} (S : ℕ → Parser Tree) (n : ℕ) (ts : List Token) → with_items (statement_of {H}) [] (statements S (n - 0) ts) ≡ statements S n ts
 statements_start S n ts = let all : n - 0 ≡ n = omega arith in with_statements-first (statements S (n - 0) ts) ∙ ap (λ n. statements S n ts) all
 
-module _ (S : ℕ → Parser Tree) (n at : ℕ) (all : Parsed Statements) (front : List (Item SimpleStatementOf)) (ts : List Token)
+module _ {H : Type 0} (S : ℕ → Parser Tree) (n at : ℕ) (all : Parsed Statements) (front : List (Item (SimpleStatementOf H))) (ts : List Token)
     (read : with_items statement_of front (statements S (n - at) ts) ≡ all) where
   -- where no turn is left, nothing is read
   pub statements_over : n ≤ at → all ≡ None
@@ -161,7 +161,7 @@ module _ (S : ℕ → Parser Tree) (n at : ℕ) (all : Parsed Statements) (front
     unfolding statements
     statements_refused bad = sym (rw bad at statements_turn)
 
-    module _ (x : SimpleStatementOf) (ts1 : List Token) (is : simple S ts ≡ Some (statement_of x, ts1)) where
+    module _ (x : SimpleStatementOf H) (ts1 : List Token) (is : simple S ts ≡ Some (statement_of x, ts1)) where
       -- the last statement
       pub statements_end : at_end ts1 ≡ Some (true, ts1) → all ≡ Some (separated_before statement_of front (last_item (statement_of x)), ts1)
       unfolding statements

@@ -9,6 +9,6 @@ returns-then-is_some c = c.if-is_some.true ∙ sym (ends_in-last c.args.items.no
 
 pub returns-else-is_some : goal.returns-else-is_some
 returns-else-is_some c =
-    let each = (out-Pieces c.args.items.now).each in
+    let each = (out-Pieces _ c.args.items.now).each in
     let len : vec_len each ≡ length each.items = omega (arith, each.ok.0) in
     c.is_empty.ensures ∙ (ap (λ (n : ℕ). n == 0) len ∙ sym (ends_in-comma c.args.items.now (sym c.if-is_some.ensures)))

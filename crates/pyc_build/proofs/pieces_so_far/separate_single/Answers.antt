@@ -18,7 +18,7 @@ invariant_of-result c =
       height_is = alone_height c.args.found.height (pieces_of c.args.found.pieces) (tree_of c.in-Some.expr.value) c.args.found.height_is one;
       low = c.args.found.low;
       target_is = alone_target c.args.found.are_targets c.is_alone_target-is_target.result (tree_of c.in-Some.expr.value)
-          (c.is_alone_target-is_target.ensures ∙ ap (λ (x : Expr). c.args.found.are_targets && not (is_starred (tree_of x))) c.deref.ensures) item;
+          (c.is_alone_target-is_target.ensures ∙ ap (λ (x : Expr _). c.args.found.are_targets && not (is_starred (tree_of x))) c.deref.ensures) item;
       item_target_is = item;
     }
 
@@ -27,8 +27,8 @@ returns-in-Some c = alone c.args.found.pieces (Some c.in-Some.expr) c.in-Some.is
 
 pub returns-in-None : goal.returns-in-None
 returns-in-None c =
-    nothing_held c.args.found.pieces (roll-Pieces (record { each = (out-Pieces c.args.found.pieces).each; last = None })) c.in-None.is (sym c.args.found.comma_is ∙ c.if-found.false)
-    (view_Pieces (out-Pieces c.args.found.pieces).each None)
+    nothing_held c.args.found.pieces (roll-Pieces _ (record { each = (out-Pieces _ c.args.found.pieces).each; last = None })) c.in-None.is (sym c.args.found.comma_is ∙ c.if-found.false)
+    (view_Pieces (out-Pieces _ c.args.found.pieces).each None)
 
 pub returns-then-found : goal.returns-then-found
 returns-then-found c = (refl, comma_not_one (pieces_of c.args.found.pieces) (sym c.args.found.comma_is ∙ c.if-found.true))

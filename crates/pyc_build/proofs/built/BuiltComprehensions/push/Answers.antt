@@ -15,5 +15,5 @@ invariant_of-self-2 c =
     }
 
 pub returns-clause-pushed : goal.returns-clause-pushed
-returns-clause-pushed c = λ end. ap (λ (some : List Comprehension). comprehensions_before some end) c.in_ok-append.ensures
+returns-clause-pushed c = λ end. ap (λ (some : List (Comprehension _)). comprehensions_before some end) c.in_ok-append.ensures
     ∙ (comprehensions_append c.args.self.now.comprehensions.items c.clause_and_height-part.result.0 end ∙ ap (comprehensions_before c.args.self.now.comprehensions.items) (c.clause_and_height-part.ensures.part end))

@@ -15,5 +15,5 @@ invariant_of-self-2 c =
     }
 
 pub returns-clause-pushed : goal.returns-clause-pushed
-returns-clause-pushed c = λ end. ap (λ (some : List Link). links_before some end) c.in_ok-append.ensures
+returns-clause-pushed c = λ end. ap (λ (some : List (Link _)). links_before some end) c.in_ok-append.ensures
     ∙ links_append c.args.self.now.links.items _ end

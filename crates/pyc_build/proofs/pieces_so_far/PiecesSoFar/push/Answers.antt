@@ -16,9 +16,9 @@ invariant_of-self-2 c =
       comma_is = comma_on _ _ _ c.in_ok-append.ensures;
       targets_are = targets_on _ _ _ _ _ _ _ c.in_ok-append.ensures c.args.self.now.targets_are
           c.are_still_targets-are_targets.ensures
-          (ap (λ b. was || b) c.is_starred.ensures ∙ ap (λ (x : Expr). was || is_starred (tree_of x)) c.deref.ensures);
+          (ap (λ b. was || b) c.is_starred.ensures ∙ ap (λ (x : Expr _). was || is_starred (tree_of x)) c.deref.ensures);
     }
 
 pub returns-clause-pushed : goal.returns-clause-pushed
-returns-clause-pushed c = λ end. ap (λ (some : List Piece). pieces_before some end) c.in_ok-append.ensures
+returns-clause-pushed c = λ end. ap (λ (some : List (Piece _)). pieces_before some end) c.in_ok-append.ensures
     ∙ before_append _ _ end

@@ -22,7 +22,7 @@ pub returns-in_err-comprehension : goal.returns-in_err-comprehension
 returns-in_err-comprehension g c =
     let self = expr c.args.self.now.depth in
     let e = one_more (λ n. with_comprehensions c.loop-turn.found.comprehensions.items (comprehensions_of self n c.loop-turn.tokens.rest.now)) _ c.loop-turn._turn c.loop-turn-test.true c.loop-turn.invariant in
-    ReadsTokens_err {A = tree.Comprehensions → tree.Comprehensions} (λ (b : BuiltComprehension) (rest : tree.Comprehensions). comprehension_of b rest) _ _ _ c.in_err-comprehension.field-0.0 _ _ _ c.in_err-comprehension.ensures c.from_residual.ensures.1
+    ReadsTokens_err {A = tree.Comprehensions → tree.Comprehensions} (λ (b : BuiltComprehension _) (rest : tree.Comprehensions). comprehension_of b rest) _ _ _ c.in_err-comprehension.field-0.0 _ _ _ c.in_err-comprehension.ensures c.from_residual.ensures.1
     (λ none. sym e ∙ comprehensions_bad self _ c.loop-turn.tokens.rest.now c.loop-turn.found.comprehensions.items c.peek-kind.result c.peek-kind.ensures (sym c.is_comprehension.ensures ∙ c.if-not-is_comprehension.false) none)
 
 pub loop-turn-preserved : goal.loop-turn-preserved

@@ -10,7 +10,7 @@ use Rattle.pyc_list_rules.proofs.rules.ItemRules.keyword.Goals as goal
 
 pub returns : goal.returns
 returns g c =
-    ap (λ (x : Expr). items.keyword (spec.expr c.args.self.now.depth) (tree_of x) c.args.tokens.now.rest.now) (sym c.deref.ensures)
+    ap (λ (x : Expr _). items.keyword (spec.expr c.args.self.now.depth) (tree_of x) c.args.tokens.now.rest.now) (sym c.deref.ensures)
     ∙ keyword_other (spec.expr c.args.self.now.depth) _ c.in_default.not-Name c.args.tokens.now.rest.now
 
 pub returns-in_err-equal-in-Name : goal.returns-in_err-equal-in-Name

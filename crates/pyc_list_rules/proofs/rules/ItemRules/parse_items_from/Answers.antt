@@ -36,8 +36,8 @@ returns-then-not-begins g c =
     let self = expr c.args.self.now.depth in
     let e = one_more (λ n. with_front c.loop-turn.so_far.each.items (items self n c.loop-turn.list_context (tree_of c.loop-turn.item.expr.value) c.loop-turn.tokens.rest.now)) _ c.loop-turn._turn c.loop-turn-test.true c.loop-turn.invariant in
     let is_comma = sym c.same_kind.ensures ∙ c.if-not-same_kind.false in
-    let is_context = c.next_context-list_context.ensures ∙ ap (λ (x : Expr). next_context c.loop-turn.list_context (tree_of x)) c.deref.ensures in
-    subst (λ (o : Parsed tree.Pieces). ReadsTokens (λ (b : BuiltPieces). pieces_of b.pieces) o c.finish_list.result c.take.new.self.rest.now)
+    let is_context = c.next_context-list_context.ensures ∙ ap (λ (x : Expr _). next_context c.loop-turn.list_context (tree_of x)) c.deref.ensures in
+    subst (λ (o : Parsed tree.Pieces). ReadsTokens (λ (b : BuiltPieces _). pieces_of b.pieces) o c.finish_list.result c.take.new.self.rest.now)
     (sym (sym e ∙ items_ended self _ c.loop-turn.list_context (tree_of c.loop-turn.item.expr.value) c.loop-turn.tokens.rest.now c.loop-turn.so_far.each.items c.push.new.self.each.items
     c.peek.result c.peek-in-loop-turn.result c.next_context-list_context.result c.in_ok-comma.comma c.take.new.self.rest.now
     c.peek.ensures is_comma c.in_ok-comma.ensures is_context c.peek-in-loop-turn.ensures (sym c.begins.ensures ∙ c.if-not-begins.true) c.in_ok-push.ensures.pushed)) c.finish_list.ensures
@@ -47,8 +47,8 @@ returns-in_err-item g c =
     let self = expr c.args.self.now.depth in
     let e = one_more (λ n. with_front c.loop-turn.so_far.each.items (items self n c.loop-turn.list_context (tree_of c.loop-turn.item.expr.value) c.loop-turn.tokens.rest.now)) _ c.loop-turn._turn c.loop-turn-test.true c.loop-turn.invariant in
     let is_comma = sym c.same_kind.ensures ∙ c.if-not-same_kind.false in
-    let is_context = c.next_context-list_context.ensures ∙ ap (λ (x : Expr). next_context c.loop-turn.list_context (tree_of x)) c.deref.ensures in
-    ReadsTokens_err (λ (b : Built). tree_of b.expr.value) _ _ _ c.in_err-item.field-0.0 _ _ _ c.in_err-item.ensures c.from_residual-in_err-item.ensures.1
+    let is_context = c.next_context-list_context.ensures ∙ ap (λ (x : Expr _). next_context c.loop-turn.list_context (tree_of x)) c.deref.ensures in
+    ReadsTokens_err (λ (b : Built _). tree_of b.expr.value) _ _ _ c.in_err-item.field-0.0 _ _ _ c.in_err-item.ensures c.from_residual-in_err-item.ensures.1
     (λ none. sym e ∙ items_bad self _ c.loop-turn.list_context (tree_of c.loop-turn.item.expr.value) c.loop-turn.tokens.rest.now c.loop-turn.so_far.each.items
     c.peek.result c.peek-in-loop-turn.result c.next_context-list_context.result c.in_ok-comma.comma c.take.new.self.rest.now
     c.peek.ensures is_comma c.in_ok-comma.ensures is_context c.peek-in-loop-turn.ensures (sym c.begins.ensures ∙ c.if-not-begins.false) none)
@@ -58,7 +58,7 @@ loop-turn-preserved g c =
     let self = expr c.args.self.now.depth in
     let e = one_more (λ n. with_front c.loop-turn.so_far.each.items (items self n c.loop-turn.list_context (tree_of c.loop-turn.item.expr.value) c.loop-turn.tokens.rest.now)) _ c.loop-turn._turn c.loop-turn-test.true c.loop-turn.invariant in
     let is_comma = sym c.same_kind.ensures ∙ c.if-not-same_kind.false in
-    let is_context = c.next_context-list_context.ensures ∙ ap (λ (x : Expr). next_context c.loop-turn.list_context (tree_of x)) c.deref.ensures in
+    let is_context = c.next_context-list_context.ensures ∙ ap (λ (x : Expr _). next_context c.loop-turn.list_context (tree_of x)) c.deref.ensures in
     sym (items_step self _ c.loop-turn.list_context (tree_of c.loop-turn.item.expr.value) c.loop-turn.tokens.rest.now c.loop-turn.so_far.each.items c.push.new.self.each.items
     c.peek.result c.peek-in-loop-turn.result c.next_context-list_context.result c.in_ok-comma.comma c.take.new.self.rest.now (tree_of c.in_ok-item.item.expr.value) c.item.new.tokens.rest.now
     c.peek.ensures is_comma c.in_ok-comma.ensures is_context c.peek-in-loop-turn.ensures (sym c.begins.ensures ∙ c.if-not-begins.false) c.in_ok-item.ensures c.in_ok-push.ensures.pushed) ∙ e
@@ -66,8 +66,8 @@ loop-turn-preserved g c =
 pub returns : goal.returns
 returns g c =
     let self = expr c.args.self.now.depth in
-    let so = λ (o : Parsed tree.Pieces). ReadsTokens (λ (b : BuiltPieces). pieces_of b.pieces) o c.finish_list_with.result c.loop-turn.tokens.rest.now in
-    let list_context = c.next_context.ensures ∙ ap (λ (x : Expr). next_context c.loop-turn.list_context (tree_of x)) c.deref-2.ensures in
+    let so = λ (o : Parsed tree.Pieces). ReadsTokens (λ (b : BuiltPieces _). pieces_of b.pieces) o c.finish_list_with.result c.loop-turn.tokens.rest.now in
+    let list_context = c.next_context.ensures ∙ ap (λ (x : Expr _). next_context c.loop-turn.list_context (tree_of x)) c.deref-2.ensures in
     let end = ap (λ (p : ListContext). checked (may_end p) (pieces_before c.loop-turn.so_far.each.items (tree.last (tree_of c.loop-turn.item.expr.value))) c.loop-turn.tokens.rest.now) list_context in
     let e : with_front c.loop-turn.so_far.each.items (items self (length c.args.tokens.now.rest.now - c.loop-turn._turn) c.loop-turn.list_context (tree_of c.loop-turn.item.expr.value) c.loop-turn.tokens.rest.now)
     ≡ checked (may_end (next_context c.loop-turn.list_context (tree_of c.loop-turn.item.expr.value))) (pieces_before c.loop-turn.so_far.each.items (tree.last (tree_of c.loop-turn.item.expr.value))) c.loop-turn.tokens.rest.now

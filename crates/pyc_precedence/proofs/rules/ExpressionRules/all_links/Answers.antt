@@ -20,7 +20,7 @@ pub returns-in_err-link : goal.returns-in_err-link
 returns-in_err-link g c =
     let self = expr c.args.self.now.rules.depth in
     let e = one_more (λ n. with_links c.loop-turn.found.links.items (links self n c.loop-turn.tokens.rest.now)) _ c.loop-turn._turn c.loop-turn-test.true c.loop-turn.invariant in
-    ReadsTokens_err {A = tree.Links → tree.Links} (λ (b : BuiltLink) (rest : tree.Links). tree.link b.first b.second (tree_of b.right.expr.value) rest) _ _ _ c.in_err-link.field-0.0 _ _ _ c.in_err-link.ensures c.from_residual.ensures.1
+    ReadsTokens_err {A = tree.Links → tree.Links} (λ (b : BuiltLink _) (rest : tree.Links). tree.link b.first b.second (tree_of b.right.expr.value) rest) _ _ _ c.in_err-link.field-0.0 _ _ _ c.in_err-link.ensures c.from_residual.ensures.1
     (λ none. sym e ∙ links_bad self _ c.loop-turn.tokens.rest.now c.loop-turn.found.links.items c.peek.result c.peek.ensures (sym c.is_comparison.ensures ∙ c.if-not-is_comparison.false) none)
 
 pub loop-turn-preserved : goal.loop-turn-preserved

@@ -21,7 +21,7 @@ returns-in_err-left g c =
     let self = expr c.args.self.now.rules.depth in
     let e = one_more (λ n. climb self c.args.loosest n (tree_of c.loop-turn.left.expr.value) c.loop-turn.tokens.rest.now) _ c.loop-turn._turn c.loop-turn-test.true c.loop-turn.invariant in
     let tight : nat_lt c.infix_precedence.result c.args.loosest ≡ false = grind (arith, nat_tests) in
-    ReadsTokens_err (λ (b : Built). tree_of b.expr.value) _ _ _ c.in_err-left.field-0.0 _ _ _ c.in_err-left.ensures c.from_residual.ensures.1
+    ReadsTokens_err (λ (b : Built _). tree_of b.expr.value) _ _ _ c.in_err-left.field-0.0 _ _ _ c.in_err-left.ensures c.from_residual.ensures.1
     (λ none. sym e ∙ climb_bad self c.args.loosest _ (tree_of c.loop-turn.left.expr.value) c.loop-turn.tokens.rest.now c.peek.result c.peek.ensures
     (ap (λ b. nat_lt b c.args.loosest) (sym c.infix_precedence.ensures) ∙ tight) none)
 

@@ -8,7 +8,7 @@ use Rattle.pyc_precedence.proofs.rules.ExpressionRules.parse_generator_call.Goal
 
 pub returns-in_err-generator : goal.returns-in_err-generator
 returns-in_err-generator g c =
-    let view = λ (b : Built). tree_of b.expr.value in
+    let view = λ (b : Built _). tree_of b.expr.value in
     let ts = c.expect.new.self.rest.now in
     let generator = tree.generator (tree_of c.args.element.value) (comprehensions_before c.in_ok-comprehensions.comprehensions.comprehensions.items tree.no_comprehension) in
     ReadsTokens_err view view (made generator ts) _ c.in_err-generator.field-0.0 _ ts ts
@@ -17,7 +17,7 @@ returns-in_err-generator g c =
 
 pub returns-in_err-only : goal.returns-in_err-only
 returns-in_err-only g c =
-    let view = λ (b : Built). tree_of b.expr.value in
+    let view = λ (b : Built _). tree_of b.expr.value in
     let ts = c.expect.new.self.rest.now in
     let generator = tree.generator (tree_of c.args.element.value) (comprehensions_before c.in_ok-comprehensions.comprehensions.comprehensions.items tree.no_comprehension) in
     let one = ReadsTokens_made Built view generator (made generator ts) (Ok c.in_ok-generator.generator) ts c.in_ok-generator.ensures refl in
@@ -28,7 +28,7 @@ returns-in_err-only g c =
 
 pub returns : goal.returns
 returns g c =
-    let view = λ (b : Built). tree_of b.expr.value in
+    let view = λ (b : Built _). tree_of b.expr.value in
     let ts = c.expect.new.self.rest.now in
     let generator = tree.generator (tree_of c.args.element.value) (comprehensions_before c.in_ok-comprehensions.comprehensions.comprehensions.items tree.no_comprehension) in
     let one = ReadsTokens_made Built view generator (made generator ts) (Ok c.in_ok-generator.generator) ts c.in_ok-generator.ensures refl in
