@@ -1,6 +1,5 @@
 -- What each form of the code's trees is lowered to.
 use Rattle.std.proofs.Common.{◌≡◌, refl, sym, ap, ◌∙◌, ℕ, List, [], ◌∷◌, Bool, false, if◌then◌else◌, Option}
-use Rattle.std.specs.declared.alloc.Global.{Global}
 use Rattle.std.specs.declared.boxed.Box.{Box}
 use Rattle.std.specs.declared.vec.Vec.{Vec}
 use Rattle.std.specs.Option.{is_some}
@@ -40,132 +39,132 @@ pub lowered_Constant : (s : List ℕ → Position → Option plain.Expr) (o : Or
 unfolding tree_of expr_in
 lowered_Constant s o r t = refl
 
-pub lowered_Strings : (s : List ℕ → Position → Option plain.Expr) (o : Origin) (r : Role) (t : Token) (more : Vec Token Global)
+pub lowered_Strings : {S : Type 0} (s : List ℕ → Position → Option plain.Expr) (o : Origin) (r : Role) (t : Token) (more : Vec Token S)
     → expr_in s o r (tree_of (e.Strings t more)) ≡ with_position (position_at o t) (strings_form s o r t more.items)
 unfolding tree_of expr_in
 lowered_Strings s o r t more = refl
 
-pub lowered_Parenthesized : (s : List ℕ → Position → Option plain.Expr) (o : Origin) (r : Role) (t : Token) (x : Box Expr Global) (c : Token)
+pub lowered_Parenthesized : {S : Type 0} (s : List ℕ → Position → Option plain.Expr) (o : Origin) (r : Role) (t : Token) (x : Box (Expr S) S) (c : Token)
     → expr_in s o r (tree_of (e.Parenthesized t x c)) ≡ in_parentheses (position_at o t) (expr_in s o r (tree_of x.value))
 unfolding tree_of expr_in
 lowered_Parenthesized s o r t x c = refl
 
-pub lowered_Display : (s : List ℕ → Position → Option plain.Expr) (o : Origin) (r : Role) (m : DisplayKind) (t : Token) (items : Items) (c : Token)
+pub lowered_Display : {S : Type 0} (s : List ℕ → Position → Option plain.Expr) (o : Origin) (r : Role) (m : DisplayKind) (t : Token) (items : Items S) (c : Token)
     → expr_in s o r (tree_of (e.Display m t items c)) ≡ with_position (position_at o t) (display_form m (elements_in s o r (pieces_of items)) (dict_items_in s o r (pieces_of items)))
 unfolding tree_of expr_in
 lowered_Display s o r m t items c = refl
 
-pub lowered_ComprehensionDisplay : (s : List ℕ → Position → Option plain.Expr) (o : Origin) (r : Role) (m : DisplayKind) (t : Token) (x : Box Expr Global) (cs : Vec Comprehension Global) (c : Token)
+pub lowered_ComprehensionDisplay : {S : Type 0} (s : List ℕ → Position → Option plain.Expr) (o : Origin) (r : Role) (m : DisplayKind) (t : Token) (x : Box (Expr S) S) (cs : Vec (Comprehension S) S) (c : Token)
     → expr_in s o r (tree_of (e.ComprehensionDisplay m t x cs c)) ≡ with_position (position_at o t) (plain.unchecked (comprehension m))
 unfolding tree_of expr_in
 lowered_ComprehensionDisplay s o r m t x cs c = ap (expr_in s o r) ((view_Comprehension m t x cs c))
 
-pub lowered_Attribute : (s : List ℕ → Position → Option plain.Expr) (o : Origin) (r : Role) (x : Box Expr Global) (d n : Token)
+pub lowered_Attribute : {S : Type 0} (s : List ℕ → Position → Option plain.Expr) (o : Origin) (r : Role) (x : Box (Expr S) S) (d n : Token)
     → expr_in s o r (tree_of (e.Attribute x d n)) ≡ following (expr_in s o r (tree_of x.value)) (plain.attribute (expr_in s o r (tree_of x.value)) (name_at o n))
 unfolding tree_of expr_in
 lowered_Attribute s o r x d n = refl
 
-pub lowered_Call : (s : List ℕ → Position → Option plain.Expr) (o : Origin) (r : Role) (x : Box Expr Global) (t : Token) (items : Items) (c : Token)
+pub lowered_Call : {S : Type 0} (s : List ℕ → Position → Option plain.Expr) (o : Origin) (r : Role) (x : Box (Expr S) S) (t : Token) (items : Items S) (c : Token)
     → expr_in s o r (tree_of (e.Call x t items c)) ≡ following (expr_in s o r (tree_of x.value)) (plain.call (expr_in s o r (tree_of x.value)) (arguments (arguments_or_generator (position_at o t) (pieces_of items) (arguments_in s o (first_role r (pieces_of items)) r (pieces_of items)))))
 unfolding tree_of expr_in
 lowered_Call s o r x t items c = refl
 
-pub lowered_Subscript : (s : List ℕ → Position → Option plain.Expr) (o : Origin) (r : Role) (x : Box Expr Global) (t : Token) (items : Items) (c : Token)
+pub lowered_Subscript : {S : Type 0} (s : List ℕ → Position → Option plain.Expr) (o : Origin) (r : Role) (x : Box (Expr S) S) (t : Token) (items : Items S) (c : Token)
     → expr_in s o r (tree_of (e.Subscript x t items c)) ≡ following (expr_in s o r (tree_of x.value)) (plain.subscript (expr_in s o r (tree_of x.value)) (subscript_of (pieces_of items) (indices_in s o r (pieces_of items))))
 unfolding tree_of expr_in
 lowered_Subscript s o r x t items c = refl
 
-pub lowered_Await : (s : List ℕ → Position → Option plain.Expr) (o : Origin) (r : Role) (t : Token) (x : Box Expr Global)
+pub lowered_Await : {S : Type 0} (s : List ℕ → Position → Option plain.Expr) (o : Origin) (r : Role) (t : Token) (x : Box (Expr S) S)
     → expr_in s o r (tree_of (e.Await t x)) ≡ with_position (position_at o t) (plain.await (expr_in s o r (tree_of x.value)))
 unfolding tree_of expr_in
 lowered_Await s o r t x = refl
 
-pub lowered_Unary : (s : List ℕ → Position → Option plain.Expr) (o : Origin) (r : Role) (t : Token) (x : Box Expr Global)
+pub lowered_Unary : {S : Type 0} (s : List ℕ → Position → Option plain.Expr) (o : Origin) (r : Role) (t : Token) (x : Box (Expr S) S)
     → expr_in s o r (tree_of (e.Unary t x)) ≡ with_position (position_at o t) (plain.unary (unary_operator t.kind) (expr_in s o r (tree_of x.value)))
 unfolding tree_of expr_in
 lowered_Unary s o r t x = refl
 
-pub lowered_Binary : (s : List ℕ → Position → Option plain.Expr) (o : Origin) (r : Role) (x : Box Expr Global) (t : Token) (y : Box Expr Global)
+pub lowered_Binary : {S : Type 0} (s : List ℕ → Position → Option plain.Expr) (o : Origin) (r : Role) (x : Box (Expr S) S) (t : Token) (y : Box (Expr S) S)
     → expr_in s o r (tree_of (e.Binary x t y)) ≡ following (expr_in s o r (tree_of x.value)) (operation t.kind (expr_in s o r (tree_of x.value)) (expr_in s o r (tree_of y.value)))
 unfolding tree_of expr_in
 lowered_Binary s o r x t y = refl
 
-pub lowered_Compare : (s : List ℕ → Position → Option plain.Expr) (o : Origin) (r : Role) (x : Box Expr Global) (links : Vec Link Global)
+pub lowered_Compare : {S : Type 0} (s : List ℕ → Position → Option plain.Expr) (o : Origin) (r : Role) (x : Box (Expr S) S) (links : Vec (Link S) S)
     → expr_in s o r (tree_of (e.Compare x links)) ≡ following (expr_in s o r (tree_of x.value)) (plain.compare (expr_in s o r (tree_of x.value)) (comparisons (comparisons_in s o r (links_before links.items tree.unlinked))))
 unfolding tree_of expr_in
 lowered_Compare s o r x links = ap (expr_in s o r) ((view_Compare x links))
 
-pub lowered_Conditional : (s : List ℕ → Position → Option plain.Expr) (o : Origin) (r : Role) (x : Box Expr Global) (t : Token) (y : Box Expr Global) (c : Token) (z : Box Expr Global)
+pub lowered_Conditional : {S : Type 0} (s : List ℕ → Position → Option plain.Expr) (o : Origin) (r : Role) (x : Box (Expr S) S) (t : Token) (y : Box (Expr S) S) (c : Token) (z : Box (Expr S) S)
     → expr_in s o r (tree_of (e.Conditional x t y c z)) ≡ following (expr_in s o r (tree_of x.value)) (plain.conditional (expr_in s o r (tree_of y.value)) (expr_in s o r (tree_of x.value)) (expr_in s o r (tree_of z.value)))
 unfolding tree_of expr_in
 lowered_Conditional s o r x t y c z = refl
 
-pub lowered_Lambda : (s : List ℕ → Position → Option plain.Expr) (o : Origin) (r : Role) (t : Token) (items : Items) (c : Token) (x : Box Expr Global)
+pub lowered_Lambda : {S : Type 0} (s : List ℕ → Position → Option plain.Expr) (o : Origin) (r : Role) (t : Token) (items : Items S) (c : Token) (x : Box (Expr S) S)
     → expr_in s o r (tree_of (e.Lambda t items c x)) ≡ with_position (position_at o t) (plain.unchecked Lambda)
 unfolding tree_of expr_in
 lowered_Lambda s o r t items c x = refl
 
-pub lowered_Bare : (s : List ℕ → Position → Option plain.Expr) (o : Origin) (r : Role) (items : Items)
+pub lowered_Bare : {S : Type 0} (s : List ℕ → Position → Option plain.Expr) (o : Origin) (r : Role) (items : Items S)
     → expr_in s o r (tree_of (e.Bare items)) ≡ with_position (first_at o (pieces_of items) (elements_in s o r (pieces_of items))) (plain.tuple (elements (elements_in s o r (pieces_of items))))
 unfolding tree_of expr_in
 lowered_Bare s o r items = refl
 
-pub lowered_Yield : (s : List ℕ → Position → Option plain.Expr) (o : Origin) (r : Role) (t : Token) (x : Option (Box Expr Global))
+pub lowered_Yield : {S : Type 0} (s : List ℕ → Position → Option plain.Expr) (o : Origin) (r : Role) (t : Token) (x : Option (Box (Expr S) S))
     → expr_in s o r (tree_of (e.Yield t x)) ≡ with_position (position_at o t) (plain.yield (optional_in s o r (perhaps_of x)))
 unfolding tree_of expr_in
 lowered_Yield s o r t x = ap (expr_in s o r) ((view_Yield t x))
 
-pub lowered_YieldFrom : (s : List ℕ → Position → Option plain.Expr) (o : Origin) (r : Role) (t f : Token) (x : Box Expr Global)
+pub lowered_YieldFrom : {S : Type 0} (s : List ℕ → Position → Option plain.Expr) (o : Origin) (r : Role) (t f : Token) (x : Box (Expr S) S)
     → expr_in s o r (tree_of (e.YieldFrom t f x)) ≡ with_position (position_at o t) (plain.yield_from (expr_in s o r (tree_of x.value)))
 unfolding tree_of expr_in
 lowered_YieldFrom s o r t f x = refl
 
-pub lowered_Starred : (s : List ℕ → Position → Option plain.Expr) (o : Origin) (r : Role) (t : Token) (x : Box Expr Global)
+pub lowered_Starred : {S : Type 0} (s : List ℕ → Position → Option plain.Expr) (o : Origin) (r : Role) (t : Token) (x : Box (Expr S) S)
     → expr_in s o r (tree_of (e.Starred t x)) ≡ expr_in s o r (tree_of x.value)
 unfolding tree_of expr_in
 lowered_Starred s o r t x = refl
 
-pub lowered_DoubleStarred : (s : List ℕ → Position → Option plain.Expr) (o : Origin) (r : Role) (t : Token) (x : Box Expr Global)
+pub lowered_DoubleStarred : {S : Type 0} (s : List ℕ → Position → Option plain.Expr) (o : Origin) (r : Role) (t : Token) (x : Box (Expr S) S)
     → expr_in s o r (tree_of (e.DoubleStarred t x)) ≡ expr_in s o r (tree_of x.value)
 unfolding tree_of expr_in
 lowered_DoubleStarred s o r t x = refl
 
-pub lowered_Mapping : (s : List ℕ → Position → Option plain.Expr) (o : Origin) (r : Role) (t : Token) (x : Box Expr Global)
+pub lowered_Mapping : {S : Type 0} (s : List ℕ → Position → Option plain.Expr) (o : Origin) (r : Role) (t : Token) (x : Box (Expr S) S)
     → expr_in s o r (tree_of (e.Mapping t x)) ≡ expr_in s o r (tree_of x.value)
 unfolding tree_of expr_in
 lowered_Mapping s o r t x = refl
 
-pub lowered_Argument : (s : List ℕ → Position → Option plain.Expr) (o : Origin) (r : Role) (x : Box Expr Global)
+pub lowered_Argument : {S : Type 0} (s : List ℕ → Position → Option plain.Expr) (o : Origin) (r : Role) (x : Box (Expr S) S)
     → expr_in s o r (tree_of (e.Argument x)) ≡ expr_in s o r (tree_of x.value)
 unfolding tree_of expr_in
 lowered_Argument s o r x = refl
 
-pub lowered_Keyword : (s : List ℕ → Position → Option plain.Expr) (o : Origin) (r : Role) (n q : Token) (x : Box Expr Global)
+pub lowered_Keyword : {S : Type 0} (s : List ℕ → Position → Option plain.Expr) (o : Origin) (r : Role) (n q : Token) (x : Box (Expr S) S)
     → expr_in s o r (tree_of (e.Keyword n q x)) ≡ expr_in s o r (tree_of x.value)
 unfolding tree_of expr_in
 lowered_Keyword s o r n q x = refl
 
-pub lowered_WithItem : (s : List ℕ → Position → Option plain.Expr) (o : Origin) (r : Role) (x : Box Expr Global) (a : Tail)
+pub lowered_WithItem : {S : Type 0} (s : List ℕ → Position → Option plain.Expr) (o : Origin) (r : Role) (x : Box (Expr S) S) (a : Tail S)
     → expr_in s o r (tree_of (e.WithItem x a)) ≡ expr_in s o r (tree_of x.value)
 unfolding tree_of expr_in
 lowered_WithItem s o r x a = refl
 
-pub lowered_Entry : (s : List ℕ → Position → Option plain.Expr) (o : Origin) (r : Role) (k : Box Expr Global) (t : Token) (x : Box Expr Global)
+pub lowered_Entry : {S : Type 0} (s : List ℕ → Position → Option plain.Expr) (o : Origin) (r : Role) (k : Box (Expr S) S) (t : Token) (x : Box (Expr S) S)
     → expr_in s o r (tree_of (e.Entry k t x)) ≡ expr_in s o r (tree_of x.value)
 unfolding tree_of expr_in
 lowered_Entry s o r k t x = refl
 
-pub lowered_Entry-item : (s : List ℕ → Position → Option plain.Expr) (o : Origin) (r : Role) (k : Box Expr Global) (t : Token) (x : Box Expr Global) (v : plain.Expr)
+pub lowered_Entry-item : {S : Type 0} (s : List ℕ → Position → Option plain.Expr) (o : Origin) (r : Role) (k : Box (Expr S) S) (t : Token) (x : Box (Expr S) S) (v : plain.Expr)
     → dict_item_in s o r (tree_of (e.Entry k t x)) v ≡ plain.entry (expr_in s o r (tree_of k.value)) v
 unfolding tree_of dict_item_in
 lowered_Entry-item s o r k t x v = refl
 
-pub lowered_Slice : (s : List ℕ → Position → Option plain.Expr) (o : Origin) (r : Role) (a : Option (Box Expr Global)) (t : Token) (b : Option (Box Expr Global)) (v : plain.Expr)
+pub lowered_Slice : {S : Type 0} (s : List ℕ → Position → Option plain.Expr) (o : Origin) (r : Role) (a : Option (Box (Expr S) S)) (t : Token) (b : Option (Box (Expr S) S)) (v : plain.Expr)
     → index_in s o r (tree_of (e.Slice a t b)) v ≡ plain.index (optional_at (optional_in s o r (perhaps_of a)) (position_at o t)) (plain.slice (optional_in s o r (perhaps_of a)) (optional_in s o r (perhaps_of b)) plain.absent)
 unfolding tree_of index_in
 lowered_Slice s o r a t b v = ap (λ x. index_in s o r x v) (view_Slice a t b)
 
-pub lowered_Stride : (s : List ℕ → Position → Option plain.Expr) (o : Origin) (r : Role) (a : Option (Box Expr Global)) (t : Token) (b : Option (Box Expr Global)) (u : Token) (c : Option (Box Expr Global)) (v : plain.Expr)
+pub lowered_Stride : {S : Type 0} (s : List ℕ → Position → Option plain.Expr) (o : Origin) (r : Role) (a : Option (Box (Expr S) S)) (t : Token) (b : Option (Box (Expr S) S)) (u : Token) (c : Option (Box (Expr S) S)) (v : plain.Expr)
     → index_in s o r (tree_of (e.Stride a t b u c)) v ≡ plain.index (optional_at (optional_in s o r (perhaps_of a)) (position_at o t)) (plain.slice (optional_in s o r (perhaps_of a)) (optional_in s o r (perhaps_of b)) (optional_in s o r (perhaps_of c)))
 unfolding tree_of index_in
 lowered_Stride s o r a t b u c v = ap (λ x. index_in s o r x v) (view_Stride a t b u c)

@@ -1,6 +1,5 @@
 -- What the items of a `with` are assigned to.
 use Rattle.std.proofs.Common.{◌≡◌, refl, ap, ℕ, Bool, List, [], ◌∷◌, Option, None, Some}
-use Rattle.std.specs.declared.alloc.Global.{Global}
 use Rattle.std.specs.declared.boxed.Box.{Box}
 use Rattle.pyc_ast.specs.declared.position.Position.{Position}
 use Rattle.pyc_ast.specs.Exprs.{Expr as Plain}
@@ -26,18 +25,18 @@ pub optional_target_Nothing : (spelled : List ℕ → Position → Option Plain)
 unfolding optional_target_in
 optional_target_Nothing spelled o = ap (optional_target_in spelled o) view_Nothing
 
-pub optional_target_After : (spelled : List ℕ → Position → Option Plain) (o : Origin) (mark : Box Token Global) (x : Box Expr Global)
+pub optional_target_After : {S : Type 0} (spelled : List ℕ → Position → Option Plain) (o : Origin) (mark : Box Token S) (x : Box (Expr S) S)
     → optional_target_in spelled o (tail_of (t.After mark x)) ≡ Some (target_in spelled o (tree_of x.value))
 unfolding optional_target_in
 optional_target_After spelled o mark x = ap (optional_target_in spelled o) (view_After mark x)
 
-pub with_target_WithItem : (spelled : List ℕ → Position → Option Plain) (o : Origin) (x : Box Expr Global) (a : Ending)
+pub with_target_WithItem : {S : Type 0} (spelled : List ℕ → Position → Option Plain) (o : Origin) (x : Box (Expr S) S) (a : Ending S)
     → with_target_in spelled o (tree_of (e.WithItem x a)) ≡ optional_target_in spelled o (tail_of a)
 unfolding with_target_in
 with_target_WithItem spelled o x a = ap (with_target_in spelled o) (view_WithItem x a)
 
 -- any other item has no target
-pub with_target_other : (spelled : List ℕ → Position → Option Plain) (o : Origin) (x : Expr) → ((a : Box Expr Global) (b : Ending) → x ≡ e.WithItem a b → ⊥) → with_target_in spelled o (tree_of x) ≡ None
+pub with_target_other : {S : Type 0} (spelled : List ℕ → Position → Option Plain) (o : Origin) (x : Expr S) → ((a : Box (Expr S) S) (b : Ending S) → x ≡ e.WithItem a b → ⊥) → with_target_in spelled o (tree_of x) ≡ None
 unfolding with_target_in tree_of
 with_target_other spelled o (e.WithItem' p x a) n0 = absurd (n0 _ _ refl)
 with_target_other spelled o _ n0 = refl
@@ -45,9 +44,9 @@ with_target_other spelled o _ n0 = refl
 -- ---- definitions
 
 -- any other header begins no definition
-pub definition_other : (spelled : List ℕ → Position → Option Plain) (o : Origin) (decorators : List Plain) (suspends : Bool) (x : HeaderOf) (body : Stmts)
-    → ((a : Option Token) (b c d : Token) (e : Items) (f : Token) (g : Ending) → x ≡ h.Def a b c d e f g → ⊥) → ((a b : Token) → x ≡ h.Class a b → ⊥)
-    → ((a b c : Token) (d : Items) (e : Token) → x ≡ h.ClassOf a b c d e → ⊥) → definition_in spelled o decorators suspends (header_of x) body ≡ pass
+pub definition_other : {S : Type 0} (spelled : List ℕ → Position → Option Plain) (o : Origin) (decorators : List Plain) (suspends : Bool) (x : HeaderOf S) (body : Stmts)
+    → ((a : Option Token) (b c d : Token) (e : Items S) (f : Token) (g : Ending S) → x ≡ h.Def a b c d e f g → ⊥) → ((a b : Token) → x ≡ h.Class a b → ⊥)
+    → ((a b c : Token) (d : Items S) (e : Token) → x ≡ h.ClassOf a b c d e → ⊥) → definition_in spelled o decorators suspends (header_of x) body ≡ pass
 definition_other spelled o decorators suspends (h.Def a b c d e f g) body n0 n1 n2 = absurd (n0 _ _ _ _ _ _ _ refl)
 definition_other spelled o decorators suspends (h.Class a b) body n0 n1 n2 = absurd (n1 _ _ refl)
 definition_other spelled o decorators suspends (h.ClassOf a b c d e) body n0 n1 n2 = absurd (n2 _ _ _ _ _ refl)
@@ -55,7 +54,7 @@ definition_other spelled o decorators suspends _ body n0 n1 n2 = refl
 
 -- ---- items
 
-pub with_items_Piece : (spelled : List ℕ → Position → Option Plain) (o : Origin) (p : Piece) (ps : List Piece) (end : Pieces)
+pub with_items_Piece : {S : Type 0} (spelled : List ℕ → Position → Option Plain) (o : Origin) (p : Piece S) (ps : List (Piece S)) (end : Pieces)
     → with_items_in spelled o (pieces_before (p ∷ ps) end) ≡ with_item_in spelled o (tree_of p.value.value) ∷ with_items_in spelled o (pieces_before ps end)
 unfolding with_items_in
 with_items_Piece spelled o p ps end = refl
@@ -64,7 +63,7 @@ pub with_items_None : (spelled : List ℕ → Position → Option Plain) (o : Or
 unfolding with_items_in
 with_items_None spelled o = refl
 
-pub with_items_Some : (spelled : List ℕ → Position → Option Plain) (o : Origin) (x : Box Expr Global) → with_items_in spelled o (last_of (Some x)) ≡ with_item_in spelled o (tree_of x.value) ∷ []
+pub with_items_Some : {S : Type 0} (spelled : List ℕ → Position → Option Plain) (o : Origin) (x : Box (Expr S) S) → with_items_in spelled o (last_of (Some x)) ≡ with_item_in spelled o (tree_of x.value) ∷ []
 unfolding with_items_in
 with_items_Some spelled o x = refl
 

@@ -122,7 +122,7 @@ parsed_fault source lexis (Err found) scan_outcome is reported = record {
 }
 
 -- a source with logical lines
-pub reports_parsed : {E : Type 0} (source : List ℕ) (lexis : Lexis) (r : Result OutcomeOf E) → lines_of source ≡ Ok lexis → IfOk r (λ found. outcome_in found ≡ parse_outcome (module_of lexis))
+pub reports_parsed : {S : Type 0} {E : Type 0} (source : List ℕ) (lexis : Lexis) (r : Result (OutcomeOf S) E) → lines_of source ≡ Ok lexis → IfOk r (λ found. outcome_in found ≡ parse_outcome (module_of lexis))
     → IfOk r (λ found. is_line_fault (outcome_in found) ≡ true → ReportsFirstBadLine source (outcome_in found))
 reports_parsed source lexis (Err error) scan_outcome is = tt
 reports_parsed source lexis (Ok found) scan_outcome is =
@@ -130,7 +130,7 @@ reports_parsed source lexis (Ok found) scan_outcome is =
     (parsed_fault source lexis (module_of lexis) scan_outcome refl)
 
 -- a source with a lexical fault
-pub reports_lexical : {E : Type 0} (source : List ℕ) (met : LexFault) (r : Result OutcomeOf E) → IfOk r (λ found. outcome_in found ≡ lexical_outcome met)
+pub reports_lexical : {S : Type 0} {E : Type 0} (source : List ℕ) (met : LexFault) (r : Result (OutcomeOf S) E) → IfOk r (λ found. outcome_in found ≡ lexical_outcome met)
     → IfOk r (λ found. is_line_fault (outcome_in found) ≡ true → ReportsFirstBadLine source (outcome_in found))
 reports_lexical source met (Err error) is = tt
 reports_lexical source met (Ok found) is = λ reported. absurd (true≢false (sym reported ∙ (ap is_line_fault is ∙ no_lexical met)))

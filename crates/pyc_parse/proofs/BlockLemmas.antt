@@ -7,7 +7,7 @@ use Rattle.pyc_tree.specs.Statements.{SimpleStatement, Separated}
 use Rattle.pyc_tree.specs.StatementView.{statement_of, separated_before}
 
 -- a first item is one
-pub is_none-some : (each : List (Item SimpleStatementOf)) (end : Separated SimpleStatement) → 1 ≤ length each → false ≡ is_none (separated_before statement_of each end)
+pub is_none-some : {S : Type 0} (each : List (Item (SimpleStatementOf S))) (end : Separated SimpleStatement) → 1 ≤ length each → false ≡ is_none (separated_before statement_of each end)
 is_none-some [] end more = absurd (omega arith)
 is_none-some (x ∷ each) end more = refl
 

@@ -26,11 +26,11 @@ read_err {X} view part reported left whole_view whole (Err (fault.Block number))
 -- ---- clauses
 
 -- clauses before those that are read
-abbrev pub with_clauses : List CompoundClauseOf → BlocksParsed CompoundClauses → BlocksParsed CompoundClauses
+abbrev pub with_clauses : {S : Type 0} → List (CompoundClauseOf S) → BlocksParsed CompoundClauses → BlocksParsed CompoundClauses
 with_clauses front (Ok p) = Ok (clauses_before front p.0, p.1)
 with_clauses front (Err number) = Err number
 
-pub clauses_before-more : (front : List CompoundClauseOf) (x : CompoundClauseOf) (end : CompoundClauses) → clauses_before (front ++ x ∷ []) end ≡ clauses_before front (another (clause_of x) end)
+pub clauses_before-more : {S : Type 0} (front : List (CompoundClauseOf S)) (x : CompoundClauseOf S) (end : CompoundClauses) → clauses_before (front ++ x ∷ []) end ≡ clauses_before front (another (clause_of x) end)
 clauses_before-more [] x end = refl
 clauses_before-more (y ∷ ys) x end = ap (another (clause_of y)) (clauses_before-more ys x end)
 
@@ -38,7 +38,7 @@ with_clauses-none : (o : BlocksParsed CompoundClauses) → with_clauses [] o ≡
 with_clauses-none (Ok p) = refl
 with_clauses-none (Err number) = refl
 
-with_clauses-more : (front : List CompoundClauseOf) (x : CompoundClauseOf) (o : BlocksParsed CompoundClauses)
+with_clauses-more : {S : Type 0} (front : List (CompoundClauseOf S)) (x : CompoundClauseOf S) (o : BlocksParsed CompoundClauses)
     → with_clauses (front ++ x ∷ []) o ≡ with_clauses front (and_then o (λ rest. pure (another (clause_of x) rest)))
 with_clauses-more front x (Ok p) = ap {B = BlocksParsed CompoundClauses} (λ found. Ok (found, p.1)) (clauses_before-more front x p.0)
 with_clauses-more front x (Err number) = refl
@@ -46,7 +46,7 @@ with_clauses-more front x (Err number) = refl
 pub clauses_start : (f : ℕ → BlocksParsed CompoundClauses) (n m : ℕ) → n ≡ m → with_clauses [] (f (n - 0)) ≡ f m
 clauses_start f n m is = with_clauses-none (f (n - 0)) ∙ (let all : n - 0 ≡ m = omega (arith, is) in ap f all)
 
-module _ (S : ℕ → Parser Stmts) (n at indent : ℕ) (so : After) (all : BlocksParsed CompoundClauses) (front : List CompoundClauseOf) (ps : List Placed)
+module _ {H : Type 0} (S : ℕ → Parser Stmts) (n at indent : ℕ) (so : After) (all : BlocksParsed CompoundClauses) (front : List (CompoundClauseOf H)) (ps : List Placed)
     (read : with_clauses front (clauses S (n - at) indent so ps) ≡ all) where
   -- no turn is left
   pub clauses_over : n ≤ at → all ≡ Ok (clauses_before front no_clause, ps)
@@ -61,14 +61,14 @@ module _ (S : ℕ → Parser Stmts) (n at indent : ℕ) (so : After) (all : Bloc
     unfolding clauses
     clauses_fault number is = sym (rw is at clauses_turn)
 
-    module _ (x : Option (CompoundClauseOf × After)) (ps1 : List Placed) (is : next_clause S so indent ps ≡ Ok (follower_of x, ps1)) where
+    module _ (x : Option ((CompoundClauseOf H) × After)) (ps1 : List Placed) (is : next_clause S so indent ps ≡ Ok (follower_of x, ps1)) where
       -- no clause follows
       pub clauses_end : x ≡ None → all ≡ Ok (clauses_before front no_clause, ps1)
       unfolding clauses
       clauses_end none = sym (rw (is, none) at clauses_turn)
 
       -- a clause follows
-      pub clauses_on : (c : CompoundClauseOf) (later : After) → x ≡ Some (c, later)
+      pub clauses_on : (c : CompoundClauseOf H) (later : After) → x ≡ Some (c, later)
           → with_clauses (front ++ c ∷ []) (clauses S (n - (at + 1)) indent later ps1) ≡ all
       unfolding clauses
       clauses_on c later some = with_clauses-more front c (clauses S (n - (at + 1)) indent later ps1) ∙ rw (is, some) at clauses_turn
@@ -76,11 +76,11 @@ module _ (S : ℕ → Parser Stmts) (n at indent : ℕ) (so : After) (all : Bloc
 -- ---- statements
 
 -- statements before those that are read
-abbrev pub with_statements : List StmtOf → BlocksParsed Stmts → BlocksParsed Stmts
+abbrev pub with_statements : {S : Type 0} → List (StmtOf S) → BlocksParsed Stmts → BlocksParsed Stmts
 with_statements front (Ok p) = Ok (stmts_before front p.0, p.1)
 with_statements front (Err number) = Err number
 
-pub stmts_before-more : (front : List StmtOf) (x : StmtOf) (end : Stmts) → stmts_before (front ++ x ∷ []) end ≡ stmts_before front (statement (stmt_of x) end)
+pub stmts_before-more : {S : Type 0} (front : List (StmtOf S)) (x : StmtOf S) (end : Stmts) → stmts_before (front ++ x ∷ []) end ≡ stmts_before front (statement (stmt_of x) end)
 stmts_before-more [] x end = refl
 stmts_before-more (y ∷ ys) x end = ap (statement (stmt_of y)) (stmts_before-more ys x end)
 
@@ -88,7 +88,7 @@ with_statements-none : (o : BlocksParsed Stmts) → with_statements [] o ≡ o
 with_statements-none (Ok p) = refl
 with_statements-none (Err number) = refl
 
-with_statements-more : (front : List StmtOf) (x : StmtOf) (o : BlocksParsed Stmts)
+with_statements-more : {S : Type 0} (front : List (StmtOf S)) (x : StmtOf S) (o : BlocksParsed Stmts)
     → with_statements (front ++ x ∷ []) o ≡ with_statements front (and_then o (λ rest. pure (statement (stmt_of x) rest)))
 with_statements-more front x (Ok p) = ap {B = BlocksParsed Stmts} (λ found. Ok (found, p.1)) (stmts_before-more front x p.0)
 with_statements-more front x (Err number) = refl
@@ -96,7 +96,7 @@ with_statements-more front x (Err number) = refl
 pub statements_start : (f : ℕ → BlocksParsed Stmts) (n m : ℕ) → n ≡ m → with_statements [] (f (n - 0)) ≡ f m
 statements_start f n m is = with_statements-none (f (n - 0)) ∙ (let all : n - 0 ≡ m = omega (arith, is) in ap f all)
 
-module _ (S : ℕ → Parser Stmts) (n at indent : ℕ) (all : BlocksParsed Stmts) (front : List StmtOf) (ps : List Placed)
+module _ {H : Type 0} (S : ℕ → Parser Stmts) (n at indent : ℕ) (all : BlocksParsed Stmts) (front : List (StmtOf H)) (ps : List Placed)
     (read : with_statements front (statements S (n - at) indent ps) ≡ all) where
   -- no turn is left
   pub statements_over : n ≤ at → all ≡ Ok (stmts_before front no_statement, ps)
@@ -111,14 +111,14 @@ module _ (S : ℕ → Parser Stmts) (n at indent : ℕ) (all : BlocksParsed Stmt
     unfolding statements
     statements_fault number is = sym (rw is at statements_turn)
 
-    module _ (x : Option StmtOf) (ps1 : List Placed) (is : next_statement S indent ps ≡ Ok (option_map stmt_of x, ps1)) where
+    module _ (x : Option (StmtOf H)) (ps1 : List Placed) (is : next_statement S indent ps ≡ Ok (option_map stmt_of x, ps1)) where
       -- the block ends
       pub statements_end : x ≡ None → all ≡ Ok (stmts_before front no_statement, ps1)
       unfolding statements
       statements_end none = sym (rw (is, none) at statements_turn)
 
       -- a statement is read
-      pub statements_on : (c : StmtOf) → x ≡ Some c → with_statements (front ++ c ∷ []) (statements S (n - (at + 1)) indent ps1) ≡ all
+      pub statements_on : (c : StmtOf H) → x ≡ Some c → with_statements (front ++ c ∷ []) (statements S (n - (at + 1)) indent ps1) ≡ all
       unfolding statements
       statements_on c some = with_statements-more front c (statements S (n - (at + 1)) indent ps1) ∙ rw (is, some) at statements_turn
 
@@ -144,7 +144,7 @@ decorators_start f n m is = with_decorators-none (f (n - 0)) ∙ (let all : n - 
 decorators_none : (front : List Decorator) (ps : List Placed) → with_decorators front (Ok ([], ps)) ≡ Ok (front, ps)
 decorators_none front ps = ap {B = BlocksParsed (List Decorator)} (λ found. Ok (found, ps)) (append-nil front)
 
-module _ (n at indent : ℕ) (all : BlocksParsed (List Decorator)) (found : List DecoratorOf) (ps : List Placed)
+module _ {H : Type 0} (n at indent : ℕ) (all : BlocksParsed (List Decorator)) (found : List (DecoratorOf H)) (ps : List Placed)
     (read : with_decorators (map decorator_of found) (decorators (n - at) indent ps) ≡ all) where
   -- no turn is left
   pub decorators_over : n ≤ at → all ≡ Ok (map decorator_of found, ps)
@@ -166,7 +166,7 @@ module _ (n at indent : ℕ) (all : BlocksParsed (List Decorator)) (found : List
       decorators_fault number is = sym (rw (some, is) at decorators_turn)
 
       -- a decorator follows
-      pub decorators_on : (x : DecoratorOf) (ps1 : List Placed) → decorator_line ps ≡ Ok (decorator_of x, ps1)
+      pub decorators_on : (x : DecoratorOf H) (ps1 : List Placed) → decorator_line ps ≡ Ok (decorator_of x, ps1)
           → with_decorators (map decorator_of (found ++ x ∷ [])) (decorators (n - (at + 1)) indent ps1) ≡ all
       unfolding decorators
       decorators_on x ps1 is =

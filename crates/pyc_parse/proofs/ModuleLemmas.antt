@@ -22,7 +22,7 @@ pub no_line_left : (lines : List LogicalLine) → length lines ≡ 0 → lines �
 no_line_left [] none = refl
 no_line_left (l ∷ lines) none = absurd (omega arith)
 
-pub placed_push : (front : List PlacedOf) (p : PlacedOf) → map placed_of (front ++ p ∷ []) ≡ map placed_of front ++ placed_of p ∷ []
+pub placed_push : {S : Type 0} (front : List (PlacedOf S)) (p : PlacedOf S) → map placed_of (front ++ p ∷ []) ≡ map placed_of front ++ placed_of p ∷ []
 placed_push [] p = refl
 placed_push (q ∷ front) p = ap (λ (ps : List Placed). placed_of q ∷ ps) (placed_push front p)
 

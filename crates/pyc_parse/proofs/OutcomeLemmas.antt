@@ -26,7 +26,7 @@ parsed_tokens P lexis (Ok m) is all = subst (λ lines. All P (tokens_of lines)) 
 parsed_tokens P lexis (Err reported) is all = All-nil P
 
 -- what holds of the tokens of a scan holds of those of its tree
-pub outcome_all : {E : Type 0} (P : Token → Type 0) (scan : Scan) (answer : Result OutcomeOf E) → All (λ line. All P line.tokens.items) scan.lines.items
+pub outcome_all : {S : Type 0} {E : Type 0} (P : Token → Type 0) (scan : Scan) (answer : Result (OutcomeOf S) E) → All (λ line. All P line.tokens.items) scan.lines.items
     → IfOk answer (λ found. outcome_in found ≡ parse_outcome (module_of (lexis_in scan))) → IfOk answer (λ found. All P (outcome_tokens (outcome_in found)))
 outcome_all P scan (Ok found) all is =
     subst (λ (o : Outcome). All P (outcome_tokens o)) (sym is)

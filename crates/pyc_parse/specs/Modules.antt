@@ -46,7 +46,7 @@ module_of lexis = of_lines lexis (placed_lines lexis.lines)
 -- ---- what the code answers
 
 -- the tree that a value of the code is
-abbrev pub module_in : ModuleOf → Module
+abbrev pub module_in : {S : Type 0} → ModuleOf S → Module
 module_in m =
     record { statements = stmts_of m.statements; ignores = map ignore_in m.ignores.items; whole_file = m.whole_file }
 

@@ -60,6 +60,6 @@ outcome_tokens (fault line text) = []
 abbrev pub fault_in : FaultOf → Outcome
 fault_in reported = fault reported.line reported.text.now
 
-abbrev pub outcome_in : OutcomeOf → Outcome
+abbrev pub outcome_in : {S : Type 0} → OutcomeOf S → Outcome
 outcome_in (declared.Tree found) = tree (module_in found)
 outcome_in (declared.Fault reported) = fault_in reported

@@ -6,9 +6,9 @@ use Rattle.pyc_parse.specs.Blocks.{Placed}
 use Rattle.pyc_tree.specs.LineView.{line_of}
 
 -- the line of one of the code
-abbrev pub placed_of : PlacedOf → Placed
+abbrev pub placed_of : {S : Type 0} → PlacedOf S → Placed
 placed_of p = record { indent = p.indent; number = p.number; line = line_of p.line }
 
 -- the lines that are left to read
-abbrev pub lines_of : Lines → List Placed
+abbrev pub lines_of : {S : Type 0} → Lines S → List Placed
 lines_of lines = map placed_of lines.rest.items

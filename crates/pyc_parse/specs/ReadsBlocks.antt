@@ -1,7 +1,6 @@
 -- A function value that reads blocks to a depth.
 use Rattle.std.specs.Prelude.{ℕ, Result}
-use Rattle.std.specs.Global.{Vec}
-use Rattle.std.specs.declared.alloc.Global.{Global}
+use Rattle.std.specs.declared.vec.Vec.{Vec}
 use denote.Ref.{MutBor}
 use Rattle.pyc_tree.specs.declared.block.Stmt.{Stmt as StmtOf}
 use Rattle.pyc_parse.specs.declared.blocks.Lines.{Lines}
@@ -12,9 +11,9 @@ use Rattle.pyc_tree.specs.BlockView.{stmts_of}
 use Rattle.pyc_parse.specs.PlacedView.{lines_of}
 
 -- it may be called at this depth, and reads what the definition does
-pub record ReadsBlocks (depth : ℕ) (pre : Global → MutBor Lines → ℕ → ℕ → Type 0)
-    (post : Global → MutBor Lines → ℕ → ℕ → Result (Vec StmtOf) BlockFault → MutBor Lines → Type 0) : Type 0 where
-  pub callable : (alloc : Global) (old : MutBor Lines) (indent : ℕ) → pre alloc old depth indent
-  pub reads : (alloc : Global) (old new : MutBor Lines) (indent : ℕ) (r : Result (Vec StmtOf) BlockFault)
+pub record ReadsBlocks {S : Type 0} (depth : ℕ) (pre : S → MutBor (Lines S) → ℕ → ℕ → Type 0)
+    (post : S → MutBor (Lines S) → ℕ → ℕ → Result (Vec (StmtOf S) S) BlockFault → MutBor (Lines S) → Type 0) : Type 0 where
+  pub callable : (alloc : S) (old : MutBor (Lines S)) (indent : ℕ) → pre alloc old depth indent
+  pub reads : (alloc : S) (old new : MutBor (Lines S)) (indent : ℕ) (r : Result (Vec (StmtOf S) S) BlockFault)
       → post alloc old depth indent r new
       → ReadsLines stmts_of (block_at depth indent (lines_of old.now)) r (lines_of new.now)

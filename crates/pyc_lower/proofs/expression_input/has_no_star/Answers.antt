@@ -14,7 +14,7 @@ returns-then-any_starred c =
 
 pub returns-in-Some : goal.returns-in-Some
 returns-in-Some c =
-    ap not (c.is_starred.ensures ∙ ap (λ (x : Expr). is_starred (tree_of x)) c.deref-in-Some.ensures)
+    ap not (c.is_starred.ensures ∙ ap (λ (x : Expr _). is_starred (tree_of x)) c.deref-in-Some.ensures)
     ∙ sym (no_star-last c.args.items.now
     (ap (list_any is_starred_item) (sym c.deref.ensures.value) ∙ sym c.any_starred.ensures ∙ c.if-any_starred.false)
     ∙ ap (λ last. has_no_star (last_of last)) c.in-Some.is)

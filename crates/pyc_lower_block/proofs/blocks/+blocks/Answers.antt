@@ -29,7 +29,7 @@ pub statements-loop-statement-preserved : goal.statements-loop-statement-preserv
 statements-loop-statement-preserved g t c =
     let s = g.Q.Quotes.spelled in
     let o = origin_of c.args.lowering.now.origin in
-    joined_at (λ (xs : List Stmt). spec.stmts_in s o (stmts_before xs tree.no_statement)) (λ (x : Stmt). spec.stmt_in s o (stmt_of x)) (lowered_stmts s o)
+    joined_at (λ (xs : List (Stmt _)). spec.stmts_in s o (stmts_before xs tree.no_statement)) (λ (x : Stmt _). spec.stmt_in s o (stmt_of x)) (lowered_stmts s o)
     c.args.trees.now c.loop-statement.statement-index c.statement-item.result (map made_of c.loop-statement.found.items) c.loop-statement-test.true c.statement-item.is c.loop-statement.invariant
     c.in_ok-push_statement.ensures
 
@@ -37,7 +37,7 @@ pub statements-returns : goal.statements-returns
 statements-returns g t c =
     let s = g.Q.Quotes.spelled in
     let o = origin_of c.args.lowering.now.origin in
-    ended_at (λ (xs : List Stmt). spec.stmts_in s o (stmts_before xs tree.no_statement))
+    ended_at (λ (xs : List (Stmt _)). spec.stmts_in s o (stmts_before xs tree.no_statement))
     c.args.trees.now c.loop-statement.statement-index (map made_of c.loop-statement.found.items) c.loop-statement-test.false c.loop-statement.invariant (lowered_no_stmt s o)
 
 -- ---- branches
@@ -46,7 +46,7 @@ pub branches-loop-clause-preserved : goal.branches-loop-clause-preserved
 branches-loop-clause-preserved g t c =
     let s = g.Q.Quotes.spelled in
     let o = origin_of c.args.lowering.now.origin in
-    joined_at (λ (xs : List CompoundClause). spec.branches_in s o (clauses_before xs tree.no_clause)) (branches_of s o) (lowered_branches s o)
+    joined_at (λ (xs : List (CompoundClause _)). spec.branches_in s o (clauses_before xs tree.no_clause)) (branches_of s o) (lowered_branches s o)
     c.args.clauses.now c.loop-clause.clause-index c.clause-item.result (map branch_of c.loop-clause.found.items) c.loop-clause-test.true c.clause-item.is c.loop-clause.invariant
     c.in_ok-push_branch.ensures
 
@@ -54,7 +54,7 @@ pub branches-returns : goal.branches-returns
 branches-returns g t c =
     let s = g.Q.Quotes.spelled in
     let o = origin_of c.args.lowering.now.origin in
-    ended_at (λ (xs : List CompoundClause). spec.branches_in s o (clauses_before xs tree.no_clause))
+    ended_at (λ (xs : List (CompoundClause _)). spec.branches_in s o (clauses_before xs tree.no_clause))
     c.args.clauses.now c.loop-clause.clause-index (map branch_of c.loop-clause.found.items) c.loop-clause-test.false c.loop-clause.invariant (lowered_no_branch s o)
 
 -- ---- handlers
@@ -63,7 +63,7 @@ pub handlers-loop-clause-preserved : goal.handlers-loop-clause-preserved
 handlers-loop-clause-preserved g t c =
     let s = g.Q.Quotes.spelled in
     let o = origin_of c.args.lowering.now.origin in
-    joined_at (λ (xs : List CompoundClause). spec.handlers_in s o (clauses_before xs tree.no_clause)) (handlers_of s o) (lowered_handlers s o)
+    joined_at (λ (xs : List (CompoundClause _)). spec.handlers_in s o (clauses_before xs tree.no_clause)) (handlers_of s o) (lowered_handlers s o)
     c.args.clauses.now c.loop-clause.clause-index c.clause-item.result (map handler_of c.loop-clause.found.items) c.loop-clause-test.true c.clause-item.is c.loop-clause.invariant
     c.in_ok-push_handler.ensures
 
@@ -71,7 +71,7 @@ pub handlers-returns : goal.handlers-returns
 handlers-returns g t c =
     let s = g.Q.Quotes.spelled in
     let o = origin_of c.args.lowering.now.origin in
-    ended_at (λ (xs : List CompoundClause). spec.handlers_in s o (clauses_before xs tree.no_clause))
+    ended_at (λ (xs : List (CompoundClause _)). spec.handlers_in s o (clauses_before xs tree.no_clause))
     c.args.clauses.now c.loop-clause.clause-index (map handler_of c.loop-clause.found.items) c.loop-clause-test.false c.loop-clause.invariant (lowered_no_handler s o)
 
 pub push_branch-returns-in_default : goal.push_branch-returns-in_default
@@ -127,25 +127,25 @@ ending_block-returns-then-is_ending g t c =
     let o = origin_of c.args.lowering.now.origin in
     let all = spec.ending_block_in s o c.args.ending (clauses_before c.args.clauses.now tree.no_clause) in
     let is : spec.suite_in s o (suite_of c.clause-item.result.suite) ≡ all =
-    chosen_at (λ (xs : List CompoundClause). spec.ending_block_in s o c.args.ending (clauses_before xs tree.no_clause)) (λ (x : CompoundClause). spec.is_ending c.args.ending (header_of x.header.value))
-    (λ (x : CompoundClause). spec.suite_in s o (suite_of x.suite)) (lowered_ended s o c.args.ending) c.args.clauses.now c.loop-clause.clause-index c.clause-item.result c.loop-clause-test.true c.clause-item.is
-    (ap (λ (h : Header). spec.is_ending c.args.ending (header_of h)) (sym c.deref.ensures) ∙ sym c.is_ending.ensures ∙ c.if-is_ending.true) c.loop-clause.invariant in
+    chosen_at (λ (xs : List (CompoundClause _)). spec.ending_block_in s o c.args.ending (clauses_before xs tree.no_clause)) (λ (x : CompoundClause _). spec.is_ending c.args.ending (header_of x.header.value))
+    (λ (x : CompoundClause _). spec.suite_in s o (suite_of x.suite)) (lowered_ended s o c.args.ending) c.args.clauses.now c.loop-clause.clause-index c.clause-item.result c.loop-clause-test.true c.clause-item.is
+    (ap (λ (h : Header _). spec.is_ending c.args.ending (header_of h)) (sym c.deref.ensures) ∙ sym c.is_ending.ensures ∙ c.if-is_ending.true) c.loop-clause.invariant in
     IfOk-weaker c.suite.result _ _ (λ found made. made ∙ is) c.suite.ensures
 
 pub ending_block-loop-clause-preserved : goal.ending_block-loop-clause-preserved
 ending_block-loop-clause-preserved g t c =
     let s = g.Q.Quotes.spelled in
     let o = origin_of c.args.lowering.now.origin in
-    skipped_at (λ (xs : List CompoundClause). spec.ending_block_in s o c.args.ending (clauses_before xs tree.no_clause)) (λ (x : CompoundClause). spec.is_ending c.args.ending (header_of x.header.value))
-    (λ (x : CompoundClause). spec.suite_in s o (suite_of x.suite)) (lowered_ended s o c.args.ending) c.args.clauses.now c.loop-clause.clause-index c.clause-item.result c.loop-clause-test.true c.clause-item.is
-    (ap (λ (h : Header). spec.is_ending c.args.ending (header_of h)) (sym c.deref.ensures) ∙ sym c.is_ending.ensures ∙ c.if-is_ending.false) c.loop-clause.invariant
+    skipped_at (λ (xs : List (CompoundClause _)). spec.ending_block_in s o c.args.ending (clauses_before xs tree.no_clause)) (λ (x : CompoundClause _). spec.is_ending c.args.ending (header_of x.header.value))
+    (λ (x : CompoundClause _). spec.suite_in s o (suite_of x.suite)) (lowered_ended s o c.args.ending) c.args.clauses.now c.loop-clause.clause-index c.clause-item.result c.loop-clause-test.true c.clause-item.is
+    (ap (λ (h : Header _). spec.is_ending c.args.ending (header_of h)) (sym c.deref.ensures) ∙ sym c.is_ending.ensures ∙ c.if-is_ending.false) c.loop-clause.invariant
 
 pub ending_block-returns : goal.ending_block-returns
 ending_block-returns g t c =
     let s = g.Q.Quotes.spelled in
     let o = origin_of c.args.lowering.now.origin in
     ap (map made_of) c.new.ensures.items ∙ sym (lowered_not_ended s o c.args.ending)
-    ∙ no_more (λ (xs : List CompoundClause). spec.ending_block_in s o c.args.ending (clauses_before xs tree.no_clause)) c.args.clauses.now c.loop-clause.clause-index c.loop-clause-test.false c.loop-clause.invariant
+    ∙ no_more (λ (xs : List (CompoundClause _)). spec.ending_block_in s o c.args.ending (clauses_before xs tree.no_clause)) c.args.clauses.now c.loop-clause.clause-index c.loop-clause-test.false c.loop-clause.invariant
 
 -- ---- compound statements
 
@@ -159,11 +159,11 @@ push_statement-returns-in_ok-push-in-Compound g t c =
     let marks = map expr_of c.in_ok-marks-in-Compound.marks.items in
     pushed made_of c.args.found.now.items c.push.new.self.items _ c.in_ok-push-in-Compound.ensures.items (view_stmt _ _)
     ∙ ap (λ (rest : List plain.Stmt). map made_of c.args.found.now.items ++ rest) (sym (compound_made s o c.in-Compound.marks first c.in-Compound.more c.args.statement.now c.in-Compound.is
-    (c.header_at-at.ensures ∙ ap (λ (y : Header). header_at o (header_of y)) (c.deref-in-Compound-4.ensures ∙ ap (λ (y : CompoundClause). y.header.value) c.deref-in-Compound-3.ensures))
-    (c.in_ok-form-in-Compound.ensures ∙ ap (λ (y : CompoundClause). spec.form_in s o (header_of y.header.value) (suite_suspends (suite_of y.suite)) made) c.deref-in-Compound-5.ensures)
-    (c.in_ok-parts-in-Compound.ensures ∙ ap (λ (y : List CompoundClause). spec.parts_in s o marks (block_of (Of body)) (clauses_before y tree.no_clause)) c.deref-in-Compound-2.ensures.value)
-    (c.in_ok-marks-in-Compound.ensures ∙ ap (λ (y : List Decorator). spec.decorators_in s o (map decorator_of y)) c.deref.ensures.value)
-    (block_made body (c.in_ok-suite-in-Compound.ensures ∙ ap (λ (y : CompoundClause). spec.suite_in s o (suite_of y.suite)) c.deref-in-Compound.ensures))))
+    (c.header_at-at.ensures ∙ ap (λ (y : Header _). header_at o (header_of y)) (c.deref-in-Compound-4.ensures ∙ ap (λ (y : CompoundClause _). y.header.value) c.deref-in-Compound-3.ensures))
+    (c.in_ok-form-in-Compound.ensures ∙ ap (λ (y : CompoundClause _). spec.form_in s o (header_of y.header.value) (suite_suspends (suite_of y.suite)) made) c.deref-in-Compound-5.ensures)
+    (c.in_ok-parts-in-Compound.ensures ∙ ap (λ (y : List (CompoundClause _)). spec.parts_in s o marks (block_of (Of body)) (clauses_before y tree.no_clause)) c.deref-in-Compound-2.ensures.value)
+    (c.in_ok-marks-in-Compound.ensures ∙ ap (λ (y : List (Decorator _)). spec.decorators_in s o (map decorator_of y)) c.deref.ensures.value)
+    (block_made body (c.in_ok-suite-in-Compound.ensures ∙ ap (λ (y : CompoundClause _). spec.suite_in s o (suite_of y.suite)) c.deref-in-Compound.ensures))))
 
 pub branches-loop-clause-init : goal.branches-loop-clause-init
 branches-loop-clause-init g t c = first_of (grind (arith, blocks), search rules)

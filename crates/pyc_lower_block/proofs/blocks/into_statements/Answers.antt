@@ -15,11 +15,11 @@ loop-tree-preserved g c =
     let s = g.Q.Quotes.spelled in
     let o = origin_of c.args.lowering.now.origin in
     let next : into_iter_items c.loop-tree.tree-iterator ≡ c.in-Some.tree ∷ into_iter_items c.next.new.self = c.in-Some.ensures.steps.0 in (
-      joined_next (λ (xs : List Stmt). spec.stmts_in s o (stmts_before xs tree.no_statement)) (λ (x : Stmt). spec.stmt_in s o (stmt_of x)) (lowered_stmts s o)
+      joined_next (λ (xs : List (Stmt _)). spec.stmts_in s o (stmts_before xs tree.no_statement)) (λ (x : Stmt _). spec.stmt_in s o (stmt_of x)) (lowered_stmts s o)
           _ c.in-Some.tree (into_iter_items c.next.new.self) (map made_of c.loop-tree.found.items) next c.loop-tree.invariant.0 c.in_ok-push_statement.ensures,
       let was = c.loop-tree.invariant.1 in
           let gone = c.in-Some.ensures.steps.1 in
-          let short = ap (λ (xs : List Stmt). length xs) next in
+          let short = ap (λ (xs : List (Stmt _)). length xs) next in
           omega arith,
     )
 
@@ -27,5 +27,5 @@ pub returns : goal.returns
 returns g c =
     let s = g.Q.Quotes.spelled in
     let o = origin_of c.args.lowering.now.origin in
-    joined_end (λ (xs : List Stmt). spec.stmts_in s o (stmts_before xs tree.no_statement))
+    joined_end (λ (xs : List (Stmt _)). spec.stmts_in s o (stmts_before xs tree.no_statement))
     (into_iter_items c.loop-tree.tree-iterator) (map made_of c.loop-tree.found.items) (sym c.loop-tree.invariant.1 ∙ c.in-None.ensures.steps.0) (lowered_no_stmt s o) c.loop-tree.invariant.0

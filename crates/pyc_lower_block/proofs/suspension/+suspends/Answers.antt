@@ -9,16 +9,16 @@ use Rattle.pyc_tree.specs.BlockTrees as tree
 use Rattle.pyc_tree.specs.BlockView.{stmt_of, clause_of, clauses_before, stmts_before}
 use Rattle.pyc_lower_block.proofs.suspension.+suspends.Goals as goal
 
-abbrev stmts : List StmtOf → Bool
+abbrev stmts : {S : Type 0} → List (StmtOf S) → Bool
 stmts xs = stmts_suspend (stmts_before xs tree.no_statement)
 
-abbrev stmt : StmtOf → Bool
+abbrev stmt : {S : Type 0} → StmtOf S → Bool
 stmt x = stmt_suspends (stmt_of x)
 
-abbrev clauses : List CompoundClauseOf → Bool
+abbrev clauses : {S : Type 0} → List (CompoundClauseOf S) → Bool
 clauses xs = clauses_suspend (clauses_before xs tree.no_clause)
 
-abbrev clause : CompoundClauseOf → Bool
+abbrev clause : {S : Type 0} → CompoundClauseOf S → Bool
 clause x = clause_suspends (clause_of x)
 
 pub statements_suspend-returns-then-statement_suspends : goal.statements_suspend-returns-then-statement_suspends

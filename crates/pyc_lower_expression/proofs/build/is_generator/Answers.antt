@@ -13,5 +13,5 @@ returns-in_default c = only_argument c.args.item.now c.in_default.not-Argument
 pub returns-in_default-deref : goal.returns-in_default-deref
 returns-in_default-deref c =
     generator_other c.deref.result.now c.in_default-deref.not-Generator
-    ∙ (ap (λ (x : Expr). is_generator (tree.argument (tree_of x))) c.deref.ensures
-    ∙ (ap is_generator (sym (view_Argument c.in-Argument.value)) ∙ ap (λ (x : Expr). is_generator (tree_of x)) (sym c.in-Argument.is)))
+    ∙ (ap (λ (x : Expr _). is_generator (tree.argument (tree_of x))) c.deref.ensures
+    ∙ (ap is_generator (sym (view_Argument c.in-Argument.value)) ∙ ap (λ (x : Expr _). is_generator (tree_of x)) (sym c.in-Argument.is)))

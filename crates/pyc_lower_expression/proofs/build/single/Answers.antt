@@ -12,13 +12,13 @@ returns-in-None-clause-none c = single-none c.args.items.now c.in-None.is
 
 pub returns-then-is_empty-clause-found : goal.returns-then-is_empty-clause-found
 returns-then-is_empty-clause-found c =
-    let each = (out-Pieces c.args.items.now).each in
+    let each = (out-Pieces _ c.args.items.now).each in
     let len : vec_len each ≡ length each.items = omega (arith, each.ok.0) in
     single-only c.args.items.now c.in-Some.only c.in-Some.is (ap (λ (n : ℕ). n == 0) (sym len) ∙ sym c.if-is_empty.ensures)
-    ∙ ap (λ (x : Expr). tree.last (tree_of x)) (sym c.deref.ensures)
+    ∙ ap (λ (x : Expr _). tree.last (tree_of x)) (sym c.deref.ensures)
 
 pub returns-else-is_empty-clause-none : goal.returns-else-is_empty-clause-none
 returns-else-is_empty-clause-none c =
-    let each = (out-Pieces c.args.items.now).each in
+    let each = (out-Pieces _ c.args.items.now).each in
     let len : vec_len each ≡ length each.items = omega (arith, each.ok.0) in
     single-more c.args.items.now (ap (λ (n : ℕ). n == 0) (sym len) ∙ sym c.if-is_empty.ensures)

@@ -10,5 +10,5 @@ use Rattle.pyc_lower_statement.proofs.headers.with_items.Given as goal
 abbrev pub invariant-loop-piece : goal.invariant-loop-piece
 invariant-loop-piece g l =
     map with_item_of l.found.items
-    ++ with_items_in g.Q.Quotes.spelled (origin_of l.lowering.origin) (pieces_before (drop l.piece-index l.piece-items) (last_of (out-Pieces l.items).last))
+    ++ with_items_in g.Q.Quotes.spelled (origin_of l.lowering.origin) (pieces_before (drop l.piece-index l.piece-items) (last_of (out-Pieces _ l.items).last))
     ≡ with_items_in g.Q.Quotes.spelled (origin_of l.lowering.origin) (pieces_of l.items)

@@ -10,5 +10,5 @@ use Rattle.pyc_lower_statement.proofs.parameters.parameters.Given as goal
 abbrev pub invariant-loop-piece : goal.invariant-loop-piece
 invariant-loop-piece g l =
     map parameter_of l.found.items
-    ++ parameters_in g.Q.Quotes.spelled (origin_of l.lowering.origin) l.after_star (pieces_before (drop l.piece-index l.piece-items) (last_of (out-Pieces l.items).last))
+    ++ parameters_in g.Q.Quotes.spelled (origin_of l.lowering.origin) l.after_star (pieces_before (drop l.piece-index l.piece-items) (last_of (out-Pieces _ l.items).last))
     ≡ parameters_in g.Q.Quotes.spelled (origin_of l.lowering.origin) false (pieces_of l.items)

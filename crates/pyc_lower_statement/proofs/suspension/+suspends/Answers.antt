@@ -10,22 +10,22 @@ use Rattle.pyc_tree.specs.Tree as tree
 use Rattle.pyc_tree.specs.View.{tree_of, pieces_before, last_of, links_before, comprehension_before, comprehensions_before}
 use Rattle.pyc_lower_statement.proofs.suspension.+suspends.Goals as goal
 
-abbrev clauses : List Comprehension → Bool
+abbrev clauses : {S : Type 0} → List (Comprehension S) → Bool
 clauses xs = comprehensions_suspend (comprehensions_before xs tree.no_comprehension)
 
-abbrev clause : Comprehension → Bool
+abbrev clause : {S : Type 0} → Comprehension S → Bool
 clause x = comprehensions_suspend (comprehension_before x tree.no_comprehension)
 
-abbrev links : List Link → Bool
+abbrev links : {S : Type 0} → List (Link S) → Bool
 links xs = links_suspend (links_before xs tree.unlinked)
 
-abbrev link : Link → Bool
+abbrev link : {S : Type 0} → Link S → Bool
 link x = suspends (tree_of x.right.value)
 
-abbrev pieces : Items → List Piece → Bool
-pieces all xs = pieces_suspend (pieces_before xs (last_of (out-Pieces all).last))
+abbrev pieces : {S : Type 0} → Items S → List (Piece S) → Bool
+pieces all xs = pieces_suspend (pieces_before xs (last_of (out-Pieces _ all).last))
 
-abbrev piece : Piece → Bool
+abbrev piece : {S : Type 0} → Piece S → Bool
 piece x = suspends (tree_of x.value.value)
 
 pub comprehensions_suspend-returns-then-clause_suspends : goal.comprehensions_suspend-returns-then-clause_suspends
@@ -55,21 +55,21 @@ links_suspend-returns t c = sym suspends_unlinked ∙ no_more links c.args.links
 
 pub pieces_suspend-loop-piece-init : goal.pieces_suspend-loop-piece-init
 pieces_suspend-loop-piece-init t c =
-    ap pieces_suspend (ap (λ xs. pieces_before xs (last_of (out-Pieces c.args.items.now).last)) c.deref-piece-items.ensures.value ∙ sym (pieces_of-fields c.args.items.now))
+    ap pieces_suspend (ap (λ xs. pieces_before xs (last_of (out-Pieces _ c.args.items.now).last)) c.deref-piece-items.ensures.value ∙ sym (pieces_of-fields c.args.items.now))
 
 pub pieces_suspend-returns-then-suspends : goal.pieces_suspend-returns-then-suspends
 pieces_suspend-returns-then-suspends t c =
-    found_at (pieces c.args.items.now) piece (λ x xs. suspends_Piece x xs (last_of (out-Pieces c.args.items.now).last)) c.deref-piece-items.result.now c.loop-piece.piece-index c.piece-item.result
+    found_at (pieces c.args.items.now) piece (λ x xs. suspends_Piece x xs (last_of (out-Pieces _ c.args.items.now).last)) c.deref-piece-items.result.now c.loop-piece.piece-index c.piece-item.result
     c.loop-piece-test.true c.piece-item.is (ap (λ x. suspends (tree_of x)) (sym c.deref.ensures) ∙ sym c.suspends.ensures ∙ c.if-suspends.true) c.loop-piece.invariant
 
 pub pieces_suspend-loop-piece-preserved : goal.pieces_suspend-loop-piece-preserved
 pieces_suspend-loop-piece-preserved t c =
-    passed_at (pieces c.args.items.now) piece (λ x xs. suspends_Piece x xs (last_of (out-Pieces c.args.items.now).last)) c.deref-piece-items.result.now c.loop-piece.piece-index c.piece-item.result
+    passed_at (pieces c.args.items.now) piece (λ x xs. suspends_Piece x xs (last_of (out-Pieces _ c.args.items.now).last)) c.deref-piece-items.result.now c.loop-piece.piece-index c.piece-item.result
     c.loop-piece-test.true c.piece-item.is (ap (λ x. suspends (tree_of x)) (sym c.deref.ensures) ∙ sym c.suspends.ensures ∙ c.if-suspends.false) c.loop-piece.invariant
 
 pub pieces_suspend-returns : goal.pieces_suspend-returns
 pieces_suspend-returns t c =
-    c.perhaps_suspends.ensures ∙ sym (suspends_last (out-Pieces c.args.items.now).last) ∙ no_more (pieces c.args.items.now) c.deref-piece-items.result.now c.loop-piece.piece-index c.loop-piece-test.false c.loop-piece.invariant
+    c.perhaps_suspends.ensures ∙ sym (suspends_last (out-Pieces _ c.args.items.now).last) ∙ no_more (pieces c.args.items.now) c.deref-piece-items.result.now c.loop-piece.piece-index c.loop-piece-test.false c.loop-piece.invariant
 
 pub clause_suspends-returns-else-suspends : goal.clause_suspends-returns-else-suspends
 clause_suspends-returns-else-suspends t c = first_of (grind (arith, suspensions), search rules)

@@ -7,7 +7,7 @@ use Rattle.pyc_lower_statement.proofs.suspension.+suspends.Given as goal
 
 -- what is left suspends where all items do
 abbrev pub invariant-pieces_suspend-loop-piece : goal.invariant-pieces_suspend-loop-piece
-invariant-pieces_suspend-loop-piece l = pieces_suspend (pieces_before (drop l.piece-index l.piece-items) (last_of (out-Pieces l.items).last)) ≡ pieces_suspend (pieces_of l.items)
+invariant-pieces_suspend-loop-piece l = pieces_suspend (pieces_before (drop l.piece-index l.piece-items) (last_of (out-Pieces _ l.items).last)) ≡ pieces_suspend (pieces_of l.items)
 
 abbrev pub invariant-links_suspend-loop-link : goal.invariant-links_suspend-loop-link
 invariant-links_suspend-loop-link l = links_suspend (links_before (drop l.link-index l.links) tree.unlinked) ≡ links_suspend (links_before l.links tree.unlinked)

@@ -1,6 +1,5 @@
 use Rattle.pyc_ast.proofs.TargetViewLemmas.{target_views}
 use Rattle.std.proofs.Common.{sym, ap, ◌∙◌, ◌++◌, List, map, Option, arith, rules}
-use Rattle.std.specs.declared.alloc.Global.{Global}
 use Rattle.std.specs.declared.boxed.Box.{Box}
 use Rattle.pyc_ast.specs.declared.target.TargetElement.{TargetElement as TargetElementOf}
 use Rattle.pyc_ast.specs.TargetView.{target_element_of}
@@ -25,7 +24,7 @@ pub elements-loop-piece-init : goal.elements-loop-piece-init
 elements-loop-piece-init g t c =
     let spelled = g.Q.Quotes.spelled in
     let o = origin_of c.args.lowering.now.origin in
-    let end = last_of (out-Pieces c.args.items.now).last in
+    let end = last_of (out-Pieces _ c.args.items.now).last in
     ap (λ (found : List TargetElementOf). map target_element_of found ++ elements_in spelled o (pieces_before c.deref-piece-items.result.now end)) c.new-found.ensures.items
     ∙ items_begin (elements_in spelled o) c.args.items.now _ c.deref-piece-items.ensures.value
 
@@ -33,8 +32,8 @@ pub elements-loop-piece-preserved : goal.elements-loop-piece-preserved
 elements-loop-piece-preserved g t c =
     let spelled = g.Q.Quotes.spelled in
     let o = origin_of c.args.lowering.now.origin in
-    let end = last_of (out-Pieces c.args.items.now).last in
-    pushed_at (λ (xs : List Piece). elements_in spelled o (pieces_before xs end)) (λ (p : Piece). element_of (tree_of p.value.value) (target_in spelled o (tree_of p.value.value)))
+    let end = last_of (out-Pieces _ c.args.items.now).last in
+    pushed_at (λ (xs : List (Piece _)). elements_in spelled o (pieces_before xs end)) (λ (p : Piece _). element_of (tree_of p.value.value) (target_in spelled o (tree_of p.value.value)))
     (λ x xs. elements_Piece spelled o x xs end) c.deref-piece-items.result.now c.loop-piece.piece-index c.piece-item.result (map target_element_of c.loop-piece.found.items) c.loop-piece-test.true c.piece-item.is c.loop-piece.invariant
     (pushed target_element_of _ _ c.element.result c.in_ok-push.ensures.items
     (element_is spelled o _ _ _ _ _ c.element.ensures c.deref-in-loop-piece.ensures c.in_ok-to.ensures c.deref.ensures))
@@ -43,17 +42,17 @@ pub elements-returns-in_default : goal.elements-returns-in_default
 elements-returns-in_default g t c =
     let spelled = g.Q.Quotes.spelled in
     let o = origin_of c.args.lowering.now.origin in
-    let end = last_of (out-Pieces c.args.items.now).last in
-    ended_at (λ (xs : List Piece). elements_in spelled o (pieces_before xs end)) c.deref-piece-items.result.now c.loop-piece.piece-index (map target_element_of c.loop-piece.found.items) c.loop-piece-test.false c.loop-piece.invariant
-    (ap (λ (last : Option (Box Expr Global)). elements_in spelled o (last_of last)) (none_left _ c.in_default.not-Some) ∙ elements_None spelled o)
+    let end = last_of (out-Pieces _ c.args.items.now).last in
+    ended_at (λ (xs : List (Piece _)). elements_in spelled o (pieces_before xs end)) c.deref-piece-items.result.now c.loop-piece.piece-index (map target_element_of c.loop-piece.found.items) c.loop-piece-test.false c.loop-piece.invariant
+    (ap (λ (last : Option (Box (Expr _) _)). elements_in spelled o (last_of last)) (none_left _ c.in_default.not-Some) ∙ elements_None spelled o)
 
 pub elements-returns : goal.elements-returns
 elements-returns g t c =
     let spelled = g.Q.Quotes.spelled in
     let o = origin_of c.args.lowering.now.origin in
-    let end = last_of (out-Pieces c.args.items.now).last in
-    last_at (λ (xs : List Piece). elements_in spelled o (pieces_before xs end)) c.deref-piece-items.result.now c.loop-piece.piece-index (map target_element_of c.loop-piece.found.items) c.loop-piece-test.false c.loop-piece.invariant
-    (ap (λ (last : Option (Box Expr Global)). elements_in spelled o (last_of last)) c.in-Some.is ∙ elements_Some spelled o c.in-Some.last)
+    let end = last_of (out-Pieces _ c.args.items.now).last in
+    last_at (λ (xs : List (Piece _)). elements_in spelled o (pieces_before xs end)) c.deref-piece-items.result.now c.loop-piece.piece-index (map target_element_of c.loop-piece.found.items) c.loop-piece-test.false c.loop-piece.invariant
+    (ap (λ (last : Option (Box (Expr _) _)). elements_in spelled o (last_of last)) c.in-Some.is ∙ elements_Some spelled o c.in-Some.last)
     (pushed target_element_of _ _ c.element-2.result c.in_ok-push-2.ensures.items
     (element_is spelled o _ _ _ _ _ c.element-2.ensures c.deref-3.ensures c.in_ok-to-2.ensures c.deref-2.ensures))
 

@@ -10,5 +10,5 @@ use Rattle.pyc_lower_statement.proofs.targets.+targets.Given as goal
 abbrev pub invariant-elements-loop-piece : goal.invariant-elements-loop-piece
 invariant-elements-loop-piece g l =
     map target_element_of l.found.items
-    ++ elements_in g.Q.Quotes.spelled (origin_of l.lowering.origin) (pieces_before (drop l.piece-index l.piece-items) (last_of (out-Pieces l.items).last))
+    ++ elements_in g.Q.Quotes.spelled (origin_of l.lowering.origin) (pieces_before (drop l.piece-index l.piece-items) (last_of (out-Pieces _ l.items).last))
     ≡ elements_in g.Q.Quotes.spelled (origin_of l.lowering.origin) (pieces_of l.items)

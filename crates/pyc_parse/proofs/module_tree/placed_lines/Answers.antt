@@ -25,7 +25,7 @@ pub loop-line-preserved : goal.loop-line-preserved
 loop-line-preserved c =
     let next : into_iter_items c.loop-line.line-iterator ≡ c.in-Some.line ∷ into_iter_items c.next.new.self = c.in-Some.ensures.steps.0 in
     let rest = map line_in (into_iter_items c.next.new.self) in
-    let after = ap (λ (ps : List PlacedOf). map placed_of ps) c.in-Ok-push.ensures.items ∙ placed_push c.loop-line.found.items _ in (
+    let after = ap (λ (ps : List (PlacedOf _)). map placed_of ps) c.in-Ok-push.ensures.items ∙ placed_push c.loop-line.found.items _ in (
       sym (ap (λ (ls : List LogicalLine). with_placed (map placed_of c.loop-line.found.items) (placed_lines (map line_in ls))) next
           ∙ placed_step (map placed_of c.loop-line.found.items) (map placed_of c.push.new.self.items) (line_in c.in-Some.line) rest c.deref.result.now (line_of c.in_ok-tree.tree)
           c.line_number-number.result c.deref.ensures.value c.in_ok-tree.ensures.tree (c.line_number-number.ensures ∙ ap number_of (c.deref-in-loop-line.ensures.value ∙ sym c.deref.ensures.value)) after)

@@ -25,116 +25,116 @@ pub elements-loop-piece-init : goal.elements-loop-piece-init
 elements-loop-piece-init g t c =
     let s = g.Q.Quotes.spelled in
     let o = origin_of c.args.self.now.origin in
-    let end = last_of (out-Pieces c.args.items.now).last in
-    started_at element_of (λ (xs : List Piece). spec.elements_in s o c.args.role (pieces_before xs end)) c.in_ok-found.found.items c.deref-piece-items.result.now (out-Pieces c.args.items.now).each.items c.in_ok-found.ensures.items c.deref-piece-items.ensures.value
+    let end = last_of (out-Pieces _ c.args.items.now).last in
+    started_at element_of (λ (xs : List (Piece _)). spec.elements_in s o c.args.role (pieces_before xs end)) c.in_ok-found.found.items c.deref-piece-items.result.now (out-Pieces _ c.args.items.now).each.items c.in_ok-found.ensures.items c.deref-piece-items.ensures.value
     (ap (spec.elements_in s o c.args.role) (sym (pieces_of-fields c.args.items.now)))
 
 pub elements-loop-piece-preserved : goal.elements-loop-piece-preserved
 elements-loop-piece-preserved g t c =
     let s = g.Q.Quotes.spelled in
     let o = origin_of c.args.self.now.origin in
-    let end = last_of (out-Pieces c.args.items.now).last in
-    pushed_at (λ (xs : List Piece). spec.elements_in s o c.args.role (pieces_before xs end)) (λ (p : Piece). spec.element_of (tree_of p.value.value) (spec.expr_in s o c.args.role (tree_of p.value.value)))
+    let end = last_of (out-Pieces _ c.args.items.now).last in
+    pushed_at (λ (xs : List (Piece _)). spec.elements_in s o c.args.role (pieces_before xs end)) (λ (p : Piece _). spec.element_of (tree_of p.value.value) (spec.expr_in s o c.args.role (tree_of p.value.value)))
     (λ x xs. lowered_piece s o c.args.role (tree_of x.value.value) x.comma (pieces_before xs end)) c.deref-piece-items.result.now c.loop-piece.piece-index c.piece-item.result (map element_of c.loop-piece.found.items) c.loop-piece-test.true c.piece-item.is c.loop-piece.invariant
     (pushed element_of _ _ c.element.result c.in_ok-push.ensures.items (c.element.ensures
-    ∙ (ap (λ (x : Expr). spec.element_of (tree_of x) (expr_of c.in_ok-value.value)) c.deref-in-loop-piece.ensures
+    ∙ (ap (λ (x : Expr _). spec.element_of (tree_of x) (expr_of c.in_ok-value.value)) c.deref-in-loop-piece.ensures
     ∙ ap (λ (v : plain.Expr). spec.element_of (tree_of c.piece-item.result.value.value) v)
-    (c.in_ok-value.ensures ∙ ap (λ (x : Expr). spec.expr_in s o c.args.role (tree_of x)) c.deref.ensures))))
+    (c.in_ok-value.ensures ∙ ap (λ (x : Expr _). spec.expr_in s o c.args.role (tree_of x)) c.deref.ensures))))
 
 pub elements-returns-in-None : goal.elements-returns-in-None
 elements-returns-in-None g t c =
     let s = g.Q.Quotes.spelled in
     let o = origin_of c.args.self.now.origin in
-    let end = last_of (out-Pieces c.args.items.now).last in
-    ended_at (λ (xs : List Piece). spec.elements_in s o c.args.role (pieces_before xs end)) c.deref-piece-items.result.now c.loop-piece.piece-index (map element_of c.loop-piece.found.items) c.loop-piece-test.false c.loop-piece.invariant
+    let end = last_of (out-Pieces _ c.args.items.now).last in
+    ended_at (λ (xs : List (Piece _)). spec.elements_in s o c.args.role (pieces_before xs end)) c.deref-piece-items.result.now c.loop-piece.piece-index (map element_of c.loop-piece.found.items) c.loop-piece-test.false c.loop-piece.invariant
     (ap (λ l. spec.elements_in s o c.args.role (last_of l)) c.in-None.is ∙ lowered_none s o c.args.role)
 
 pub dict_items-loop-piece-init : goal.dict_items-loop-piece-init
 dict_items-loop-piece-init g t c =
     let s = g.Q.Quotes.spelled in
     let o = origin_of c.args.self.now.origin in
-    let end = last_of (out-Pieces c.args.items.now).last in
-    started_at dict_item_of (λ (xs : List Piece). spec.dict_items_in s o c.args.role (pieces_before xs end)) c.in_ok-found.found.items c.deref-piece-items.result.now (out-Pieces c.args.items.now).each.items c.in_ok-found.ensures.items c.deref-piece-items.ensures.value
+    let end = last_of (out-Pieces _ c.args.items.now).last in
+    started_at dict_item_of (λ (xs : List (Piece _)). spec.dict_items_in s o c.args.role (pieces_before xs end)) c.in_ok-found.found.items c.deref-piece-items.result.now (out-Pieces _ c.args.items.now).each.items c.in_ok-found.ensures.items c.deref-piece-items.ensures.value
     (ap (spec.dict_items_in s o c.args.role) (sym (pieces_of-fields c.args.items.now)))
 
 pub dict_items-loop-piece-preserved : goal.dict_items-loop-piece-preserved
 dict_items-loop-piece-preserved g t c =
     let s = g.Q.Quotes.spelled in
     let o = origin_of c.args.self.now.origin in
-    let end = last_of (out-Pieces c.args.items.now).last in
-    pushed_at (λ (xs : List Piece). spec.dict_items_in s o c.args.role (pieces_before xs end)) (λ (p : Piece). spec.dict_item_in s o c.args.role (tree_of p.value.value) (spec.expr_in s o c.args.role (tree_of p.value.value)))
+    let end = last_of (out-Pieces _ c.args.items.now).last in
+    pushed_at (λ (xs : List (Piece _)). spec.dict_items_in s o c.args.role (pieces_before xs end)) (λ (p : Piece _). spec.dict_item_in s o c.args.role (tree_of p.value.value) (spec.expr_in s o c.args.role (tree_of p.value.value)))
     (λ x xs. entry_piece s o c.args.role (tree_of x.value.value) x.comma (pieces_before xs end)) c.deref-piece-items.result.now c.loop-piece.piece-index c.piece-item.result (map dict_item_of c.loop-piece.found.items) c.loop-piece-test.true c.piece-item.is c.loop-piece.invariant
-    (pushed dict_item_of _ _ c.in_ok-dict_item.field-0 c.in_ok-push.ensures.items (c.in_ok-dict_item.ensures ∙ ap (λ (x : Expr). spec.dict_item_in s o c.args.role (tree_of x) (spec.expr_in s o c.args.role (tree_of x))) c.deref.ensures))
+    (pushed dict_item_of _ _ c.in_ok-dict_item.field-0 c.in_ok-push.ensures.items (c.in_ok-dict_item.ensures ∙ ap (λ (x : Expr _). spec.dict_item_in s o c.args.role (tree_of x) (spec.expr_in s o c.args.role (tree_of x))) c.deref.ensures))
 
 pub dict_items-returns-in-None : goal.dict_items-returns-in-None
 dict_items-returns-in-None g t c =
     let s = g.Q.Quotes.spelled in
     let o = origin_of c.args.self.now.origin in
-    let end = last_of (out-Pieces c.args.items.now).last in
-    ended_at (λ (xs : List Piece). spec.dict_items_in s o c.args.role (pieces_before xs end)) c.deref-piece-items.result.now c.loop-piece.piece-index (map dict_item_of c.loop-piece.found.items) c.loop-piece-test.false c.loop-piece.invariant
+    let end = last_of (out-Pieces _ c.args.items.now).last in
+    ended_at (λ (xs : List (Piece _)). spec.dict_items_in s o c.args.role (pieces_before xs end)) c.deref-piece-items.result.now c.loop-piece.piece-index (map dict_item_of c.loop-piece.found.items) c.loop-piece-test.false c.loop-piece.invariant
     (ap (λ l. spec.dict_items_in s o c.args.role (last_of l)) c.in-None.is ∙ entry_none s o c.args.role)
 
 pub indices-loop-piece-init : goal.indices-loop-piece-init
 indices-loop-piece-init g t c =
     let s = g.Q.Quotes.spelled in
     let o = origin_of c.args.self.now.origin in
-    let end = last_of (out-Pieces c.args.items.now).last in
-    started_at index_of (λ (xs : List Piece). spec.indices_in s o c.args.role (pieces_before xs end)) c.in_ok-found.found.items c.deref-piece-items.result.now (out-Pieces c.args.items.now).each.items c.in_ok-found.ensures.items c.deref-piece-items.ensures.value
+    let end = last_of (out-Pieces _ c.args.items.now).last in
+    started_at index_of (λ (xs : List (Piece _)). spec.indices_in s o c.args.role (pieces_before xs end)) c.in_ok-found.found.items c.deref-piece-items.result.now (out-Pieces _ c.args.items.now).each.items c.in_ok-found.ensures.items c.deref-piece-items.ensures.value
     (ap (spec.indices_in s o c.args.role) (sym (pieces_of-fields c.args.items.now)))
 
 pub indices-loop-piece-preserved : goal.indices-loop-piece-preserved
 indices-loop-piece-preserved g t c =
     let s = g.Q.Quotes.spelled in
     let o = origin_of c.args.self.now.origin in
-    let end = last_of (out-Pieces c.args.items.now).last in
-    pushed_at (λ (xs : List Piece). spec.indices_in s o c.args.role (pieces_before xs end)) (λ (p : Piece). spec.index_in s o c.args.role (tree_of p.value.value) (spec.expr_in s o c.args.role (tree_of p.value.value)))
+    let end = last_of (out-Pieces _ c.args.items.now).last in
+    pushed_at (λ (xs : List (Piece _)). spec.indices_in s o c.args.role (pieces_before xs end)) (λ (p : Piece _). spec.index_in s o c.args.role (tree_of p.value.value) (spec.expr_in s o c.args.role (tree_of p.value.value)))
     (λ x xs. index_piece s o c.args.role (tree_of x.value.value) x.comma (pieces_before xs end)) c.deref-piece-items.result.now c.loop-piece.piece-index c.piece-item.result (map index_of c.loop-piece.found.items) c.loop-piece-test.true c.piece-item.is c.loop-piece.invariant
-    (pushed index_of _ _ c.in_ok-index.field-0 c.in_ok-push.ensures.items (c.in_ok-index.ensures ∙ ap (λ (x : Expr). spec.index_in s o c.args.role (tree_of x) (spec.expr_in s o c.args.role (tree_of x))) c.deref.ensures))
+    (pushed index_of _ _ c.in_ok-index.field-0 c.in_ok-push.ensures.items (c.in_ok-index.ensures ∙ ap (λ (x : Expr _). spec.index_in s o c.args.role (tree_of x) (spec.expr_in s o c.args.role (tree_of x))) c.deref.ensures))
 
 pub indices-returns-in-None : goal.indices-returns-in-None
 indices-returns-in-None g t c =
     let s = g.Q.Quotes.spelled in
     let o = origin_of c.args.self.now.origin in
-    let end = last_of (out-Pieces c.args.items.now).last in
-    ended_at (λ (xs : List Piece). spec.indices_in s o c.args.role (pieces_before xs end)) c.deref-piece-items.result.now c.loop-piece.piece-index (map index_of c.loop-piece.found.items) c.loop-piece-test.false c.loop-piece.invariant
+    let end = last_of (out-Pieces _ c.args.items.now).last in
+    ended_at (λ (xs : List (Piece _)). spec.indices_in s o c.args.role (pieces_before xs end)) c.deref-piece-items.result.now c.loop-piece.piece-index (map index_of c.loop-piece.found.items) c.loop-piece-test.false c.loop-piece.invariant
     (ap (λ l. spec.indices_in s o c.args.role (last_of l)) c.in-None.is ∙ index_none s o c.args.role)
 
 pub elements-returns-in_ok-push-in-Some : goal.elements-returns-in_ok-push-in-Some
 elements-returns-in_ok-push-in-Some g t c =
     let s = g.Q.Quotes.spelled in
     let o = origin_of c.args.self.now.origin in
-    let end = last_of (out-Pieces c.args.items.now).last in
-    last_at (λ (xs : List Piece). spec.elements_in s o c.args.role (pieces_before xs end)) c.deref-piece-items.result.now c.loop-piece.piece-index (map element_of c.loop-piece.found.items) c.loop-piece-test.false c.loop-piece.invariant
+    let end = last_of (out-Pieces _ c.args.items.now).last in
+    last_at (λ (xs : List (Piece _)). spec.elements_in s o c.args.role (pieces_before xs end)) c.deref-piece-items.result.now c.loop-piece.piece-index (map element_of c.loop-piece.found.items) c.loop-piece-test.false c.loop-piece.invariant
     (ap (λ l. spec.elements_in s o c.args.role (last_of l)) c.in-Some.is ∙ lowered_last s o c.args.role (tree_of c.in-Some.last.value))
     (pushed element_of _ _ c.element-in-Some.result c.in_ok-push-in-Some.ensures.items (c.element-in-Some.ensures
-    ∙ (ap (λ (x : Expr). spec.element_of (tree_of x) (expr_of c.in_ok-value-in-Some.value)) c.deref-in-Some-2.ensures
+    ∙ (ap (λ (x : Expr _). spec.element_of (tree_of x) (expr_of c.in_ok-value-in-Some.value)) c.deref-in-Some-2.ensures
     ∙ ap (λ (v : plain.Expr). spec.element_of (tree_of c.in-Some.last.value) v)
-    (c.in_ok-value-in-Some.ensures ∙ ap (λ (x : Expr). spec.expr_in s o c.args.role (tree_of x)) c.deref-in-Some.ensures))))
+    (c.in_ok-value-in-Some.ensures ∙ ap (λ (x : Expr _). spec.expr_in s o c.args.role (tree_of x)) c.deref-in-Some.ensures))))
 
 pub dict_items-returns-in_ok-push-in-Some : goal.dict_items-returns-in_ok-push-in-Some
 dict_items-returns-in_ok-push-in-Some g t c =
     let s = g.Q.Quotes.spelled in
     let o = origin_of c.args.self.now.origin in
-    let end = last_of (out-Pieces c.args.items.now).last in
-    last_at (λ (xs : List Piece). spec.dict_items_in s o c.args.role (pieces_before xs end)) c.deref-piece-items.result.now c.loop-piece.piece-index (map dict_item_of c.loop-piece.found.items) c.loop-piece-test.false c.loop-piece.invariant
+    let end = last_of (out-Pieces _ c.args.items.now).last in
+    last_at (λ (xs : List (Piece _)). spec.dict_items_in s o c.args.role (pieces_before xs end)) c.deref-piece-items.result.now c.loop-piece.piece-index (map dict_item_of c.loop-piece.found.items) c.loop-piece-test.false c.loop-piece.invariant
     (ap (λ l. spec.dict_items_in s o c.args.role (last_of l)) c.in-Some.is ∙ entry_last s o c.args.role (tree_of c.in-Some.last.value))
-    (pushed dict_item_of _ _ c.in_ok-dict_item-in-Some.field-0 c.in_ok-push-in-Some.ensures.items (c.in_ok-dict_item-in-Some.ensures ∙ ap (λ (x : Expr). spec.dict_item_in s o c.args.role (tree_of x) (spec.expr_in s o c.args.role (tree_of x))) c.deref-in-Some.ensures))
+    (pushed dict_item_of _ _ c.in_ok-dict_item-in-Some.field-0 c.in_ok-push-in-Some.ensures.items (c.in_ok-dict_item-in-Some.ensures ∙ ap (λ (x : Expr _). spec.dict_item_in s o c.args.role (tree_of x) (spec.expr_in s o c.args.role (tree_of x))) c.deref-in-Some.ensures))
 
 pub indices-returns-in_ok-push-in-Some : goal.indices-returns-in_ok-push-in-Some
 indices-returns-in_ok-push-in-Some g t c =
     let s = g.Q.Quotes.spelled in
     let o = origin_of c.args.self.now.origin in
-    let end = last_of (out-Pieces c.args.items.now).last in
-    last_at (λ (xs : List Piece). spec.indices_in s o c.args.role (pieces_before xs end)) c.deref-piece-items.result.now c.loop-piece.piece-index (map index_of c.loop-piece.found.items) c.loop-piece-test.false c.loop-piece.invariant
+    let end = last_of (out-Pieces _ c.args.items.now).last in
+    last_at (λ (xs : List (Piece _)). spec.indices_in s o c.args.role (pieces_before xs end)) c.deref-piece-items.result.now c.loop-piece.piece-index (map index_of c.loop-piece.found.items) c.loop-piece-test.false c.loop-piece.invariant
     (ap (λ l. spec.indices_in s o c.args.role (last_of l)) c.in-Some.is ∙ index_last s o c.args.role (tree_of c.in-Some.last.value))
-    (pushed index_of _ _ c.in_ok-index-in-Some.field-0 c.in_ok-push-in-Some.ensures.items (c.in_ok-index-in-Some.ensures ∙ ap (λ (x : Expr). spec.index_in s o c.args.role (tree_of x) (spec.expr_in s o c.args.role (tree_of x))) c.deref-in-Some.ensures))
+    (pushed index_of _ _ c.in_ok-index-in-Some.field-0 c.in_ok-push-in-Some.ensures.items (c.in_ok-index-in-Some.ensures ∙ ap (λ (x : Expr _). spec.index_in s o c.args.role (tree_of x) (spec.expr_in s o c.args.role (tree_of x))) c.deref-in-Some.ensures))
 
 pub arguments-loop-piece-init : goal.arguments-loop-piece-init
 arguments-loop-piece-init g t c =
     let s = g.Q.Quotes.spelled in
     let o = origin_of c.args.self.now.origin in
-    let end = last_of (out-Pieces c.args.items.now).last in
-    started_at argument_of (λ (xs : List Piece). spec.arguments_in s o c.first_role-next.result c.args.role (pieces_before xs end)) c.in_ok-found.found.items c.deref-piece-items.result.now (out-Pieces c.args.items.now).each.items c.in_ok-found.ensures.items c.deref-piece-items.ensures.value
+    let end = last_of (out-Pieces _ c.args.items.now).last in
+    started_at argument_of (λ (xs : List (Piece _)). spec.arguments_in s o c.first_role-next.result c.args.role (pieces_before xs end)) c.in_ok-found.found.items c.deref-piece-items.result.now (out-Pieces _ c.args.items.now).each.items c.in_ok-found.ensures.items c.deref-piece-items.ensures.value
     (ap (spec.arguments_in s o c.first_role-next.result c.args.role) (sym (pieces_of-fields c.args.items.now))
     ∙ ap (λ (r : Role). spec.arguments_in s o r c.args.role (pieces_of c.args.items.now)) c.first_role-next.ensures)
 
@@ -142,56 +142,56 @@ pub arguments-loop-piece-preserved : goal.arguments-loop-piece-preserved
 arguments-loop-piece-preserved g t c =
     let s = g.Q.Quotes.spelled in
     let o = origin_of c.args.self.now.origin in
-    let end = last_of (out-Pieces c.args.items.now).last in
-    turned_at (λ (xs : List Piece). spec.arguments_in s o c.loop-piece.next c.args.role (pieces_before xs end)) (λ (xs : List Piece). spec.arguments_in s o c.args.role c.args.role (pieces_before xs end)) (λ (p : Piece). spec.argument_of o (tree_of p.value.value) (spec.expr_in s o c.loop-piece.next (tree_of p.value.value)))
+    let end = last_of (out-Pieces _ c.args.items.now).last in
+    turned_at (λ (xs : List (Piece _)). spec.arguments_in s o c.loop-piece.next c.args.role (pieces_before xs end)) (λ (xs : List (Piece _)). spec.arguments_in s o c.args.role c.args.role (pieces_before xs end)) (λ (p : Piece _). spec.argument_of o (tree_of p.value.value) (spec.expr_in s o c.loop-piece.next (tree_of p.value.value)))
     (λ x xs. argument_piece s o c.args.role c.loop-piece.next (tree_of x.value.value) x.comma (pieces_before xs end))
     c.deref-piece-items.result.now c.loop-piece.piece-index c.piece-item.result (map argument_of c.loop-piece.found.items) c.loop-piece-test.true c.piece-item.is c.loop-piece.invariant
     (pushed argument_of _ _ c.in_ok-argument.field-0 c.in_ok-push.ensures.items
     (c.in_ok-argument.ensures
-    ∙ (ap (λ (x : Expr). spec.argument_of o (tree_of x) (expr_of c.in_ok-value.value)) c.deref-in-loop-piece.ensures
+    ∙ (ap (λ (x : Expr _). spec.argument_of o (tree_of x) (expr_of c.in_ok-value.value)) c.deref-in-loop-piece.ensures
     ∙ ap (λ (v : plain.Expr). spec.argument_of o (tree_of c.piece-item.result.value.value) v)
-    (c.in_ok-value.ensures ∙ ap (λ (x : Expr). spec.expr_in s o c.loop-piece.next (tree_of x)) c.deref.ensures))))
+    (c.in_ok-value.ensures ∙ ap (λ (x : Expr _). spec.expr_in s o c.loop-piece.next (tree_of x)) c.deref.ensures))))
 
 pub arguments-returns-in-None : goal.arguments-returns-in-None
 arguments-returns-in-None g t c =
     let s = g.Q.Quotes.spelled in
     let o = origin_of c.args.self.now.origin in
-    let end = last_of (out-Pieces c.args.items.now).last in
-    ended_at (λ (xs : List Piece). spec.arguments_in s o c.loop-piece.next c.args.role (pieces_before xs end)) c.deref-piece-items.result.now c.loop-piece.piece-index (map argument_of c.loop-piece.found.items) c.loop-piece-test.false c.loop-piece.invariant
+    let end = last_of (out-Pieces _ c.args.items.now).last in
+    ended_at (λ (xs : List (Piece _)). spec.arguments_in s o c.loop-piece.next c.args.role (pieces_before xs end)) c.deref-piece-items.result.now c.loop-piece.piece-index (map argument_of c.loop-piece.found.items) c.loop-piece-test.false c.loop-piece.invariant
     (ap (λ l. spec.arguments_in s o c.loop-piece.next c.args.role (last_of l)) c.in-None.is ∙ argument_none s o c.args.role c.loop-piece.next)
 
 pub arguments-returns-in_ok-push-in-Some : goal.arguments-returns-in_ok-push-in-Some
 arguments-returns-in_ok-push-in-Some g t c =
     let s = g.Q.Quotes.spelled in
     let o = origin_of c.args.self.now.origin in
-    let end = last_of (out-Pieces c.args.items.now).last in
-    last_at (λ (xs : List Piece). spec.arguments_in s o c.loop-piece.next c.args.role (pieces_before xs end)) c.deref-piece-items.result.now c.loop-piece.piece-index (map argument_of c.loop-piece.found.items) c.loop-piece-test.false c.loop-piece.invariant
+    let end = last_of (out-Pieces _ c.args.items.now).last in
+    last_at (λ (xs : List (Piece _)). spec.arguments_in s o c.loop-piece.next c.args.role (pieces_before xs end)) c.deref-piece-items.result.now c.loop-piece.piece-index (map argument_of c.loop-piece.found.items) c.loop-piece-test.false c.loop-piece.invariant
     (ap (λ l. spec.arguments_in s o c.loop-piece.next c.args.role (last_of l)) c.in-Some.is ∙ argument_last s o c.args.role c.loop-piece.next (tree_of c.in-Some.last.value))
     (pushed argument_of _ _ c.in_ok-argument-in-Some.field-0 c.in_ok-push-in-Some.ensures.items
     (c.in_ok-argument-in-Some.ensures
-    ∙ (ap (λ (x : Expr). spec.argument_of o (tree_of x) (expr_of c.in_ok-value-in-Some.value)) c.deref-in-Some-2.ensures
+    ∙ (ap (λ (x : Expr _). spec.argument_of o (tree_of x) (expr_of c.in_ok-value-in-Some.value)) c.deref-in-Some-2.ensures
     ∙ ap (λ (v : plain.Expr). spec.argument_of o (tree_of c.in-Some.last.value) v)
-    (c.in_ok-value-in-Some.ensures ∙ ap (λ (x : Expr). spec.expr_in s o c.loop-piece.next (tree_of x)) c.deref-in-Some.ensures))))
+    (c.in_ok-value-in-Some.ensures ∙ ap (λ (x : Expr _). spec.expr_in s o c.loop-piece.next (tree_of x)) c.deref-in-Some.ensures))))
 
 pub comparisons-loop-link-preserved : goal.comparisons-loop-link-preserved
 comparisons-loop-link-preserved g t c =
     let s = g.Q.Quotes.spelled in
     let o = origin_of c.args.self.now.origin in
-    pushed_at (λ (xs : List Link). spec.comparisons_in s o c.args.role (links_before xs tree.unlinked))
-    (λ (l : Link). plain.comparison (comparison_operator l.first.kind (is_some l.second)) (spec.expr_in s o c.args.role (tree_of l.right.value)))
+    pushed_at (λ (xs : List (Link _)). spec.comparisons_in s o c.args.role (links_before xs tree.unlinked))
+    (λ (l : Link _). plain.comparison (comparison_operator l.first.kind (is_some l.second)) (spec.expr_in s o c.args.role (tree_of l.right.value)))
     (λ x xs. link_more s o c.args.role x.first x.second (tree_of x.right.value) (links_before xs tree.unlinked))
     c.args.links.now c.loop-link.link-index c.link-item.result (map comparison_of c.loop-link.found.items) c.loop-link-test.true c.link-item.is c.loop-link.invariant
     (pushed comparison_of _ _ _ c.in_ok-push.ensures.items
     (view_comparison _ _ ∙ ap (λ op. plain.comparison op (expr_of c.in_ok-right.right))
     (c.comparison_operator-operator.ensures ∙ ap (comparison_operator c.link-item.result.first.kind) c.is_some.ensures)
     ∙ ap (plain.comparison (comparison_operator c.link-item.result.first.kind (is_some c.link-item.result.second)))
-    (c.in_ok-right.ensures ∙ ap (λ (x : Expr). spec.expr_in s o c.args.role (tree_of x)) c.deref.ensures)))
+    (c.in_ok-right.ensures ∙ ap (λ (x : Expr _). spec.expr_in s o c.args.role (tree_of x)) c.deref.ensures)))
 
 pub comparisons-returns : goal.comparisons-returns
 comparisons-returns g t c =
     let s = g.Q.Quotes.spelled in
     let o = origin_of c.args.self.now.origin in
-    ended_at (λ (xs : List Link). spec.comparisons_in s o c.args.role (links_before xs tree.unlinked)) c.args.links.now c.loop-link.link-index
+    ended_at (λ (xs : List (Link _)). spec.comparisons_in s o c.args.role (links_before xs tree.unlinked)) c.args.links.now c.loop-link.link-index
     (map comparison_of c.loop-link.found.items) c.loop-link-test.false c.loop-link.invariant (link_none s o c.args.role)
 
 pub dict_item-returns-in_default : goal.dict_item-returns-in_default
@@ -246,7 +246,7 @@ index-returns-in_ok-step-in-Stride g t c =
     c.slice-in-Stride.ensures
     ∙ (slice_at c.position-in-Stride.ensures c.in_ok-lower-in-Stride.ensures c.in_ok-upper-in-Stride.ensures c.in_ok-step-in-Stride.ensures
     ∙ (sym (lowered_Stride s o r i.lower i.colon i.upper i.field-3 i.step value)
-    ∙ ap (λ (x : Expr). spec.index_in s o r (tree_of x) value) (sym i.is)))
+    ∙ ap (λ (x : Expr _). spec.index_in s o r (tree_of x) value) (sym i.is)))
 
 pub index-returns-in_ok-expr-in_default : goal.index-returns-in_ok-expr-in_default
 index-returns-in_ok-expr-in_default g t c =
@@ -262,7 +262,7 @@ subscript-returns-then-not-is_empty g t c =
     let s = g.Q.Quotes.spelled in
     let o = origin_of c.args.self.now.origin in
     let p = pieces_of c.args.items.now in
-    let each = (out-Pieces c.args.items.now).each in
+    let each = (out-Pieces _ c.args.items.now).each in
     let len : vec_len each ≡ length each.items = omega (arith, each.ok.0) in
     let more = single-more c.args.items.now (ap (λ (n : ℕ). n == 0) (sym len) ∙ sym c.if-not-is_empty.ensures) in
     IfOk-weaker c.many_indices.result _ _ (λ found is. is ∙ subscript_many p (spec.indices_in s o c.args.role p) more) c.many_indices.ensures
@@ -272,11 +272,11 @@ subscript-returns-in-Some g t c =
     let s = g.Q.Quotes.spelled in
     let o = origin_of c.args.self.now.origin in
     let r = c.args.role in
-    let each = (out-Pieces c.args.items.now).each in
+    let each = (out-Pieces _ c.args.items.now).each in
     let len : vec_len each ≡ length each.items = omega (arith, each.ok.0) in
     let only = single-only c.args.items.now c.in-Some.only c.in-Some.is (ap (λ (n : ℕ). n == 0) (sym len) ∙ sym c.if-not-is_empty.ensures) in
     IfOk-weaker c.index.result _ _ (λ found is. is
-    ∙ (ap (λ (x : Expr). spec.index_in s o r (tree_of x) (spec.expr_in s o r (tree_of x))) c.deref.ensures
+    ∙ (ap (λ (x : Expr _). spec.index_in s o r (tree_of x) (spec.expr_in s o r (tree_of x))) c.deref.ensures
     ∙ subscript_one s o r (pieces_of c.args.items.now) (tree_of c.in-Some.only.value) only)) c.index.ensures
 
 pub subscript-returns-in-None : goal.subscript-returns-in-None
