@@ -8,6 +8,7 @@ mod refused;
 mod shapes;
 mod trees;
 
+use bumpalo::Bump;
 use lines::{EXPRESSIONS, HEADERS, STATEMENTS};
 use pyc_parse::{Line, What, parse_line};
 use refused::{NO_LINES, NO_STATEMENTS, OUTSIDE};
@@ -15,12 +16,16 @@ use std::alloc::Global;
 use std::test::Fail;
 
 /// The tree of the first line of a source, or what is wrong with it.
-fn parsed(alloc: Global, source: &str) -> Result<Result<Line, What>, Fail> {
+fn parsed<'a>(
+    alloc: Global,
+    arena: &'a Bump,
+    source: &str,
+) -> Result<Result<Line<&'a Bump>, What>, Fail> {
     let scan = pyc_lex::scan(alloc, source.as_bytes())
         .ok()
         .ok_or("a lexical fault")?;
     let line = scan.lines.first().ok_or("no line")?;
-    Ok(match parse_line(alloc, &line.tokens) {
+    Ok(match parse_line(arena, &line.tokens) {
         Ok(tree) => Ok(tree),
         Err(fault) => Err(fault.what),
     })
@@ -28,7 +33,8 @@ fn parsed(alloc: Global, source: &str) -> Result<Result<Line, What>, Fail> {
 
 /// What is wrong with the first line of a source, or nothing.
 fn refusal(alloc: Global, source: &str) -> Result<Option<What>, Fail> {
-    Ok(parsed(alloc, source)?.err())
+    let arena = Bump::new(alloc);
+    Ok(parsed(alloc, &arena, source)?.err())
 }
 
 /// Lines, with what is wrong with each, or nothing where they are of the language.

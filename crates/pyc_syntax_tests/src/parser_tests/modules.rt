@@ -1,5 +1,6 @@
 //! The trees of modules, and their first faults.
 
+use bumpalo::Bump;
 use pyc_parse::{What, parse};
 use std::alloc::Global;
 use std::test::Fail;
@@ -9,7 +10,8 @@ fn fault_of(alloc: Global, source: &str) -> Result<Option<(usize, What)>, Fail> 
     let scan = pyc_lex::scan(alloc, source.as_bytes())
         .ok()
         .ok_or("a lexical fault")?;
-    Ok(match parse(alloc, scan) {
+    let arena = Bump::new(alloc);
+    Ok(match parse(alloc, &arena, scan) {
         Ok(_) => None,
         Err(fault) => Some((fault.line, fault.what)),
     })
@@ -55,7 +57,8 @@ fn counts(alloc: Global, source: &str) -> Result<Option<(usize, usize, bool)>, F
     let scan = pyc_lex::scan(alloc, source.as_bytes())
         .ok()
         .ok_or("a lexical fault")?;
-    Ok(match parse(alloc, scan) {
+    let arena = Bump::new(alloc);
+    Ok(match parse(alloc, &arena, scan) {
         Ok(found) => Some((
             found.statements.len(),
             found.ignores.len(),

@@ -1,14 +1,18 @@
 //! What sources are: their first faults, and their trees with the ignore comments.
 
+use bumpalo::Bump;
 use pyc_lex::{Codes, LexFault};
 use pyc_parse::{Module, Outcome, ParseFault, What, lexical_fault, outcome, parse_fault};
-use std::alloc::{AllocError, Global};
+use std::alloc::{AllocError, Allocator, Global};
 use std::fmt::Write;
 use std::test::Fail;
 
 /// The first fault of a source: its line, and what is reported.
 fn reported(alloc: Global, source: &[u8]) -> Result<Option<(usize, &'static str)>, Fail> {
-    let found = outcome(alloc, source).ok().ok_or("no memory")?;
+    let arena = Bump::new(alloc);
+    let found = outcome(alloc, &arena, source)
+        .ok()
+        .ok_or("no memory")?;
     Ok(match found {
         Outcome::Tree(_) => None,
         Outcome::Fault(fault) => Some((fault.line, fault.text)),
@@ -155,7 +159,7 @@ fn first_faults(rt: HostRuntime) -> Result<(), Fail> {
 
 /// How many statements a tree has, its ignore comments, each as its line with `*` where it has no codes, and `!` where
 /// one suppresses the file.
-fn shown(alloc: Global, module: &Module) -> Result<String, Fail> {
+fn shown<A: Allocator>(alloc: Global, module: &Module<A>) -> Result<String, Fail> {
     let mut shown = String::new(alloc);
     write!(shown, "{}", module.statements.len())?;
     for ignore in &module.ignores {
@@ -172,7 +176,11 @@ fn shown(alloc: Global, module: &Module) -> Result<String, Fail> {
 
 /// How many statements the tree of `source` has, its ignore comments, and `!` where the whole file is suppressed.
 fn tree_shown(alloc: Global, source: &str) -> Result<String, Fail> {
-    match outcome(alloc, source.as_bytes()).ok().ok_or("no memory")? {
+    let arena = Bump::new(alloc);
+    let found = outcome(alloc, &arena, source.as_bytes())
+        .ok()
+        .ok_or("no memory")?;
+    match found {
         Outcome::Tree(found) => shown(alloc, &found),
         Outcome::Fault(_) => Err("no tree".into()),
     }

@@ -3,17 +3,18 @@
 
 use super::parsed;
 use super::shapes::{expression, part};
+use bumpalo::Bump;
 use pyc_parse::{Expr, Line};
-use std::alloc::Global;
+use std::alloc::{Allocator, Global};
 use std::test::Fail;
 
 /// Whether an operand has an operator.
-fn has_operator(operand: &Expr) -> bool {
+fn has_operator<A: Allocator>(operand: &Expr<A>) -> bool {
     !matches!(operand, Expr::Name(_))
 }
 
 /// Which operands of an operator have one themselves; one before its only operand has a right one.
-fn nested(tree: &Expr) -> &'static str {
+fn nested<A: Allocator>(tree: &Expr<A>) -> &'static str {
     let (left, right) = match (part(tree, 0), part(tree, 1)) {
         (Some(left), Some(right)) => (has_operator(left), has_operator(right)),
         (Some(operand), None) => (false, has_operator(operand)),
@@ -28,7 +29,7 @@ fn nested(tree: &Expr) -> &'static str {
 }
 
 /// Which operands of the outermost operator of `line` have an operator themselves.
-fn nested_in(line: &Line) -> &'static str {
+fn nested_in<A: Allocator>(line: &Line<A>) -> &'static str {
     match expression(line) {
         Some(tree) => nested(tree),
         None => "no expression",
@@ -37,7 +38,8 @@ fn nested_in(line: &Line) -> &'static str {
 
 /// Which operands of the outermost operator of `source` have an operator themselves.
 fn nested_operands(alloc: Global, source: &str) -> Result<&'static str, Fail> {
-    match parsed(alloc, source)? {
+    let arena = Bump::new(alloc);
+    match parsed(alloc, &arena, source)? {
         Ok(line) => Ok(nested_in(&line)),
         Err(_) => Ok("no tree"),
     }

@@ -1,10 +1,11 @@
 //! The parts of trees, and texts of their shapes.
 
 use pyc_parse::{Expr, Line, Pieces, SimpleStatement};
+use std::alloc::Allocator;
 use std::test::Fail;
 
 /// The last statement of a line of simple statements.
-pub(super) fn statement(line: &Line) -> Option<&SimpleStatement> {
+pub(super) fn statement<A: Allocator>(line: &Line<A>) -> Option<&SimpleStatement<A>> {
     let Line::Simple(statements) = line else {
         return None;
     };
@@ -15,7 +16,7 @@ pub(super) fn statement(line: &Line) -> Option<&SimpleStatement> {
 }
 
 /// The expression that a line is.
-pub(super) fn expression(line: &Line) -> Option<&Expr> {
+pub(super) fn expression<A: Allocator>(line: &Line<A>) -> Option<&Expr<A>> {
     match statement(line)? {
         SimpleStatement::Expression(found) => Some(&**found),
         _ => None,
@@ -23,7 +24,7 @@ pub(super) fn expression(line: &Line) -> Option<&Expr> {
 }
 
 /// The part of this number among items with commas.
-fn piece(pieces: &Pieces, index: usize) -> Option<&Expr> {
+fn piece<A: Allocator>(pieces: &Pieces<A>, index: usize) -> Option<&Expr<A>> {
     if let Some(found) = pieces.each.get(index) {
         return Some(&*found.value);
     }
@@ -34,7 +35,7 @@ fn piece(pieces: &Pieces, index: usize) -> Option<&Expr> {
 }
 
 /// The part of this number of an expression, from 0, as far as the tests look: its operands or items.
-pub(super) fn part(tree: &Expr, index: usize) -> Option<&Expr> {
+pub(super) fn part<A: Allocator>(tree: &Expr<A>, index: usize) -> Option<&Expr<A>> {
     match tree {
         Expr::Unary(_, operand)
         | Expr::Await(_, operand)
@@ -61,7 +62,7 @@ pub(super) fn part(tree: &Expr, index: usize) -> Option<&Expr> {
 }
 
 /// A word for the form of an expression, as far as the tests look.
-fn word(tree: &Expr) -> &'static str {
+fn word<A: Allocator>(tree: &Expr<A>) -> &'static str {
     match tree {
         Expr::Name(_) => "name",
         Expr::Number(_) => "number",
@@ -85,7 +86,7 @@ fn word(tree: &Expr) -> &'static str {
 }
 
 /// Writes a word for an expression, and one for each of its parts in brackets.
-fn write_node(tree: &Expr, shown: &mut String) -> Result<(), Fail> {
+fn write_node<A: Allocator>(tree: &Expr<A>, shown: &mut String) -> Result<(), Fail> {
     shown.push_str(word(tree))?;
     for index in 0..4 {
         if let Some(part) = part(tree, index) {
@@ -98,7 +99,7 @@ fn write_node(tree: &Expr, shown: &mut String) -> Result<(), Fail> {
 }
 
 /// Writes a word for an expression, and each of its parts with a word for each of theirs, in brackets.
-pub(super) fn write_tree(tree: &Expr, shown: &mut String) -> Result<(), Fail> {
+pub(super) fn write_tree<A: Allocator>(tree: &Expr<A>, shown: &mut String) -> Result<(), Fail> {
     shown.push_str(word(tree))?;
     for index in 0..4 {
         if let Some(part) = part(tree, index) {
@@ -111,7 +112,7 @@ pub(super) fn write_tree(tree: &Expr, shown: &mut String) -> Result<(), Fail> {
 }
 
 /// Writes words for items, each with a comma where one follows it.
-pub(super) fn write_items(items: &Pieces, shown: &mut String) -> Result<(), Fail> {
+pub(super) fn write_items<A: Allocator>(items: &Pieces<A>, shown: &mut String) -> Result<(), Fail> {
     for item in &items.each {
         shown.push_str(word(&item.value))?;
         shown.push(',')?;

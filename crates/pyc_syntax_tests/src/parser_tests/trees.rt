@@ -2,12 +2,13 @@
 
 use super::parsed;
 use super::shapes::{statement, write_items, write_tree};
+use bumpalo::Bump;
 use pyc_parse::{Expr, Header, Line, Pieces, SimpleStatement};
-use std::alloc::Global;
+use std::alloc::{Allocator, Global};
 use std::test::Fail;
 
 /// Writes the items of a tuple or a display, with their commas, or the shape of any other expression.
-fn write_target(target: &Expr, shown: &mut String) -> Result<(), Fail> {
+fn write_target<A: Allocator>(target: &Expr<A>, shown: &mut String) -> Result<(), Fail> {
     match target {
         Expr::Bare(items) | Expr::Display(_, _, items, _) => write_items(items, shown),
         other => write_tree(other, shown),
@@ -15,7 +16,7 @@ fn write_target(target: &Expr, shown: &mut String) -> Result<(), Fail> {
 }
 
 /// Writes the shape of an expression, or the targets of an assignment, each with `=` after it, and its value.
-fn write_statement(statement: &SimpleStatement, shown: &mut String) -> Result<(), Fail> {
+fn write_statement<A: Allocator>(statement: &SimpleStatement<A>, shown: &mut String) -> Result<(), Fail> {
     match statement {
         SimpleStatement::Expression(found) => write_tree(found, shown),
         SimpleStatement::Assign(targets, value) => {
@@ -30,7 +31,7 @@ fn write_statement(statement: &SimpleStatement, shown: &mut String) -> Result<()
 }
 
 /// Writes the shape of the last statement of a line, or the items in the parentheses of its `with`.
-fn write_line(line: &Line, shown: &mut String) -> Result<(), Fail> {
+fn write_line<A: Allocator>(line: &Line<A>, shown: &mut String) -> Result<(), Fail> {
     if let Line::Header(header, _, _) = line {
         return match &**header {
             Header::WithEnclosed(_, _, _, items, _) => write_items(items, shown),
@@ -44,7 +45,7 @@ fn write_line(line: &Line, shown: &mut String) -> Result<(), Fail> {
 }
 
 /// The shape of a line.
-fn shown(alloc: Global, line: &Line) -> Result<String, Fail> {
+fn shown<A: Allocator>(alloc: Global, line: &Line<A>) -> Result<String, Fail> {
     let mut shown = String::new(alloc);
     write_line(line, &mut shown)?;
     Ok(shown)
@@ -52,7 +53,8 @@ fn shown(alloc: Global, line: &Line) -> Result<String, Fail> {
 
 /// The shape of the first line of a source.
 fn shape_of(alloc: Global, source: &str) -> Result<String, Fail> {
-    match parsed(alloc, source)? {
+    let arena = Bump::new(alloc);
+    match parsed(alloc, &arena, source)? {
         Ok(line) => shown(alloc, &line),
         Err(_) => Err("no tree".into()),
     }
@@ -92,7 +94,7 @@ fn lines_have_their_shapes(rt: HostRuntime) -> Result<(), Fail> {
 }
 
 /// The value of a tree that is an argument by its place alone, with a value of no items, and of that value itself.
-fn taken_out(alloc: Global) -> Result<(Option<Box<Expr>>, Option<Box<Expr>>), Fail> {
+fn taken_out(alloc: Global) -> Result<(Option<Box<Expr<Global>>>, Option<Box<Expr<Global>>>), Fail> {
     let value = || Expr::Bare(Pieces {
         each: Vec::new(alloc),
         last: None,
