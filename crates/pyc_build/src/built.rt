@@ -129,7 +129,12 @@ fn made_with<A: Allocator>(
 
 /// A tree of height `height`, unless that passes the limit. `is_target` says whether the tree is a target by itself,
 /// and also whether it is one as an item of a list.
-fn made<A: Allocator>(alloc: A, expr: Expr<A>, height: usize, is_target: bool) -> Result<Built<A>, ParseError>
+fn made<A: Allocator>(
+    alloc: A,
+    expr: Expr<A>,
+    height: usize,
+    is_target: bool,
+) -> Result<Built<A>, ParseError>
     requires height_is { height ≡ height_of (tree_of expr) }
     requires target_is { is_target ≡ targets.is_target (tree_of expr) }
     requires item_target_is { is_target ≡ targets.is_item_target (tree_of expr) }
@@ -194,7 +199,11 @@ pub fn constant<A: Allocator>(alloc: A, token: Token) -> Result<Built<A>, ParseE
 }
 
 /// String literals, one after another.
-pub fn strings<A: Allocator>(alloc: A, first: Token, more: Vec<Token, A>) -> Result<Built<A>, ParseError>
+pub fn strings<A: Allocator>(
+    alloc: A,
+    first: Token,
+    more: Vec<Token, A>,
+) -> Result<Built<A>, ParseError>
     ensures made { IfOk result (λ b. tree_of b.expr.value ≡ tree.strings first more.items) }
     ensures memory { IfErr result (λ e. e ≡ Memory) }
 {
@@ -270,7 +279,12 @@ pub fn comprehension_display<A: Allocator>(
 }
 
 /// An object, `.` and a name.
-pub fn attribute<A: Allocator>(alloc: A, object: Built<A>, dot: Token, name: Token) -> Result<Built<A>, ParseError>
+pub fn attribute<A: Allocator>(
+    alloc: A,
+    object: Built<A>,
+    dot: Token,
+    name: Token,
+) -> Result<Built<A>, ParseError>
     ensures { Makes (λ b. tree_of b.expr.value) (tree.attribute (tree_of object.expr.value) dot name) result }
 {
     let height = object.height + 1;
@@ -328,7 +342,11 @@ pub fn subscript<A: Allocator>(
 }
 
 /// `await` and its operand.
-pub fn await_expression<A: Allocator>(alloc: A, word: Token, operand: Built<A>) -> Result<Built<A>, ParseError>
+pub fn await_expression<A: Allocator>(
+    alloc: A,
+    word: Token,
+    operand: Built<A>,
+) -> Result<Built<A>, ParseError>
     ensures { Makes (λ b. tree_of b.expr.value) (tree.await word (tree_of operand.expr.value)) result }
 {
     let height = operand.height + 1;
@@ -363,7 +381,11 @@ pub fn binary<A: Allocator>(
 }
 
 /// A chain of comparisons.
-pub fn compare<A: Allocator>(alloc: A, left: Built<A>, links: BuiltLinks<A>) -> Result<Built<A>, ParseError>
+pub fn compare<A: Allocator>(
+    alloc: A,
+    left: Built<A>,
+    links: BuiltLinks<A>,
+) -> Result<Built<A>, ParseError>
     ensures { Makes (λ b. tree_of b.expr.value)
         (tree.compare (tree_of left.expr.value) (links_before links.links.items tree.unlinked)) result }
 {
@@ -423,7 +445,11 @@ pub fn bare<A: Allocator>(alloc: A, items: BuiltPieces<A>) -> Result<Built<A>, P
 }
 
 /// `yield`, perhaps with a value.
-pub fn yield_expression<A: Allocator>(alloc: A, word: Token, value: BuiltOption<A>) -> Result<Built<A>, ParseError>
+pub fn yield_expression<A: Allocator>(
+    alloc: A,
+    word: Token,
+    value: BuiltOption<A>,
+) -> Result<Built<A>, ParseError>
     ensures { Makes (λ b. tree_of b.expr.value) (tree.yield word (perhaps_of value.expr)) result }
 {
     let height = value.height + 1;
@@ -449,7 +475,11 @@ pub fn yield_from<A: Allocator>(
 }
 
 /// `*` and an operand.
-pub fn starred<A: Allocator>(alloc: A, star: Token, operand: Built<A>) -> Result<Built<A>, ParseError>
+pub fn starred<A: Allocator>(
+    alloc: A,
+    star: Token,
+    operand: Built<A>,
+) -> Result<Built<A>, ParseError>
     ensures { Makes (λ b. tree_of b.expr.value) (tree.starred star (tree_of operand.expr.value)) result }
 {
     let height = operand.height + 1;
@@ -459,7 +489,11 @@ pub fn starred<A: Allocator>(alloc: A, star: Token, operand: Built<A>) -> Result
 }
 
 /// `**` and a value, in a call.
-pub fn double_starred<A: Allocator>(alloc: A, stars: Token, operand: Built<A>) -> Result<Built<A>, ParseError>
+pub fn double_starred<A: Allocator>(
+    alloc: A,
+    stars: Token,
+    operand: Built<A>,
+) -> Result<Built<A>, ParseError>
     ensures { Makes (λ b. tree_of b.expr.value) (tree.double_starred stars (tree_of operand.expr.value)) result }
 {
     let height = operand.height + 1;
@@ -472,7 +506,12 @@ pub fn double_starred<A: Allocator>(alloc: A, stars: Token, operand: Built<A>) -
 }
 
 /// A key, `:` and a value, in a dictionary.
-pub fn entry<A: Allocator>(alloc: A, key: Built<A>, colon: Token, value: Built<A>) -> Result<Built<A>, ParseError>
+pub fn entry<A: Allocator>(
+    alloc: A,
+    key: Built<A>,
+    colon: Token,
+    value: Built<A>,
+) -> Result<Built<A>, ParseError>
     ensures { Makes (λ b. tree_of b.expr.value) (tree.entry (tree_of key.expr.value) colon (tree_of value.expr.value))
         result }
 {
@@ -486,7 +525,11 @@ pub fn entry<A: Allocator>(alloc: A, key: Built<A>, colon: Token, value: Built<A
 }
 
 /// `**` and a mapping, in a dictionary.
-pub fn mapping<A: Allocator>(alloc: A, stars: Token, operand: Built<A>) -> Result<Built<A>, ParseError>
+pub fn mapping<A: Allocator>(
+    alloc: A,
+    stars: Token,
+    operand: Built<A>,
+) -> Result<Built<A>, ParseError>
     ensures { Makes (λ b. tree_of b.expr.value) (tree.mapping stars (tree_of operand.expr.value)) result }
 {
     let height = operand.height;
@@ -542,7 +585,12 @@ pub fn argument<A: Allocator>(alloc: A, value: Built<A>) -> Result<Built<A>, Par
 }
 
 /// A name, `=` and a value, in a call.
-pub fn keyword<A: Allocator>(alloc: A, name: Token, equal: Token, value: Built<A>) -> Result<Built<A>, ParseError>
+pub fn keyword<A: Allocator>(
+    alloc: A,
+    name: Token,
+    equal: Token,
+    value: Built<A>,
+) -> Result<Built<A>, ParseError>
     ensures { Makes (λ b. tree_of b.expr.value) (tree.keyword name equal (tree_of value.expr.value)) result }
 {
     let height = value.height + 1;
@@ -627,7 +675,11 @@ pub fn double_parameter<A: Allocator>(
 }
 
 /// A context manager, perhaps with its target.
-pub fn with_item<A: Allocator>(alloc: A, value: Built<A>, target: BuiltTail<A>) -> Result<Built<A>, ParseError>
+pub fn with_item<A: Allocator>(
+    alloc: A,
+    value: Built<A>,
+    target: BuiltTail<A>,
+) -> Result<Built<A>, ParseError>
     ensures { Makes (λ b. tree_of b.expr.value) (tree.with_item (tree_of value.expr.value) (tail_of target.tail))
         result }
 {
@@ -658,7 +710,11 @@ pub fn nothing<A: Allocator>() -> BuiltTail<A>
 }
 
 /// A token and the expression after it.
-pub fn after<A: Allocator>(alloc: A, mark: Token, value: Built<A>) -> Result<BuiltTail<A>, ParseError>
+pub fn after<A: Allocator>(
+    alloc: A,
+    mark: Token,
+    value: Built<A>,
+) -> Result<BuiltTail<A>, ParseError>
     ensures made { IfOk result (λ b. tail_of b.tail ≡ tree.after mark (tree_of value.expr.value)) }
     ensures memory { IfErr result (λ e. e ≡ Memory) }
 {

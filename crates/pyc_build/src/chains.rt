@@ -64,7 +64,9 @@ impl<A: Allocator> BuiltLinks<A> {
 }
 
 /// The clause as a part of a tree.
-fn clause_and_height<A: Allocator>(comprehension: BuiltComprehension<A>) -> (Comprehension<A>, usize)
+fn clause_and_height<A: Allocator>(
+    comprehension: BuiltComprehension<A>,
+) -> (Comprehension<A>, usize)
     ensures part { (rest : tree.Comprehensions) → comprehension_before result.0 rest
         ≡ turns.comprehension_of comprehension rest }
     ensures height { (rest : tree.Comprehensions) → comprehensions_height (turns.comprehension_of comprehension rest)

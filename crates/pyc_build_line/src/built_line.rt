@@ -33,7 +33,11 @@ pub struct BuiltLine<A: Allocator> {
 }
 
 /// A header on the heap, with its height.
-fn made<A: Allocator>(alloc: A, header: Header<A>, height: usize) -> Result<BuiltHeader<A>, ParseError>
+fn made<A: Allocator>(
+    alloc: A,
+    header: Header<A>,
+    height: usize,
+) -> Result<BuiltHeader<A>, ParseError>
     requires height_is { height ≡ header_height (header_of header) }
     requires low { height ≤ 1001 }
     ensures made { IfOk result (λ b. header_of b.header.value ≡ header_of header) }
@@ -45,7 +49,11 @@ fn made<A: Allocator>(alloc: A, header: Header<A>, height: usize) -> Result<Buil
 
 /// `if`, `elif` or `while`, and a condition.
 #[tactic(auto, unfolding(pyc_tree::specs::Lines::header_height))]
-pub fn condition<A: Allocator>(alloc: A, word: Token, test: Built<A>) -> Result<BuiltHeader<A>, ParseError>
+pub fn condition<A: Allocator>(
+    alloc: A,
+    word: Token,
+    test: Built<A>,
+) -> Result<BuiltHeader<A>, ParseError>
     ensures made { IfOk result (λ b. header_of b.header.value ≡ line.condition word (tree_of test.expr.value)) }
     ensures memory { IfErr result (λ e. e ≡ Memory) }
 {
@@ -226,7 +234,11 @@ pub fn simple<A: Allocator>(statements: BuiltSimpleStatements<A>) -> BuiltLine<A
 
 /// A header, its colon, and perhaps statements.
 #[tactic(auto, unfolding(pyc_tree::specs::Lines::line_height))]
-pub fn header<A: Allocator>(header: BuiltHeader<A>, colon: Token, statements: BuiltSimpleStatements<A>) -> BuiltLine<A>
+pub fn header<A: Allocator>(
+    header: BuiltHeader<A>,
+    colon: Token,
+    statements: BuiltSimpleStatements<A>,
+) -> BuiltLine<A>
     ensures { line_of result.line
         ≡ line.header (header_of header.header.value) colon (separated_of statement_of statements.statements) }
 {

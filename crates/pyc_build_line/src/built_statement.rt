@@ -104,7 +104,11 @@ pub fn annotate<A: Allocator>(
 
 /// A target, an operator as `+=`, and a value.
 #[tactic(auto, unfolding(pyc_tree::specs::Statements::statement_height))]
-pub fn augment<A: Allocator>(target: Built<A>, sign: Token, value: Built<A>) -> BuiltSimpleStatement<A>
+pub fn augment<A: Allocator>(
+    target: Built<A>,
+    sign: Token,
+    value: Built<A>,
+) -> BuiltSimpleStatement<A>
     ensures { statement_of result.statement
         ≡ statement.augment (tree_of target.expr.value) sign (tree_of value.expr.value) }
 {
@@ -128,7 +132,11 @@ pub fn returns<A: Allocator>(word: Token, value: BuiltOption<A>) -> BuiltSimpleS
 
 /// `raise`, perhaps an exception, perhaps `from` and its cause.
 #[tactic(auto, unfolding(pyc_tree::specs::Statements::statement_height))]
-pub fn raise<A: Allocator>(word: Token, value: BuiltOption<A>, cause: BuiltTail<A>) -> BuiltSimpleStatement<A>
+pub fn raise<A: Allocator>(
+    word: Token,
+    value: BuiltOption<A>,
+    cause: BuiltTail<A>,
+) -> BuiltSimpleStatement<A>
     ensures { statement_of result.statement ≡ statement.raise word (perhaps_of value.expr) (tail_of cause.tail) }
 {
     let height = taller(value.height, cause.height) + 1;
@@ -140,7 +148,11 @@ pub fn raise<A: Allocator>(word: Token, value: BuiltOption<A>, cause: BuiltTail<
 
 /// `assert`, a test, and perhaps a comma and a message.
 #[tactic(auto, unfolding(pyc_tree::specs::Statements::statement_height))]
-pub fn asserts<A: Allocator>(word: Token, test: Built<A>, message: BuiltTail<A>) -> BuiltSimpleStatement<A>
+pub fn asserts<A: Allocator>(
+    word: Token,
+    test: Built<A>,
+    message: BuiltTail<A>,
+) -> BuiltSimpleStatement<A>
     ensures { statement_of result.statement ≡ statement.assert word (tree_of test.expr.value) (tail_of message.tail) }
 {
     let height = taller(test.height, message.height) + 1;
@@ -209,7 +221,10 @@ pub fn import<A: Allocator>(
 
 /// `from`, a module, `import`, and names.
 #[tactic(auto, unfolding(pyc_tree::specs::Statements::statement_height))]
-pub fn import_from<A: Allocator>(alloc: A, found: ImportFrom<A>) -> Result<BuiltSimpleStatement<A>, ParseError>
+pub fn import_from<A: Allocator>(
+    alloc: A,
+    found: ImportFrom<A>,
+) -> Result<BuiltSimpleStatement<A>, ParseError>
     ensures made { IfOk result (λ b. statement_of b.statement ≡ import_from_of found) }
     ensures memory { IfErr result (λ e. e ≡ Memory) }
 {

@@ -210,7 +210,11 @@ fn after_argument<A: Allocator>(here: ListContext, item: &Expr<A>) -> ListContex
 }
 
 /// The context after a parameter.
-fn after_parameter<A: Allocator>(here: ListContext, is_annotated: bool, item: &Expr<A>) -> ListContext
+fn after_parameter<A: Allocator>(
+    here: ListContext,
+    is_annotated: bool,
+    item: &Expr<A>,
+) -> ListContext
     ensures { result ≡ list_contexts.after_parameter here is_annotated (tree_of item.now) }
 {
     match item {

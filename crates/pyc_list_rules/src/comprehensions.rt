@@ -16,7 +16,10 @@ use pyc_build::{Built, BuiltComprehension, BuiltComprehensions, ParseError};
 use pyc_cursor::{Cursor, is_comprehension};
 use pyc_token::{Keyword, Kind, Token};
 
-impl<'a, F: Fn(&'a Bump, &mut Cursor<'_>, usize, u8) -> Result<Built<&'a Bump>, ParseError>> ItemRules<'a, F> {
+impl<
+    'a,
+    F: Fn(&'a Bump, &mut Cursor<'_>, usize, u8) -> Result<Built<&'a Bump>, ParseError>,
+> ItemRules<'a, F> {
     /// `for`, targets, `in` and what is iterated, after an `async` where there is one.
     #[tactic(auto, using(pyc_build::proofs::Steps::ReadsTokens_made), unfolding(pyc_tree::specs::Items::for_clause))]
     fn for_clause(
@@ -37,7 +40,10 @@ impl<'a, F: Fn(&'a Bump, &mut Cursor<'_>, usize, u8) -> Result<Built<&'a Bump>, 
 
     /// `async` and a `for`.
     #[tactic(auto, using(pyc_build::proofs::Steps::ReadsTokens_made), unfolding(pyc_tree::specs::Items::async_clause))]
-    fn async_clause(&self, tokens: &mut Cursor<'_>) -> Result<BuiltComprehension<&'a Bump>, ParseError>
+    fn async_clause(
+        &self,
+        tokens: &mut Cursor<'_>,
+    ) -> Result<BuiltComprehension<&'a Bump>, ParseError>
         requires { ReadsExpressions self.now.depth (F.pre self.now.expr) (F.post self.now.expr) }
         ensures { ReadsTokens (λ b rest. turns.comprehension_of b rest)
             (items.async_clause (spec.expr self.now.depth) tokens.old.rest.now) result tokens.new.rest.now }
@@ -82,7 +88,10 @@ impl<'a, F: Fn(&'a Bump, &mut Cursor<'_>, usize, u8) -> Result<Built<&'a Bump>, 
     }
 
     /// The clauses of a comprehension.
-    pub fn comprehensions(&self, tokens: &mut Cursor<'_>) -> Result<BuiltComprehensions<&'a Bump>, ParseError>
+    pub fn comprehensions(
+        &self,
+        tokens: &mut Cursor<'_>,
+    ) -> Result<BuiltComprehensions<&'a Bump>, ParseError>
         requires { ReadsExpressions self.now.depth (F.pre self.now.expr) (F.post self.now.expr) }
         ensures { ReadsTokens (λ b. comprehensions_before b.comprehensions.items tree.no_comprehension)
             (items.comprehensions (spec.expr self.now.depth) tokens.old.rest.now) result tokens.new.rest.now }

@@ -15,10 +15,17 @@ use pyc_cursor::{Cursor, begins_expression, fits, is_colon, is_double_star, is_s
 use pyc_token::{Delimiter, Keyword, Kind};
 use pyc_tree::{Expr, ListContext};
 
-impl<'a, F: Fn(&'a Bump, &mut Cursor<'_>, usize, u8) -> Result<Built<&'a Bump>, ParseError>> ItemRules<'a, F> {
+impl<
+    'a,
+    F: Fn(&'a Bump, &mut Cursor<'_>, usize, u8) -> Result<Built<&'a Bump>, ParseError>,
+> ItemRules<'a, F> {
     /// The token of a kind and the expression after it, or nothing.
     #[tactic(auto, using(pyc_build::proofs::Steps::ReadsTokens_made), unfolding(pyc_tree::specs::Items::tail))]
-    pub fn tail(&self, tokens: &mut Cursor<'_>, kind: Kind) -> Result<BuiltTail<&'a Bump>, ParseError>
+    pub fn tail(
+        &self,
+        tokens: &mut Cursor<'_>,
+        kind: Kind,
+    ) -> Result<BuiltTail<&'a Bump>, ParseError>
         requires { ReadsExpressions self.now.depth (F.pre self.now.expr) (F.post self.now.expr) }
         ensures { ReadsTokens (λ b. tail_of b.tail) (items.tail (spec.expr self.now.depth) kind tokens.old.rest.now)
             result tokens.new.rest.now }
@@ -34,7 +41,10 @@ impl<'a, F: Fn(&'a Bump, &mut Cursor<'_>, usize, u8) -> Result<Built<&'a Bump>, 
 
     /// An expression, if one begins.
     #[tactic(auto, using(pyc_build::proofs::Steps::ReadsTokens_made), unfolding(pyc_tree::specs::Items::optional_bound))]
-    pub fn optional_bound(&self, tokens: &mut Cursor<'_>) -> Result<BuiltOption<&'a Bump>, ParseError>
+    pub fn optional_bound(
+        &self,
+        tokens: &mut Cursor<'_>,
+    ) -> Result<BuiltOption<&'a Bump>, ParseError>
         requires { ReadsExpressions self.now.depth (F.pre self.now.expr) (F.post self.now.expr) }
         ensures { ReadsTokens (λ b. perhaps_of b.expr) (items.optional_bound (spec.expr self.now.depth)
             tokens.old.rest.now)
@@ -50,7 +60,11 @@ impl<'a, F: Fn(&'a Bump, &mut Cursor<'_>, usize, u8) -> Result<Built<&'a Bump>, 
 
     /// `*` and an operand of this precedence.
     #[tactic(auto, using(pyc_build::proofs::Steps::ReadsTokens_made), unfolding(pyc_tree::specs::Items::starred))]
-    pub fn starred(&self, tokens: &mut Cursor<'_>, loosest: u8) -> Result<Built<&'a Bump>, ParseError>
+    pub fn starred(
+        &self,
+        tokens: &mut Cursor<'_>,
+        loosest: u8,
+    ) -> Result<Built<&'a Bump>, ParseError>
         requires { ReadsExpressions self.now.depth (F.pre self.now.expr) (F.post self.now.expr) }
         ensures { ReadsTokens (λ b. tree_of b.expr.value)
             (items.starred (spec.expr self.now.depth) loosest tokens.old.rest.now) result tokens.new.rest.now }
@@ -145,7 +159,11 @@ impl<'a, F: Fn(&'a Bump, &mut Cursor<'_>, usize, u8) -> Result<Built<&'a Bump>, 
 
     /// A keyword's value, after its name.
     #[tactic(auto, using(pyc_build::proofs::Steps::ReadsTokens_made, pyc_tree::proofs::ViewLemmas::view_Name))]
-    fn keyword(&self, tokens: &mut Cursor<'_>, key: Built<&'a Bump>) -> Result<Built<&'a Bump>, ParseError>
+    fn keyword(
+        &self,
+        tokens: &mut Cursor<'_>,
+        key: Built<&'a Bump>,
+    ) -> Result<Built<&'a Bump>, ParseError>
         requires { ReadsExpressions self.now.depth (F.pre self.now.expr) (F.post self.now.expr) }
         ensures { ReadsTokens (λ b. tree_of b.expr.value)
             (items.keyword (spec.expr self.now.depth) (tree_of key.entry.expr.value) tokens.old.rest.now) result
@@ -178,7 +196,11 @@ impl<'a, F: Fn(&'a Bump, &mut Cursor<'_>, usize, u8) -> Result<Built<&'a Bump>, 
 
     /// A target after `as`.
     #[tactic(auto, using(pyc_build::proofs::Steps::ReadsTokens_made), unfolding(pyc_tree::specs::Items::with_target))]
-    fn with_target(&self, tokens: &mut Cursor<'_>, value: Built<&'a Bump>) -> Result<Built<&'a Bump>, ParseError>
+    fn with_target(
+        &self,
+        tokens: &mut Cursor<'_>,
+        value: Built<&'a Bump>,
+    ) -> Result<Built<&'a Bump>, ParseError>
         requires { ReadsExpressions self.now.depth (F.pre self.now.expr) (F.post self.now.expr) }
         ensures { ReadsTokens (λ b. tree_of b.expr.value)
             (items.with_target (spec.expr self.now.depth) (tree_of value.entry.expr.value) tokens.old.rest.now) result
@@ -230,7 +252,11 @@ impl<'a, F: Fn(&'a Bump, &mut Cursor<'_>, usize, u8) -> Result<Built<&'a Bump>, 
 
     /// An item between curly brackets.
     #[tactic(auto, using(pyc_build::proofs::Steps::ReadsTokens_made))]
-    fn brace_item_by_kind(&self, tokens: &mut Cursor<'_>, kind: Kind) -> Result<Built<&'a Bump>, ParseError>
+    fn brace_item_by_kind(
+        &self,
+        tokens: &mut Cursor<'_>,
+        kind: Kind,
+    ) -> Result<Built<&'a Bump>, ParseError>
         requires { ReadsExpressions self.now.depth (F.pre self.now.expr) (F.post self.now.expr) }
         ensures { ReadsTokens (λ b. tree_of b.expr.value)
             (items.brace_item_by_kind (spec.expr self.now.depth) kind tokens.old.rest.now) result tokens.new.rest.now }
@@ -246,7 +272,11 @@ impl<'a, F: Fn(&'a Bump, &mut Cursor<'_>, usize, u8) -> Result<Built<&'a Bump>, 
 
     /// An item between the parentheses of a call.
     #[tactic(auto, using(pyc_build::proofs::Steps::ReadsTokens_made))]
-    fn argument_by_kind(&self, tokens: &mut Cursor<'_>, kind: Kind) -> Result<Built<&'a Bump>, ParseError>
+    fn argument_by_kind(
+        &self,
+        tokens: &mut Cursor<'_>,
+        kind: Kind,
+    ) -> Result<Built<&'a Bump>, ParseError>
         requires { ReadsExpressions self.now.depth (F.pre self.now.expr) (F.post self.now.expr) }
         ensures { ReadsTokens (λ b. tree_of b.expr.value)
             (items.argument_by_kind (spec.expr self.now.depth) kind tokens.old.rest.now) result tokens.new.rest.now }
@@ -318,7 +348,11 @@ impl<'a, F: Fn(&'a Bump, &mut Cursor<'_>, usize, u8) -> Result<Built<&'a Bump>, 
 
     /// An item that may stand in a context.
     #[tactic(auto, using(pyc_build::proofs::Steps::ReadsTokens_made), unfolding(pyc_tree::specs::Items::item))]
-    pub fn item(&self, tokens: &mut Cursor<'_>, here: ListContext) -> Result<Built<&'a Bump>, ParseError>
+    pub fn item(
+        &self,
+        tokens: &mut Cursor<'_>,
+        here: ListContext,
+    ) -> Result<Built<&'a Bump>, ParseError>
         requires { ReadsExpressions self.now.depth (F.pre self.now.expr) (F.post self.now.expr) }
         ensures { ReadsTokens (λ b. tree_of b.expr.value)
             (items.item (spec.expr self.now.depth) here tokens.old.rest.now) result tokens.new.rest.now }

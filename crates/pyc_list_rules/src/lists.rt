@@ -75,7 +75,10 @@ fn single_or_tuple<A: Allocator>(
     }
 }
 
-impl<'a, F: Fn(&'a Bump, &mut Cursor<'_>, usize, u8) -> Result<Built<&'a Bump>, ParseError>> ItemRules<'a, F> {
+impl<
+    'a,
+    F: Fn(&'a Bump, &mut Cursor<'_>, usize, u8) -> Result<Built<&'a Bump>, ParseError>,
+> ItemRules<'a, F> {
     /// An item that is read already, and those after it.
     pub fn parse_items_from(
         &self,

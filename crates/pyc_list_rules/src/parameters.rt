@@ -14,7 +14,10 @@ use pyc_build::{Built, BuiltTail, ParseError, built};
 use pyc_cursor::{Cursor, is_name};
 use pyc_token::{Delimiter, Kind};
 
-impl<'a, F: Fn(&'a Bump, &mut Cursor<'_>, usize, u8) -> Result<Built<&'a Bump>, ParseError>> ItemRules<'a, F> {
+impl<
+    'a,
+    F: Fn(&'a Bump, &mut Cursor<'_>, usize, u8) -> Result<Built<&'a Bump>, ParseError>,
+> ItemRules<'a, F> {
     /// The annotation of a parameter; a lambda's has none.
     #[tactic(auto, using(pyc_build::proofs::Steps::ReadsTokens_made))]
     fn annotation(

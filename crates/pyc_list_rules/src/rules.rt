@@ -21,7 +21,10 @@ pub struct ItemRules<'a, F> {
     pub expr: F,
 }
 
-impl<'a, F: Fn(&'a Bump, &mut Cursor<'_>, usize, u8) -> Result<Built<&'a Bump>, ParseError>> ItemRules<'a, F> {
+impl<
+    'a,
+    F: Fn(&'a Bump, &mut Cursor<'_>, usize, u8) -> Result<Built<&'a Bump>, ParseError>,
+> ItemRules<'a, F> {
     /// An expression that goes on with operators of a precedence or tighter ones.
     pub fn expr(&self, tokens: &mut Cursor<'_>, loosest: u8) -> Result<Built<&'a Bump>, ParseError>
         requires { ReadsExpressions self.now.depth (F.pre self.now.expr) (F.post self.now.expr) }

@@ -15,10 +15,17 @@ use pyc_cursor::{Cursor, begins, same_kind};
 use pyc_token::{Bracket, Keyword, Kind, Token};
 use pyc_tree::ListContext;
 
-impl<'a, F: Fn(&'a Bump, &mut Cursor<'_>, usize, u8) -> Result<Built<&'a Bump>, ParseError>> ItemRules<'a, F> {
+impl<
+    'a,
+    F: Fn(&'a Bump, &mut Cursor<'_>, usize, u8) -> Result<Built<&'a Bump>, ParseError>,
+> ItemRules<'a, F> {
     /// `yield`, `from` and a value, after the `yield`.
     #[tactic(auto, using(pyc_build::proofs::Steps::ReadsTokens_made), unfolding(pyc_tree::specs::Items::yield_from))]
-    fn yield_from(&self, tokens: &mut Cursor<'_>, word: Token) -> Result<Built<&'a Bump>, ParseError>
+    fn yield_from(
+        &self,
+        tokens: &mut Cursor<'_>,
+        word: Token,
+    ) -> Result<Built<&'a Bump>, ParseError>
         requires { ReadsExpressions self.now.depth (F.pre self.now.expr) (F.post self.now.expr) }
         ensures { ReadsTokens (λ b. tree_of b.expr.value)
             (items.yield_from (spec.expr self.now.depth) word tokens.old.rest.now) result tokens.new.rest.now }
@@ -30,7 +37,11 @@ impl<'a, F: Fn(&'a Bump, &mut Cursor<'_>, usize, u8) -> Result<Built<&'a Bump>, 
 
     /// The value of a `yield`, after it.
     #[tactic(auto, using(pyc_build::proofs::Steps::ReadsTokens_made), unfolding(pyc_tree::specs::Items::yield_value))]
-    fn yield_value(&self, tokens: &mut Cursor<'_>, word: Token) -> Result<Built<&'a Bump>, ParseError>
+    fn yield_value(
+        &self,
+        tokens: &mut Cursor<'_>,
+        word: Token,
+    ) -> Result<Built<&'a Bump>, ParseError>
         requires { ReadsExpressions self.now.depth (F.pre self.now.expr) (F.post self.now.expr) }
         ensures { ReadsTokens (λ b. tree_of b.expr.value)
             (items.yield_value (spec.expr self.now.depth) word tokens.old.rest.now) result tokens.new.rest.now }

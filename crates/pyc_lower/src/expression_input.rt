@@ -71,7 +71,9 @@ fn expression_of_statement<A: Allocator>(statement: &SimpleStatement<A>) -> Opti
 }
 
 /// The expression that simple statements are.
-fn expression_of_statements<A: Allocator>(statements: &Separated<SimpleStatement<A>, A>) -> Option<&Expr<A>>
+fn expression_of_statements<A: Allocator>(
+    statements: &Separated<SimpleStatement<A>, A>,
+) -> Option<&Expr<A>>
     ensures { option_map (λ tree. tree_of tree.now) result
         ≡ spec.expression_of_statements (separated_of statement_of statements.now) }
 {

@@ -107,7 +107,12 @@ impl<Q: Quotes> Lowering<'_, Q> {
 
     /// The expression that a tree is; the only error is that memory runs out.
     #[cycle(lower)]
-    pub fn expr<A: Allocator>(&self, expr: &Tree<A>, role: Role, names: &mut Names) -> Result<Expr, AllocError>
+    pub fn expr<A: Allocator>(
+        &self,
+        expr: &Tree<A>,
+        role: Role,
+        names: &mut Names,
+    ) -> Result<Expr, AllocError>
         ensures { IfOk result (λ e. expr_of e
             ≡ spec.expr_in Q.spelled (origin_of self.now.origin) role (tree_of expr.now)) }
     {
@@ -181,7 +186,12 @@ impl<Q: Quotes> Lowering<'_, Q> {
 
     /// The expression that a tree is that is no atom.
     #[cycle(lower)]
-    fn operation<A: Allocator>(&self, expr: &Tree<A>, role: Role, names: &mut Names) -> Result<Expr, AllocError>
+    fn operation<A: Allocator>(
+        &self,
+        expr: &Tree<A>,
+        role: Role,
+        names: &mut Names,
+    ) -> Result<Expr, AllocError>
         requires { is_atom (tree_of expr.now) ≡ false }
         ensures { IfOk result (λ e. expr_of e
             ≡ spec.expr_in Q.spelled (origin_of self.now.origin) role (tree_of expr.now)) }
@@ -334,7 +344,12 @@ impl<Q: Quotes> Lowering<'_, Q> {
 
     /// The value of an item.
     #[cycle(lower)]
-    fn item<A: Allocator>(&self, expr: &Tree<A>, role: Role, names: &mut Names) -> Result<Expr, AllocError>
+    fn item<A: Allocator>(
+        &self,
+        expr: &Tree<A>,
+        role: Role,
+        names: &mut Names,
+    ) -> Result<Expr, AllocError>
         requires no_atom { is_atom (tree_of expr.now) ≡ false }
         requires no_operation { is_operation (tree_of expr.now) ≡ false }
         ensures { IfOk result (λ e. expr_of e
@@ -397,7 +412,12 @@ impl<Q: Quotes> Lowering<'_, Q> {
 
     /// An item of a dictionary.
     #[cycle(lower)]
-    fn dict_item<A: Allocator>(&self, item: &Tree<A>, role: Role, names: &mut Names) -> Result<DictItem, AllocError>
+    fn dict_item<A: Allocator>(
+        &self,
+        item: &Tree<A>,
+        role: Role,
+        names: &mut Names,
+    ) -> Result<DictItem, AllocError>
         ensures { IfOk result (λ found. dict_item_of found
             ≡ (let o = origin_of self.now.origin in let t = tree_of item.now in
             spec.dict_item_in Q.spelled o role t
@@ -490,7 +510,12 @@ impl<Q: Quotes> Lowering<'_, Q> {
 
     /// An index.
     #[cycle(lower)]
-    fn index<A: Allocator>(&self, item: &Tree<A>, role: Role, names: &mut Names) -> Result<Index, AllocError>
+    fn index<A: Allocator>(
+        &self,
+        item: &Tree<A>,
+        role: Role,
+        names: &mut Names,
+    ) -> Result<Index, AllocError>
         ensures { IfOk result (λ found. index_of found
             ≡ (let o = origin_of self.now.origin in let t = tree_of item.now in
             spec.index_in Q.spelled o role t

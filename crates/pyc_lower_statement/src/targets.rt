@@ -98,7 +98,11 @@ fn element_at(found: &[TargetElement]) -> Position
 }
 
 /// Where the first of some items begins: at its star, else with its target.
-fn first_at<A: Allocator>(origin: Origin<'_>, items: &Pieces<A>, found: &[TargetElement]) -> Position
+fn first_at<A: Allocator>(
+    origin: Origin<'_>,
+    items: &Pieces<A>,
+    found: &[TargetElement],
+) -> Position
     ensures { result ≡ spec.first_at (origin_of origin.entry) (pieces_of items.now) (map target_element_of found.now) }
 {
     match first_star(origin, items) {

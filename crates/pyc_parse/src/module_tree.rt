@@ -63,11 +63,7 @@ fn placed_lines<'a>(
 /// holds each line of the scan once, in text order and at its level. Of a line without a tree no well-formed line has
 /// the tokens, and of each line before it one has. `Memory` comes only from a growth that was refused.
 #[tactic(auto, unfolding(crate::specs::Modules::module_of))]
-pub fn parse<'a>(
-    alloc: Global,
-    arena: &'a Bump,
-    scan: Scan,
-) -> Result<Module<&'a Bump>, ParseFault>
+pub fn parse<'a>(alloc: Global, arena: &'a Bump, scan: Scan) -> Result<Module<&'a Bump>, ParseFault>
     ensures tree { AnswersModule module_in (module_of (lexis_in scan)) result }
     ensures held { IfOk result (λ found. lines_held (module_in found).statements ≡ (lexis_in scan).lines) }
     ensures bad_line { IfErr result

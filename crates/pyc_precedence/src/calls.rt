@@ -17,7 +17,10 @@ use pyc_cursor::{Cursor, begins_comprehension, same_kind};
 use pyc_token::{Bracket, Kind, Token};
 use pyc_tree::{Expr, ListContext};
 
-impl<'a, F: Fn(&'a Bump, &mut Cursor<'_>, usize, u8) -> Result<Built<&'a Bump>, ParseError>> ExpressionRules<'a, F> {
+impl<
+    'a,
+    F: Fn(&'a Bump, &mut Cursor<'_>, usize, u8) -> Result<Built<&'a Bump>, ParseError>,
+> ExpressionRules<'a, F> {
     /// A generator that is the only argument, after its element.
     #[tactic(auto, using(pyc_build::proofs::Steps::ReadsTokens_made))]
     fn parse_generator_call(
@@ -132,7 +135,11 @@ impl<'a, F: Fn(&'a Bump, &mut Cursor<'_>, usize, u8) -> Result<Built<&'a Bump>, 
 
     /// A callee and its arguments in parentheses.
     #[tactic(auto, using(pyc_build::proofs::Steps::ReadsTokens_made), unfolding(pyc_tree::specs::Items::parse_call))]
-    pub fn parse_call(&self, tokens: &mut Cursor<'_>, callee: Built<&'a Bump>) -> Result<Built<&'a Bump>, ParseError>
+    pub fn parse_call(
+        &self,
+        tokens: &mut Cursor<'_>,
+        callee: Built<&'a Bump>,
+    ) -> Result<Built<&'a Bump>, ParseError>
         requires { ReadsExpressions self.now.rules.depth (F.pre self.now.rules.expr) (F.post self.now.rules.expr) }
         ensures { ReadsTokens (λ b. tree_of b.expr.value)
             (items.parse_call (spec.expr self.now.rules.depth) (tree_of callee.entry.expr.value) tokens.old.rest.now) result

@@ -36,7 +36,10 @@ fn second_word(tokens: &mut Cursor<'_>, first: Kind) -> Result<Option<Token>, Pa
     }
 }
 
-impl<'a, F: Fn(&'a Bump, &mut Cursor<'_>, usize, u8) -> Result<Built<&'a Bump>, ParseError>> ExpressionRules<'a, F> {
+impl<
+    'a,
+    F: Fn(&'a Bump, &mut Cursor<'_>, usize, u8) -> Result<Built<&'a Bump>, ParseError>,
+> ExpressionRules<'a, F> {
     /// A comparison.
     #[tactic(auto, using(pyc_build::proofs::Steps::ReadsTokens_made), unfolding(pyc_tree::specs::Expressions::one_link))]
     fn one_link(&self, tokens: &mut Cursor<'_>) -> Result<BuiltLink<&'a Bump>, ParseError>

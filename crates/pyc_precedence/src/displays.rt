@@ -47,7 +47,10 @@ fn in_parentheses<A: Allocator>(
     }
 }
 
-impl<'a, F: Fn(&'a Bump, &mut Cursor<'_>, usize, u8) -> Result<Built<&'a Bump>, ParseError>> ExpressionRules<'a, F> {
+impl<
+    'a,
+    F: Fn(&'a Bump, &mut Cursor<'_>, usize, u8) -> Result<Built<&'a Bump>, ParseError>,
+> ExpressionRules<'a, F> {
     /// A comprehension after its element.
     #[tactic(auto, using(pyc_build::proofs::Steps::ReadsTokens_made), unfolding(pyc_tree::specs::Items::parse_comprehension_display))]
     fn parse_comprehension_display(
@@ -225,7 +228,11 @@ impl<'a, F: Fn(&'a Bump, &mut Cursor<'_>, usize, u8) -> Result<Built<&'a Bump>, 
 
     /// Square or curly brackets and what is between them.
     #[tactic(auto, using(pyc_build::proofs::Steps::ReadsTokens_made), unfolding(pyc_tree::specs::Expressions::brackets))]
-    pub fn brackets(&self, tokens: &mut Cursor<'_>, bracket: Bracket) -> Result<Built<&'a Bump>, ParseError>
+    pub fn brackets(
+        &self,
+        tokens: &mut Cursor<'_>,
+        bracket: Bracket,
+    ) -> Result<Built<&'a Bump>, ParseError>
         requires { ReadsExpressions self.now.rules.depth (F.pre self.now.rules.expr) (F.post self.now.rules.expr) }
         ensures { ReadsTokens (λ b. tree_of b.expr.value)
             (spec.brackets (spec.expr self.now.rules.depth) bracket tokens.old.rest.now) result tokens.new.rest.now }

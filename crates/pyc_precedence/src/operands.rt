@@ -62,7 +62,10 @@ fn are_joined(of_bytes: bool, more: &[Token]) -> bool
     true
 }
 
-impl<'a, F: Fn(&'a Bump, &mut Cursor<'_>, usize, u8) -> Result<Built<&'a Bump>, ParseError>> ExpressionRules<'a, F> {
+impl<
+    'a,
+    F: Fn(&'a Bump, &mut Cursor<'_>, usize, u8) -> Result<Built<&'a Bump>, ParseError>,
+> ExpressionRules<'a, F> {
     /// An identifier.
     #[tactic(auto, using(pyc_build::proofs::Steps::ReadsTokens_made))]
     fn name(&self, tokens: &mut Cursor<'_>) -> Result<Built<&'a Bump>, ParseError>
@@ -190,7 +193,11 @@ impl<'a, F: Fn(&'a Bump, &mut Cursor<'_>, usize, u8) -> Result<Built<&'a Bump>, 
 
     /// An operand that a bracket begins.
     #[tactic(auto, using(pyc_build::proofs::Steps::ReadsTokens_made))]
-    fn prefix_bracket(&self, tokens: &mut Cursor<'_>, bracket: Bracket) -> Result<Built<&'a Bump>, ParseError>
+    fn prefix_bracket(
+        &self,
+        tokens: &mut Cursor<'_>,
+        bracket: Bracket,
+    ) -> Result<Built<&'a Bump>, ParseError>
         requires { ReadsExpressions self.now.rules.depth (F.pre self.now.rules.expr) (F.post self.now.rules.expr) }
         ensures { ReadsTokens (λ b. tree_of b.expr.value)
             (spec.prefix_by (spec.expr self.now.rules.depth) 1 (kind.Open bracket) tokens.old.rest.now) result
@@ -205,7 +212,11 @@ impl<'a, F: Fn(&'a Bump, &mut Cursor<'_>, usize, u8) -> Result<Built<&'a Bump>, 
 
     /// An operand, by its first token.
     #[tactic(auto, using(pyc_build::proofs::Steps::ReadsTokens_made), unfolding(pyc_tree::specs::Expressions::prefix))]
-    pub fn prefix(&self, tokens: &mut Cursor<'_>, loosest: u8) -> Result<Built<&'a Bump>, ParseError>
+    pub fn prefix(
+        &self,
+        tokens: &mut Cursor<'_>,
+        loosest: u8,
+    ) -> Result<Built<&'a Bump>, ParseError>
         requires { ReadsExpressions self.now.rules.depth (F.pre self.now.rules.expr) (F.post self.now.rules.expr) }
         ensures { ReadsTokens (λ b. tree_of b.expr.value)
             (spec.prefix (spec.expr self.now.rules.depth) loosest tokens.old.rest.now) result tokens.new.rest.now }

@@ -14,7 +14,10 @@ use pyc_build::{Built, ParseError, built};
 use pyc_cursor::{Cursor, infix_precedence, right_precedence};
 use pyc_token::{Bracket, Delimiter, Keyword, Kind};
 
-impl<'a, F: Fn(&'a Bump, &mut Cursor<'_>, usize, u8) -> Result<Built<&'a Bump>, ParseError>> ExpressionRules<'a, F> {
+impl<
+    'a,
+    F: Fn(&'a Bump, &mut Cursor<'_>, usize, u8) -> Result<Built<&'a Bump>, ParseError>,
+> ExpressionRules<'a, F> {
     /// An operator and its operand, both of this precedence.
     #[tactic(auto, unfolding(pyc_tree::specs::Expressions::parse_unary))]
     pub fn parse_unary(
@@ -38,7 +41,11 @@ impl<'a, F: Fn(&'a Bump, &mut Cursor<'_>, usize, u8) -> Result<Built<&'a Bump>, 
 
     /// `if`, a test, `else` and another value, after a value.
     #[tactic(auto, unfolding(pyc_tree::specs::Expressions::conditional))]
-    pub fn conditional(&self, tokens: &mut Cursor<'_>, left: Built<&'a Bump>) -> Result<Built<&'a Bump>, ParseError>
+    pub fn conditional(
+        &self,
+        tokens: &mut Cursor<'_>,
+        left: Built<&'a Bump>,
+    ) -> Result<Built<&'a Bump>, ParseError>
         requires { ReadsExpressions self.now.rules.depth (F.pre self.now.rules.expr) (F.post self.now.rules.expr) }
         ensures { ReadsTokens (λ b. tree_of b.expr.value)
             (spec.conditional (spec.expr self.now.rules.depth) (tree_of left.entry.expr.value) tokens.old.rest.now) result
@@ -92,7 +99,11 @@ impl<'a, F: Fn(&'a Bump, &mut Cursor<'_>, usize, u8) -> Result<Built<&'a Bump>, 
 
     /// `.` and a name, after an object.
     #[tactic(auto, unfolding(pyc_tree::specs::Expressions::attribute))]
-    pub fn attribute(&self, tokens: &mut Cursor<'_>, object: Built<&'a Bump>) -> Result<Built<&'a Bump>, ParseError>
+    pub fn attribute(
+        &self,
+        tokens: &mut Cursor<'_>,
+        object: Built<&'a Bump>,
+    ) -> Result<Built<&'a Bump>, ParseError>
         ensures { ReadsTokens (λ b. tree_of b.expr.value)
             (spec.attribute (spec.expr self.now.rules.depth) (tree_of object.entry.expr.value) tokens.old.rest.now) result
             tokens.new.rest.now }
@@ -104,7 +115,11 @@ impl<'a, F: Fn(&'a Bump, &mut Cursor<'_>, usize, u8) -> Result<Built<&'a Bump>, 
 
     /// What an expression goes on with, by the next token.
     #[tactic(auto, unfolding(pyc_tree::specs::Expressions::operation))]
-    fn operation(&self, tokens: &mut Cursor<'_>, left: Built<&'a Bump>) -> Result<Built<&'a Bump>, ParseError>
+    fn operation(
+        &self,
+        tokens: &mut Cursor<'_>,
+        left: Built<&'a Bump>,
+    ) -> Result<Built<&'a Bump>, ParseError>
         requires { ReadsExpressions self.now.rules.depth (F.pre self.now.rules.expr) (F.post self.now.rules.expr) }
         ensures { ReadsTokens (λ b. tree_of b.expr.value)
             (spec.operation (spec.expr self.now.rules.depth) (tree_of left.entry.expr.value) tokens.old.rest.now) result

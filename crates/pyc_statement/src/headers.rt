@@ -21,7 +21,10 @@ use std::alloc::Allocator;
 
 /// `else`, `try` or `finally`.
 #[tactic(auto, unfolding(pyc_tree::specs::Headers::word_header))]
-pub fn word_header<A: Allocator>(alloc: A, tokens: &mut Cursor<'_>) -> Result<BuiltHeader<A>, ParseError>
+pub fn word_header<A: Allocator>(
+    alloc: A,
+    tokens: &mut Cursor<'_>,
+) -> Result<BuiltHeader<A>, ParseError>
     ensures { ReadsTokens (λ b. header_of b.header.value) (headers.word_header tokens.old.rest.now) result
         tokens.new.rest.now }
 {
@@ -29,7 +32,10 @@ pub fn word_header<A: Allocator>(alloc: A, tokens: &mut Cursor<'_>) -> Result<Bu
     built_line::word(alloc, word)
 }
 
-impl<'a, F: Fn(&'a Bump, &mut Cursor<'_>, usize, u8) -> Result<Built<&'a Bump>, ParseError>> StatementRules<'a, F> {
+impl<
+    'a,
+    F: Fn(&'a Bump, &mut Cursor<'_>, usize, u8) -> Result<Built<&'a Bump>, ParseError>,
+> StatementRules<'a, F> {
     /// `if`, `elif` or `while`, and a condition.
     #[tactic(auto, using(crate::proofs::ReadingSteps::reading), unfolding(pyc_tree::specs::Headers::condition))]
     pub fn condition(&self, tokens: &mut Cursor<'_>) -> Result<BuiltHeader<&'a Bump>, ParseError>
@@ -70,7 +76,10 @@ impl<'a, F: Fn(&'a Bump, &mut Cursor<'_>, usize, u8) -> Result<Built<&'a Bump>, 
 
     /// `except`, and perhaps what is caught.
     #[tactic(auto, using(crate::proofs::ReadingSteps::reading), unfolding(pyc_tree::specs::Headers::except_header))]
-    pub fn except_header(&self, tokens: &mut Cursor<'_>) -> Result<BuiltHeader<&'a Bump>, ParseError>
+    pub fn except_header(
+        &self,
+        tokens: &mut Cursor<'_>,
+    ) -> Result<BuiltHeader<&'a Bump>, ParseError>
         requires { ReadsExpressions self.now.rules.depth (F.pre self.now.rules.expr) (F.post self.now.rules.expr) }
         ensures { ReadsTokens (λ b. header_of b.header.value)
             (headers.except_header (spec.expr self.now.rules.depth) tokens.old.rest.now) result tokens.new.rest.now }

@@ -46,7 +46,10 @@ fn source<A: Allocator + Copy>(alloc: A, tokens: &mut Cursor<'_>) -> Result<Sour
 
 /// `import` and modules.
 #[tactic(auto, unfolding(pyc_tree::specs::SimpleStatements::imported))]
-pub fn imported<A: Allocator + Copy>(alloc: A, tokens: &mut Cursor<'_>) -> Result<BuiltSimpleStatement<A>, ParseError>
+pub fn imported<A: Allocator + Copy>(
+    alloc: A,
+    tokens: &mut Cursor<'_>,
+) -> Result<BuiltSimpleStatement<A>, ParseError>
     ensures { ReadsTokens (λ b. statement_of b.statement) (spec.imported tokens.old.rest.now) result
         tokens.new.rest.now }
 {
@@ -130,7 +133,9 @@ pub fn import_from_statement<A: Allocator + Copy>(
 
 /// `pass`, `break` or `continue`.
 #[tactic(auto, unfolding(pyc_tree::specs::SimpleStatements::word_statement))]
-pub fn word_statement<A: Allocator + Copy>(tokens: &mut Cursor<'_>) -> Result<BuiltSimpleStatement<A>, ParseError>
+pub fn word_statement<A: Allocator + Copy>(
+    tokens: &mut Cursor<'_>,
+) -> Result<BuiltSimpleStatement<A>, ParseError>
     ensures { ReadsTokens (λ b. statement_of b.statement) (spec.word_statement tokens.old.rest.now) result
         tokens.new.rest.now }
 {
@@ -140,7 +145,10 @@ pub fn word_statement<A: Allocator + Copy>(tokens: &mut Cursor<'_>) -> Result<Bu
 
 /// `global` or `nonlocal`, and names.
 #[tactic(auto, unfolding(pyc_tree::specs::SimpleStatements::declared))]
-pub fn declared<A: Allocator + Copy>(alloc: A, tokens: &mut Cursor<'_>) -> Result<BuiltSimpleStatement<A>, ParseError>
+pub fn declared<A: Allocator + Copy>(
+    alloc: A,
+    tokens: &mut Cursor<'_>,
+) -> Result<BuiltSimpleStatement<A>, ParseError>
     ensures { ReadsTokens (λ b. statement_of b.statement) (spec.declared tokens.old.rest.now) result
         tokens.new.rest.now }
 {

@@ -18,7 +18,10 @@ use pyc_cursor::Cursor;
 use pyc_token::{Arithmetic, Delimiter, Keyword, Kind};
 use pyc_tree::Line;
 
-impl<'a, F: Fn(&'a Bump, &mut Cursor<'_>, usize, u8) -> Result<Built<&'a Bump>, ParseError>> StatementRules<'a, F> {
+impl<
+    'a,
+    F: Fn(&'a Bump, &mut Cursor<'_>, usize, u8) -> Result<Built<&'a Bump>, ParseError>,
+> StatementRules<'a, F> {
     /// `@` and an expression.
     #[tactic(auto, using(crate::proofs::ReadingSteps::reading), unfolding(pyc_tree::specs::Headers::decorator))]
     fn decorator(&self, tokens: &mut Cursor<'_>) -> Result<BuiltLine<&'a Bump>, ParseError>
@@ -33,7 +36,11 @@ impl<'a, F: Fn(&'a Bump, &mut Cursor<'_>, usize, u8) -> Result<Built<&'a Bump>, 
 
     /// The colon after a header, and the statements where a token is left.
     #[tactic(auto, using(crate::proofs::ReadingSteps::reading), unfolding(pyc_tree::specs::Headers::suite))]
-    fn suite(&self, tokens: &mut Cursor<'_>, header: BuiltHeader<&'a Bump>) -> Result<BuiltLine<&'a Bump>, ParseError>
+    fn suite(
+        &self,
+        tokens: &mut Cursor<'_>,
+        header: BuiltHeader<&'a Bump>,
+    ) -> Result<BuiltLine<&'a Bump>, ParseError>
         requires { ReadsExpressions self.now.rules.depth (F.pre self.now.rules.expr) (F.post self.now.rules.expr) }
         ensures { ReadsTokens (λ b. line_of b.line)
             (headers.suite (spec.expr self.now.rules.depth) (header_of header.entry.header.value) tokens.old.rest.now)

@@ -30,7 +30,10 @@ pub fn alias(tokens: &mut Cursor<'_>) -> Result<Option<Alias>, ParseError>
 }
 
 /// Dots, each with a name.
-fn parts<A: Allocator + Copy>(alloc: A, tokens: &mut Cursor<'_>) -> Result<Vec<DottedPart, A>, ParseError>
+fn parts<A: Allocator + Copy>(
+    alloc: A,
+    tokens: &mut Cursor<'_>,
+) -> Result<Vec<DottedPart, A>, ParseError>
     ensures { ReadsTokens (λ parts. map part_of parts.items) (spec.all_parts tokens.old.rest.now) result
         tokens.new.rest.now }
 {
@@ -48,7 +51,10 @@ fn parts<A: Allocator + Copy>(alloc: A, tokens: &mut Cursor<'_>) -> Result<Vec<D
 
 /// A dotted name.
 #[tactic(auto, unfolding(pyc_tree::specs::SimpleStatements::dotted_name))]
-pub fn dotted_name<A: Allocator + Copy>(alloc: A, tokens: &mut Cursor<'_>) -> Result<Dotted<A>, ParseError>
+pub fn dotted_name<A: Allocator + Copy>(
+    alloc: A,
+    tokens: &mut Cursor<'_>,
+) -> Result<Dotted<A>, ParseError>
     ensures { ReadsTokens dotted_of (spec.dotted_name tokens.old.rest.now) result tokens.new.rest.now }
 {
     let first = tokens.expect_name()?;
@@ -58,7 +64,10 @@ pub fn dotted_name<A: Allocator + Copy>(alloc: A, tokens: &mut Cursor<'_>) -> Re
 
 /// A module that is imported.
 #[tactic(auto, unfolding(pyc_tree::specs::SimpleStatements::imported_module))]
-fn imported_module<A: Allocator + Copy>(alloc: A, tokens: &mut Cursor<'_>) -> Result<ImportedModule<A>, ParseError>
+fn imported_module<A: Allocator + Copy>(
+    alloc: A,
+    tokens: &mut Cursor<'_>,
+) -> Result<ImportedModule<A>, ParseError>
     ensures { ReadsTokens module_of (spec.imported_module tokens.old.rest.now) result tokens.new.rest.now }
 {
     let path = dotted_name(alloc, tokens)?;
@@ -77,7 +86,10 @@ fn imported_name(tokens: &mut Cursor<'_>) -> Result<ImportedName, ParseError>
 }
 
 /// Names with commas between them.
-pub fn names<A: Allocator + Copy>(alloc: A, tokens: &mut Cursor<'_>) -> Result<Separated<Token, A>, ParseError>
+pub fn names<A: Allocator + Copy>(
+    alloc: A,
+    tokens: &mut Cursor<'_>,
+) -> Result<Separated<Token, A>, ParseError>
     ensures { ReadsTokens (separated_of token_of) (spec.all_separated parser.expect_name false tokens.old.rest.now)
         result tokens.new.rest.now }
 {

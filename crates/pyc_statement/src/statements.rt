@@ -19,7 +19,10 @@ use pyc_cursor::{Cursor, is_augmented, is_colon, same_kind};
 use pyc_token::{Delimiter, Keyword, Kind};
 use pyc_tree::{Assigned, Item, ListContext, Separated};
 
-impl<'a, F: Fn(&'a Bump, &mut Cursor<'_>, usize, u8) -> Result<Built<&'a Bump>, ParseError>> StatementRules<'a, F> {
+impl<
+    'a,
+    F: Fn(&'a Bump, &mut Cursor<'_>, usize, u8) -> Result<Built<&'a Bump>, ParseError>,
+> StatementRules<'a, F> {
     /// An expression, a tuple without brackets or a `yield`.
     #[tactic(auto, unfolding(pyc_tree::specs::SimpleStatements::value))]
     fn value(&self, tokens: &mut Cursor<'_>) -> Result<Built<&'a Bump>, ParseError>
@@ -50,7 +53,11 @@ impl<'a, F: Fn(&'a Bump, &mut Cursor<'_>, usize, u8) -> Result<Built<&'a Bump>, 
     }
 
     /// The targets before the last value of a chain, each with its `=`, and that value.
-    fn chain(&self, tokens: &mut Cursor<'_>, first: Built<&'a Bump>) -> Result<BuiltChain<&'a Bump>, ParseError>
+    fn chain(
+        &self,
+        tokens: &mut Cursor<'_>,
+        first: Built<&'a Bump>,
+    ) -> Result<BuiltChain<&'a Bump>, ParseError>
         requires { ReadsExpressions self.now.rules.depth (F.pre self.now.rules.expr) (F.post self.now.rules.expr) }
         ensures { ReadsTokens (λ b. (map assigned_of b.targets.items, tree_of b.value.value))
             (statements.chain (spec.expr self.now.rules.depth) (length tokens.old.rest.now) (tree_of first.entry.expr.value)
@@ -164,7 +171,10 @@ impl<'a, F: Fn(&'a Bump, &mut Cursor<'_>, usize, u8) -> Result<Built<&'a Bump>, 
 
     /// A statement that begins with `yield`.
     #[tactic(auto, unfolding(pyc_tree::specs::SimpleStatements::yield_statement))]
-    fn yield_statement(&self, tokens: &mut Cursor<'_>) -> Result<BuiltSimpleStatement<&'a Bump>, ParseError>
+    fn yield_statement(
+        &self,
+        tokens: &mut Cursor<'_>,
+    ) -> Result<BuiltSimpleStatement<&'a Bump>, ParseError>
         requires { ReadsExpressions self.now.rules.depth (F.pre self.now.rules.expr) (F.post self.now.rules.expr) }
         ensures { ReadsTokens (λ b. statement_of b.statement)
             (statements.yield_statement (spec.expr self.now.rules.depth) tokens.old.rest.now) result
@@ -176,7 +186,10 @@ impl<'a, F: Fn(&'a Bump, &mut Cursor<'_>, usize, u8) -> Result<Built<&'a Bump>, 
 
     /// `return`, perhaps with a value.
     #[tactic(auto, unfolding(pyc_tree::specs::SimpleStatements::return_statement))]
-    fn return_statement(&self, tokens: &mut Cursor<'_>) -> Result<BuiltSimpleStatement<&'a Bump>, ParseError>
+    fn return_statement(
+        &self,
+        tokens: &mut Cursor<'_>,
+    ) -> Result<BuiltSimpleStatement<&'a Bump>, ParseError>
         requires { ReadsExpressions self.now.rules.depth (F.pre self.now.rules.expr) (F.post self.now.rules.expr) }
         ensures { ReadsTokens (λ b. statement_of b.statement)
             (statements.return_statement (spec.expr self.now.rules.depth) tokens.old.rest.now) result
@@ -192,7 +205,10 @@ impl<'a, F: Fn(&'a Bump, &mut Cursor<'_>, usize, u8) -> Result<Built<&'a Bump>, 
 
     /// `raise`, perhaps an exception, perhaps `from` and its cause.
     #[tactic(auto, unfolding(pyc_tree::specs::SimpleStatements::raise_statement))]
-    fn raise_statement(&self, tokens: &mut Cursor<'_>) -> Result<BuiltSimpleStatement<&'a Bump>, ParseError>
+    fn raise_statement(
+        &self,
+        tokens: &mut Cursor<'_>,
+    ) -> Result<BuiltSimpleStatement<&'a Bump>, ParseError>
         requires { ReadsExpressions self.now.rules.depth (F.pre self.now.rules.expr) (F.post self.now.rules.expr) }
         ensures { ReadsTokens (λ b. statement_of b.statement)
             (statements.raise_statement (spec.expr self.now.rules.depth) tokens.old.rest.now) result
@@ -209,7 +225,10 @@ impl<'a, F: Fn(&'a Bump, &mut Cursor<'_>, usize, u8) -> Result<Built<&'a Bump>, 
 
     /// `assert`, a test, and perhaps a message.
     #[tactic(auto, unfolding(pyc_tree::specs::SimpleStatements::assert_statement))]
-    fn assert_statement(&self, tokens: &mut Cursor<'_>) -> Result<BuiltSimpleStatement<&'a Bump>, ParseError>
+    fn assert_statement(
+        &self,
+        tokens: &mut Cursor<'_>,
+    ) -> Result<BuiltSimpleStatement<&'a Bump>, ParseError>
         requires { ReadsExpressions self.now.rules.depth (F.pre self.now.rules.expr) (F.post self.now.rules.expr) }
         ensures { ReadsTokens (λ b. statement_of b.statement)
             (statements.assert_statement (spec.expr self.now.rules.depth) tokens.old.rest.now) result
@@ -223,7 +242,10 @@ impl<'a, F: Fn(&'a Bump, &mut Cursor<'_>, usize, u8) -> Result<Built<&'a Bump>, 
 
     /// `del` and targets.
     #[tactic(auto, unfolding(pyc_tree::specs::SimpleStatements::delete_statement))]
-    fn delete_statement(&self, tokens: &mut Cursor<'_>) -> Result<BuiltSimpleStatement<&'a Bump>, ParseError>
+    fn delete_statement(
+        &self,
+        tokens: &mut Cursor<'_>,
+    ) -> Result<BuiltSimpleStatement<&'a Bump>, ParseError>
         requires { ReadsExpressions self.now.rules.depth (F.pre self.now.rules.expr) (F.post self.now.rules.expr) }
         ensures { ReadsTokens (λ b. statement_of b.statement)
             (statements.delete_statement (spec.expr self.now.rules.depth) tokens.old.rest.now) result
@@ -236,7 +258,10 @@ impl<'a, F: Fn(&'a Bump, &mut Cursor<'_>, usize, u8) -> Result<Built<&'a Bump>, 
 
     /// A simple statement, by its first token.
     #[tactic(auto, unfolding(pyc_tree::specs::SimpleStatements::simple))]
-    pub fn simple(&self, tokens: &mut Cursor<'_>) -> Result<BuiltSimpleStatement<&'a Bump>, ParseError>
+    pub fn simple(
+        &self,
+        tokens: &mut Cursor<'_>,
+    ) -> Result<BuiltSimpleStatement<&'a Bump>, ParseError>
         requires { ReadsExpressions self.now.rules.depth (F.pre self.now.rules.expr) (F.post self.now.rules.expr) }
         ensures { ReadsTokens (λ b. statement_of b.statement)
             (statements.simple (spec.expr self.now.rules.depth) tokens.old.rest.now) result tokens.new.rest.now }
@@ -261,7 +286,10 @@ impl<'a, F: Fn(&'a Bump, &mut Cursor<'_>, usize, u8) -> Result<Built<&'a Bump>, 
     }
 
     /// Statements to the end of the line, joined by semicolons, of which one may follow the last.
-    pub fn statements(&self, tokens: &mut Cursor<'_>) -> Result<BuiltSimpleStatements<&'a Bump>, ParseError>
+    pub fn statements(
+        &self,
+        tokens: &mut Cursor<'_>,
+    ) -> Result<BuiltSimpleStatements<&'a Bump>, ParseError>
         requires { ReadsExpressions self.now.rules.depth (F.pre self.now.rules.expr) (F.post self.now.rules.expr) }
         ensures { ReadsTokens (λ b. separated_of statement_of b.statements)
             (statements.all_statements (spec.expr self.now.rules.depth) tokens.old.rest.now) result

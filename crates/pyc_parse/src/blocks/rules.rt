@@ -53,7 +53,11 @@ fn decorator_line<A: Allocator>(lines: &mut Lines<A>) -> Result<Decorator<A>, Bl
 }
 
 /// The decorators of a row.
-fn decorators<A: Allocator>(alloc: A, lines: &mut Lines<A>, indent: usize) -> Result<Vec<Decorator<A>, A>, BlockFault>
+fn decorators<A: Allocator>(
+    alloc: A,
+    lines: &mut Lines<A>,
+    indent: usize,
+) -> Result<Vec<Decorator<A>, A>, BlockFault>
     ensures { ReadsLines decorators_of (spec.all_decorators indent (lines_of lines.old)) result (lines_of lines.new) }
 {
     let mut found = Vec::new(alloc);
@@ -67,9 +71,21 @@ fn decorators<A: Allocator>(alloc: A, lines: &mut Lines<A>, indent: usize) -> Re
     Ok(found)
 }
 
-impl<'a, F: Fn(&'a Bump, &mut Lines<&'a Bump>, usize, usize) -> Result<Vec<Stmt<&'a Bump>, &'a Bump>, BlockFault>> Rules<'a, F> {
+impl<
+    'a,
+    F: Fn(
+        &'a Bump,
+        &mut Lines<&'a Bump>,
+        usize,
+        usize,
+    ) -> Result<Vec<Stmt<&'a Bump>, &'a Bump>, BlockFault>,
+> Rules<'a, F> {
     /// The block at an indent.
-    fn block(&self, lines: &mut Lines<&'a Bump>, indent: usize) -> Result<Vec<Stmt<&'a Bump>, &'a Bump>, BlockFault>
+    fn block(
+        &self,
+        lines: &mut Lines<&'a Bump>,
+        indent: usize,
+    ) -> Result<Vec<Stmt<&'a Bump>, &'a Bump>, BlockFault>
         requires { ReadsBlocks self.now.depth (F.pre self.now.block) (F.post self.now.block) }
         ensures { ReadsLines stmts_of (spec.block_at self.now.depth indent (lines_of lines.old)) result
             (lines_of lines.new) }
@@ -105,7 +121,11 @@ impl<'a, F: Fn(&'a Bump, &mut Lines<&'a Bump>, usize, usize) -> Result<Vec<Stmt<
 
     /// A clause.
     #[tactic(auto, unfolding(crate::specs::Blocks::one_clause))]
-    fn one_clause(&self, lines: &mut Lines<&'a Bump>, indent: usize) -> Result<CompoundClause<&'a Bump>, BlockFault>
+    fn one_clause(
+        &self,
+        lines: &mut Lines<&'a Bump>,
+        indent: usize,
+    ) -> Result<CompoundClause<&'a Bump>, BlockFault>
         requires { ReadsBlocks self.now.depth (F.pre self.now.block) (F.post self.now.block) }
         ensures { ReadsLines clause_of (spec.one_clause (spec.block_at self.now.depth) indent (lines_of lines.old))
             result (lines_of lines.new) }
@@ -232,7 +252,11 @@ impl<'a, F: Fn(&'a Bump, &mut Lines<&'a Bump>, usize, usize) -> Result<Vec<Stmt<
 
     /// A row of decorators and a definition.
     #[tactic(auto, unfolding(crate::specs::Blocks::decorated_definition))]
-    fn decorated_definition(&self, lines: &mut Lines<&'a Bump>, indent: usize) -> Result<Stmt<&'a Bump>, BlockFault>
+    fn decorated_definition(
+        &self,
+        lines: &mut Lines<&'a Bump>,
+        indent: usize,
+    ) -> Result<Stmt<&'a Bump>, BlockFault>
         requires { ReadsBlocks self.now.depth (F.pre self.now.block) (F.post self.now.block) }
         ensures { ReadsLines stmt_of (spec.decorated_definition (spec.block_at self.now.depth) indent
             (lines_of lines.old))
@@ -245,7 +269,11 @@ impl<'a, F: Fn(&'a Bump, &mut Lines<&'a Bump>, usize, usize) -> Result<Vec<Stmt<
 
     /// The statement that the next line begins, or none where the block ends.
     #[tactic(auto, unfolding(crate::specs::Blocks::next_statement))]
-    fn next_statement(&self, lines: &mut Lines<&'a Bump>, indent: usize) -> Result<Option<Stmt<&'a Bump>>, BlockFault>
+    fn next_statement(
+        &self,
+        lines: &mut Lines<&'a Bump>,
+        indent: usize,
+    ) -> Result<Option<Stmt<&'a Bump>>, BlockFault>
         requires { ReadsBlocks self.now.depth (F.pre self.now.block) (F.post self.now.block) }
         ensures { ReadsLines (option_map stmt_of)
             (spec.next_statement (spec.block_at self.now.depth) indent (lines_of lines.old)) result
@@ -263,7 +291,11 @@ impl<'a, F: Fn(&'a Bump, &mut Lines<&'a Bump>, usize, usize) -> Result<Vec<Stmt<
     }
 
     /// The statements of a block.
-    fn statements(&self, lines: &mut Lines<&'a Bump>, indent: usize) -> Result<Vec<Stmt<&'a Bump>, &'a Bump>, BlockFault>
+    fn statements(
+        &self,
+        lines: &mut Lines<&'a Bump>,
+        indent: usize,
+    ) -> Result<Vec<Stmt<&'a Bump>, &'a Bump>, BlockFault>
         requires { ReadsBlocks self.now.depth (F.pre self.now.block) (F.post self.now.block) }
         ensures { ReadsLines stmts_of (spec.all_statements (spec.block_at self.now.depth) indent (lines_of lines.old))
             result (lines_of lines.new) }

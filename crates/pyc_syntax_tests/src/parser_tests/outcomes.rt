@@ -10,9 +10,7 @@ use std::test::Fail;
 /// The first fault of a source: its line, and what is reported.
 fn reported(alloc: Global, source: &[u8]) -> Result<Option<(usize, &'static str)>, Fail> {
     let arena = Bump::new(alloc);
-    let found = outcome(alloc, &arena, source)
-        .ok()
-        .ok_or("no memory")?;
+    let found = outcome(alloc, &arena, source).ok().ok_or("no memory")?;
     Ok(match found {
         Outcome::Tree(_) => None,
         Outcome::Fault(fault) => Some((fault.line, fault.text)),

@@ -16,7 +16,10 @@ fn write_target<A: Allocator>(target: &Expr<A>, shown: &mut String) -> Result<()
 }
 
 /// Writes the shape of an expression, or the targets of an assignment, each with `=` after it, and its value.
-fn write_statement<A: Allocator>(statement: &SimpleStatement<A>, shown: &mut String) -> Result<(), Fail> {
+fn write_statement<A: Allocator>(
+    statement: &SimpleStatement<A>,
+    shown: &mut String,
+) -> Result<(), Fail> {
     match statement {
         SimpleStatement::Expression(found) => write_tree(found, shown),
         SimpleStatement::Assign(targets, value) => {
@@ -94,7 +97,9 @@ fn lines_have_their_shapes(rt: HostRuntime) -> Result<(), Fail> {
 }
 
 /// The value of a tree that is an argument by its place alone, with a value of no items, and of that value itself.
-fn taken_out(alloc: Global) -> Result<(Option<Box<Expr<Global>>>, Option<Box<Expr<Global>>>), Fail> {
+fn taken_out(
+    alloc: Global,
+) -> Result<(Option<Box<Expr<Global>>>, Option<Box<Expr<Global>>>), Fail> {
     let value = || Expr::Bare(Pieces {
         each: Vec::new(alloc),
         last: None,
