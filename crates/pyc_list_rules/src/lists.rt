@@ -88,8 +88,8 @@ impl<
     ) -> Result<BuiltPieces<&'a Bump>, ParseError>
         requires { ReadsExpressions self.now.depth (F.pre self.now.expr) (F.post self.now.expr) }
         ensures { ReadsTokens (λ b. pieces_of b.pieces)
-            (items.parse_items_from (spec.expr self.now.depth) here (tree_of first.entry.expr.value) tokens.old.rest.now)
-            result
+            (items.parse_items_from (spec.expr self.now.depth) here (tree_of first.entry.expr.value)
+            tokens.old.rest.now) result
             tokens.new.rest.now }
     {
         let mut so_far = PiecesSoFar::new(self.alloc);

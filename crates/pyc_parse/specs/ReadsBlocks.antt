@@ -12,7 +12,8 @@ use Rattle.pyc_parse.specs.PlacedView.{lines_of}
 
 -- it may be called at this depth, and reads what the definition does
 pub record ReadsBlocks {S : Type 0} (depth : ℕ) (pre : S → MutBor (Lines S) → ℕ → ℕ → Type 0)
-    (post : S → MutBor (Lines S) → ℕ → ℕ → Result (Vec (StmtOf S) S) BlockFault → MutBor (Lines S) → Type 0) : Type 0 where
+    (post : S → MutBor (Lines S) → ℕ → ℕ → Result (Vec (StmtOf S) S) BlockFault → MutBor (Lines S) → Type 0)
+    : Type 0 where
   pub callable : (alloc : S) (old : MutBor (Lines S)) (indent : ℕ) → pre alloc old depth indent
   pub reads : (alloc : S) (old new : MutBor (Lines S)) (indent : ℕ) (r : Result (Vec (StmtOf S) S) BlockFault)
       → post alloc old depth indent r new

@@ -142,8 +142,8 @@ impl<
     ) -> Result<Built<&'a Bump>, ParseError>
         requires { ReadsExpressions self.now.rules.depth (F.pre self.now.rules.expr) (F.post self.now.rules.expr) }
         ensures { ReadsTokens (λ b. tree_of b.expr.value)
-            (items.parse_call (spec.expr self.now.rules.depth) (tree_of callee.entry.expr.value) tokens.old.rest.now) result
-            tokens.new.rest.now }
+            (items.parse_call (spec.expr self.now.rules.depth) (tree_of callee.entry.expr.value)
+            tokens.old.rest.now) result tokens.new.rest.now }
     {
         let opening = tokens.take()?;
         if same_kind(tokens.peek(), Kind::Close(Bracket::Round)) {
@@ -162,8 +162,8 @@ impl<
     ) -> Result<Built<&'a Bump>, ParseError>
         requires { ReadsExpressions self.now.rules.depth (F.pre self.now.rules.expr) (F.post self.now.rules.expr) }
         ensures { ReadsTokens (λ b. tree_of b.expr.value)
-            (items.parse_subscript (spec.expr self.now.rules.depth) (tree_of object.entry.expr.value) tokens.old.rest.now)
-            result tokens.new.rest.now }
+            (items.parse_subscript (spec.expr self.now.rules.depth) (tree_of object.entry.expr.value)
+            tokens.old.rest.now) result tokens.new.rest.now }
     {
         let opening = tokens.take()?;
         let first = self.rules.item(tokens, ListContext::Subscript)?;

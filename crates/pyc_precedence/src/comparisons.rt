@@ -83,8 +83,8 @@ impl<
     ) -> Result<Built<&'a Bump>, ParseError>
         requires { ReadsExpressions self.now.rules.depth (F.pre self.now.rules.expr) (F.post self.now.rules.expr) }
         ensures { ReadsTokens (λ b. tree_of b.expr.value)
-            (spec.parse_comparisons (spec.expr self.now.rules.depth) (tree_of left.entry.expr.value) tokens.old.rest.now)
-            result
+            (spec.parse_comparisons (spec.expr self.now.rules.depth) (tree_of left.entry.expr.value)
+            tokens.old.rest.now) result
             tokens.new.rest.now }
     {
         let links = self.all_links(tokens)?;

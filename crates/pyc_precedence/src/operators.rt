@@ -48,8 +48,8 @@ impl<
     ) -> Result<Built<&'a Bump>, ParseError>
         requires { ReadsExpressions self.now.rules.depth (F.pre self.now.rules.expr) (F.post self.now.rules.expr) }
         ensures { ReadsTokens (λ b. tree_of b.expr.value)
-            (spec.conditional (spec.expr self.now.rules.depth) (tree_of left.entry.expr.value) tokens.old.rest.now) result
-            tokens.new.rest.now }
+            (spec.conditional (spec.expr self.now.rules.depth) (tree_of left.entry.expr.value)
+            tokens.old.rest.now) result tokens.new.rest.now }
     {
         let word_if = tokens.take()?;
         let test = self.rules.expr(tokens, 2)?;
@@ -105,8 +105,8 @@ impl<
         object: Built<&'a Bump>,
     ) -> Result<Built<&'a Bump>, ParseError>
         ensures { ReadsTokens (λ b. tree_of b.expr.value)
-            (spec.attribute (spec.expr self.now.rules.depth) (tree_of object.entry.expr.value) tokens.old.rest.now) result
-            tokens.new.rest.now }
+            (spec.attribute (spec.expr self.now.rules.depth) (tree_of object.entry.expr.value)
+            tokens.old.rest.now) result tokens.new.rest.now }
     {
         let dot = tokens.take()?;
         let name = tokens.expect_name()?;
@@ -202,8 +202,8 @@ impl<
     ) -> Result<Built<&'a Bump>, ParseError>
         requires { ReadsExpressions self.now.rules.depth (F.pre self.now.rules.expr) (F.post self.now.rules.expr) }
         ensures { ReadsTokens (λ b. tree_of b.expr.value)
-            (spec.operations (spec.expr self.now.rules.depth) loosest (tree_of left.entry.expr.value) tokens.old.rest.now)
-            result tokens.new.rest.now }
+            (spec.operations (spec.expr self.now.rules.depth) loosest (tree_of left.entry.expr.value)
+            tokens.old.rest.now) result tokens.new.rest.now }
     {
         for _turn in 0..tokens.rest.len() {
             if infix_precedence(tokens.peek()) < loosest {

@@ -60,8 +60,8 @@ impl<
     ) -> Result<BuiltChain<&'a Bump>, ParseError>
         requires { ReadsExpressions self.now.rules.depth (F.pre self.now.rules.expr) (F.post self.now.rules.expr) }
         ensures { ReadsTokens (λ b. (map assigned_of b.targets.items, tree_of b.value.value))
-            (statements.chain (spec.expr self.now.rules.depth) (length tokens.old.rest.now) (tree_of first.entry.expr.value)
-            tokens.old.rest.now) result tokens.new.rest.now }
+            (statements.chain (spec.expr self.now.rules.depth) (length tokens.old.rest.now)
+            (tree_of first.entry.expr.value) tokens.old.rest.now) result tokens.new.rest.now }
     {
         let mut targets = Vec::new(self.rules.alloc);
         let mut value = first;

@@ -240,8 +240,8 @@ impl<
     ) -> Result<Stmt<&'a Bump>, BlockFault>
         requires { ReadsBlocks self.now.depth (F.pre self.now.block) (F.post self.now.block) }
         ensures { ReadsLines stmt_of
-            (spec.definition (spec.block_at self.now.depth) number indent (decorators_of marks.entry) (lines_of lines.old))
-            result (lines_of lines.new) }
+            (spec.definition (spec.block_at self.now.depth) number indent (decorators_of marks.entry)
+            (lines_of lines.old)) result (lines_of lines.new) }
     {
         if is_definition(lines.next(indent)) {
             self.compound(lines, indent, marks, After::Nothing)
