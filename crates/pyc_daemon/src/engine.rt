@@ -15,7 +15,7 @@ use crate::counted::Counted;
 use crate::input::KEPT;
 use crate::read_buffer::ReadBuffer;
 use crate::reply::Answer;
-use crate::serving::serve;
+use crate::serving::{Input, Server};
 use crate::writing::write_reply;
 use pyc_session::{Daemon, End, Options, RunFault, Sources};
 use std::alloc::Global;
@@ -57,52 +57,46 @@ pub fn run<R: Read, W: Write, S: Sources>(
     // No read was without room and no write without a byte, however it ended.
     ensures buffers { GivesRoom reader.old reader.new × GivesRoom writer.old writer.new }
 {
-    let Ok(mut read_buffer) = ReadBuffer::new(alloc) else {
+    let Ok(buffer) = ReadBuffer::new(alloc) else {
         return Err(RunFault::Memory);
     };
-    let Ok(mut line) = Vec::with_capacity(alloc, KEPT) else {
+    let Ok(line) = Vec::with_capacity(alloc, KEPT) else {
         return Err(RunFault::Memory);
     };
+    let mut input = Input { buffer, line };
     let mut daemon = Daemon::new(alloc, *options);
-    let answer = serve_all(
+    let server = Server {
         alloc,
-        reader,
-        writer,
-        &mut read_buffer,
-        &mut line,
-        sources,
-        &mut daemon,
-        options.turns,
-    );
+        turns: options.turns,
+    };
+    let answer = serve_all(server, reader, writer, &mut input, sources, &mut daemon);
     mem::forget(daemon);
     answer
 }
 
 /// Serves commands until the session ends.
 fn serve_all<R: Read, W: Write, S: Sources>(
-    alloc: Global,
+    server: Server,
     reader: &mut Counted<R>,
     writer: &mut Counted<W>,
-    read_buffer: &mut ReadBuffer,
-    line: &mut Vec<u8>,
+    input: &mut Input,
     sources: &mut S,
     daemon: &mut Daemon,
-    turns: u64,
 ) -> Result<End, RunFault>
-    requires room { KEPT ≤ vec_capacity line.old }
-    requires empty { held_of read_buffer.old ≡ [] }
-    requires open { ended_of read_buffer.old ≡ false }
+    requires room { KEPT ≤ vec_capacity input.old.line }
+    requires empty { held_of input.old.buffer ≡ [] }
+    requires open { ended_of input.old.buffer ≡ false }
     requires begun { daemon.old ≡ start daemon.old.options }
-    requires reading { IsReading (R.remaining (inner_of reader.old)) (ended_of read_buffer.old) (calls_of reader.old)
-        turns }
+    requires reading { IsReading (R.remaining (inner_of reader.old)) (ended_of input.old.buffer) (calls_of reader.old)
+        server.turns }
     ensures runs { Runs S.step daemon.old.options (streams sources.old (R.remaining (inner_of reader.old))
         (W.contents (inner_of writer.old)))
         (streams sources.new (R.remaining (inner_of reader.new)) (W.contents (inner_of writer.new))) result }
-    ensures fault { ComesOfServing result reader.old reader.new writer.old writer.new turns }
+    ensures fault { ComesOfServing result reader.old reader.new writer.old writer.new server.turns }
     ensures buffers { GivesRoom reader.old reader.new × GivesRoom writer.old writer.new }
 {
-    'commands: while !read_buffer.is_ended() {
-        let Some(answer) = serve(alloc, reader, read_buffer, line, sources, daemon, turns)? else {
+    'commands: while !input.buffer.is_ended() {
+        let Some(answer) = server.serve(reader, input, sources, daemon)? else {
             break 'commands;
         };
         let Answer { reply, end } = answer;

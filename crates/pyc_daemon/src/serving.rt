@@ -22,42 +22,153 @@ use pyc_session::{Command, Daemon, End, Keep, Refusal, RunFault, Sources, parse}
 use std::alloc::Global;
 use std::io::Read;
 
-/// Reads the next command and does it; nothing is written. There is no answer at the end of the input.
-pub fn serve<R: Read, S: Sources>(
-    alloc: Global,
-    reader: &mut Counted<R>,
-    read_buffer: &mut ReadBuffer,
-    line: &mut Vec<u8>,
-    sources: &mut S,
-    daemon: &mut Daemon,
-    turns: u64,
-) -> Result<Option<Answer>, RunFault>
-    requires room { KEPT ≤ vec_capacity line.old }
-    requires open { ended_of read_buffer.old ≡ false }
-    requires reading { IsReading (R.remaining (inner_of reader.old)) (ended_of read_buffer.old) (calls_of reader.old)
-        turns }
-    ensures room { KEPT ≤ vec_capacity line.new }
-    ensures reads { ReadsOn (R.remaining (inner_of reader.new)) read_buffer.old read_buffer.new reader.old reader.new
-        turns result }
-    ensures served { IfOk result (λ answer. (bytes : List ℕ) × (event : Event)
-        × Advances (R.remaining (inner_of reader.old)) (held_of read_buffer.old) (R.remaining (inner_of reader.new))
-        (held_of read_buffer.new) bytes
-        × Serves daemon.old daemon.new bytes event (ended_of read_buffer.new) answer
-        × FetchStep S.step sources.old event.fetched sources.new) }
-    ensures err { OnErr result ((bytes : List ℕ)
-        × Advances (R.remaining (inner_of reader.old)) (held_of read_buffer.old) (R.remaining (inner_of reader.new))
-        (held_of read_buffer.new) bytes
-        × (has_command bytes ≡ false)) }
-    ensures untouched { OnErr result (sources.new ≡ sources.old) }
-    ensures work { OnOk result (work_of read_buffer.new reader.new turns < work_of read_buffer.old reader.old turns) }
-{
-    let fed = read_line(reader, read_buffer, line, turns)?;
-    if is_end(line, fed) {
-        return Ok(None);
+/// The bytes of an input that are not used yet, and the line of the command that was read last.
+#[derive(Drop)]
+pub struct Input {
+    pub buffer: ReadBuffer,
+    pub line: Vec<u8>,
+}
+
+/// Serves commands: the memory of what is read is of `alloc`, and the reader is called at most `turns` times.
+#[derive(Clone, Copy)]
+pub struct Server {
+    pub alloc: Global,
+    pub turns: u64,
+}
+
+/// A file that a command announces: its path, how many bytes of the input are its text, and whether it is a new one.
+#[derive(Clone, Copy)]
+struct AnnouncedFile<'a> {
+    keep: Keep,
+    path: &'a [u8],
+    size: usize,
+}
+
+impl Server {
+    /// Reads the next command and does it; nothing is written. There is no answer at the end of the input.
+    pub fn serve<R: Read, S: Sources>(
+        &self,
+        reader: &mut Counted<R>,
+        input: &mut Input,
+        sources: &mut S,
+        daemon: &mut Daemon,
+    ) -> Result<Option<Answer>, RunFault>
+        requires room { KEPT ≤ vec_capacity input.old.line }
+        requires open { ended_of input.old.buffer ≡ false }
+        requires reading { IsReading (R.remaining (inner_of reader.old)) (ended_of input.old.buffer)
+            (calls_of reader.old) self.now.turns }
+        ensures room { KEPT ≤ vec_capacity input.new.line }
+        ensures reads { ReadsOn (R.remaining (inner_of reader.new)) input.old.buffer input.new.buffer reader.old
+            reader.new self.now.turns result }
+        ensures served { IfOk result
+            (λ answer. (bytes : List ℕ) × (event : Event) × Advances (R.remaining (inner_of reader.old))
+            (held_of input.old.buffer) (R.remaining (inner_of reader.new)) (held_of input.new.buffer) bytes × Serves
+            daemon.old daemon.new bytes event (ended_of input.new.buffer) answer × FetchStep S.step sources.old
+            event.fetched sources.new) }
+        ensures err { OnErr result
+            ((bytes : List ℕ) × Advances (R.remaining (inner_of reader.old)) (held_of input.old.buffer)
+            (R.remaining (inner_of reader.new)) (held_of input.new.buffer) bytes × (has_command bytes ≡ false)) }
+        ensures untouched { OnErr result (sources.new ≡ sources.old) }
+        ensures work { OnOk result
+            (work_of input.new.buffer reader.new self.now.turns < work_of input.old.buffer reader.old self.now.turns) }
+    {
+        let fed = read_line(reader, &mut input.buffer, &mut input.line, self.turns)?;
+        if is_end(&input.line, fed) {
+            return Ok(None);
+        }
+        let command = parse(command_line(&input.line, fed));
+        let answer = self.obey(reader, &mut input.buffer, sources, daemon, command)?;
+        Ok(Some(answer))
     }
-    let command = parse(command_line(line, fed));
-    let answer = obey(alloc, reader, read_buffer, sources, daemon, command, turns)?;
-    Ok(Some(answer))
+
+    /// Does a command. Where its bytes do not come, or not all, it is not done.
+    fn obey<R: Read, S: Sources>(
+        &self,
+        reader: &mut Counted<R>,
+        read_buffer: &mut ReadBuffer,
+        sources: &mut S,
+        daemon: &mut Daemon,
+        command: Command<'_>,
+    ) -> Result<Answer, RunFault>
+        requires reading { IsReading (R.remaining (inner_of reader.old)) (ended_of read_buffer.old)
+            (calls_of reader.old) self.now.turns }
+        ensures reads { ReadsOn (R.remaining (inner_of reader.new)) read_buffer.old read_buffer.new reader.old
+            reader.new self.now.turns result }
+        ensures obeyed { IfOk result (λ answer. (bytes : List ℕ) × (event : Event)
+            × Advances (R.remaining (inner_of reader.old)) (held_of read_buffer.old) (R.remaining (inner_of reader.new))
+            (held_of read_buffer.new) bytes
+            × IsObeyed daemon.old daemon.new (said command.entry) bytes event (ended_of read_buffer.new) answer
+            × EndsNothing (ended_of read_buffer.old) (ended_of read_buffer.new) bytes
+            × FetchStep S.step sources.old event.fetched sources.new) }
+        ensures err { OnErr result ((bytes : List ℕ)
+            × Advances (R.remaining (inner_of reader.old)) (held_of read_buffer.old) (R.remaining (inner_of reader.new))
+            (held_of read_buffer.new) bytes
+            × (length bytes < bytes_after (said command.entry))) }
+        ensures untouched { OnErr result (sources.new ≡ sources.old) }
+    {
+        match command {
+            Command::Add { path, size } => {
+                let file = AnnouncedFile {
+                    keep: Keep::Add,
+                    path,
+                    size,
+                };
+                self.keep_file(reader, read_buffer, daemon, file)
+            }
+            Command::Change { path, size } => {
+                let file = AnnouncedFile {
+                    keep: Keep::Change,
+                    path,
+                    size,
+                };
+                self.keep_file(reader, read_buffer, daemon, file)
+            }
+            Command::Update { path } => Ok(short_answer(daemon.update(sources, path))),
+            Command::Remove { path } => Ok(short_answer(daemon.remove(path))),
+            Command::Check => Ok(check(daemon)),
+            Command::Status => Ok(Answer::counts(daemon.status())),
+            Command::Stop => Ok(Answer::last("ok\n", End::Stopped)),
+            Command::Endless => Ok(Answer::last(Refusal::Command.text(), End::Broken)),
+            Command::Unknown => Ok(Answer::line(Refusal::Command.text())),
+        }
+    }
+
+    /// Does `add` or `change`: the next bytes are the file's, also where it is refused.
+    fn keep_file<R: Read>(
+        &self,
+        reader: &mut Counted<R>,
+        read_buffer: &mut ReadBuffer,
+        daemon: &mut Daemon,
+        file: AnnouncedFile<'_>,
+    ) -> Result<Answer, RunFault>
+        requires reading { IsReading (R.remaining (inner_of reader.old)) (ended_of read_buffer.old)
+            (calls_of reader.old) self.now.turns }
+        ensures reads { ReadsOn (R.remaining (inner_of reader.new)) read_buffer.old read_buffer.new reader.old
+            reader.new self.now.turns result }
+        ensures kept { IfOk result (λ answer. (bytes : List ℕ) × (mark : Bool)
+            × Advances (R.remaining (inner_of reader.old)) (held_of read_buffer.old) (R.remaining (inner_of reader.new))
+            (held_of read_buffer.new) bytes
+            × ((rest : List ℕ) → IsLast (ended_of read_buffer.new) rest
+            → file_turn file.entry.keep daemon.old file.entry.path.now file.entry.size mark (bytes ++ rest)
+            ≡ turn_of answer daemon.new rest)
+            × EndsNothing (ended_of read_buffer.old) (ended_of read_buffer.new) bytes) }
+        ensures err { OnErr result ((bytes : List ℕ)
+            × Advances (R.remaining (inner_of reader.old)) (held_of read_buffer.old) (R.remaining (inner_of reader.new))
+            (held_of read_buffer.new) bytes
+            × (length bytes < file.entry.size)) }
+    {
+        let refusal = daemon.early_refusal(file.keep, file.path, file.size);
+        let wanted = refusal.is_none();
+        let body = read_body(
+            self.alloc,
+            reader,
+            read_buffer,
+            file.size,
+            wanted,
+            self.turns,
+        )?;
+        Ok(answer_body(daemon, file, refusal, body))
+    }
 }
 
 /// Whether a line is the empty rest of an input.
@@ -65,59 +176,6 @@ fn is_end(line: &[u8], fed: bool) -> bool
     ensures { result ≡ (not fed && (length line.now == 0)) }
 {
     !fed && line.is_empty()
-}
-
-/// Does a command. Where its bytes do not come, or not all, it is not done.
-fn obey<R: Read, S: Sources>(
-    alloc: Global,
-    reader: &mut Counted<R>,
-    read_buffer: &mut ReadBuffer,
-    sources: &mut S,
-    daemon: &mut Daemon,
-    command: Command<'_>,
-    turns: u64,
-) -> Result<Answer, RunFault>
-    requires reading { IsReading (R.remaining (inner_of reader.old)) (ended_of read_buffer.old) (calls_of reader.old)
-        turns }
-    ensures reads { ReadsOn (R.remaining (inner_of reader.new)) read_buffer.old read_buffer.new reader.old reader.new
-        turns result }
-    ensures obeyed { IfOk result (λ answer. (bytes : List ℕ) × (event : Event)
-        × Advances (R.remaining (inner_of reader.old)) (held_of read_buffer.old) (R.remaining (inner_of reader.new))
-        (held_of read_buffer.new) bytes
-        × IsObeyed daemon.old daemon.new (said command.entry) bytes event (ended_of read_buffer.new) answer
-        × EndsNothing (ended_of read_buffer.old) (ended_of read_buffer.new) bytes
-        × FetchStep S.step sources.old event.fetched sources.new) }
-    ensures err { OnErr result ((bytes : List ℕ)
-        × Advances (R.remaining (inner_of reader.old)) (held_of read_buffer.old) (R.remaining (inner_of reader.new))
-        (held_of read_buffer.new) bytes
-        × (length bytes < bytes_after (said command.entry))) }
-    ensures untouched { OnErr result (sources.new ≡ sources.old) }
-{
-    match command {
-        Command::Add { path, size } => {
-            let file = AnnouncedFile {
-                keep: Keep::Add,
-                path,
-                size,
-            };
-            keep_file(alloc, reader, read_buffer, daemon, file, turns)
-        }
-        Command::Change { path, size } => {
-            let file = AnnouncedFile {
-                keep: Keep::Change,
-                path,
-                size,
-            };
-            keep_file(alloc, reader, read_buffer, daemon, file, turns)
-        }
-        Command::Update { path } => Ok(short_answer(daemon.update(sources, path))),
-        Command::Remove { path } => Ok(short_answer(daemon.remove(path))),
-        Command::Check => Ok(check(daemon)),
-        Command::Status => Ok(Answer::counts(daemon.status())),
-        Command::Stop => Ok(Answer::last("ok\n", End::Stopped)),
-        Command::Endless => Ok(Answer::last(Refusal::Command.text(), End::Broken)),
-        Command::Unknown => Ok(Answer::line(Refusal::Command.text())),
-    }
 }
 
 /// The answer to a command that is done or refused.
@@ -142,45 +200,6 @@ fn check(daemon: &mut Daemon) -> Answer
         },
         Err(_) => Answer::line(Refusal::Memory.text()),
     }
-}
-
-/// A file that a command announces: its path, how many bytes of the input are its text, and whether it is a new one.
-#[derive(Clone, Copy)]
-struct AnnouncedFile<'a> {
-    keep: Keep,
-    path: &'a [u8],
-    size: usize,
-}
-
-/// Does `add` or `change`: the next bytes are the file's, also where it is refused.
-fn keep_file<R: Read>(
-    alloc: Global,
-    reader: &mut Counted<R>,
-    read_buffer: &mut ReadBuffer,
-    daemon: &mut Daemon,
-    file: AnnouncedFile<'_>,
-    turns: u64,
-) -> Result<Answer, RunFault>
-    requires reading { IsReading (R.remaining (inner_of reader.old)) (ended_of read_buffer.old) (calls_of reader.old)
-        turns }
-    ensures reads { ReadsOn (R.remaining (inner_of reader.new)) read_buffer.old read_buffer.new reader.old reader.new
-        turns result }
-    ensures kept { IfOk result (λ answer. (bytes : List ℕ) × (mark : Bool)
-        × Advances (R.remaining (inner_of reader.old)) (held_of read_buffer.old) (R.remaining (inner_of reader.new))
-        (held_of read_buffer.new) bytes
-        × ((rest : List ℕ) → IsLast (ended_of read_buffer.new) rest
-        → file_turn file.entry.keep daemon.old file.entry.path.now file.entry.size mark (bytes ++ rest)
-        ≡ turn_of answer daemon.new rest)
-        × EndsNothing (ended_of read_buffer.old) (ended_of read_buffer.new) bytes) }
-    ensures err { OnErr result ((bytes : List ℕ)
-        × Advances (R.remaining (inner_of reader.old)) (held_of read_buffer.old) (R.remaining (inner_of reader.new))
-        (held_of read_buffer.new) bytes
-        × (length bytes < file.entry.size)) }
-{
-    let refusal = daemon.early_refusal(file.keep, file.path, file.size);
-    let wanted = refusal.is_none();
-    let body = read_body(alloc, reader, read_buffer, file.size, wanted, turns)?;
-    Ok(answer_body(daemon, file, refusal, body))
 }
 
 /// The answer to a command whose bytes came, or did not.

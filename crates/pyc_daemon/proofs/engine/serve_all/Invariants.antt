@@ -7,14 +7,14 @@ use Rattle.pyc_daemon.proofs.engine.serve_all.Given as goal
 
 abbrev pub invariant-commands : goal.invariant-commands
 invariant-commands g l = record {
-  room : 514 ≤ vec_capacity l.line;
-  reading : IsReading (g.R.Read.remaining (inner_of l.reader)) (ended_of l.read_buffer) (calls_of l.reader) l.turns;
+  room : 514 ≤ vec_capacity l.input.line;
+  reading : IsReading (g.R.Read.remaining (inner_of l.reader)) (ended_of l.input.buffer) (calls_of l.reader) l.server.turns;
   reads : IsSound l.fn.reader l.reader;
   writes : IsSound l.fn.writer l.writer;
   buffers : GivesRoom l.fn.reader l.reader × GivesRoom l.fn.writer l.writer;
-  going : Going g.S.Sources.step l.fn.daemon.options l.fn.sources l.sources (g.R.Read.remaining (inner_of l.fn.reader)) (g.R.Read.remaining (inner_of l.reader)) (held_of l.read_buffer)
-      (g.W.Write.contents (inner_of l.fn.writer)) (g.W.Write.contents (inner_of l.writer)) l.daemon (ended_of l.read_buffer);
+  going : Going g.S.Sources.step l.fn.daemon.options l.fn.sources l.sources (g.R.Read.remaining (inner_of l.fn.reader)) (g.R.Read.remaining (inner_of l.reader)) (held_of l.input.buffer)
+      (g.W.Write.contents (inner_of l.fn.writer)) (g.W.Write.contents (inner_of l.writer)) l.daemon (ended_of l.input.buffer);
 }
 
 abbrev pub decreases-commands : goal.decreases-commands
-decreases-commands g l = work_left (ended_of l.read_buffer) (length (held_of l.read_buffer)) (calls_of l.reader) l.turns
+decreases-commands g l = work_left (ended_of l.input.buffer) (length (held_of l.input.buffer)) (calls_of l.reader) l.server.turns

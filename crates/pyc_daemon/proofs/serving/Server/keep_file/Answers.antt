@@ -1,6 +1,6 @@
 use Rattle.std.proofs.Common.{rules}
 use Rattle.std.proofs.lemmas.Result.{err_from_is_err_and}
-use Rattle.pyc_daemon.proofs.serving.keep_file.Goals as goal
+use Rattle.pyc_daemon.proofs.serving.Server.keep_file.Goals as goal
 
 pub returns-in_err-body-clause-reads : goal.returns-in_err-body-clause-reads
 returns-in_err-body-clause-reads g c =

@@ -3,7 +3,7 @@ use Rattle.pyc_session.specs.Session.{reported}
 use Rattle.pyc_daemon.proofs.Moving.{advances_none, reads_nothing}
 use Rattle.pyc_session.proofs.Turns.{reported_remove, if_ok}
 use Rattle.pyc_daemon.proofs.Ended.{status_reported}
-use Rattle.pyc_daemon.proofs.serving.obey.Goals as goal
+use Rattle.pyc_daemon.proofs.serving.Server.obey.Goals as goal
 
 pub returns-in-Check-clause-obeyed : goal.returns-in-Check-clause-obeyed
 returns-in-Check-clause-obeyed g c =

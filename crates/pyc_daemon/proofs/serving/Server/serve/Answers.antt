@@ -3,7 +3,7 @@ use Rattle.std.proofs.lemmas.Result.{err_from_is_err_and}
 use Rattle.pyc_daemon.proofs.Moving.{advances_trans, sound_trans, fault_after}
 use Rattle.pyc_session.proofs.Turns.{no_line}
 use Rattle.pyc_daemon.proofs.Served.{served, some_line, end_line, less_than_command}
-use Rattle.pyc_daemon.proofs.serving.serve.Goals as goal
+use Rattle.pyc_daemon.proofs.serving.Server.serve.Goals as goal
 
 pub returns-in_err-fed-clause-err : goal.returns-in_err-fed-clause-err
 returns-in_err-fed-clause-err g c =
