@@ -3,7 +3,7 @@
 Libraries below it that are the same as in the base, and that the base has proved already, are read as built; the others as source."""
 import subprocess, sys, os, hashlib, functools
 from pathlib import Path
-KIT, BASES = "/opt/rattle", [Path(p) for p in os.environ.get("BASES", "/work/proofs/next:/work/proofs/up").split(":") if os.path.isdir(p)]
+KIT, BASES = "/opt/rattle", [Path(p) for p in os.environ.get("BASES", "/work/proofs/libs_cur").split(":") if os.path.isdir(p)]
 tree, crate, *more = sys.argv[1:]
 tree = Path(tree).resolve()
 def deps_of(root):

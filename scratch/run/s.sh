@@ -1,0 +1,2 @@
+date +%T; grep '^rt: ' /work/run/base.log | grep -v "is kept" | tail -${1:-4} | cut -c1-120; grep -E "NOT PROVED|no proof|error:|not proved;" /work/run/base.log| head -8 | cut -c1-300
+ps -eo ni,etimes,rss,time,args --sort=-rss | grep "crate-name\|clang" | grep -v "grep\|sed" | sed 's/\(.\{33\}\).*--crate-name \([a-z_]*\).*/\1 \2/' | cut -c1-70 | awk '{k=$NF; n[k]++; if(!(k in a)) a[k]=$0} END{for(k in a) print n[k], a[k]}' | sort -k2n ; grep MemAvail /proc/meminfo
