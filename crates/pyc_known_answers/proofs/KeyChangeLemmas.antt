@@ -39,6 +39,15 @@ pub known_first : (held : Numbering Key) (before now : Key → Answer) (n : ℕ)
     → AreKnown held before now [] (unknowns n)
 known_first held before now n bound = record { room = λ i here. let below = bound i here in let many = many_unknowns n in omega (arith, below, many); known = λ i. unknown_there n i }
 
+-- a key without a verdict was not compared
+pub not_compared : (held : Numbering Key) (before now : Key → Answer) (compared : List ℕ) (changed_keys : List (Option Bool)) (i : ℕ)
+    → AreKnown held before now compared changed_keys → key_change_at changed_keys i ≡ None → is_in compared i ≡ false
+not_compared held before now compared changed_keys i are none = by (is_in compared i) refl
+  where
+    by : (b : Bool) → is_in compared i ≡ b → b ≡ false
+    by true e = absurd (none_some (sym none ∙ are.known i ∙ ap (λ b. if b then Some (has_changed before now (held i)) else None) e))
+    by false e = refl
+
 -- ---- the answers to the key of a number that is held
 
 pub changed_is : (first second : Key → Answer) (key : Option Key) (before : Answer) (same : Bool) → is_some key ≡ true
